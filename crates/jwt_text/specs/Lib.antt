@@ -1,0 +1,3 @@
+pub mod Base64url
+pub mod Intake
+pub mod Parts
