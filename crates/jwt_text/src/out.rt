@@ -1,0 +1,139 @@
+ghost use Rattle.std.specs.Prelude.{◌≡◌, ◌≢◌, IfOk, IfErr, OnOk, OnErr, IsErrOf, IsOkUnless, IsTrue, false};
+ghost use Rattle.serde_json.specs.Data.{string, number, boolean, object, no_members, put};
+ghost use Rattle.serde_json.specs.Find.{of_integer};
+ghost use Rattle.serde_json.specs.View.{view, members_view};
+ghost use Rattle.serde_json.specs.Written.{compact_text, members_have_float, has_float};
+ghost use Rattle.json.specs.Print.{quoted as quoted_text};
+ghost use Rattle.jwt_text.specs.Members.{has};
+
+use crate::TextFault;
+use crate::members::member;
+use serde_json::{Map, Value};
+use std::alloc::Global;
+use std::marker::Model;
+
+/// The compact JSON text of a text.
+pub fn quoted(alloc: Global, text: &str) -> Result<Vec<u8>, TextFault>
+    ensures ok { IfOk result (λ v. v.items ≡ quoted_text text.now) }
+    ensures err { IsOkUnless result TextFault.OutOfMemory }
+{
+    let Ok(copy) = String::from_str(alloc, text) else {
+        return Err(TextFault::OutOfMemory);
+    };
+    match Value::String(copy).to_vec(alloc) {
+        Ok(octets) => Ok(octets),
+        Err(_) => Err(TextFault::OutOfMemory),
+    }
+}
+
+/// An object that is being built.
+#[derive(Drop)]
+pub struct ObjectOut {
+    alloc: Global,
+    members: Map<String, Value>,
+}
+
+impl Model for ObjectOut {
+    ghost use Rattle.std.specs.Prelude.{◌≡◌, false};
+    ghost use Rattle.serde_json.specs.Data.{Members};
+    ghost use Rattle.jwt_text.specs.Stored.{members_code};
+
+    ghost Value = { Members };
+
+    ghost coded = { members_code };
+
+    ghost use Rattle.serde_json.specs.View.{members_view};
+    ghost use Rattle.serde_json.specs.Written.{members_have_float};
+
+    ghost view = { λ o. members_view o.members.entries };
+
+    ghost invariant = { λ o. members_have_float (members_view o.members.entries) ≡ false };
+}
+
+impl ObjectOut {
+    /// An object with no members.
+    pub fn new(alloc: Global) -> ObjectOut
+        ensures { result ≡ no_members }
+    {
+        ObjectOut {
+            alloc,
+            members: Map::new(alloc),
+        }
+    }
+
+    /// Adds a text.
+    pub fn text(&mut self, name: &str, value: &str) -> Result<(), TextFault>
+        ensures ok { OnOk result (self.new ≡ put name.now (string value.now) self.old) }
+        ensures absent { OnOk result (has name.now self.old ≡ false) }
+        ensures twice { IsErrOf result TextFault.NameTwice → IsTrue (has name.now self.old) }
+        ensures cause { IfErr result (λ e. e ≢ TextFault.OutOfMemory → e ≡ TextFault.NameTwice) }
+        ensures err { OnErr result (self.new ≡ self.old) }
+    {
+        let Ok(copy) = String::from_str(self.alloc, value) else {
+            return Err(TextFault::OutOfMemory);
+        };
+        add(&mut self.members, self.alloc, name, Value::String(copy))
+    }
+
+    /// Adds a whole number.
+    pub fn whole(&mut self, name: &str, value: i64) -> Result<(), TextFault>
+        ensures ok { OnOk result (self.new ≡ put name.now (number (of_integer value)) self.old) }
+        ensures absent { OnOk result (has name.now self.old ≡ false) }
+        ensures twice { IsErrOf result TextFault.NameTwice → IsTrue (has name.now self.old) }
+        ensures cause { IfErr result (λ e. e ≢ TextFault.OutOfMemory → e ≡ TextFault.NameTwice) }
+        ensures err { OnErr result (self.new ≡ self.old) }
+    {
+        add(&mut self.members, self.alloc, name, Value::from(value))
+    }
+
+    /// Adds a truth value.
+    pub fn flag(&mut self, name: &str, value: bool) -> Result<(), TextFault>
+        ensures ok { OnOk result (self.new ≡ put name.now (boolean value) self.old) }
+        ensures absent { OnOk result (has name.now self.old ≡ false) }
+        ensures twice { IsErrOf result TextFault.NameTwice → IsTrue (has name.now self.old) }
+        ensures cause { IfErr result (λ e. e ≢ TextFault.OutOfMemory → e ≡ TextFault.NameTwice) }
+        ensures err { OnErr result (self.new ≡ self.old) }
+    {
+        add(&mut self.members, self.alloc, name, Value::Bool(value))
+    }
+
+    /// The compact text, with names in ascending byte order.
+    pub fn finish(self) -> Result<Vec<u8>, TextFault>
+        ensures ok { IfOk result (λ v. v.items ≡ compact_text (object self)) }
+        ensures err { IsOkUnless result TextFault.OutOfMemory }
+    {
+        let ObjectOut { alloc, members } = self;
+        match Value::Object(members).to_vec(alloc) {
+            Ok(octets) => Ok(octets),
+            Err(_) => Err(TextFault::OutOfMemory),
+        }
+    }
+}
+
+// Adds a member, where none has its name.
+#[tactic(auto, using(crate::proofs::OutLemmas::put_no_float))]
+fn add(
+    members: &mut Map<String, Value>,
+    alloc: Global,
+    name: &str,
+    value: Value,
+) -> Result<(), TextFault>
+    ensures ok { OnOk result (members_view members.new.entries
+        ≡ put name.now (view value) (members_view members.old.entries)) }
+    ensures floats { members_have_float (members_view members.old.entries) ≡ false
+        → has_float (view value) ≡ false
+        → members_have_float (members_view members.new.entries) ≡ false }
+    ensures absent { OnOk result (has name.now (members_view members.old.entries) ≡ false) }
+    ensures twice { IsErrOf result TextFault.NameTwice
+        → IsTrue (has name.now (members_view members.old.entries)) }
+    ensures cause { IfErr result (λ e. e ≢ TextFault.OutOfMemory → e ≡ TextFault.NameTwice) }
+    ensures err { OnErr result (members.new.entries ≡ members.old.entries) }
+{
+    if member(members, name).is_some() {
+        return Err(TextFault::NameTwice);
+    }
+    match serde_json::put(members, alloc, name, value) {
+        Ok(()) => Ok(()),
+        Err(_) => Err(TextFault::OutOfMemory),
+    }
+}
