@@ -1,10 +1,11 @@
-// What the members of an object and the items of a list hold.
-ghost use Rattle.std.specs.Prelude.{◌≡◌, length, option_map, slice_get, IfOk};
+//! What the members of an object and the items of a list hold, as the kit keeps them.
+ghost use Rattle.std.specs.Prelude.{◌≡◌, length, option_map, slice_get, IfOk, IsOkUnless};
 ghost use Rattle.serde_json.specs.Find.{get_member};
 ghost use Rattle.serde_json.specs.View.{view, items_view, members_view};
 ghost use Rattle.std.specs.List.{list_any};
-ghost use Rattle.jwt_text.specs.Members.{elements, has, names, are_texts, is_text_or_texts};
+ghost use Rattle.jwt_text.specs.Members.{elements, has, names, AreInOrder, are_texts, is_text_or_texts, compact_text_or_texts};
 
+use crate::TextFault;
 use serde_json::{Map, Value};
 use std::alloc::{AllocError, Global};
 
@@ -36,9 +37,11 @@ pub(crate) fn item(items: &Vec<Value>, place: usize) -> Option<&Value>
 }
 
 /// The name at this place, in ascending byte order.
+#[tactic(auto, using(crate::proofs::OrderLemmas::names_in_order))]
 pub(crate) fn name_at(members: &Map<String, Value>, place: usize) -> Option<&str>
-    ensures { option_map (λ s. s.now) result
+    ensures name { option_map (λ s. s.now) result
         ≡ slice_get (names (members_view members.now.entries)) place }
+    ensures order { AreInOrder (names (members_view members.now.entries)) }
 {
     let mut left = place;
     for (name, _) in members.iter() {
@@ -65,18 +68,37 @@ pub(crate) fn copy(
     Ok(copies)
 }
 
-/// Whether the value is a text or a list of texts.
-pub(crate) fn is_text_or_texts(value: &Value) -> bool
+/// The compact text of a text or of a list of texts.
+#[tactic(auto, using(crate::proofs::CompactLemmas::text_or_texts_no_float))]
+pub(crate) fn compact_text_or_texts(
+    alloc: Global,
+    value: &Value,
+) -> Result<Option<Vec<u8>>, TextFault>
+    ensures ok { IfOk result
+        (λ o. option_map (λ v. v.items) o ≡ compact_text_or_texts (view value.now)) }
+    ensures err { IsOkUnless result TextFault.OutOfMemory }
+{
+    if !is_text_or_texts(value) {
+        return Ok(None);
+    }
+    match value.to_vec(alloc) {
+        Ok(octets) => Ok(Some(octets)),
+        Err(_) => Err(TextFault::OutOfMemory),
+    }
+}
+
+fn is_text_or_texts(value: &Value) -> bool
     ensures { result ≡ is_text_or_texts (view value.now) }
 {
     match value {
         Value::String(_) => true,
-        Value::Array(items) => are_texts(items),
+        Value::Array(items) => all_texts(items),
         _ => false,
     }
 }
 
-fn are_texts(items: &Vec<Value>) -> bool
+/// Whether each item is a text.
+pub(crate) fn all_texts(items: &Vec<Value>) -> bool
     ensures { result ≡ are_texts (elements (items_view items.now.items)) }
 {
     for item in items {

@@ -6,7 +6,7 @@ ghost use Rattle.jwt_text.specs.ObjectText.{reading, object_of, IsObjectText};
 use crate::TextFault;
 use crate::colons::count_colons;
 use crate::entries::take_members;
-use crate::view::Object;
+use crate::owned::Object;
 use serde_json::{Map, Value};
 use std::alloc::Global;
 

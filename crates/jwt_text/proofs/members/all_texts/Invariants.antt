@@ -1,7 +1,7 @@
 use Rattle.std.proofs.Common.{◌≡◌, drop}
 use Rattle.serde_json.specs.View.{items_view}
 use Rattle.jwt_text.specs.Members.{elements, are_texts}
-use Rattle.jwt_text.proofs.members.are_texts.Given as goal
+use Rattle.jwt_text.proofs.members.all_texts.Given as goal
 
 abbrev pub invariant-loop-item : goal.invariant-loop-item
 invariant-loop-item l =

@@ -1,44 +1,31 @@
-ghost use Rattle.std.specs.Prelude.{◌≡◌, length, slice_get, option_map, option_and_then, IfOk, IsOkUnless};
+ghost use Rattle.std.specs.Prelude.{◌≡◌, ◌↔◌, [], length, slice_get, option_map, option_and_then, IfOk, IsOkUnless, IsTrue};
+ghost use Rattle.std.specs.List.{list_any};
 ghost use Rattle.serde_json.specs.Find.{as_str, as_object};
 ghost use Rattle.serde_json.specs.Events.{members_len};
-ghost use Rattle.std.specs.List.{list_any};
-ghost use Rattle.jwt_text.specs.Members.{has, text_at, is_number_at, whole_at, flag_at, list_at, object_at, names, compact_at};
+ghost use Rattle.jwt_text.specs.Members.{has, text_at, is_number_at, whole_at, flag_at, list_at, object_at, names, AreInOrder, are_texts, compact_at};
 
 use crate::TextFault;
-use crate::members::{copy, is_text_or_texts, item, item_count, member, name_at, share_name};
+use crate::members::{
+    all_texts, compact_text_or_texts, copy, item, item_count, member, name_at, share_name,
+};
+use crate::owned::Object;
 use serde_json::{Map, Value};
 use std::alloc::Global;
 use std::marker::Model;
 
-/// A JSON object that was read from octets.
-#[derive(Drop)]
-pub struct Object {
-    pub(crate) members: Map<String, Value>,
-}
-
-/// An object inside another value.
+/// A JSON object that another value lends. Contracts see its members.
+///
+/// What its readers answer is lent for as long as the object itself, and they answer `None` where the member is absent or
+/// of another kind.
 #[derive(Drop)]
 pub struct ObjectRef<'a> {
-    members: &'a Map<String, Value>,
+    pub(crate) members: &'a Map<String, Value>,
 }
 
-/// A list inside another value.
+/// A JSON list that another value lends. Contracts see its elements.
 #[derive(Drop)]
 pub struct List<'a> {
     items: &'a Vec<Value>,
-}
-
-impl Model for Object {
-    ghost use Rattle.serde_json.specs.Data.{Members};
-    ghost use Rattle.jwt_text.specs.Stored.{members_code};
-
-    ghost Value = { Members };
-
-    ghost coded = { members_code };
-
-    ghost use Rattle.serde_json.specs.View.{members_view};
-
-    ghost view = { λ o. members_view o.members.entries };
 }
 
 impl<'a> Model for ObjectRef<'a> {
@@ -70,38 +57,6 @@ impl<'a> Model for List<'a> {
     ghost view = { λ l. elements (items_view l.items.now.items) };
 }
 
-impl Object {
-    /// The object, lent.
-    pub fn lend(&self) -> ObjectRef<'_>
-        ensures { result ≡ self.now }
-    {
-        ObjectRef {
-            members: &self.members,
-        }
-    }
-
-    /// Whether there is a member of this name.
-    pub fn has(&self, name: &str) -> bool
-        ensures { result ≡ has name.now self.now }
-    {
-        member(&self.members, name).is_some()
-    }
-
-    /// The text of this name.
-    pub fn text(&self, name: &str) -> Option<&str>
-        ensures { option_map (λ s. s.now) result ≡ text_at name.now self.now }
-    {
-        member(&self.members, name)?.as_str()
-    }
-
-    /// The whole number of this name.
-    pub fn whole(&self, name: &str) -> Option<i64>
-        ensures { result ≡ whole_at name.now self.now }
-    {
-        member(&self.members, name)?.as_i64()
-    }
-}
-
 impl<'a> ObjectRef<'a> {
     /// Whether there is a member of this name.
     pub fn has(&self, name: &str) -> bool
@@ -110,28 +65,19 @@ impl<'a> ObjectRef<'a> {
         member(self.members, name).is_some()
     }
 
-    /// The text of this name.
+    /// The text of this name, with its escapes undone.
     pub fn text(&self, name: &str) -> Option<&'a str>
         ensures { option_map (λ s. s.now) result ≡ text_at name.now self.now }
     {
         member(self.members, name)?.as_str()
     }
 
-    /// The whole number of this name.
+    /// The whole number of this name: written with digits alone, after a minus or none, and within 64 signed bits. `1.0`, `1e3`,
+    /// `-0` and 2^63 are none.
     pub fn whole(&self, name: &str) -> Option<i64>
         ensures { result ≡ whole_at name.now self.now }
     {
         member(self.members, name)?.as_i64()
-    }
-
-    /// Whether there is a number of this name.
-    pub fn number(&self, name: &str) -> bool
-        ensures { result ≡ is_number_at name.now self.now }
-    {
-        match member(self.members, name) {
-            Some(value) => value.is_number(),
-            None => false,
-        }
     }
 
     /// The truth value of this name.
@@ -139,6 +85,16 @@ impl<'a> ObjectRef<'a> {
         ensures { result ≡ flag_at name.now self.now }
     {
         member(self.members, name)?.as_bool()
+    }
+
+    /// Whether there is a member of this name that is a number of any kind.
+    pub fn number(&self, name: &str) -> bool
+        ensures { result ≡ is_number_at name.now self.now }
+    {
+        match member(self.members, name) {
+            Some(value) => value.is_number(),
+            None => false,
+        }
     }
 
     /// The list of this name.
@@ -157,21 +113,45 @@ impl<'a> ObjectRef<'a> {
         Some(ObjectRef { members })
     }
 
-    /// The name at this place, in ascending byte order.
+    /// The number of members.
+    pub fn member_count(&self) -> usize
+        ensures { result ≡ members_len self.now }
+    {
+        self.members.len()
+    }
+
+    /// The name at this place, from 0, in ascending byte order; `None` past the last. It walks to the place.
     pub fn name(&self, place: usize) -> Option<&'a str>
-        ensures { option_map (λ s. s.now) result ≡ slice_get (names self.now) place }
+        ensures name { option_map (λ s. s.now) result ≡ slice_get (names self.now) place }
+        ensures order { AreInOrder (names self.now) }
     {
         name_at(self.members, place)
     }
 
-    /// Whether a name stands in both objects.
+    /// Whether some name is in both objects. Each name of this one is looked up in the other.
     pub fn shares_name(&self, other: &ObjectRef<'_>) -> bool
-        ensures { result ≡ list_any (λ k. has k other.now) (names self.now) }
+        ensures { result ≡ list_any (λ name. has name other.now) (names self.now) }
     {
         share_name(self.members, other.members)
     }
 
-    /// A copy.
+    /// The compact JSON text of a member that is a text or a list of texts, and `None` for any other or none.
+    ///
+    /// `OutOfMemory` where a growth was refused, and no other fault.
+    pub fn compact(&self, alloc: Global, name: &str) -> Result<Option<Vec<u8>>, TextFault>
+        ensures ok { IfOk result
+            (λ o. option_map (λ v. v.items) o ≡ compact_at name.now self.now) }
+        ensures err { IsOkUnless result TextFault.OutOfMemory }
+    {
+        match member(self.members, name) {
+            Some(value) => compact_text_or_texts(alloc, value),
+            None => Ok(None),
+        }
+    }
+
+    /// A copy of the object, which lends nothing.
+    ///
+    /// `OutOfMemory` where a growth was refused, and no other fault.
     pub fn to_object(&self, alloc: Global) -> Result<Object, TextFault>
         ensures ok { IfOk result (λ o. o ≡ self.now) }
         ensures err { IsOkUnless result TextFault.OutOfMemory }
@@ -181,54 +161,42 @@ impl<'a> ObjectRef<'a> {
             Err(_) => Err(TextFault::OutOfMemory),
         }
     }
-
-    #[tactic(auto, using(crate::proofs::CompactLemmas::text_or_texts_no_float))]
-    /// The compact text of a member that is a text or a list of texts.
-    pub fn compact(&self, alloc: Global, name: &str) -> Result<Option<Vec<u8>>, TextFault>
-        ensures ok { IfOk result
-            (λ o. option_map (λ v. v.items) o ≡ compact_at name.now self.now) }
-        ensures err { IsOkUnless result TextFault.OutOfMemory }
-    {
-        let Some(value) = member(self.members, name) else {
-            return Ok(None);
-        };
-        if !is_text_or_texts(value) {
-            return Ok(None);
-        }
-        match value.to_vec(alloc) {
-            Ok(octets) => Ok(Some(octets)),
-            Err(_) => Err(TextFault::OutOfMemory),
-        }
-    }
-
-    /// The number of members.
-    pub fn member_count(&self) -> usize
-        ensures { result ≡ members_len self.now }
-    {
-        self.members.len()
-    }
 }
 
 impl<'a> List<'a> {
-    /// The number of items.
+    /// The number of elements.
     pub fn len(&self) -> usize
         ensures { result ≡ length self.now }
     {
         item_count(self.items)
     }
 
-    /// The text at this place.
+    /// Whether there is no element.
+    pub fn is_empty(&self) -> bool
+        ensures { IsTrue result ↔ (self.now ≡ []) }
+    {
+        item_count(self.items) == 0
+    }
+
+    /// The text at this place, from 0; `None` past the last, or where the element is of another kind.
     pub fn text(&self, place: usize) -> Option<&'a str>
         ensures { option_map (λ s. s.now) result ≡ option_and_then as_str (slice_get self.now place) }
     {
         item(self.items, place)?.as_str()
     }
 
-    /// The object at this place.
+    /// The object at this place, from 0; `None` past the last, or where the element is of another kind.
     pub fn object(&self, place: usize) -> Option<ObjectRef<'a>>
         ensures { result ≡ option_and_then as_object (slice_get self.now place) }
     {
         let members = item(self.items, place)?.as_object()?;
         Some(ObjectRef { members })
+    }
+
+    /// Whether each element is a text; also where there is none.
+    pub fn are_texts(&self) -> bool
+        ensures { result ≡ are_texts self.now }
+    {
+        all_texts(self.items)
     }
 }

@@ -1,0 +1,114 @@
+ghost use Rattle.std.specs.Prelude.{◌≡◌, length, slice_get, option_map, IfOk, IsOkUnless};
+ghost use Rattle.serde_json.specs.Events.{members_len};
+ghost use Rattle.jwt_text.specs.Members.{has, text_at, is_number_at, whole_at, flag_at, list_at, object_at, names, AreInOrder, compact_at};
+
+use crate::TextFault;
+use crate::lent::{List, ObjectRef};
+use serde_json::{Map, Value};
+use std::alloc::Global;
+use std::marker::Model;
+
+/// A JSON object that [`object`](crate::object) has read. Contracts see its members.
+///
+/// Each reader lends what it answers, and answers `None` where the member is absent or of another kind.
+#[derive(Drop)]
+pub struct Object {
+    pub(crate) members: Map<String, Value>,
+}
+
+impl Model for Object {
+    ghost use Rattle.serde_json.specs.Data.{Members};
+    ghost use Rattle.jwt_text.specs.Stored.{members_code};
+
+    ghost Value = { Members };
+
+    ghost coded = { members_code };
+
+    ghost use Rattle.serde_json.specs.View.{members_view};
+
+    ghost view = { λ o. members_view o.members.entries };
+}
+
+impl Object {
+    /// The object, lent.
+    pub fn lend(&self) -> ObjectRef<'_>
+        ensures { result ≡ self.now }
+    {
+        ObjectRef {
+            members: &self.members,
+        }
+    }
+
+    /// Whether there is a member of this name.
+    pub fn has(&self, name: &str) -> bool
+        ensures { result ≡ has name.now self.now }
+    {
+        self.lend().has(name)
+    }
+
+    /// The text of this name.
+    pub fn text(&self, name: &str) -> Option<&str>
+        ensures { option_map (λ s. s.now) result ≡ text_at name.now self.now }
+    {
+        self.lend().text(name)
+    }
+
+    /// The whole number of this name, as [`ObjectRef::whole`] reads it.
+    pub fn whole(&self, name: &str) -> Option<i64>
+        ensures { result ≡ whole_at name.now self.now }
+    {
+        self.lend().whole(name)
+    }
+
+    /// The truth value of this name.
+    pub fn flag(&self, name: &str) -> Option<bool>
+        ensures { result ≡ flag_at name.now self.now }
+    {
+        self.lend().flag(name)
+    }
+
+    /// Whether there is a member of this name that is a number of any kind.
+    pub fn number(&self, name: &str) -> bool
+        ensures { result ≡ is_number_at name.now self.now }
+    {
+        self.lend().number(name)
+    }
+
+    /// The list of this name.
+    pub fn list(&self, name: &str) -> Option<List<'_>>
+        ensures { result ≡ list_at name.now self.now }
+    {
+        self.lend().list(name)
+    }
+
+    /// The object of this name.
+    pub fn object(&self, name: &str) -> Option<ObjectRef<'_>>
+        ensures { result ≡ object_at name.now self.now }
+    {
+        self.lend().object(name)
+    }
+
+    /// The number of members.
+    pub fn member_count(&self) -> usize
+        ensures { result ≡ members_len self.now }
+    {
+        self.lend().member_count()
+    }
+
+    /// The name at this place, from 0, in ascending byte order; `None` past the last. It walks to the place.
+    pub fn name(&self, place: usize) -> Option<&str>
+        ensures name { option_map (λ s. s.now) result ≡ slice_get (names self.now) place }
+        ensures order { AreInOrder (names self.now) }
+    {
+        self.lend().name(place)
+    }
+
+    /// The compact JSON text of a member, as [`ObjectRef::compact`] writes it.
+    pub fn compact(&self, alloc: Global, name: &str) -> Result<Option<Vec<u8>>, TextFault>
+        ensures ok { IfOk result
+            (λ o. option_map (λ v. v.items) o ≡ compact_at name.now self.now) }
+        ensures err { IsOkUnless result TextFault.OutOfMemory }
+    {
+        self.lend().compact(alloc, name)
+    }
+}
