@@ -1,31 +1,47 @@
-//! The algorithms of RFC 7518, section 3.1, but for `none` and ES256K.
+//! The algorithms that a JSON Web Signature may name, and what an HMAC costs.
 
-ghost use Rattle.std.specs.Prelude.{◌≡◌, ◌<◌, ◌≤◌, ◌^◌, ◌≢◌, MatchOption, SomeIff};
-ghost use Rattle.jwt_mac.specs.Algorithm.{is_hmac_alg, block_size, digest_size, try_cost, name_of, alg_of};
+ghost use Rattle.std.specs.Prelude.{◌≡◌, ◌<◌, ◌^◌, ◌≢◌, MatchOption, Some, SomeIff};
+ghost use Rattle.jwt_mac.specs.Algorithm.{is_hmac_alg, block_size, digest_size, try_cost, name_of, alg_named};
 
-/// A signature algorithm.
+/// A signature algorithm of RFC 7518, section 3.1, or RFC 8037, section 3.1.
+///
+/// `none` and ES256K aren't among them, so no token that names them gets any further.
 #[derive(Clone, Copy, Debug, PartialEq, Eq)]
 pub enum Alg {
+    /// HMAC with SHA-256.
     HS256,
+    /// HMAC with SHA-384.
     HS384,
+    /// HMAC with SHA-512.
     HS512,
+    /// RSASSA-PKCS1-v1_5 with SHA-256.
     RS256,
+    /// RSASSA-PKCS1-v1_5 with SHA-384.
     RS384,
+    /// RSASSA-PKCS1-v1_5 with SHA-512.
     RS512,
+    /// RSASSA-PSS with SHA-256.
     PS256,
+    /// RSASSA-PSS with SHA-384.
     PS384,
+    /// RSASSA-PSS with SHA-512.
     PS512,
+    /// ECDSA on P-256 with SHA-256.
     ES256,
+    /// ECDSA on P-384 with SHA-384.
     ES384,
+    /// ECDSA on P-521 with SHA-512.
     ES512,
+    /// EdDSA on Ed25519 or Ed448.
     EdDSA,
 }
 
 impl Alg {
-    /// The algorithm of this name.
-    #[tactic(auto, unfolding(crate::specs::Algorithm::alg_of))]
+    /// The algorithm of this name, or None. Names are compared by case (RFC 7515, section 4.1.1).
+    #[tactic(auto, unfolding(crate::specs::Algorithm::alg_named))]
     pub fn from_text(name: &str) -> Option<Alg>
-        ensures { result ≡ alg_of name.now }
+        ensures is { result ≡ alg_named name.now }
+        ensures named { MatchOption result ((alg : Alg) → name.now ≢ name_of alg) (λ alg. name.now ≡ name_of alg) }
     {
         match name {
             "HS256" => Some(Alg::HS256),
@@ -45,9 +61,11 @@ impl Alg {
         }
     }
 
-    /// Its name.
+    /// Its name, as the header parameter `alg` has it (RFC 7515, section 4.1.1).
+    #[tactic(auto, unfolding(crate::specs::Algorithm::alg_named))]
     pub fn text(self) -> &'static str
-        ensures { result.now ≡ name_of self }
+        ensures is { result.now ≡ name_of self }
+        ensures named { alg_named (name_of self) ≡ Some self }
     {
         match self {
             Alg::HS256 => "HS256",
@@ -66,7 +84,7 @@ impl Alg {
         }
     }
 
-    /// Whether it is HMAC with SHA-2.
+    /// Whether it is HMAC with SHA-2 (RFC 7518, section 3.2): HS256, HS384 or HS512.
     pub fn is_hmac(self) -> bool
         ensures { result ≡ is_hmac_alg self }
     {
@@ -76,7 +94,7 @@ impl Alg {
         }
     }
 
-    /// The octets of a block of its hash function, 0 where it has none.
+    /// The octets in a block of its hash function, B of RFC 2104, section 2; 0 where it isn't HMAC.
     pub fn block(self) -> u32
         ensures { result ≡ block_size self }
     {
@@ -87,7 +105,8 @@ impl Alg {
         }
     }
 
-    /// The octets of a digest, 0 where it has none.
+    /// The octets in a digest of its hash function, L of RFC 2104, section 2; 0 where it isn't
+    /// HMAC. RFC 7518, section 3.2, wants keys of at least as many.
     pub fn digest(self) -> u32
         ensures { result ≡ digest_size self }
     {
@@ -100,7 +119,10 @@ impl Alg {
     }
 }
 
-/// The octets that one HMAC feeds to its hash function, if a `u64` holds their number.
+/// The octets that one HMAC feeds to its hash function, for a key and a message of so many octets:
+/// the message, two blocks and the inner digest, and the key where it is longer than a block.
+///
+/// Some(0) for an algorithm that isn't HMAC. None exactly where the number doesn't fit a `u64`.
 #[tactic(auto, unfolding(crate::specs::Algorithm::try_cost))]
 pub fn cost(alg: Alg, key_len: u64, message_len: u64) -> Option<u64>
     ensures { SomeIff result (try_cost alg key_len message_len < 2 ^ 64) (try_cost alg key_len message_len) }

@@ -1,9 +1,8 @@
-//! HMAC (RFC 2104), fed piece by piece and paid from a budget.
+//! HMAC (RFC 2104) with SHA-2, fed piece by piece and paid from a budget.
 
 ghost use Rattle.std.specs.Prelude.{◌≡◌, ◌≤◌, ◌<◌, ◌^◌, ◌+◌, ℕ, List, [], ◌∷◌, ◌++◌, length, take, replicate, ◌-◌, IsTrue, SomeIff, IfOk, OnOk, OnErr};
 ghost use Rattle.jwt_mac.specs.Hmac.{block_key, masked, hmac_of, joined};
-ghost use Rattle.jwt_mac.specs.Algorithm.{is_hmac_alg, tag_of, cost_of};
-ghost use Rattle.sha2.specs.Sha256.{sha256};
+ghost use Rattle.jwt_mac.specs.Algorithm.{is_hmac_alg, digest_size, tag_of, cost_of, sha256_of};
 
 use crate::algorithm::{Alg, cost};
 use crate::budget::Budget;
@@ -11,7 +10,7 @@ use crate::hash::HashFunction;
 use crate::tag::Tag;
 use sha2::{Digest, Sha256, Sha384, Sha512};
 
-/// The budget doesn't hold what an HMAC costs.
+/// The cost of an HMAC exceeds what is left of the budget.
 #[derive(Clone, Copy, Debug, PartialEq, Eq)]
 pub struct Spent;
 
@@ -65,7 +64,8 @@ fn mask_octets(octets: &[u8; 128], mask: u8) -> [u8; 128]
 fn mac_with<H: HashFunction>(block: usize, key: &[u8], parts: [&[u8]; 3]) -> Tag
     requires least { 64 ≤ block }
     requires most { block ≤ 128 }
-    ensures { result ≡ hmac_of H.hash block key.now (joined parts.entry) }
+    ensures tag { result ≡ hmac_of H.hash block key.now (joined parts.entry) }
+    ensures size { length result ≡ H.size }
 {
     let padded = key_block::<H>(block, key);
     let inner_pad = mask_octets(&padded, 0x36);
@@ -86,7 +86,8 @@ fn mac_with<H: HashFunction>(block: usize, key: &[u8], parts: [&[u8]; 3]) -> Tag
 // The tag of the parts' message, whatever it costs.
 fn tag_with(alg: Alg, key: &[u8], parts: [&[u8]; 3]) -> Tag
     requires { IsTrue (is_hmac_alg alg) }
-    ensures { result ≡ tag_of alg key.now (joined parts.entry) }
+    ensures tag { result ≡ tag_of alg key.now (joined parts.entry) }
+    ensures size { length result ≡ digest_size alg }
 {
     match alg {
         Alg::HS256 => mac_with::<Sha256>(64, key, parts),
@@ -109,14 +110,28 @@ fn total_len(parts: [&[u8]; 3]) -> Option<u64>
     }
 }
 
-/// The tag of the message that the parts make, paid from the budget.
+/// The tag of the message that the three parts make, joined, paid from the budget (RFC 7518,
+/// section 3.2; RFC 2104, section 2). Nothing is copied or allocated.
+///
+/// The conditions: the algorithm is HMAC, and the budget has fewer than `u32::MAX` calls. A key of any
+/// length is taken, also one shorter than RFC 7518 allows.
+///
+/// Spent comes exactly where the cost exceeds what is left, so also where no `u64` holds it, and then
+/// the budget is as before. Else the octets rise by exactly the cost, and the calls by one.
 pub fn hmac<B: Budget>(b: &mut B, alg: Alg, key: &[u8], parts: [&[u8]; 3]) -> Result<Tag, Spent>
     requires hmac { IsTrue (is_hmac_alg alg) }
     requires room { B.calls b.old + 1 < 2 ^ 32 }
+
     ensures tag { IfOk result (λ tag. tag ≡ tag_of alg key.now (joined parts.entry)) }
+    ensures size { IfOk result (λ tag. length tag ≡ digest_size alg) }
+
+    // What the budget counts.
     ensures paid { OnOk result (B.octets b.new ≡ B.octets b.old + cost_of alg key.now (joined parts.entry)) }
     ensures called { OnOk result (B.calls b.new ≡ B.calls b.old + 1) }
     ensures ceiling { B.ceiling b.new ≡ B.ceiling b.old }
+
+    // Spent comes exactly where the cost is too much, and changes nothing.
+    ensures afforded { OnOk result (B.octets b.old + cost_of alg key.now (joined parts.entry) ≤ B.ceiling b.old) }
     ensures spent { OnErr result (B.ceiling b.old < B.octets b.old + cost_of alg key.now (joined parts.entry)) }
     ensures unchanged { OnErr result (b.new ≡ b.old) }
 {
@@ -134,9 +149,11 @@ pub fn hmac<B: Budget>(b: &mut B, alg: Alg, key: &[u8], parts: [&[u8]; 3]) -> Re
     Ok(tag_with(alg, key, parts))
 }
 
-/// The SHA-256 digest of the octets that the parts make.
+/// The SHA-256 digest (FIPS 180-4, section 6.2) of the octets that the three parts make, joined. It
+/// serves thumbprints (RFC 7638, section 3), is no HMAC work, and is paid from no budget.
+#[tactic(auto, unfolding(crate::specs::Algorithm::sha256_of))]
 pub fn sha256(parts: [&[u8]; 3]) -> [u8; 32]
-    ensures { result ≡ sha256 (joined parts.entry) }
+    ensures { result ≡ sha256_of (joined parts.entry) }
 {
     let mut hasher = Sha256::new();
     hasher.update(parts[0]);

@@ -5,9 +5,9 @@ use Rattle.jwt_mac.specs.Hmac.{hmac_of, masked, block_key, joined}
 use Rattle.jwt_mac.proofs.Parts.{joined-three, joined_block}
 use Rattle.jwt_mac.proofs.mac.mac_with.Goals as goal
 
-pub returns : goal.returns
+pub returns-clause-tag : goal.returns-clause-tag
 unfolding hmac_of
-returns g c =
+returns-clause-tag g c =
     let fed = g.H.HashFunction.fed in
     let hash = g.H.HashFunction.hash in
     let k0 = block_key hash c.args.block c.args.key.now in
