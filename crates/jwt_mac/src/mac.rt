@@ -1,0 +1,163 @@
+//! HMAC (RFC 2104) with SHA-2, fed piece by piece and paid from a budget.
+
+ghost use Rattle.std.specs.Prelude.{◌≡◌, ◌≤◌, ◌<◌, ◌^◌, ◌+◌, ℕ, List, [], ◌∷◌, ◌++◌, length, take, replicate, ◌-◌, IsTrue, SomeIff, IfOk, OnOk, OnErr};
+ghost use Rattle.jwt_mac.specs.Hmac.{block_key, masked, hmac_of, joined};
+ghost use Rattle.jwt_mac.specs.Algorithm.{is_hmac_alg, digest_size, tag_of, cost_of, sha256_of};
+
+use crate::algorithm::{Alg, cost};
+use crate::budget::Budget;
+use crate::hash::HashFunction;
+use crate::tag::Tag;
+use sha2::{Digest, Sha256, Sha384, Sha512};
+
+/// The cost of an HMAC exceeds what is left of the budget.
+#[derive(Clone, Copy, Debug, PartialEq, Eq)]
+pub struct Spent;
+
+// The hash of one piece.
+fn hash_piece<H: HashFunction>(piece: &[u8]) -> Tag
+    ensures digest { result ≡ H.hash piece.now }
+    ensures short { length result ≤ 64 }
+{
+    let mut hasher = H::start();
+    hasher.feed(piece);
+    hasher.finish()
+}
+
+// The octets, followed by zero octets.
+fn zero_padded(octets: &[u8]) -> [u8; 128]
+    requires { length octets.now ≤ 128 }
+    ensures { result ≡ octets.now ++ replicate (128 - length octets.now) 0 }
+{
+    let mut room = [0u8; 128];
+    room[..octets.len()].copy_from_slice(octets);
+    room
+}
+
+// K0, the first octets of the result.
+#[tactic(auto, using(crate::proofs::Octets::block_of_padded))]
+fn key_block<H: HashFunction>(block: usize, key: &[u8]) -> [u8; 128]
+    requires least { 64 ≤ block }
+    requires most { block ≤ 128 }
+    ensures { take block result ≡ block_key H.hash block key.now }
+{
+    if key.len() > block {
+        let short = hash_piece::<H>(key);
+        zero_padded(short.octets())
+    } else {
+        zero_padded(key)
+    }
+}
+
+// Each octet, xor the mask.
+fn mask_octets(octets: &[u8; 128], mask: u8) -> [u8; 128]
+    ensures { result ≡ masked mask octets.now }
+{
+    let mut out = [0u8; 128];
+    'octets: for i in 0..128 {
+        out[i] = octets[i] ^ mask;
+    }
+    out
+}
+
+// HMAC over a hash function with this block size.
+fn mac_with<H: HashFunction>(block: usize, key: &[u8], parts: [&[u8]; 3]) -> Tag
+    requires least { 64 ≤ block }
+    requires most { block ≤ 128 }
+    ensures tag { result ≡ hmac_of H.hash block key.now (joined parts.entry) }
+    ensures size { length result ≡ H.size }
+{
+    let padded = key_block::<H>(block, key);
+    let inner_pad = mask_octets(&padded, 0x36);
+    let mut inner = H::start();
+    inner.feed(&inner_pad[..block]);
+    inner.feed(parts[0]);
+    inner.feed(parts[1]);
+    inner.feed(parts[2]);
+    let inner_tag = inner.finish();
+    let outer_pad = mask_octets(&padded, 0x5c);
+    let mut outer = H::start();
+    outer.feed(&outer_pad[..block]);
+    outer.feed(inner_tag.octets());
+    outer.finish()
+}
+
+#[tactic(auto, unfolding(crate::specs::Algorithm::tag_of))]
+// The tag of the parts' message, whatever it costs.
+fn tag_with(alg: Alg, key: &[u8], parts: [&[u8]; 3]) -> Tag
+    requires { IsTrue (is_hmac_alg alg) }
+    ensures tag { result ≡ tag_of alg key.now (joined parts.entry) }
+    ensures size { length result ≡ digest_size alg }
+{
+    match alg {
+        Alg::HS256 => mac_with::<Sha256>(64, key, parts),
+        Alg::HS384 => mac_with::<Sha384>(128, key, parts),
+        Alg::HS512 => mac_with::<Sha512>(128, key, parts),
+        _ => unreachable!(),
+    }
+}
+
+// How many octets the parts have, if a `u64` holds their number.
+fn total_len(parts: [&[u8]; 3]) -> Option<u64>
+    ensures { SomeIff result (length (joined parts.entry) < 2 ^ 64) (length (joined parts.entry)) }
+{
+    let Some(two) = (parts[0].len() as u64).checked_add(parts[1].len() as u64) else {
+        return None;
+    };
+    match two.checked_add(parts[2].len() as u64) {
+        Some(all) => Some(all),
+        None => None,
+    }
+}
+
+/// The tag of the message that the three parts make, joined, paid from the budget (RFC 7518,
+/// section 3.2; RFC 2104, section 2). Nothing is copied or allocated.
+///
+/// The conditions: the algorithm is HMAC, and the budget has fewer than `u32::MAX` calls. A key of any
+/// length is taken, also one shorter than RFC 7518 allows.
+///
+/// Spent comes exactly where the cost exceeds what is left, so also where no `u64` holds it, and then
+/// the budget is as before. Else the octets rise by exactly the cost, and the calls by one.
+pub fn hmac<B: Budget>(b: &mut B, alg: Alg, key: &[u8], parts: [&[u8]; 3]) -> Result<Tag, Spent>
+    requires hmac { IsTrue (is_hmac_alg alg) }
+    requires room { B.calls b.old + 1 < 2 ^ 32 }
+
+    ensures tag { IfOk result (λ tag. tag ≡ tag_of alg key.now (joined parts.entry)) }
+    ensures size { IfOk result (λ tag. length tag ≡ digest_size alg) }
+
+    // What the budget counts.
+    ensures paid { OnOk result (B.octets b.new ≡ B.octets b.old + cost_of alg key.now (joined parts.entry)) }
+    ensures called { OnOk result (B.calls b.new ≡ B.calls b.old + 1) }
+    ensures ceiling { B.ceiling b.new ≡ B.ceiling b.old }
+
+    // Spent comes exactly where the cost is too much, and changes nothing.
+    ensures afforded { OnOk result (B.octets b.old + cost_of alg key.now (joined parts.entry) ≤ B.ceiling b.old) }
+    ensures spent { OnErr result (B.ceiling b.old < B.octets b.old + cost_of alg key.now (joined parts.entry)) }
+    ensures unchanged { OnErr result (b.new ≡ b.old) }
+{
+    let Some(message_len) = total_len(parts) else {
+        return Err(Spent);
+    };
+    let Some(price) = cost(alg, key.len() as u64, message_len) else {
+        return Err(Spent);
+    };
+    if b.left() < price {
+        return Err(Spent);
+    }
+    b.feed(price);
+    b.call();
+    Ok(tag_with(alg, key, parts))
+}
+
+/// The SHA-256 digest (FIPS 180-4, section 6.2) of the octets that the three parts make, joined. It
+/// serves thumbprints (RFC 7638, section 3), is no HMAC work, and is paid from no budget.
+#[tactic(auto, unfolding(crate::specs::Algorithm::sha256_of))]
+pub fn sha256(parts: [&[u8]; 3]) -> [u8; 32]
+    ensures { result ≡ sha256_of (joined parts.entry) }
+{
+    let mut hasher = Sha256::new();
+    hasher.update(parts[0]);
+    hasher.update(parts[1]);
+    hasher.update(parts[2]);
+    hasher.finalize()
+}
