@@ -1,4 +1,5 @@
 ghost use Rattle.std.specs.Prelude.{◌≡◌, length, slice_get, option_map, IfOk, IsOkUnless};
+ghost use Rattle.serde_json.specs.Data.{no_members};
 ghost use Rattle.serde_json.specs.Events.{members_len};
 ghost use Rattle.jwt_text.specs.Members.{has, text_at, is_number_at, whole_at, flag_at, list_at, object_at, names, AreInOrder, compact_at};
 
@@ -30,6 +31,15 @@ impl Model for Object {
 }
 
 impl Object {
+    /// The object without members. It takes no memory.
+    pub fn empty(alloc: Global) -> Object
+        ensures { result ≡ no_members }
+    {
+        Object {
+            members: Map::new(alloc),
+        }
+    }
+
     /// The object, lent.
     pub fn lend(&self) -> ObjectRef<'_>
         ensures { result ≡ self.now }

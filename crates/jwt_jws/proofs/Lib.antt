@@ -1,0 +1,4 @@
+pub mod CompactLaws
+pub mod CritLemmas
+pub mod Each
+pub mod Periods

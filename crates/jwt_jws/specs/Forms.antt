@@ -1,0 +1,152 @@
+-- The signed token that octets are, or the first cause why they are none (RFC 7515, sections 7.1 and 7.2).
+use Rattle.std.specs.Prelude.{◌≡◌, ℕ, ◌==◌, ◌||◌, Bool, true, false, not, List, [], ◌∷◌, length, Option, Some, None, Result, Ok, Err, option_map, nat_lt, if◌then◌else◌, codes}
+use Rattle.std.specs.List.{slice_split, list_any, find}
+use Rattle.serde_json.specs.Data.{Data, Members, no_members}
+use Rattle.serde_json.specs.Find.{get_member, as_object}
+use Rattle.jwt_text.specs.Answers.{◌>>=◌, or_fault, some_or, each}
+use Rattle.jwt_text.specs.Base64url.{spelled}
+use Rattle.jwt_text.specs.Members.{has, text_at, list_at, names}
+use Rattle.jwt_text.specs.ObjectText.{object_of}
+use Rattle.jwt_text.specs.declared.fault.TextFault.{TextFault}
+use Rattle.jwt_text.specs.declared.fault.TextFault.TheVariants.{NameTwice as TextNameTwice}
+use Rattle.jwt_jws.specs.Token.{SignatureParts, Token}
+use Rattle.jwt_jws.specs.declared.fault.FormFault.{FormFault}
+use Rattle.jwt_jws.specs.declared.fault.FormFault.TheVariants.{Empty, Encrypted, Segments, Json, NameTwice, Members as WrongMembers, TooManySignatures, Base64, Header, UnprotectedKind, NamesOverlap}
+use Rattle.jwt_jws.specs.declared.fault.Place.TheVariants.{Payload, Protected, Signature}
+use Rattle.jwt_jws.specs.declared.fault.Form.{Form}
+use Rattle.jwt_jws.specs.declared.fault.Form.TheVariants.{Compact, General, Flattened}
+
+-- A signature as it is spelled: the protected text, the member `header` (None: absent; Some None: of another kind than an
+-- object), and the signature text.
+pub record Spelled : Type 0 where
+  pub protected : List ℕ
+  pub header : Option (Option Members)
+  pub signature : List ℕ
+
+-- a token as it is spelled
+pub record SpelledToken : Type 0 where
+  pub form : Form
+  pub payload : List ℕ
+  pub signatures : List Spelled
+
+-- ---- compact form: three parts between periods; five are an encrypted token (RFC 7516, section 7.1)
+
+abbrev pub is_period : ℕ → Bool
+is_period c = c == 46
+
+abbrev pub compact_token : List ℕ → List ℕ → List ℕ → SpelledToken
+compact_token h p g = record { form = Compact; payload = p; signatures = record { protected = h; header = None; signature = g } ∷ [] }
+
+abbrev pub compact_of : List (List ℕ) → Result SpelledToken FormFault
+compact_of (h ∷ p ∷ g ∷ []) = Ok (compact_token h p g)
+compact_of (a ∷ b ∷ c ∷ d ∷ e ∷ []) = Err Encrypted
+compact_of _ = Err Segments
+
+unfoldable pub compact : List ℕ → Result SpelledToken FormFault
+compact z = compact_of (slice_split is_period z)
+
+-- ---- JSON form, general and flattened
+
+-- an absent `protected` is the empty text
+abbrev pub protected_text : Members → Result (List ℕ) FormFault
+protected_text m = if has (codes "protected") m then some_or WrongMembers (text_at (codes "protected") m) else Ok []
+
+unfoldable pub spelled_signature : Members → Result Spelled FormFault
+spelled_signature m = do
+  signature ← some_or WrongMembers (text_at (codes "signature") m)
+  protected ← protected_text m
+  Ok (record { protected = protected; header = option_map as_object (get_member (codes "header") m); signature = signature })
+
+unfoldable pub flattened : Members → Result SpelledToken FormFault
+flattened m = do
+  payload ← some_or WrongMembers (text_at (codes "payload") m)
+  signature ← spelled_signature m
+  Ok (record { form = Flattened; payload = payload; signatures = signature ∷ [] })
+
+abbrev pub spelled_element : ℕ → Data → Result Spelled FormFault
+spelled_element i d = some_or WrongMembers (as_object d) >>= spelled_signature
+
+-- at least one signature and at most so many
+abbrev pub within : ℕ → List Spelled → Result (List Spelled) FormFault
+within most [] = Err WrongMembers
+within most (s ∷ ss) = if nat_lt most (length (s ∷ ss)) then Err TooManySignatures else Ok (s ∷ ss)
+
+unfoldable pub general : ℕ → Members → Result SpelledToken FormFault
+general most m = do
+  payload ← some_or WrongMembers (text_at (codes "payload") m)
+  list ← some_or WrongMembers (list_at (codes "signatures") m)
+  elements ← each spelled_element 0 list
+  signatures ← within most elements
+  Ok (record { form = General; payload = payload; signatures = signatures })
+
+unfoldable pub json_of : ℕ → Members → Result SpelledToken FormFault
+json_of most m =
+    if has (codes "ciphertext") m then Err Encrypted
+    else if has (codes "signature") m then (if has (codes "signatures") m then Err WrongMembers else flattened m)
+    else general most m
+
+abbrev pub read_as : Result Members TextFault → Result Members FormFault
+read_as (Ok m) = Ok m
+read_as (Err TextNameTwice) = Err NameTwice
+read_as (Err _) = Err Json
+
+-- ---- one signature, number i
+
+abbrev may_be_empty : Form → List ℕ → Bool
+may_be_empty Compact text = false
+may_be_empty _ [] = true
+may_be_empty _ (c ∷ cs) = false
+
+-- the protected header; in JSON form the empty text has the empty one
+unfoldable pub protected_of : Form → ℕ → List ℕ → Result Members FormFault
+protected_of form i text =
+    if may_be_empty form text then Ok no_members
+    else (or_fault (Base64 (Protected i)) (spelled text) >>= λ octets. or_fault (Header i) (object_of octets))
+
+abbrev pub unprotected_of : ℕ → Option (Option Members) → Result (Option Members) FormFault
+unprotected_of i None = Ok None
+unprotected_of i (Some None) = Err (UnprotectedKind i)
+unprotected_of i (Some (Some u)) = Ok (Some u)
+
+-- some name is in both headers
+abbrev pub overlap : Members → Option Members → Bool
+overlap p None = false
+overlap p (Some u) = list_any (λ name. has name p) (names u)
+
+unfoldable pub signature_of : Form → ℕ → Spelled → Result SignatureParts FormFault
+signature_of form i s = do
+  protected ← protected_of form i s.protected
+  unprotected ← unprotected_of i s.header
+  octets ← if overlap protected unprotected then Err (NamesOverlap i) else or_fault (Base64 (Signature i)) (spelled s.signature)
+  Ok (record { protected_text = s.protected; protected = protected; unprotected = unprotected; octets = octets })
+
+unfoldable pub signed_of : SpelledToken → Result Token FormFault
+signed_of t = do
+  payload ← or_fault (Base64 Payload) (spelled t.payload)
+  signatures ← each (signature_of t.form) 0 t.signatures
+  Ok (record { form = t.form; payload_text = t.payload; payload = payload; signatures = signatures })
+
+-- ---- the whole
+
+-- JSON white space (RFC 8259, section 2)
+abbrev pub is_space : ℕ → Bool
+is_space c = c == 9 || c == 10 || c == 13 || c == 32
+
+abbrev pub is_no_space : ℕ → Bool
+is_no_space c = not (is_space c)
+
+abbrev pub is_brace : Option ℕ → Bool
+is_brace None = false
+is_brace (Some c) = c == 123
+
+-- the first octet that isn't white space is '{'
+abbrev pub opens_object : List ℕ → Bool
+opens_object z = is_brace (find is_no_space z)
+
+unfoldable pub spelled_token : ℕ → List ℕ → Result SpelledToken FormFault
+spelled_token most z = if opens_object z then (read_as (object_of z) >>= json_of most) else compact z
+
+-- the signed token with at most so many signatures that octets are, or the first cause why they are none
+unfoldable pub form_of : ℕ → List ℕ → Result Token FormFault
+form_of most [] = Err Empty
+form_of most (c ∷ cs) = spelled_token most (c ∷ cs) >>= signed_of

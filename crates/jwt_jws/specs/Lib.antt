@@ -1,0 +1,5 @@
+pub mod CompactForm
+pub mod Crit
+pub mod Forms
+pub mod Token
+pub mod Views

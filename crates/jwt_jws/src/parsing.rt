@@ -1,0 +1,113 @@
+//! Reading a signed token.
+ghost use Rattle.std.specs.Prelude.{◌≡◌, ◌<◌, ◌≤◌, false, length, map, IfOk};
+ghost use Rattle.jwt_text.specs.Answers.{Answers, each};
+ghost use Rattle.jwt_jws.specs.Forms.{signed_of, signature_of, form_of, opens_object};
+ghost use Rattle.jwt_jws.specs.Views.{token, parts, spelled_view, json_view, compact_view, AreLent};
+
+use crate::compact::{Segments, segments_of};
+use crate::fault::{Form, FormFault, Place};
+use crate::json::{SpelledJson, SpelledSignature, json_object, opens_object, spelled_json};
+use crate::signature::Signature;
+use crate::signed::Signed;
+use crate::signing::{make_signature, octets_of};
+use crate::unprotected::Unprotected;
+use jwt_text::Part;
+use std::alloc::Global;
+
+#[tactic(auto, unfolding(crate::specs::Forms::signed_of))]
+fn compact_signed<'a>(alloc: Global, segments: &Segments<'a>) -> Result<Signed<'a>, FormFault>
+    ensures value { Answers FormFault.OutOfMemory token result (signed_of (compact_view segments.now)) }
+    ensures lent { IfOk result AreLent }
+{
+    let payload = octets_of(alloc, segments.payload, Place::Payload)?;
+    let signature = make_signature(
+        alloc,
+        Form::Compact,
+        0,
+        Part::Slice(segments.protected),
+        &Unprotected::Absent,
+        segments.signature,
+    )?;
+    let mut signatures = Vec::new(alloc);
+    signatures.push(signature)?;
+    Ok(Signed {
+        form: Form::Compact,
+        payload_text: Part::Slice(segments.payload),
+        payload,
+        signatures,
+    })
+}
+
+fn owned_signature<'a>(
+    alloc: Global,
+    form: Form,
+    i: u32,
+    spelled: &SpelledSignature<'_>,
+) -> Result<Signature<'a>, FormFault>
+    ensures { Answers FormFault.OutOfMemory parts result (signature_of form i (spelled_view spelled.now)) }
+{
+    let text = Part::Owned(Vec::from_slice(alloc, spelled.protected)?);
+    make_signature(alloc, form, i, text, &spelled.header, spelled.signature)
+}
+
+fn owned_signatures<'a>(
+    alloc: Global,
+    form: Form,
+    spelled: &[SpelledSignature<'_>],
+) -> Result<Vec<Signature<'a>>, FormFault>
+    requires { length spelled.now ≤ 32 }
+    ensures value { Answers FormFault.OutOfMemory (λ v. map parts v.items) result (each (signature_of form) 0 (map spelled_view spelled.now)) }
+    ensures count { IfOk result (λ v. length v.items ≡ length spelled.now) }
+{
+    let mut signatures = Vec::new(alloc);
+    for (i, signature) in spelled.iter().enumerate() {
+        let made = owned_signature(alloc, form, i as u32, signature)?;
+        signatures.push(made)?;
+    }
+    Ok(signatures)
+}
+
+#[tactic(auto, unfolding(crate::specs::Forms::signed_of))]
+fn json_signed<'a>(alloc: Global, spelled: &SpelledJson<'_>) -> Result<Signed<'a>, FormFault>
+    requires some { 0 < length spelled.now.signatures.items }
+    requires few { length spelled.now.signatures.items ≤ 32 }
+    ensures { Answers FormFault.OutOfMemory token result (signed_of (json_view spelled.now)) }
+{
+    let payload = octets_of(alloc, spelled.payload, Place::Payload)?;
+    let signatures = owned_signatures(alloc, spelled.form, spelled.signatures.as_slice())?;
+    let text = Vec::from_slice(alloc, spelled.payload)?;
+    Ok(Signed {
+        form: spelled.form,
+        payload_text: Part::Owned(text),
+        payload,
+        signatures,
+    })
+}
+
+/// Reads a signed token, in compact or in JSON form (RFC 7515, section 7), with at most `max_signatures` signatures, 1 to 32.
+///
+/// Refused with the first cause that holds, as [`FormFault`] lists them, or with `FormFault::OutOfMemory`. In compact form no
+/// octet of the signing input is copied. Nothing is verified.
+#[tactic(auto, unfolding(crate::specs::Forms::form_of, crate::specs::Forms::spelled_token))]
+pub fn parse<'a>(
+    alloc: Global,
+    octets: &'a [u8],
+    max_signatures: u32,
+) -> Result<Signed<'a>, FormFault>
+    requires least { 0 < max_signatures }
+    requires most { max_signatures ≤ 32 }
+    ensures value { Answers FormFault.OutOfMemory token result (form_of max_signatures octets.now) }
+    ensures lent { opens_object octets.now ≡ false → IfOk result AreLent }
+{
+    if octets.is_empty() {
+        return Err(FormFault::Empty);
+    }
+    if opens_object(octets) {
+        let object = json_object(alloc, octets)?;
+        let spelled = spelled_json(alloc, max_signatures, &object.lend())?;
+        json_signed(alloc, &spelled)
+    } else {
+        let segments = segments_of(octets)?;
+        compact_signed(alloc, &segments)
+    }
+}

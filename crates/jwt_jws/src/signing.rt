@@ -1,0 +1,104 @@
+//! One signature of a token, from its three members as they are spelled.
+ghost use Rattle.std.specs.Prelude.{◌≡◌, Option, option_map, IfOk};
+ghost use Rattle.jwt_text.specs.Answers.{Answers, or_fault};
+ghost use Rattle.jwt_text.specs.Base64url.{spelled};
+ghost use Rattle.jwt_text.specs.ObjectText.{object_of};
+ghost use Rattle.jwt_text.specs.Parts.{part_octets};
+ghost use Rattle.jwt_jws.specs.declared.fault.FormFault.TheVariants.{Base64, Header};
+ghost use Rattle.jwt_jws.specs.Forms.{protected_of, unprotected_of, overlap, signature_of};
+ghost use Rattle.jwt_jws.specs.Views.{header_view, parts};
+
+use crate::crit::crit_repeats;
+use crate::fault::{Form, FormFault, Place};
+use crate::signature::Signature;
+use crate::unprotected::Unprotected;
+use jwt_text::{Object, Part, TextFault};
+use std::alloc::Global;
+
+/// The octets that a text of the token spells.
+pub(crate) fn octets_of(alloc: Global, text: &[u8], place: Place) -> Result<Vec<u8>, FormFault>
+    ensures { Answers FormFault.OutOfMemory (λ v. v.items) result (or_fault (Base64 place) (spelled text.now)) }
+{
+    match jwt_text::decode(alloc, text) {
+        Ok(octets) => Ok(octets),
+        Err(TextFault::OutOfMemory) => Err(FormFault::OutOfMemory),
+        Err(_) => Err(FormFault::Base64(place)),
+    }
+}
+
+fn header_of(alloc: Global, octets: &[u8], i: u32) -> Result<Object, FormFault>
+    ensures { Answers FormFault.OutOfMemory (λ o. o) result (or_fault (Header i) (object_of octets.now)) }
+{
+    match jwt_text::object(alloc, octets) {
+        Ok(object) => Ok(object),
+        Err(TextFault::OutOfMemory) => Err(FormFault::OutOfMemory),
+        Err(_) => Err(FormFault::Header(i)),
+    }
+}
+
+#[tactic(auto, unfolding(crate::specs::Forms::protected_of))]
+fn protected_header(alloc: Global, form: Form, i: u32, text: &[u8]) -> Result<Object, FormFault>
+    ensures { Answers FormFault.OutOfMemory (λ o. o) result (protected_of form i text.now) }
+{
+    if form != Form::Compact && text.is_empty() {
+        return Ok(Object::empty(alloc));
+    }
+    let octets = octets_of(alloc, text, Place::Protected(i))?;
+    header_of(alloc, octets.as_slice(), i)
+}
+
+fn unprotected_header(
+    alloc: Global,
+    i: u32,
+    header: &Unprotected<'_>,
+) -> Result<Option<Object>, FormFault>
+    ensures { Answers FormFault.OutOfMemory (λ o. o) result (unprotected_of i (header_view header.now)) }
+{
+    match header {
+        Unprotected::Absent => Ok(None),
+        Unprotected::OtherKind => Err(FormFault::UnprotectedKind(i)),
+        Unprotected::Members(object) => match object.to_object(alloc) {
+            Ok(copy) => Ok(Some(copy)),
+            Err(_) => Err(FormFault::OutOfMemory),
+        },
+    }
+}
+
+fn names_overlap(protected: &Object, unprotected: &Option<Object>) -> bool
+    ensures { result ≡ overlap protected.now unprotected.now }
+{
+    match unprotected {
+        Some(unprotected) => unprotected.lend().shares_name(&protected.lend()),
+        None => false,
+    }
+}
+
+/// Signature `i`, from its three members as they are spelled.
+#[tactic(auto, unfolding(crate::specs::Forms::signature_of))]
+pub(crate) fn make_signature<'a>(
+    alloc: Global,
+    form: Form,
+    i: u32,
+    protected_text: Part<'a>,
+    header: &Unprotected<'_>,
+    signature: &[u8],
+) -> Result<Signature<'a>, FormFault>
+    ensures value { Answers FormFault.OutOfMemory parts result (signature_of form i
+        (record { protected = part_octets protected_text.entry; header = header_view header.now; signature = signature.now })) }
+    ensures same_text { IfOk result (λ s. s.protected_text ≡ protected_text.entry) }
+{
+    let protected = protected_header(alloc, form, i, protected_text.octets())?;
+    let unprotected = unprotected_header(alloc, i, header)?;
+    if names_overlap(&protected, &unprotected) {
+        return Err(FormFault::NamesOverlap(i));
+    }
+    let octets = octets_of(alloc, signature, Place::Signature(i))?;
+    let repeats = crit_repeats(alloc, &protected)?;
+    Ok(Signature {
+        protected_text,
+        protected,
+        unprotected,
+        octets,
+        repeats,
+    })
+}
