@@ -14,6 +14,14 @@ use sha2::{Digest, Sha256, Sha384, Sha512};
 #[derive(Clone, Copy, Debug, PartialEq, Eq)]
 pub struct Spent;
 
+// The octets of the largest block, that of SHA-384 and SHA-512.
+const MOST_BLOCK: usize = 128;
+
+// What each octet of ipad and of opad is (RFC 2104, section 2).
+const INNER_MASK: u8 = 0x36;
+
+const OUTER_MASK: u8 = 0x5c;
+
 // The hash of one piece.
 fn hash_piece<H: HashFunction>(piece: &[u8]) -> Tag
     ensures digest { result ≡ H.hash piece.now }
@@ -25,20 +33,20 @@ fn hash_piece<H: HashFunction>(piece: &[u8]) -> Tag
 }
 
 // The octets, followed by zero octets.
-fn zero_padded(octets: &[u8]) -> [u8; 128]
-    requires { length octets.now ≤ 128 }
-    ensures { result ≡ octets.now ++ replicate (128 - length octets.now) 0 }
+fn zero_padded(octets: &[u8]) -> [u8; MOST_BLOCK]
+    requires { length octets.now ≤ MOST_BLOCK }
+    ensures { result ≡ octets.now ++ replicate (MOST_BLOCK - length octets.now) 0 }
 {
-    let mut room = [0u8; 128];
+    let mut room = [0u8; MOST_BLOCK];
     room[..octets.len()].copy_from_slice(octets);
     room
 }
 
-// K0, the first octets of the result.
+// The key as a block, hashed first where it is longer than one: the first `block` octets of the result.
 #[tactic(auto, using(crate::proofs::Octets::block_of_padded))]
-fn key_block<H: HashFunction>(block: usize, key: &[u8]) -> [u8; 128]
+fn key_block<H: HashFunction>(block: usize, key: &[u8]) -> [u8; MOST_BLOCK]
     requires least { 64 ≤ block }
-    requires most { block ≤ 128 }
+    requires most { block ≤ MOST_BLOCK }
     ensures { take block result ≡ block_key H.hash block key.now }
 {
     if key.len() > block {
@@ -50,40 +58,41 @@ fn key_block<H: HashFunction>(block: usize, key: &[u8]) -> [u8; 128]
 }
 
 // Each octet, xor the mask.
-fn mask_octets(octets: &[u8; 128], mask: u8) -> [u8; 128]
+fn mask_octets(octets: &[u8; MOST_BLOCK], mask: u8) -> [u8; MOST_BLOCK]
     ensures { result ≡ masked mask octets.now }
 {
-    let mut out = [0u8; 128];
-    'octets: for i in 0..128 {
+    let mut out = [0u8; MOST_BLOCK];
+    'octets: for i in 0..MOST_BLOCK {
         out[i] = octets[i] ^ mask;
     }
     out
 }
 
-// HMAC over a hash function with this block size.
+// HMAC over a hash function with blocks of so many octets. The inner and the outer hasher run over the
+// pieces as they stand.
 fn mac_with<H: HashFunction>(block: usize, key: &[u8], parts: [&[u8]; 3]) -> Tag
     requires least { 64 ≤ block }
-    requires most { block ≤ 128 }
+    requires most { block ≤ MOST_BLOCK }
     ensures tag { result ≡ hmac_of H.hash block key.now (joined parts.entry) }
     ensures size { length result ≡ H.size }
 {
     let padded = key_block::<H>(block, key);
-    let inner_pad = mask_octets(&padded, 0x36);
+    let inner_pad = mask_octets(&padded, INNER_MASK);
     let mut inner = H::start();
     inner.feed(&inner_pad[..block]);
     inner.feed(parts[0]);
     inner.feed(parts[1]);
     inner.feed(parts[2]);
     let inner_tag = inner.finish();
-    let outer_pad = mask_octets(&padded, 0x5c);
+    let outer_pad = mask_octets(&padded, OUTER_MASK);
     let mut outer = H::start();
     outer.feed(&outer_pad[..block]);
     outer.feed(inner_tag.octets());
     outer.finish()
 }
 
-#[tactic(auto, unfolding(crate::specs::Algorithm::tag_of))]
 // The tag of the parts' message, whatever it costs.
+#[tactic(auto, unfolding(crate::specs::Algorithm::tag_of))]
 fn tag_with(alg: Alg, key: &[u8], parts: [&[u8]; 3]) -> Tag
     requires { IsTrue (is_hmac_alg alg) }
     ensures tag { result ≡ tag_of alg key.now (joined parts.entry) }
