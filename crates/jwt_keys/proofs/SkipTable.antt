@@ -1,0 +1,61 @@
+-- The entry's reading answers the first row of the table.
+use Rattle.std.proofs.Common.{◌≡◌, ℕ, true, false, cond, List, [], ◌∷◌, ◌++◌, Option, Some, None, refl, ◌∙◌}
+use Rattle.std.specs.Prelude.{MatchResult, Result, Ok, Err, is_none}
+use Rattle.serde_json.specs.Data.{Members}
+use Rattle.jwt_text.specs.Rows.{Row, first_row, NoRow, IsFirstRow}
+use Rattle.jwt_keys.specs.Answers.{unless}
+use Rattle.jwt_keys.specs.Keys.{KeyParts}
+use Rattle.jwt_keys.specs.Kinds.{kind_at}
+use Rattle.jwt_keys.specs.SkipTable.{skip_rows, shape_rows, octet_rows, octet_rows_of, shape_skip_of, octet_skip_of}
+use Rattle.jwt_keys.specs.Entries.{key_in, key_of, key_of_kind, skipped_or, parts_of}
+use Rattle.jwt_keys.specs.KeySets.{SkipsByTheTable}
+use Rattle.jwt_keys.specs.declared.skip.SkipReason.{SkipReason}
+use Rattle.jwt_keys.specs.declared.kind.Kind.{Kind}
+use Rattle.jwt_keys.proofs.FirstRows.{no_row, first_row_is}
+
+abbrev or_first : {F : Type 0} → Option F → Option F → Option F
+or_first None b = b
+or_first (Some a) b = Some a
+
+first_row-append : {F : Type 0} (rs ss : List (Row F)) → first_row (rs ++ ss) ≡ or_first (first_row rs) (first_row ss)
+first_row-append [] ss = refl
+first_row-append (r ∷ rs) ss = elim r.holds as (λ b. cond b (Some r.answer) (first_row (rs ++ ss)) ≡ or_first (cond b (Some r.answer) (first_row rs)) (first_row ss)) [
+  | true ↦ refl
+  | false ↦ first_row-append rs ss
+]
+
+-- an answer by these rows
+abbrev ByRows : List (Row SkipReason) → Result KeyParts SkipReason → Type 0
+ByRows rs answer = MatchResult answer (λ k. first_row rs ≡ None) (λ reason. first_row rs ≡ Some reason)
+
+of_octets : (place : ℕ) (kind : Kind) (ms : Members) (o : Option SkipReason) → first_row (octet_rows kind ms) ≡ o → ByRows (octet_rows kind ms) (unless o (parts_of place kind ms))
+of_octets place kind ms None e = e
+of_octets place kind ms (Some r) e = e
+
+of_kind : (place : ℕ) (ms : Members) (k : Option Kind) → is_none k ≡ false → ByRows (octet_rows_of k ms) (key_of_kind place k ms)
+unfolding octet_skip_of
+of_kind place ms None e = absurd (cc e)
+of_kind place ms (Some kind) e = of_octets place kind ms (first_row (octet_rows kind ms)) refl
+
+kind_is_there : (ms : Members) → first_row (shape_rows ms) ≡ None → is_none (kind_at ms) ≡ false
+kind_is_there ms e = no_row (shape_rows ms) e 5 _ refl
+
+after_shape : (rs ss : List (Row SkipReason)) (o : Option SkipReason) (answer : Result KeyParts SkipReason) → first_row rs ≡ o → (o ≡ None → ByRows ss answer) → ByRows (rs ++ ss) (skipped_or o answer)
+after_shape rs ss None (Ok k) e h = first_row-append rs ss ∙ rw e (h refl)
+after_shape rs ss None (Err r) e h = first_row-append rs ss ∙ rw e (h refl)
+after_shape rs ss (Some r) answer e h = first_row-append rs ss ∙ rw e refl
+
+of_members : (place : ℕ) (ms : Members) → ByRows (shape_rows ms ++ octet_rows_of (kind_at ms) ms) (key_of place ms)
+unfolding key_of shape_skip_of
+of_members place ms = after_shape (shape_rows ms) (octet_rows_of (kind_at ms) ms) (first_row (shape_rows ms)) (key_of_kind place (kind_at ms) ms) refl (λ e. of_kind place ms (kind_at ms) (kind_is_there ms e))
+
+by_rows : (place : ℕ) (entry : Option Members) → ByRows (skip_rows entry) (key_in place entry)
+by_rows place None = refl
+by_rows place (Some ms) = of_members place ms
+
+told : (rs : List (Row SkipReason)) (answer : Result KeyParts SkipReason) → ByRows rs answer → MatchResult answer (λ k. NoRow rs) (λ reason. IsFirstRow rs reason)
+told rs (Ok k) h = no_row rs h
+told rs (Err r) h = first_row_is rs r h
+
+pub skips_by_the_table : SkipsByTheTable
+skips_by_the_table place entry = told (skip_rows entry) (key_in place entry) (by_rows place entry)

@@ -1,0 +1,18 @@
+-- How long a spelling is.
+use Rattle.std.proofs.Common.{◌≡◌, ℕ, zero, suc, ◌+◌, ◌*◌, ◌/◌, List, [], ◌∷◌, length, refl, arith, length-append}
+use Rattle.jwt_text.specs.Base64url.{digits, spelling}
+
+length-digits : (k n : ℕ) → length (digits k n) ≡ k
+unfolding digits
+length-digits zero n = refl
+length-digits (suc k) n = grind (arith, length-append, length-digits k (n / 64))
+
+pub length_spelling : (v : List ℕ) → length (spelling v) ≡ (4 * length v + 2) / 3
+unfolding spelling
+length_spelling [] = refl
+length_spelling (a ∷ []) = length-digits 2 (16 * a)
+length_spelling (a ∷ b ∷ []) = length-digits 3 (4 * (256 * a + b))
+length_spelling (a ∷ b ∷ c ∷ rest) =
+    let head = length-digits 4 (65536 * a + 256 * b + c) in
+    let tail = length_spelling rest in
+    rw (length-append (digits 4 (65536 * a + 256 * b + c)) (spelling rest), head, tail) (omega arith)

@@ -1,0 +1,9 @@
+pub mod Answers
+pub mod Kinds
+pub mod Keys
+pub mod SkipTable
+pub mod Thumbprints
+pub mod Entries
+pub mod KeySets
+pub mod Numbers
+pub mod Views

@@ -1,0 +1,54 @@
+//! Why a key set is refused, and why an entry gives no key.
+
+ghost use Rattle.std.specs.Prelude.{◌≡◌};
+ghost use Rattle.jwt_keys.specs.declared.fault.EntryFault.TheVariants.{OutOfMemory};
+
+use crate::skip::SkipReason;
+use std::alloc::{AllocError, AllocFailed};
+use thiserror::Error;
+
+/// Why a key set is refused.
+#[derive(Clone, Copy, Debug, PartialEq, Eq, Error)]
+pub enum KeysFault {
+    /// A growth was refused.
+    #[error("out of memory")]
+    OutOfMemory,
+    /// The octets are no JSON text in UTF-8.
+    #[error("not JSON")]
+    Json,
+    /// The text is no object, or the object has no list `keys`.
+    #[error("not a key set")]
+    NotKeySet,
+    /// A name stands twice in one object, at any depth.
+    #[error("a name stands twice")]
+    NameTwice,
+    /// The list `keys` has more than 1,024 entries, readable or not.
+    #[error("too many keys")]
+    TooManyKeys,
+    /// There are more than 4,194,304 octets.
+    #[error("too long")]
+    TooLong,
+}
+
+/// Why an entry that is an object gives no key.
+#[derive(Clone, Copy, Debug, PartialEq, Eq)]
+pub(crate) enum EntryFault {
+    OutOfMemory,
+    Skipped(SkipReason),
+}
+
+impl From<AllocError> for EntryFault {
+    ghost from_gives = { λ _ e. e ≡ OutOfMemory };
+
+    fn from(_error: AllocError) -> EntryFault {
+        EntryFault::OutOfMemory
+    }
+}
+
+impl<T: Drop> From<AllocFailed<T>> for EntryFault {
+    ghost from_gives = { λ _ e. e ≡ OutOfMemory };
+
+    fn from(_error: AllocFailed<T>) -> EntryFault {
+        EntryFault::OutOfMemory
+    }
+}

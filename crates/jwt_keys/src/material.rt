@@ -1,0 +1,93 @@
+//! The octets of a key.
+
+ghost use Rattle.std.specs.Prelude.{◌≡◌};
+ghost use Rattle.jwt_keys.specs.Answers.{ReadsAs, unless};
+ghost use Rattle.jwt_keys.specs.SkipTable.{spelled, octet_skip_of};
+ghost use Rattle.jwt_keys.specs.Entries.{octets_in};
+ghost use Rattle.jwt_keys.specs.Views.{material_octets};
+
+use crate::fault::EntryFault;
+use crate::kind::{Kind, fits};
+use crate::skip::SkipReason;
+use jwt_mac::{Curve, EdCurve};
+use jwt_text::{ObjectRef, TextFault, decode};
+use std::alloc::Global;
+
+/// The octets that a key's members spell, with its curve where it has one.
+#[derive(Drop)]
+pub(crate) enum Material {
+    Oct {
+        k: Vec<u8>,
+    },
+    Rsa {
+        n: Vec<u8>,
+        e: Vec<u8>,
+    },
+    Ec {
+        curve: Curve,
+        x: Vec<u8>,
+        y: Vec<u8>,
+    },
+    Okp {
+        curve: EdCurve,
+        x: Vec<u8>,
+    },
+}
+
+/// The octets that the member of this name spells.
+fn octets(alloc: Global, members: &ObjectRef<'_>, name: &str) -> Result<Vec<u8>, EntryFault>
+    ensures { ReadsAs (λ v. v.items) result (spelled name.now members.now) }
+{
+    let Some(text) = members.text(name) else {
+        return Err(EntryFault::Skipped(SkipReason::Base64));
+    };
+    match decode(alloc, text.as_bytes()) {
+        Ok(octets) => Ok(octets),
+        Err(TextFault::Base64) => Err(EntryFault::Skipped(SkipReason::Base64)),
+        Err(_) => Err(EntryFault::OutOfMemory),
+    }
+}
+
+/// The octets of a key of this kind, or the first reason of spelling and size why there are none.
+#[tactic(auto, unfolding(crate::specs::SkipTable::octet_skip_of))]
+pub(crate) fn read_material(
+    alloc: Global,
+    kind: Kind,
+    members: &ObjectRef<'_>,
+) -> Result<Material, EntryFault>
+    ensures { let answer = unless (octet_skip_of kind members.now) (octets_in kind members.now) in
+        ReadsAs material_octets result answer }
+{
+    match kind {
+        Kind::Oct => {
+            let k = octets(alloc, members, "k")?;
+            if !fits(kind, k.len()) {
+                return Err(EntryFault::Skipped(SkipReason::Length));
+            }
+            Ok(Material::Oct { k })
+        }
+        Kind::Rsa => {
+            let n = octets(alloc, members, "n")?;
+            let e = octets(alloc, members, "e")?;
+            if !(fits(kind, n.len()) && fits(kind, e.len())) {
+                return Err(EntryFault::Skipped(SkipReason::Length));
+            }
+            Ok(Material::Rsa { n, e })
+        }
+        Kind::Ec(curve) => {
+            let x = octets(alloc, members, "x")?;
+            let y = octets(alloc, members, "y")?;
+            if !(fits(kind, x.len()) && fits(kind, y.len())) {
+                return Err(EntryFault::Skipped(SkipReason::Length));
+            }
+            Ok(Material::Ec { curve, x, y })
+        }
+        Kind::Okp(curve) => {
+            let x = octets(alloc, members, "x")?;
+            if !fits(kind, x.len()) {
+                return Err(EntryFault::Skipped(SkipReason::Length));
+            }
+            Ok(Material::Okp { curve, x })
+        }
+    }
+}

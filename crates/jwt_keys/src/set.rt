@@ -1,0 +1,165 @@
+//! A key set: its readable keys in order, found by number and by name.
+
+ghost use Rattle.std.specs.Prelude.{◌≡◌, ◌≤◌, ◌&&◌, ◌↔◌, [], length, map, IfOk, IsTrue, slice_get, option_map};
+ghost use Rattle.jwt_keys.specs.Keys.{has_thumbprint, names};
+ghost use Rattle.jwt_keys.specs.Numbers.{IsLeastFrom};
+ghost use Rattle.jwt_keys.specs.Views.{IsIndex, key_parts};
+
+use crate::entry::add_entry;
+use crate::fault::KeysFault;
+use crate::index::{Index, earlier, first_from};
+use crate::key::Key;
+use crate::skip::Skip;
+use jwt_text::{TextFault, object};
+use std::alloc::{AllocError, Global};
+
+/// The greatest number of octets of a key set document.
+const MAX_OCTETS: usize = 4_194_304;
+
+/// The greatest number of entries of a key set.
+const MAX_ENTRIES: usize = 1024;
+
+/// The readable keys of a key set document, numbered from 0 in the order of their entries, and the entries that were
+/// skipped (RFC 7517, section 5).
+#[derive(Drop)]
+pub struct KeySet {
+    pub(crate) keys: Vec<Key>,
+    pub(crate) skipped: Vec<Skip>,
+    pub(crate) index: Index,
+    ghost few: { length keys.items ≤ 1024 },
+    ghost indexed: { IsIndex index keys.items },
+}
+
+impl KeySet {
+    ghost use Rattle.jwt_text.specs.Answers.{Answers};
+    ghost use Rattle.jwt_keys.specs.KeySets.{key_list, key_set_of, key_set};
+
+    /// The key set of a document in UTF-8: an object with the list `keys`, of at most 1,024 entries, in at most
+    /// 4,194,304 octets (RFC 7517, section 5). An entry that is no readable key is skipped and never refuses the set.
+    ///
+    /// # Errors
+    /// The first that holds of `TooLong`, more octets; `Json`, no JSON text; `NotKeySet`, no object; `NameTwice`, a
+    /// name that stands twice in one object, at any depth; `NotKeySet`, no list `keys`; `TooManyKeys`, more entries.
+    /// `OutOfMemory` comes where a growth was refused, in place of any other answer but `TooLong`.
+    #[tactic(auto, unfolding(crate::specs::KeySets::key_set_of))]
+    pub fn read(alloc: Global, octets: &[u8]) -> Result<KeySet, KeysFault>
+        ensures { Answers KeysFault.OutOfMemory key_set result (key_set_of octets.now) }
+    {
+        if octets.len() > MAX_OCTETS {
+            return Err(KeysFault::TooLong);
+        }
+        let document = match object(alloc, octets) {
+            Ok(document) => document,
+            Err(TextFault::OutOfMemory) => return Err(KeysFault::OutOfMemory),
+            Err(TextFault::NotObject) => return Err(KeysFault::NotKeySet),
+            Err(TextFault::NameTwice) => return Err(KeysFault::NameTwice),
+            Err(_) => return Err(KeysFault::Json),
+        };
+        let Some(entries) = document.lend().list("keys") else {
+            return Err(KeysFault::NotKeySet);
+        };
+        if entries.len() > MAX_ENTRIES {
+            return Err(KeysFault::TooManyKeys);
+        }
+        match KeySet::read_entries(alloc, &entries) {
+            Ok(keys) => Ok(keys),
+            Err(_) => Err(KeysFault::OutOfMemory),
+        }
+    }
+
+    /// The key set of these entries.
+    #[tactic(auto, using(crate::proofs::ByPlace::keys_more, crate::proofs::ByPlace::skips_more, std::proofs::lemmas::List::drop_all))]
+    fn read_entries(alloc: Global, entries: &jwt_text::List<'_>) -> Result<KeySet, AllocError>
+        requires { length entries.now ≤ 1024 }
+        ensures { IfOk result (λ s. key_set s ≡ key_list entries.now) }
+    {
+        let mut keys = Vec::new(alloc);
+        let mut skipped = Vec::new(alloc);
+        for place in 0..entries.len() {
+            add_entry(
+                alloc,
+                &mut keys,
+                &mut skipped,
+                place as u32,
+                entries.object(place),
+            )?;
+        }
+        KeySet::new(alloc, keys, skipped)
+    }
+
+    /// The set of these keys, with their index.
+    fn new(alloc: Global, keys: Vec<Key>, skipped: Vec<Skip>) -> Result<KeySet, AllocError>
+        requires { length keys.items ≤ 1024 }
+        ensures keys { IfOk result (λ s. s.keys.items ≡ keys.items) }
+        ensures skipped { IfOk result (λ s. s.skipped.items ≡ skipped.items) }
+    {
+        let index = Index::of(alloc, &keys)?;
+        Ok(KeySet {
+            keys,
+            skipped,
+            index,
+        })
+    }
+
+    /// The number of readable keys, at most 1,024.
+    pub fn len(&self) -> u32
+        ensures count { result ≡ length (key_set self.now).keys }
+        ensures few { result ≤ 1024 }
+    {
+        self.keys.len() as u32
+    }
+
+    /// Whether the set has no readable key.
+    pub fn is_empty(&self) -> bool
+        ensures { IsTrue result ↔ ((key_set self.now).keys ≡ []) }
+    {
+        self.keys.is_empty()
+    }
+
+    /// The key of this number, counted from 0, skipped entries left out; `None` where there are no more than `j`.
+    pub fn key(&self, j: u32) -> Option<&Key>
+        ensures { option_map (λ k. key_parts k.now) result ≡ slice_get (key_set self.now).keys j }
+    {
+        self.keys.get(j as usize)
+    }
+
+    /// The entries that are no readable keys, in the order of their places, each with its reason.
+    pub fn skipped(&self) -> &[Skip]
+        ensures { result.now ≡ (key_set self.now).skips }
+    {
+        &self.skipped
+    }
+
+    /// The least key number at or after `from` whose key has this `kid` or, where `thumb`, has no `kid` and this
+    /// thumbprint; `None` where there is none. Names are compared octet by octet. It looks the name up in ordered
+    /// maps and searches its numbers by halves, and takes no memory.
+    pub fn with_kid(&self, kid: &str, thumb: bool, from: u32) -> Option<u32>
+        ensures { IsLeastFrom (names kid.now thumb) (key_set self.now).keys from result }
+    {
+        let own = first_from(&self.index.by_kid, kid, from);
+        earlier(own, self.thumbprint_from(thumb, kid, from))
+    }
+
+    /// The least number at or after `from` of a key without `kid` and with this thumbprint, where `thumb`.
+    fn thumbprint_from(&self, thumb: bool, text: &str, from: u32) -> Option<u32>
+        ensures { IsLeastFrom (λ k. thumb && has_thumbprint text.now k) (key_set self.now).keys from result }
+    {
+        if thumb {
+            first_from(&self.index.by_thumbprint, text, from)
+        } else {
+            None
+        }
+    }
+
+    /// What [`KeySet::with_kid`] answers, by a plain search over the keys in order.
+    pub fn search_kid(&self, kid: &str, thumb: bool, from: u32) -> Option<u32>
+        ensures { IsLeastFrom (names kid.now thumb) (key_set self.now).keys from result }
+    {
+        for j in from as usize..self.keys.len() {
+            if self.keys[j].is_named(kid, thumb) {
+                return Some(j as u32);
+            }
+        }
+        None
+    }
+}
