@@ -1,5 +1,5 @@
 -- A text, and a list of texts, hold no float.
-use Rattle.std.proofs.Common.{◌≡◌, Bool, true, false, refl}
+use Rattle.std.proofs.Common.{◌≡◌, true, false, refl}
 use Rattle.serde_json.specs.Data.{Data, null, boolean, number, string, array, object, Items, no_items, item}
 use Rattle.serde_json.specs.Written.{has_float, items_have_float}
 use Rattle.jwt_text.specs.Members.{elements, are_texts, is_text_or_texts}

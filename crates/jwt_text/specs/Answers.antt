@@ -1,5 +1,5 @@
 -- How a definition says what a fallible call answers, in steps, and how a contract says that the call answers it.
-use Rattle.std.specs.Prelude.{◌≡◌, ◌≢◌, ℕ, ◌+◌, ◌<◌, List, [], ◌∷◌, length, Option, Some, None, Result, Ok, Err, slice_get}
+use Rattle.std.specs.Prelude.{◌≡◌, ◌≢◌, ℕ, ◌+◌, ◌<◌, List, [], ◌∷◌, Option, Some, None, Result, Ok, Err, slice_get}
 
 -- The fault of a call is that of this answer, unless it is the fault `memory`.
 abbrev pub Refuses : {Y F : Type 0} → F → F → Result Y F → Type 0
