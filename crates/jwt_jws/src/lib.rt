@@ -13,6 +13,8 @@ mod parsing;
 mod signature;
 mod signed;
 mod signing;
+#[cfg(test)]
+mod tests;
 mod unprotected;
 
 pub use fault::{Form, FormFault, Place};
