@@ -1,10 +1,12 @@
 -- The function gives the octets that a text spells.
-use Rattle.std.proofs.Common.{◌≡◌, ◌≢◌, ◌<◌, ◌≤◌, ℕ, zero, suc, ◌+◌, ◌-◌, ◌*◌, ◌/◌, ◌%◌, Bool, true, false, cond, List, [], ◌∷◌, ◌++◌, length, Option, Some, None, ◌↔◌, ◌∙◌, sym, ap, subst, refl, arith, rules}
+use Rattle.std.proofs.Common.{◌≡◌, ◌≢◌, ◌<◌, ◌≤◌, ℕ, zero, suc, ◌+◌, ◌-◌, ◌*◌, ◌/◌, ◌%◌, Bool, true, false, cond, List, [], ◌∷◌, ◌++◌, length, Option, Some, None, Result, Ok, Err, ◌↔◌, ◌∙◌, sym, ap, subst, refl, arith, rules}
 use Rattle.std.specs.Prelude.{slice_index, ◌==◌}
 use Rattle.std.specs.Str.{bytes_eq}
 use Rattle.std.proofs.lemmas.Bool.{agree_below_at, eqb-true}
 use Rattle.std.proofs.lemmas.Slice.Eq.{bytes_eq-Decides}
-use Rattle.jwt_text.specs.Base64url.{alphabet, digits, spelling, value_of, candidate, octets_of, AreOctets, Spells}
+use Rattle.jwt_text.specs.Answers.{some_or}
+use Rattle.jwt_text.specs.declared.fault.TextFault.TheVariants.{Base64}
+use Rattle.jwt_text.specs.Base64url.{spelled, alphabet, digits, spelling, value_of, candidate, octets_of, AreOctets, Spells}
 use Rattle.jwt_text.proofs.Base64urlLemmas.{digits-2, digits-3, digits-4}
 
 -- each character has its value
@@ -103,3 +105,22 @@ none t h = elim_option (octets_of t) (λ v e. h v ((law t v).0 e))
     elim_option : (o : Option (List ℕ)) → ((v : List ℕ) → o ≡ Some v → ⊥) → o ≡ None
     elim_option None f = refl
     elim_option (Some v) f = absurd (f v refl)
+
+-- the answer, and the law in terms of it
+some_or_ok : (o : Option (List ℕ)) (v : List ℕ) → (some_or Base64 o ≡ Ok v) ↔ (o ≡ Some v)
+some_or_ok (Some x) v = (λ e. cc e, λ e. cc e)
+some_or_ok None v = (λ e. cc e, λ e. cc e)
+
+some_or_err : (o : Option (List ℕ)) → (some_or Base64 o ≡ Err Base64) ↔ (o ≡ None)
+some_or_err (Some x) = (λ e. cc e, λ e. cc e)
+some_or_err None = (λ e. refl, λ e. refl)
+
+pub answer : (t v : List ℕ) → (spelled t ≡ Ok v) ↔ Spells t v
+answer t v =
+    let step = some_or_ok (octets_of t) v in
+    (λ e. (law t v).0 (step.0 e), λ s. step.1 ((law t v).1 s))
+
+pub refusal : (t : List ℕ) → (spelled t ≡ Err Base64) ↔ ((v : List ℕ) → Spells t v → ⊥)
+refusal t =
+    let step = some_or_err (octets_of t) in
+    (λ e v s. let some = (law t v).1 s in let nothing = step.0 e in cc (some, nothing), λ h. step.1 (none t h))

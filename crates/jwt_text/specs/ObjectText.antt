@@ -45,14 +45,14 @@ reading t = if is_utf8 t then read t else None
 abbrev pub IsObjectText : List ℕ → Members → Type 0
 IsObjectText t ms = (reading t ≡ Some (object ms)) × (colons t ≡ members_entries ms)
 
-abbrev undoubled : ℕ → Members → Result Members TextFault
+abbrev pub undoubled : ℕ → Members → Result Members TextFault
 undoubled n ms = if n == members_entries ms then Ok ms else Err NameTwice
 
-abbrev object_in : ℕ → Option Members → Result Members TextFault
+abbrev pub object_in : ℕ → Option Members → Result Members TextFault
 object_in n None = Err NotObject
 object_in n (Some ms) = undoubled n ms
 
-abbrev object_read : ℕ → Option Data → Result Members TextFault
+abbrev pub object_read : ℕ → Option Data → Result Members TextFault
 object_read n None = Err Json
 object_read n (Some d) = object_in n (as_object d)
 

@@ -1,9 +1,43 @@
-//! Laws over the definitions that the contracts cite. The functions do nothing: each is its contract.
-ghost use Rattle.std.specs.Prelude.{◌≡◌, ℕ, List, ◌↔◌, Some};
-ghost use Rattle.jwt_text.specs.Base64url.{Spells, octets_of};
+//! Laws of the definitions: each function does nothing, and its contract holds of every text and every table.
+ghost use Rattle.std.specs.Prelude.{◌≡◌, ◌≢◌, ◌↔◌, ℕ, ◌+◌, ◌==◌, List, ◌∷◌, ◌++◌, count_by, Some, None, Ok, Err};
+ghost use Rattle.serde_json.specs.Data.{Data, Members, object};
+ghost use Rattle.serde_json.specs.Find.{as_object};
+ghost use Rattle.jwt_text.specs.Base64url.{Spells, octets_of, spelled};
+ghost use Rattle.jwt_text.specs.Literals.{IsLiteral, EndsNoLiteral, IsUnquoted};
+ghost use Rattle.jwt_text.specs.ObjectText.{reading, colons, members_entries, object_of, IsObjectText};
+ghost use Rattle.jwt_text.specs.Rows.{Row, first_row, IsFirstRow, NoRow};
 
-/// `octets_of` answers the octets that a text spells, and nothing else (RFC 4648, section 5).
+use crate::TextFault;
+
+/// What `decode` answers: the octets that a text spells, and nothing else (RFC 4648, section 5).
 pub fn octets_are_spelled()
-    ensures { (text octets : List ℕ) → (octets_of text ≡ Some octets) ↔ Spells text octets }
-{
-}
+    ensures octets { (text octets : List ℕ) → (octets_of text ≡ Some octets) ↔ Spells text octets }
+    ensures answer { (text octets : List ℕ) → (spelled text ≡ Ok octets) ↔ Spells text octets }
+    ensures base64 { (text : List ℕ) → (spelled text ≡ Err TextFault.Base64) ↔ ((octets : List ℕ) → ¬ Spells text octets) }
+{}
+
+/// Octets have at most one object, and it is the one that they are the text of; the fault of any others is the first cause that holds.
+pub fn object_texts()
+    ensures object { (text : List ℕ) (ms : Members) → (object_of text ≡ Ok ms) ↔ IsObjectText text ms }
+    ensures json { (text : List ℕ) → (object_of text ≡ Err TextFault.Json) ↔ (reading text ≡ None) }
+    ensures not_object { (text : List ℕ) → (object_of text ≡ Err TextFault.NotObject)
+        ↔ ((d : Data) × (reading text ≡ Some d) × (as_object d ≡ None)) }
+    ensures name_twice { (text : List ℕ) → (object_of text ≡ Err TextFault.NameTwice)
+        ↔ ((ms : Members) × (reading text ≡ Some (object ms)) × (colons text ≢ members_entries ms)) }
+{}
+
+/// Colons are counted outside string literals, and only there: a literal runs from a quotation mark outside one to the next
+/// that an even number of backslashes directly precedes (RFC 8259, section 7).
+pub fn colons_outside_literals()
+    ensures none { (text : List ℕ) → IsUnquoted text → colons text ≡ count_by (λ c. c == 58) text }
+    ensures literal { (before literal after : List ℕ) → IsUnquoted before → IsLiteral literal
+        → colons (before ++ 34 ∷ (literal ++ 34 ∷ after)) ≡ count_by (λ c. c == 58) before + colons after }
+    ensures endless { (before rest : List ℕ) → IsUnquoted before → EndsNoLiteral rest
+        → colons (before ++ 34 ∷ rest) ≡ count_by (λ c. c == 58) before }
+{}
+
+/// The answer of a table is that of the first row whose test holds, and it has none exactly where no test holds.
+pub fn first_rows<A>()
+    ensures some { (rows : List (Row A)) (answer : A) → (first_row rows ≡ Some answer) ↔ IsFirstRow rows answer }
+    ensures none { (rows : List (Row A)) → (first_row rows ≡ None) ↔ NoRow rows }
+{}
