@@ -2,3 +2,4 @@ pub mod CompactLaws
 pub mod CritLemmas
 pub mod Each
 pub mod Periods
+pub mod SignedLaws

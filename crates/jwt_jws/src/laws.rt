@@ -1,8 +1,19 @@
 //! Laws over the definitions that the contracts cite. The functions do nothing: each is its contract.
 ghost use Rattle.jwt_jws.specs.CompactForm.{ReadsCompact, IsReadCompact};
+ghost use Rattle.jwt_jws.specs.SignedToken.{ReadsSignedTokens};
+
+use jwt_text::laws::{object_texts, octets_are_spelled};
 
 /// What has compact form is read as its three texts, and what is read so has compact form (RFC 7515, section 7.1).
 pub fn compact_form()
     ensures reads { ReadsCompact }
     ensures is_read { IsReadCompact }
 {}
+
+/// What is read is a signed token, and each signed token is read (RFC 7515, sections 5.2 and 7).
+pub fn signed_tokens()
+    ensures { ReadsSignedTokens }
+{
+    octets_are_spelled();
+    object_texts();
+}

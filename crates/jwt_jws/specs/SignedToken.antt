@@ -1,0 +1,75 @@
+-- When octets are a signed token (RFC 7515, sections 5.2 and 7), and of which signatures.
+use Rattle.std.specs.Prelude.{◌≡◌, ℕ, true, false, List, [], ◌∷◌, ◌<◌, ◌≤◌, ◌⊎◌, ◌↔◌, Ok, length, Option, Some, option_map, codes}
+use Rattle.std.specs.List.{AllZip}
+use Rattle.serde_json.specs.Data.{Data, Members, no_members}
+use Rattle.serde_json.specs.Find.{get_member, as_object}
+use Rattle.jwt_text.specs.Base64url.{Spells}
+use Rattle.jwt_text.specs.Members.{has, text_at, list_at}
+use Rattle.jwt_text.specs.ObjectText.{IsObjectText}
+use Rattle.jwt_jws.specs.Token.{SignatureParts, Token}
+use Rattle.jwt_jws.specs.Forms.{Spelled, SpelledToken, opens_object, compact_token, form_of, overlap}
+use Rattle.jwt_jws.specs.CompactForm.{IsCompact}
+use Rattle.jwt_jws.specs.declared.fault.Form.{Form}
+use Rattle.jwt_jws.specs.declared.fault.Form.TheVariants.{Compact, General, Flattened}
+
+-- ---- the texts of a token
+
+-- the texts of one signature, from the object that it stands in; an absent `protected` is the empty text
+pub record IsSpelledIn (m : Members) (w : Spelled) : Type 0 where
+  pub signature : text_at (codes "signature") m ≡ Some w.signature
+  pub protected : ((has (codes "protected") m ≡ false) × (w.protected ≡ [])) ⊎ (text_at (codes "protected") m ≡ Some w.protected)
+  pub header : w.header ≡ option_map as_object (get_member (codes "header") m)
+
+abbrev pub IsElement : Data → Spelled → Type 0
+IsElement d w = (m : Members) × (as_object d ≡ Some m) × IsSpelledIn m w
+
+-- general JSON form (RFC 7515, section 7.2.1), with at most so many signatures
+pub record IsGeneral (most : ℕ) (m : Members) (t : SpelledToken) : Type 0 where
+  pub form : t.form ≡ General
+  pub one_at_the_top : has (codes "signature") m ≡ false
+  pub payload : text_at (codes "payload") m ≡ Some t.payload
+  pub listed : (elements : List Data) × (list_at (codes "signatures") m ≡ Some elements) × AllZip IsElement elements t.signatures
+  pub some : 0 < length t.signatures
+  pub few : length t.signatures ≤ most
+
+-- flattened JSON form (RFC 7515, section 7.2.2)
+pub record IsFlattened (m : Members) (t : SpelledToken) : Type 0 where
+  pub form : t.form ≡ Flattened
+  pub alone : has (codes "signatures") m ≡ false
+  pub payload : text_at (codes "payload") m ≡ Some t.payload
+  pub signature : (w : Spelled) × (t.signatures ≡ w ∷ []) × IsSpelledIn m w
+
+-- compact form (RFC 7515, section 7.1), or the text of an object in JSON form that isn't encrypted (RFC 7516, section 7.2)
+abbrev pub IsSpelledToken : ℕ → List ℕ → SpelledToken → Type 0
+IsSpelledToken most z t =
+    ((opens_object z ≡ false) × ((h p g : List ℕ) × IsCompact z h p g × (t ≡ compact_token h p g)))
+    ⊎ ((opens_object z ≡ true) × ((m : Members) × IsObjectText z m × (has (codes "ciphertext") m ≡ false) × (IsGeneral most m t ⊎ IsFlattened m t)))
+
+-- ---- what the texts stand for
+
+abbrev pub IsProtectedText : List ℕ → Members → Type 0
+IsProtectedText text p = (octets : List ℕ) × Spells text octets × IsObjectText octets p
+
+-- the protected header: the object whose text is spelled; in JSON form the empty text has the empty one
+abbrev pub IsProtected : Form → List ℕ → Members → Type 0
+IsProtected Compact text p = IsProtectedText text p
+IsProtected _ [] p = p ≡ no_members
+IsProtected _ (c ∷ cs) p = IsProtectedText (c ∷ cs) p
+
+pub record IsSignature (form : Form) (w : Spelled) (s : SignatureParts) : Type 0 where
+  pub protected_text : s.protected_text ≡ w.protected
+  pub protected : IsProtected form w.protected s.protected
+  -- `header` is absent, or an object
+  pub unprotected : w.header ≡ option_map Some s.unprotected
+  -- no name is in both headers
+  pub disjoint : overlap s.protected s.unprotected ≡ false
+  pub octets : Spells w.signature s.octets
+
+-- z is the signed token t, with at most so many signatures
+pub record IsSignedToken (most : ℕ) (z : List ℕ) (t : Token) : Type 0 where
+  pub texts : (w : SpelledToken) × IsSpelledToken most z w × (t.form ≡ w.form) × (t.payload_text ≡ w.payload) × AllZip (IsSignature w.form) w.signatures t.signatures
+  pub payload : Spells t.payload_text t.payload
+
+-- what is read is a signed token, and each signed token is read
+abbrev pub ReadsSignedTokens : Type 0
+ReadsSignedTokens = (most : ℕ) (z : List ℕ) (t : Token) → (form_of most z ≡ Ok t) ↔ IsSignedToken most z t
