@@ -1,4 +1,4 @@
-use Rattle.std.proofs.Common.{◌≤◌, ◌^◌, length, arith}
+use Rattle.std.proofs.Common.{length, arith}
 use Rattle.jwt_mac.specs.Hmac.{joined}
 use Rattle.jwt_mac.proofs.Costs.{message-le-cost}
 use Rattle.jwt_mac.proofs.mac.hmac.Goals as goal
