@@ -140,12 +140,8 @@ pub fn hmac<B: Budget>(b: &mut B, alg: Alg, key: &[u8], parts: [&[u8]; 3]) -> Re
     ensures spent { OnErr result (B.ceiling b.old < B.octets b.old + cost_of alg key.now (joined parts.entry)) }
     ensures unchanged { OnErr result (b.new ≡ b.old) }
 {
-    let Some(message_len) = total_len(parts) else {
-        return Err(Spent);
-    };
-    let Some(price) = cost(alg, key.len() as u64, message_len) else {
-        return Err(Spent);
-    };
+    let message_len = total_len(parts).ok_or(Spent)?;
+    let price = cost(alg, key.len() as u64, message_len).ok_or(Spent)?;
     if b.left() < price {
         return Err(Spent);
     }
