@@ -1,5 +1,5 @@
--- What a try costs at least.
-use Rattle.std.proofs.Common.{ℕ, ◌≤◌, length, arith}
+-- What an HMAC costs at least: the octets of its message.
+use Rattle.std.proofs.Common.{ℕ, ◌≤◌, arith}
 use Rattle.std.specs.Prelude.{IsTrue}
 use Rattle.jwt_mac.specs.Algorithm.{is_hmac_alg, try_cost}
 use Rattle.jwt_mac.specs.declared.algorithm.Alg.{Alg}

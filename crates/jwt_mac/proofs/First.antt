@@ -1,5 +1,5 @@
 -- The first verifier that names an algorithm, place by place.
-use Rattle.std.proofs.Common.{◌≡◌, ℕ, ◌+◌, ◌<◌, Bool, true, false, cond, List, ◌∷◌, length, map, drop, get_or, Some, sym, ap, ◌∙◌}
+use Rattle.std.proofs.Common.{◌≡◌, ℕ, ◌+◌, ◌<◌, true, false, cond, List, ◌∷◌, length, map, drop, get_or, Some, sym, ap, ◌∙◌}
 use Rattle.std.proofs.lemmas.List.{drop_more}
 use Rattle.jwt_mac.specs.Verifying.{Meaning, first_naming}
 use Rattle.jwt_mac.specs.declared.algorithm.Alg.{Alg}

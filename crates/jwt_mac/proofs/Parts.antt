@@ -1,5 +1,5 @@
 -- Three pieces, joined.
-use Rattle.std.proofs.Common.{◌≡◌, ℕ, List, [], ◌∷◌, ◌++◌, length, get_or, map, refl, ap, ◌∙◌, sym, arith, append_assoc, append-nil}
+use Rattle.std.proofs.Common.{◌≡◌, ℕ, List, [], ◌∷◌, ◌++◌, length, get_or, ap, ◌∙◌, sym, arith, append_assoc, append-nil}
 use Rattle.std.specs.Borrow.{Bor}
 use Rattle.jwt_mac.specs.Hmac.{joined}
 

@@ -3,7 +3,7 @@ use Rattle.std.specs.Prelude.{ℕ, Bool, true, false, List, nat_eq}
 use Rattle.std.specs.Cmp.Lexicographic.{pointwise}
 use Rattle.jwt_mac.specs.declared.algorithm.Alg.{Alg}
 use Rattle.jwt_mac.specs.declared.algorithm.Alg.TheVariants.{RS256, PS256, EdDSA}
-use Rattle.jwt_mac.specs.Verifying.{Meaning, KeyOctets, OctKey, RsaKey, EcKey, OkpKey}
+use Rattle.jwt_mac.specs.Verifying.{Meaning, KeyOctets, RsaKey}
 
 -- the signature's octets are the modulus
 abbrev pub is_modulus : KeyOctets → List ℕ → Bool

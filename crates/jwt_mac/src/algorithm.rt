@@ -131,14 +131,9 @@ pub fn cost(alg: Alg, key_len: u64, message_len: u64) -> Option<u64>
         return Some(0);
     }
     let block = u64::from(alg.block());
-    let Some(fed) = message_len.checked_add(2 * block + u64::from(alg.digest())) else {
-        return None;
-    };
+    let fed = message_len.checked_add(2 * block + u64::from(alg.digest()))?;
     if key_len <= block {
         return Some(fed);
     }
-    match fed.checked_add(key_len) {
-        Some(all) => Some(all),
-        None => None,
-    }
+    fed.checked_add(key_len)
 }

@@ -110,17 +110,13 @@ fn tag_with(alg: Alg, key: &[u8], parts: [&[u8]; 3]) -> Tag
 fn total_len(parts: [&[u8]; 3]) -> Option<u64>
     ensures { SomeIff result (length (joined parts.entry) < 2 ^ 64) (length (joined parts.entry)) }
 {
-    let Some(two) = (parts[0].len() as u64).checked_add(parts[1].len() as u64) else {
-        return None;
-    };
-    match two.checked_add(parts[2].len() as u64) {
-        Some(all) => Some(all),
-        None => None,
-    }
+    (parts[0].len() as u64)
+        .checked_add(parts[1].len() as u64)?
+        .checked_add(parts[2].len() as u64)
 }
 
 /// The tag of the message that the three parts make, joined, paid from the budget (RFC 7518,
-/// section 3.2; RFC 2104, section 2). Nothing is copied or allocated.
+/// section 3.2; RFC 2104, section 2). No part is copied, and nothing is allocated.
 ///
 /// The conditions: the algorithm is HMAC, and the budget has fewer than `u32::MAX` calls. A key of any
 /// length is taken, also one shorter than RFC 7518 allows.
@@ -144,12 +140,8 @@ pub fn hmac<B: Budget>(b: &mut B, alg: Alg, key: &[u8], parts: [&[u8]; 3]) -> Re
     ensures spent { OnErr result (B.ceiling b.old < B.octets b.old + cost_of alg key.now (joined parts.entry)) }
     ensures unchanged { OnErr result (b.new ≡ b.old) }
 {
-    let Some(message_len) = total_len(parts) else {
-        return Err(Spent);
-    };
-    let Some(price) = cost(alg, key.len() as u64, message_len) else {
-        return Err(Spent);
-    };
+    let message_len = total_len(parts).ok_or(Spent)?;
+    let price = cost(alg, key.len() as u64, message_len).ok_or(Spent)?;
     if b.left() < price {
         return Err(Spent);
     }

@@ -1,7 +1,7 @@
 ghost use Rattle.std.specs.Prelude.{◌≡◌};
 
 use crate::{
-    Alg, Answer, Budget, CountDown, CountUp, KeyView, Message, Spent, Verifier, ask, cost,
+    Alg, Answer, Budget, CountDown, CountUp, EdCurve, KeyView, Message, Spent, Verifier, ask, cost,
     first_for, hmac, sha256,
 };
 use std::cell::Cell;
@@ -354,7 +354,7 @@ fn the_first_verifier_that_names_the_algorithm_answers(rt: HostRuntime) -> Resul
         e: &[3],
     };
     let okp = KeyView::Okp {
-        curve: crate::EdCurve::Ed25519,
+        curve: EdCurve::Ed25519,
         x: &[1, 0, 1],
     };
     let mut up = CountUp::new(0);

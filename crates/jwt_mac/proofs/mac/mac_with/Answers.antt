@@ -1,19 +1,19 @@
-use Rattle.std.proofs.Common.{◌≡◌, List, ℕ, [], ◌++◌, length, take, get_or, ap, ◌∙◌, sym, arith, append_assoc}
+use Rattle.std.proofs.Common.{◌≡◌, List, ℕ, [], ◌++◌, length, take, get_or, ap, ◌∙◌, arith}
 use Rattle.std.proofs.lemmas.List.{take-map}
 use Rattle.std.specs.Borrow.{Bor}
-use Rattle.jwt_mac.specs.Hmac.{hmac_of, masked, block_key, joined}
+use Rattle.jwt_mac.specs.Hmac.{hmac_of, masked, block_key}
 use Rattle.jwt_mac.proofs.Parts.{joined-three, joined_block}
 use Rattle.jwt_mac.proofs.mac.mac_with.Goals as goal
 
+-- the inner hasher holds the inner pad and the parts, the outer one the outer pad and the inner digest
 pub returns-clause-tag : goal.returns-clause-tag
 unfolding hmac_of
 returns-clause-tag g c =
-    let fed = g.H.HashFunction.fed in
     let hash = g.H.HashFunction.hash in
-    let k0 = block_key hash c.args.block c.args.key.now in
-    let inner_pad : take c.args.block c.mask_octets-inner_pad.result ≡ masked 0x36 k0 =
+    let key = block_key hash c.args.block c.args.key.now in
+    let inner_pad : take c.args.block c.mask_octets-inner_pad.result ≡ masked 0x36 key =
     ap (take c.args.block) c.mask_octets-inner_pad.ensures ∙ take-map _ _ _ ∙ ap (masked 0x36) c.key_block-padded.ensures in
-    let outer_pad : take c.args.block c.mask_octets-outer_pad.result ≡ masked 0x5c k0 =
+    let outer_pad : take c.args.block c.mask_octets-outer_pad.result ≡ masked 0x5c key =
     ap (take c.args.block) c.mask_octets-outer_pad.ensures ∙ take-map _ _ _ ∙ ap (masked 0x5c) c.key_block-padded.ensures in
     let inner = c.finish-inner_tag.ensures.digest _ (c.feed-4.ensures _ (c.feed-3.ensures _ (c.feed-2.ensures _ (c.feed.ensures [] c.start-inner.ensures)))) in
     let outer = c.finish.ensures.digest _ (c.feed-6.ensures _ (c.feed-5.ensures [] c.start-outer.ensures)) in

@@ -1,4 +1,4 @@
-use Rattle.std.proofs.Common.{◌≡◌, take, length, map}
+use Rattle.std.proofs.Common.{◌≡◌, take, length}
 use Rattle.jwt_mac.specs.Hmac.{masked}
 use Rattle.jwt_mac.proofs.mac.mask_octets.Given as goal
 

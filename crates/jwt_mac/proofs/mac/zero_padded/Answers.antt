@@ -1,4 +1,4 @@
-use Rattle.std.proofs.Common.{◌≡◌, ◌-◌, ◌++◌, length, drop, replicate, ap, ◌∙◌, arith}
+use Rattle.std.proofs.Common.{◌++◌, length, ap}
 use Rattle.std.proofs.lemmas.List.{drop-replicate}
 use Rattle.jwt_mac.proofs.mac.zero_padded.Goals as goal
 

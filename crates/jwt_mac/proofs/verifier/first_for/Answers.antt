@@ -1,4 +1,4 @@
-use Rattle.std.proofs.Common.{◌≡◌, sym, ◌∙◌, arith}
+use Rattle.std.proofs.Common.{sym, ◌∙◌, arith}
 use Rattle.jwt_mac.proofs.First.{first-here, first-later}
 use Rattle.jwt_mac.proofs.verifier.first_for.Goals as goal
 
