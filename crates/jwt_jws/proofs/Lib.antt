@@ -1,5 +1,6 @@
 pub mod CompactLaws
 pub mod CritLemmas
 pub mod Each
+pub mod FaultLaws
 pub mod Periods
 pub mod SignedLaws

@@ -53,13 +53,13 @@ zip_each f R is i (x ∷ xs) (y ∷ ys) h = rw (is i x y h.0, zip_each f R is (i
 
 -- ---- one signature; `spells` and `objects` are the laws of the texts
 
-abbrev SpellsLaw : Type 0
+abbrev pub SpellsLaw : Type 0
 SpellsLaw = (t v : List ℕ) → (spelled t ≡ Ok v) ↔ Spells t v
 
-abbrev ObjectLaw : Type 0
+abbrev pub ObjectLaw : Type 0
 ObjectLaw = (t : List ℕ) (ms : Members) → (object_of t ≡ Ok ms) ↔ IsObjectText t ms
 
-abbrev header_read : ℕ → List ℕ → Result Members FormFault
+abbrev pub header_read : ℕ → List ℕ → Result Members FormFault
 header_read i text = or_fault (Base64 (Protected i)) (spelled text) >>= λ octets. or_fault (Header i) (object_of octets)
 
 text_read : SpellsLaw → ObjectLaw → (i : ℕ) (text : List ℕ) (p : Members) → header_read i text ≡ Ok p → IsProtectedText text p
@@ -70,7 +70,7 @@ text_read spells objects i text p e =
 text_made : SpellsLaw → ObjectLaw → (i : ℕ) (text : List ℕ) (p : Members) → IsProtectedText text p → header_read i text ≡ Ok p
 text_made spells objects i text p h = rw ((spells text h.0).1 h.1, (objects h.0 p).1 h.2) refl
 
-protected_read : SpellsLaw → ObjectLaw → (form : Form) (i : ℕ) (text : List ℕ) (p : Members) → protected_of form i text ≡ Ok p → IsProtected form text p
+pub protected_read : SpellsLaw → ObjectLaw → (form : Form) (i : ℕ) (text : List ℕ) (p : Members) → protected_of form i text ≡ Ok p → IsProtected form text p
 unfolding protected_of
 protected_read spells objects Compact i text p e = text_read spells objects i text p e
 protected_read spells objects General i [] p e = cc
@@ -78,7 +78,7 @@ protected_read spells objects General i (c ∷ cs) p e = text_read spells object
 protected_read spells objects Flattened i [] p e = cc
 protected_read spells objects Flattened i (c ∷ cs) p e = text_read spells objects i (c ∷ cs) p e
 
-protected_made : SpellsLaw → ObjectLaw → (form : Form) (i : ℕ) (text : List ℕ) (p : Members) → IsProtected form text p → protected_of form i text ≡ Ok p
+pub protected_made : SpellsLaw → ObjectLaw → (form : Form) (i : ℕ) (text : List ℕ) (p : Members) → IsProtected form text p → protected_of form i text ≡ Ok p
 unfolding protected_of
 protected_made spells objects Compact i text p h = text_made spells objects i text p h
 protected_made spells objects General i [] p h = ap Ok (sym h)
@@ -86,7 +86,7 @@ protected_made spells objects General i (c ∷ cs) p h = text_made spells object
 protected_made spells objects Flattened i [] p h = ap Ok (sym h)
 protected_made spells objects Flattened i (c ∷ cs) p h = text_made spells objects i (c ∷ cs) p h
 
-unprotected_read : (i : ℕ) (header : Option (Option Members)) (u : Option Members) → unprotected_of i header ≡ Ok u → header ≡ option_map Some u
+pub unprotected_read : (i : ℕ) (header : Option (Option Members)) (u : Option Members) → unprotected_of i header ≡ Ok u → header ≡ option_map Some u
 unprotected_read i None u e = let same : None ≡ u = cc in ap (option_map Some) same
 unprotected_read i (Some None) u e = absurd cc
 unprotected_read i (Some (Some m)) u e = let same : Some m ≡ u = cc in ap (option_map Some) same
@@ -96,14 +96,14 @@ unprotected_made i header None h = rw h refl
 unprotected_made i header (Some m) h = rw h refl
 
 -- the last step, where no name is in both headers
-abbrev signed_octets : ℕ → Bool → List ℕ → Result (List ℕ) FormFault
+abbrev pub signed_octets : ℕ → Bool → List ℕ → Result (List ℕ) FormFault
 signed_octets i twice text = if◌then◌else◌ twice (Err (NamesOverlap i)) (or_fault (Base64 (Signature i)) (spelled text))
 
-octets_read : SpellsLaw → (i : ℕ) (twice : Bool) (text octets : List ℕ) → signed_octets i twice text ≡ Ok octets → (twice ≡ false) × Spells text octets
+pub octets_read : SpellsLaw → (i : ℕ) (twice : Bool) (text octets : List ℕ) → signed_octets i twice text ≡ Ok octets → (twice ≡ false) × Spells text octets
 octets_read spells i true text octets e = absurd cc
 octets_read spells i false text octets e = (refl, (spells text octets).0 (or_fault_ok (Base64 (Signature i)) (spelled text) octets e))
 
-signature_read : SpellsLaw → ObjectLaw → (form : Form) (i : ℕ) (w : Spelled) (s : SignatureParts) → signature_of form i w ≡ Ok s → IsSignature form w s
+pub signature_read : SpellsLaw → ObjectLaw → (form : Form) (i : ℕ) (w : Spelled) (s : SignatureParts) → signature_of form i w ≡ Ok s → IsSignature form w s
 unfolding signature_of
 signature_read spells objects form i w s e =
     let P = bind_ok (protected_of form i w.protected) (λ p. unprotected_of i w.header >>= λ u. signed_octets i (overlap p u) w.signature >>= λ o. Ok (made p u o)) s e in
@@ -129,10 +129,10 @@ signature_made spells objects form i w s h =
 -- ---- the texts of a token in JSON form
 
 -- an absent `protected` is the empty text
-abbrev HasProtected : Members → List ℕ → Type 0
+abbrev pub HasProtected : Members → List ℕ → Type 0
 HasProtected m text = ((has (codes "protected") m ≡ false) × (text ≡ [])) ⊎ (text_at (codes "protected") m ≡ Some text)
 
-has_text : (name : List ℕ) (m : Members) (text : List ℕ) → text_at name m ≡ Some text → has name m ≡ true
+pub has_text : (name : List ℕ) (m : Members) (text : List ℕ) → text_at name m ≡ Some text → has name m ≡ true
 has_text name m text e = found (get_member name m) e
   where
     found : (o : Option Data) → option_and_then as_str o ≡ Some text → is_some o ≡ true
@@ -168,12 +168,12 @@ spelled_made : (m : Members) (w : Spelled) → IsSpelledIn m w → spelled_signa
 unfolding spelled_signature
 spelled_made m w h = rw (h.signature, protected_text_made m w.protected h.protected, ← h.header) refl
 
-element_read : (i : ℕ) (d : Data) (w : Spelled) → spelled_element i d ≡ Ok w → IsElement d w
+pub element_read : (i : ℕ) (d : Data) (w : Spelled) → spelled_element i d ≡ Ok w → IsElement d w
 element_read i d w e =
     let M = bind_ok (some_or WrongMembers (as_object d)) spelled_signature w e in
     (M.0, some_or_ok WrongMembers (as_object d) M.0 M.1, spelled_read M.0 w M.2)
 
-element_made : (i : ℕ) (d : Data) (w : Spelled) → IsElement d w → spelled_element i d ≡ Ok w
+pub element_made : (i : ℕ) (d : Data) (w : Spelled) → IsElement d w → spelled_element i d ≡ Ok w
 element_made i d w h = rw h.1 (spelled_made h.0 w h.2)
 
 -- ---- general and flattened form
@@ -189,7 +189,7 @@ within_read most (w ∷ ws) vs e = by_size (nat_lt most (length (w ∷ ws))) ref
         let few : length (w ∷ ws) ≤ most = ltb-false most (length (w ∷ ws)) is in
         (same, subst (λ (xs : List Spelled). 0 < length xs) same (omega arith), subst (λ (xs : List Spelled). length xs ≤ most) same few)
 
-within_made : (most : ℕ) (ws : List Spelled) → 0 < length ws → length ws ≤ most → within most ws ≡ Ok ws
+pub within_made : (most : ℕ) (ws : List Spelled) → 0 < length ws → length ws ≤ most → within most ws ≡ Ok ws
 within_made most [] some few = absurd (omega arith)
 within_made most (w ∷ ws) some few = rw (le-ltb most (length (w ∷ ws)) few) refl
 
@@ -214,7 +214,7 @@ general_read most m t top e =
     made : List ℕ → List Spelled → SpelledToken
     made p ws = record { form = General; payload = p; signatures = ws }
 
-general_made : (most : ℕ) (m : Members) (t : SpelledToken) → IsGeneral most m t → general most m ≡ Ok t
+pub general_made : (most : ℕ) (m : Members) (t : SpelledToken) → IsGeneral most m t → general most m ≡ Ok t
 unfolding general
 general_made most m t h =
     rw (h.payload, h.listed.1, zip_each spelled_element IsElement element_made 0 h.listed.0 t.signatures h.listed.2, within_made most t.signatures h.some h.few, ← h.form) refl
@@ -234,13 +234,13 @@ flattened_read m t alone e =
     made : List ℕ → Spelled → SpelledToken
     made p w = record { form = Flattened; payload = p; signatures = w ∷ [] }
 
-flattened_made : (m : Members) (t : SpelledToken) → IsFlattened m t → flattened m ≡ Ok t
+pub flattened_made : (m : Members) (t : SpelledToken) → IsFlattened m t → flattened m ≡ Ok t
 unfolding flattened
 flattened_made m t h = rw (h.payload, spelled_made m h.signature.0 h.signature.2, ← h.form, ← h.signature.1) refl
 
 -- ---- the texts of a token
 
-read_as_ok : (r : Result Members TextFault) (m : Members) → read_as r ≡ Ok m → r ≡ Ok m
+pub read_as_ok : (r : Result Members TextFault) (m : Members) → read_as r ≡ Ok m → r ≡ Ok m
 read_as_ok (Ok x) m e = cc e
 read_as_ok (Err text.OutOfMemory) m e = absurd cc
 read_as_ok (Err text.Read) m e = absurd cc
@@ -250,13 +250,13 @@ read_as_ok (Err text.Json) m e = absurd cc
 read_as_ok (Err text.NotObject) m e = absurd cc
 read_as_ok (Err text.NameTwice) m e = absurd cc
 
-abbrev IsJson : ℕ → Members → SpelledToken → Type 0
+abbrev pub IsJson : ℕ → Members → SpelledToken → Type 0
 IsJson most m t = (has (codes "ciphertext") m ≡ false) × (IsGeneral most m t ⊎ IsFlattened m t)
 
-abbrev json_by : Bool → Bool → Bool → Result SpelledToken FormFault → Result SpelledToken FormFault → Result SpelledToken FormFault
+abbrev pub json_by : Bool → Bool → Bool → Result SpelledToken FormFault → Result SpelledToken FormFault → Result SpelledToken FormFault
 json_by encrypted one several flat many = cond encrypted (Err Encrypted) (cond one (cond several (Err WrongMembers) flat) many)
 
-json_read : (most : ℕ) (m : Members) (t : SpelledToken) → json_of most m ≡ Ok t → IsJson most m t
+pub json_read : (most : ℕ) (m : Members) (t : SpelledToken) → json_of most m ≡ Ok t → IsJson most m t
 unfolding json_of
 json_read most m t e = by_members (has (codes "ciphertext") m) (has (codes "signature") m) (has (codes "signatures") m) refl refl refl e
   where
@@ -274,7 +274,7 @@ json_made most m t (clear, inr flat) =
     let w = flat.signature.0 in
     rw (clear, has_text (codes "signature") m w.signature flat.signature.2.signature, flat.alone) (flattened_made m t flat)
 
-spelled_token_read : ObjectLaw → (most : ℕ) (z : List ℕ) (t : SpelledToken) → spelled_token most z ≡ Ok t → IsSpelledToken most z t
+pub spelled_token_read : ObjectLaw → (most : ℕ) (z : List ℕ) (t : SpelledToken) → spelled_token most z ≡ Ok t → IsSpelledToken most z t
 unfolding spelled_token
 spelled_token_read objects most z t e = by_brace (opens_object z) refl e
   where

@@ -1,5 +1,6 @@
 //! Laws over the definitions that the contracts cite. The functions do nothing: each is its contract.
 ghost use Rattle.jwt_jws.specs.CompactForm.{ReadsCompact, IsReadCompact};
+ghost use Rattle.jwt_jws.specs.FormFaults.{TellsFormFaults};
 ghost use Rattle.jwt_jws.specs.SignedToken.{ReadsSignedTokens};
 
 use jwt_text::laws::{object_texts, octets_are_spelled};
@@ -13,6 +14,14 @@ pub fn compact_form()
 /// What is read is a signed token, and each signed token is read (RFC 7515, sections 5.2 and 7).
 pub fn signed_tokens()
     ensures { ReadsSignedTokens }
+{
+    octets_are_spelled();
+    object_texts();
+}
+
+/// The fault of octets that are no signed token is the first cause that holds, each a property of the octets.
+pub fn form_faults()
+    ensures { TellsFormFaults }
 {
     octets_are_spelled();
     object_texts();
