@@ -57,6 +57,27 @@ fn thumbprint_text(alloc: Global, kind: Kind, members: &ObjectRef<'_>) -> Result
     }
 }
 
+/// The SHA-256 digest of the thumbprint text. That of a secret is made of its three pieces, without a copy.
+#[tactic(auto, unfolding(crate::specs::Thumbprints::thumbprint_text))]
+fn digest(
+    alloc: Global,
+    kind: Kind,
+    members: &ObjectRef<'_>,
+) -> Result<[u8; 32], AllocError>
+    ensures { IfOk result (λ d. d ≡ sha256_of (thumbprint_text kind members.now)) }
+{
+    if let Kind::Oct = kind {
+        let k = member_text(members, "k");
+        return Ok(sha256([
+            b"{\"k\":\"",
+            k.as_bytes(),
+            b"\",\"kty\":\"oct\"}",
+        ]));
+    }
+    let text = thumbprint_text(alloc, kind, members)?;
+    Ok(sha256([text.as_bytes(), b"", b""]))
+}
+
 /// The base64url text of the SHA-256 digest of the thumbprint text, 43 characters.
 #[tactic(auto, unfolding(crate::specs::Thumbprints::thumbprint_of), using(crate::proofs::Spellings::length_spelling))]
 pub(crate) fn thumbprint(
@@ -67,8 +88,7 @@ pub(crate) fn thumbprint(
     ensures text { IfOk result (λ s. string_bytes s ≡ thumbprint_of kind members.now) }
     ensures sized { IfOk result (λ s. length (string_bytes s) ≡ 43) }
 {
-    let text = thumbprint_text(alloc, kind, members)?;
-    let digest = sha256([text.as_bytes(), b"", b""]);
+    let digest = digest(alloc, kind, members)?;
     match encode_text(alloc, &digest) {
         Ok(text) => Ok(text),
         Err(_) => Err(AllocError),
