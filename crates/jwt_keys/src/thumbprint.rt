@@ -59,20 +59,12 @@ fn thumbprint_text(alloc: Global, kind: Kind, members: &ObjectRef<'_>) -> Result
 
 /// The SHA-256 digest of the thumbprint text. That of a secret is made of its three pieces, without a copy.
 #[tactic(auto, unfolding(crate::specs::Thumbprints::thumbprint_text))]
-fn digest(
-    alloc: Global,
-    kind: Kind,
-    members: &ObjectRef<'_>,
-) -> Result<[u8; 32], AllocError>
+fn digest(alloc: Global, kind: Kind, members: &ObjectRef<'_>) -> Result<[u8; 32], AllocError>
     ensures { IfOk result (λ d. d ≡ sha256_of (thumbprint_text kind members.now)) }
 {
     if let Kind::Oct = kind {
         let k = member_text(members, "k");
-        return Ok(sha256([
-            b"{\"k\":\"",
-            k.as_bytes(),
-            b"\",\"kty\":\"oct\"}",
-        ]));
+        return Ok(sha256([b"{\"k\":\"", k.as_bytes(), b"\",\"kty\":\"oct\"}"]));
     }
     let text = thumbprint_text(alloc, kind, members)?;
     Ok(sha256([text.as_bytes(), b"", b""]))
