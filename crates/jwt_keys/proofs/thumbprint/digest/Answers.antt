@@ -1,6 +1,4 @@
-use Rattle.std.proofs.Common.{◌≡◌, ap}
-use Rattle.jwt_mac.specs.Algorithm.{sha256_of}
-use Rattle.jwt_keys.specs.Thumbprints.{member_text, thumbprint_text}
+use Rattle.jwt_keys.specs.Thumbprints.{thumbprint_text}
 use Rattle.jwt_keys.proofs.thumbprint.digest.Goals as goal
 
 pub returns-in-Oct : goal.returns-in-Oct
