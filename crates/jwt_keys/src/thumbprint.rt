@@ -43,41 +43,35 @@ fn ec_text(alloc: Global, crv: &str, x: &str, y: &str) -> Result<String, AllocEr
 fn okp_text(alloc: Global, crv: &str, x: &str) -> Result<String, AllocError>
     ensures { IfOk result (λ s. string_bytes s ≡ okp_text crv.now x.now) }
 {
-    [
-        "{\"crv\":\"",
-        crv,
-        "\",\"kty\":\"OKP\",\"x\":\"",
-        x,
-        "\"}",
-    ]
-    .concat(alloc)
+    ["{\"crv\":\"", crv, "\",\"kty\":\"OKP\",\"x\":\"", x, "\"}"].concat(alloc)
 }
 
 /// The SHA-256 digest of the object of the required members of a secret, which isn't copied (RFC 7638, section 3.2).
 fn oct_digest(k: &str) -> [u8; 32]
     ensures { result ≡ sha256_of (oct_text k.now) }
 {
-    sha256([
-        b"{\"k\":\"",
-        k.as_bytes(),
-        b"\",\"kty\":\"oct\"}",
-    ])
+    sha256([b"{\"k\":\"", k.as_bytes(), b"\",\"kty\":\"oct\"}"])
 }
 
 /// The SHA-256 digest of the object of the required members of a key of this kind.
 #[tactic(auto, unfolding(crate::specs::Thumbprints::thumbprint_text))]
-fn digest(
-    alloc: Global,
-    kind: Kind,
-    members: &ObjectRef<'_>,
-) -> Result<[u8; 32], AllocError>
+fn digest(alloc: Global, kind: Kind, members: &ObjectRef<'_>) -> Result<[u8; 32], AllocError>
     ensures { IfOk result (λ d. d ≡ sha256_of (thumbprint_text kind members.now)) }
 {
     let text = match kind {
         Kind::Oct => return Ok(oct_digest(member_text(members, "k"))),
         Kind::Rsa => rsa_text(alloc, member_text(members, "e"), member_text(members, "n"))?,
-        Kind::Ec(_) => ec_text(alloc, member_text(members, "crv"), member_text(members, "x"), member_text(members, "y"))?,
-        Kind::Okp(_) => okp_text(alloc, member_text(members, "crv"), member_text(members, "x"))?,
+        Kind::Ec(_) => ec_text(
+            alloc,
+            member_text(members, "crv"),
+            member_text(members, "x"),
+            member_text(members, "y"),
+        )?,
+        Kind::Okp(_) => okp_text(
+            alloc,
+            member_text(members, "crv"),
+            member_text(members, "x"),
+        )?,
     };
     Ok(sha256([text.as_bytes(), b"", b""]))
 }
