@@ -8,7 +8,7 @@ use Rattle.jwt_keys.specs.Keys.{KeyParts}
 use Rattle.jwt_keys.specs.Kinds.{kind_at}
 use Rattle.jwt_keys.specs.SkipTable.{skip_rows, shape_rows, octet_rows, octet_rows_of, shape_skip_of, octet_skip_of}
 use Rattle.jwt_keys.specs.Entries.{key_in, key_of, key_of_kind, skipped_or, parts_of}
-use Rattle.jwt_keys.specs.KeySets.{SkipsByTheTable}
+use Rattle.jwt_keys.specs.Laws.{SkipsByTheTable}
 use Rattle.jwt_keys.specs.declared.skip.SkipReason.{SkipReason}
 use Rattle.jwt_keys.specs.declared.kind.Kind.{Kind}
 use Rattle.jwt_keys.proofs.FirstRows.{no_row, first_row_is}
@@ -25,7 +25,7 @@ first_row-append (r ∷ rs) ss = elim r.holds as (λ b. cond b (Some r.answer) (
 ]
 
 -- an answer by these rows
-abbrev ByRows : List (Row SkipReason) → Result KeyParts SkipReason → Type 0
+abbrev pub ByRows : List (Row SkipReason) → Result KeyParts SkipReason → Type 0
 ByRows rs answer = MatchResult answer (λ k. first_row rs ≡ None) (λ reason. first_row rs ≡ Some reason)
 
 of_octets : (place : ℕ) (kind : Kind) (ms : Members) (o : Option SkipReason) → first_row (octet_rows kind ms) ≡ o → ByRows (octet_rows kind ms) (unless o (parts_of place kind ms))
@@ -49,7 +49,7 @@ of_members : (place : ℕ) (ms : Members) → ByRows (shape_rows ms ++ octet_row
 unfolding key_of shape_skip_of
 of_members place ms = after_shape (shape_rows ms) (octet_rows_of (kind_at ms) ms) (first_row (shape_rows ms)) (key_of_kind place (kind_at ms) ms) refl (λ e. of_kind place ms (kind_at ms) (kind_is_there ms e))
 
-by_rows : (place : ℕ) (entry : Option Members) → ByRows (skip_rows entry) (key_in place entry)
+pub by_rows : (place : ℕ) (entry : Option Members) → ByRows (skip_rows entry) (key_in place entry)
 by_rows place None = refl
 by_rows place (Some ms) = of_members place ms
 

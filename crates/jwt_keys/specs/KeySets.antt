@@ -1,14 +1,12 @@
 -- What the octets of a key set are read as (RFC 7517, section 5).
-use Rattle.std.specs.Prelude.{ℕ, suc, List, [], ◌∷◌, ◌++◌, length, Option, Some, None, Result, Ok, Err, MatchResult, if◌then◌else◌, nat_lt, codes, map}
+use Rattle.std.specs.Prelude.{ℕ, suc, List, [], ◌∷◌, ◌++◌, length, Option, Some, None, Result, Ok, Err, if◌then◌else◌, nat_lt, codes, map}
 use Rattle.serde_json.specs.Data.{Data, Members}
 use Rattle.serde_json.specs.Find.{as_object}
 use Rattle.jwt_text.specs.Members.{list_at}
 use Rattle.jwt_text.specs.ObjectText.{object_of}
 use Rattle.jwt_text.specs.declared.fault.TextFault.{TextFault}
 use Rattle.jwt_text.specs.declared.fault.TextFault.TheVariants.{NotObject, NameTwice as DoubledName}
-use Rattle.jwt_text.specs.Rows.{IsFirstRow, NoRow}
 use Rattle.jwt_keys.specs.Keys.{KeyParts}
-use Rattle.jwt_keys.specs.SkipTable.{skip_rows}
 use Rattle.jwt_keys.specs.Entries.{key_in, key_if, skip_if}
 use Rattle.jwt_keys.specs.declared.skip.Skip.{Skip}
 use Rattle.jwt_keys.specs.declared.fault.KeysFault.{KeysFault}
@@ -52,9 +50,3 @@ key_set_of z = if nat_lt 4194304 (length z) then Err TooLong else set_in (object
 -- what contracts see of a key set
 abbrev pub key_set : KeySet → KeyList
 key_set s = record { keys = map key_parts s.keys.items; skips = s.skipped.items }
-
--- an entry is skipped for the first row of the table that holds, and gives a key where none does
-abbrev pub SkipsByTheTable : Type 0
-SkipsByTheTable =
-    (place : ℕ) (entry : Option Members)
-    → MatchResult (key_in place entry) (λ k. NoRow (skip_rows entry)) (λ reason. IsFirstRow (skip_rows entry) reason)

@@ -7,3 +7,4 @@ pub mod Entries
 pub mod KeySets
 pub mod Numbers
 pub mod Views
+pub mod Laws

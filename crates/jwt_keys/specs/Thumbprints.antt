@@ -12,29 +12,31 @@ use Rattle.jwt_keys.specs.declared.kind.Kind.TheVariants.{Oct, Rsa, Ec, Okp}
 abbrev pub member_text : List ℕ → Members → List ℕ
 member_text name ms = unwrap_or (text_at name ms) []
 
--- the pieces of the object of the required members, in ascending order of names, with no white space
-abbrev pub thumbprint_pieces : Kind → Members → List (List ℕ)
-thumbprint_pieces Oct ms =
-    codes "{\"k\":\"" ∷ member_text (codes "k") ms
-    ∷ codes "\",\"kty\":\"oct\"}" ∷ []
-thumbprint_pieces Rsa ms =
-    codes "{\"e\":\"" ∷ member_text (codes "e") ms
-    ∷ codes "\",\"kty\":\"RSA\",\"n\":\"" ∷ member_text (codes "n") ms
-    ∷ codes "\"}" ∷ []
-thumbprint_pieces (Ec curve) ms =
-    codes "{\"crv\":\"" ∷ member_text (codes "crv") ms
-    ∷ codes "\",\"kty\":\"EC\",\"x\":\"" ∷ member_text (codes "x") ms
-    ∷ codes "\",\"y\":\"" ∷ member_text (codes "y") ms
-    ∷ codes "\"}" ∷ []
-thumbprint_pieces (Okp curve) ms =
-    codes "{\"crv\":\"" ∷ member_text (codes "crv") ms
-    ∷ codes "\",\"kty\":\"OKP\",\"x\":\"" ∷ member_text (codes "x") ms
-    ∷ codes "\"}" ∷ []
+abbrev pub joined : List (List ℕ) → List ℕ
+joined pieces = flat_map (λ piece. piece) pieces
 
--- that object (RFC 7638, section 3.2)
+-- ---- the object of the required members, in ascending order of their names, with no white space (RFC 7638, section
+-- 3.2; for OKP RFC 8037, section 2)
+
+abbrev pub oct_text : List ℕ → List ℕ
+oct_text k = joined (codes "{\"k\":\"" ∷ k ∷ codes "\",\"kty\":\"oct\"}" ∷ [])
+
+abbrev pub rsa_text : List ℕ → List ℕ → List ℕ
+rsa_text e n = joined (codes "{\"e\":\"" ∷ e ∷ codes "\",\"kty\":\"RSA\",\"n\":\"" ∷ n ∷ codes "\"}" ∷ [])
+
+abbrev pub ec_text : List ℕ → List ℕ → List ℕ → List ℕ
+ec_text crv x y =
+    joined (codes "{\"crv\":\"" ∷ crv ∷ codes "\",\"kty\":\"EC\",\"x\":\"" ∷ x ∷ codes "\",\"y\":\"" ∷ y ∷ codes "\"}" ∷ [])
+
+abbrev pub okp_text : List ℕ → List ℕ → List ℕ
+okp_text crv x = joined (codes "{\"crv\":\"" ∷ crv ∷ codes "\",\"kty\":\"OKP\",\"x\":\"" ∷ x ∷ codes "\"}" ∷ [])
+
 unfoldable pub thumbprint_text : Kind → Members → List ℕ
-thumbprint_text kind ms = flat_map (λ piece. piece) (thumbprint_pieces kind ms)
+thumbprint_text Oct ms = oct_text (member_text (codes "k") ms)
+thumbprint_text Rsa ms = rsa_text (member_text (codes "e") ms) (member_text (codes "n") ms)
+thumbprint_text (Ec curve) ms = ec_text (member_text (codes "crv") ms) (member_text (codes "x") ms) (member_text (codes "y") ms)
+thumbprint_text (Okp curve) ms = okp_text (member_text (codes "crv") ms) (member_text (codes "x") ms)
 
--- the base64url text of its digest
+-- the base64url text of its digest (RFC 7638, section 3)
 unfoldable pub thumbprint_of : Kind → Members → List ℕ
 thumbprint_of kind ms = spelling (sha256_of (thumbprint_text kind ms))

@@ -81,8 +81,9 @@ impl Key {
         self.place
     }
 
-    /// Whether the key has this `kid` or, where `thumb`, no `kid` and this thumbprint.
-    pub(crate) fn is_named(&self, name: &str, thumb: bool) -> bool
+    /// Whether the key answers to this name: its `kid` is the name or, where `thumb`, it has no `kid` and its thumbprint is.
+    /// Both are compared octet by octet.
+    pub fn is_named(&self, name: &str, thumb: bool) -> bool
         ensures { result ≡ names name.now thumb (key_parts self.now) }
     {
         match &self.kid {

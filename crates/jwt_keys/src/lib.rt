@@ -15,6 +15,8 @@ mod material;
 mod set;
 mod shape;
 mod skip;
+#[cfg(test)]
+mod tests;
 mod thumbprint;
 
 pub use fault::KeysFault;

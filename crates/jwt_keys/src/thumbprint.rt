@@ -2,7 +2,7 @@
 
 ghost use Rattle.std.specs.Prelude.{◌≡◌, length, string_bytes, IfOk};
 ghost use Rattle.jwt_mac.specs.Algorithm.{sha256_of};
-ghost use Rattle.jwt_keys.specs.Thumbprints.{member_text, thumbprint_text, thumbprint_of};
+ghost use Rattle.jwt_keys.specs.Thumbprints.{member_text, oct_text, rsa_text, ec_text, okp_text, thumbprint_text, thumbprint_of};
 
 use crate::kind::Kind;
 use jwt_mac::sha256;
@@ -16,48 +16,67 @@ fn member_text<'a>(members: &ObjectRef<'a>, name: &str) -> &'a str
     members.text(name).unwrap_or("")
 }
 
-/// The object of the required members, in ascending order of names and with no white space (RFC 7638, section 3.3).
-#[tactic(auto, unfolding(crate::specs::Thumbprints::thumbprint_text))]
-fn thumbprint_text(alloc: Global, kind: Kind, members: &ObjectRef<'_>) -> Result<String, AllocError>
-    ensures { IfOk result (λ s. string_bytes s ≡ thumbprint_text kind members.now) }
+/// The object of the required members of an RSA key (RFC 7638, section 3.2).
+fn rsa_text(alloc: Global, e: &str, n: &str) -> Result<String, AllocError>
+    ensures { IfOk result (λ s. string_bytes s ≡ rsa_text e.now n.now) }
 {
-    match kind {
-        Kind::Oct => [
-            "{\"k\":\"",
-            member_text(members, "k"),
-            "\",\"kty\":\"oct\"}",
-        ]
-        .concat(alloc),
-        Kind::Rsa => [
-            "{\"e\":\"",
-            member_text(members, "e"),
-            "\",\"kty\":\"RSA\",\"n\":\"",
-            member_text(members, "n"),
-            "\"}",
-        ]
-        .concat(alloc),
-        Kind::Ec(_) => [
-            "{\"crv\":\"",
-            member_text(members, "crv"),
-            "\",\"kty\":\"EC\",\"x\":\"",
-            member_text(members, "x"),
-            "\",\"y\":\"",
-            member_text(members, "y"),
-            "\"}",
-        ]
-        .concat(alloc),
-        Kind::Okp(_) => [
-            "{\"crv\":\"",
-            member_text(members, "crv"),
-            "\",\"kty\":\"OKP\",\"x\":\"",
-            member_text(members, "x"),
-            "\"}",
-        ]
-        .concat(alloc),
-    }
+    ["{\"e\":\"", e, "\",\"kty\":\"RSA\",\"n\":\"", n, "\"}"].concat(alloc)
 }
 
-/// The base64url text of the SHA-256 digest of the thumbprint text, 43 characters.
+/// The object of the required members of an EC key (RFC 7638, section 3.2).
+fn ec_text(alloc: Global, crv: &str, x: &str, y: &str) -> Result<String, AllocError>
+    ensures { IfOk result (λ s. string_bytes s ≡ ec_text crv.now x.now y.now) }
+{
+    [
+        "{\"crv\":\"",
+        crv,
+        "\",\"kty\":\"EC\",\"x\":\"",
+        x,
+        "\",\"y\":\"",
+        y,
+        "\"}",
+    ]
+    .concat(alloc)
+}
+
+/// The object of the required members of an OKP key (RFC 8037, section 2).
+fn okp_text(alloc: Global, crv: &str, x: &str) -> Result<String, AllocError>
+    ensures { IfOk result (λ s. string_bytes s ≡ okp_text crv.now x.now) }
+{
+    ["{\"crv\":\"", crv, "\",\"kty\":\"OKP\",\"x\":\"", x, "\"}"].concat(alloc)
+}
+
+/// The SHA-256 digest of the object of the required members of a secret, which isn't copied (RFC 7638, section 3.2).
+fn oct_digest(k: &str) -> [u8; 32]
+    ensures { result ≡ sha256_of (oct_text k.now) }
+{
+    sha256([b"{\"k\":\"", k.as_bytes(), b"\",\"kty\":\"oct\"}"])
+}
+
+/// The SHA-256 digest of the object of the required members of a key of this kind.
+#[tactic(auto, unfolding(crate::specs::Thumbprints::thumbprint_text))]
+fn digest(alloc: Global, kind: Kind, members: &ObjectRef<'_>) -> Result<[u8; 32], AllocError>
+    ensures { IfOk result (λ d. d ≡ sha256_of (thumbprint_text kind members.now)) }
+{
+    let text = match kind {
+        Kind::Oct => return Ok(oct_digest(member_text(members, "k"))),
+        Kind::Rsa => rsa_text(alloc, member_text(members, "e"), member_text(members, "n"))?,
+        Kind::Ec(_) => ec_text(
+            alloc,
+            member_text(members, "crv"),
+            member_text(members, "x"),
+            member_text(members, "y"),
+        )?,
+        Kind::Okp(_) => okp_text(
+            alloc,
+            member_text(members, "crv"),
+            member_text(members, "x"),
+        )?,
+    };
+    Ok(sha256([text.as_bytes(), b"", b""]))
+}
+
+/// The base64url text of the SHA-256 digest of the object of the required members, 43 characters (RFC 7638, section 3).
 #[tactic(auto, unfolding(crate::specs::Thumbprints::thumbprint_of), using(crate::proofs::Spellings::length_spelling))]
 pub(crate) fn thumbprint(
     alloc: Global,
@@ -67,8 +86,7 @@ pub(crate) fn thumbprint(
     ensures text { IfOk result (λ s. string_bytes s ≡ thumbprint_of kind members.now) }
     ensures sized { IfOk result (λ s. length (string_bytes s) ≡ 43) }
 {
-    let text = thumbprint_text(alloc, kind, members)?;
-    let digest = sha256([text.as_bytes(), b"", b""]);
+    let digest = digest(alloc, kind, members)?;
     match encode_text(alloc, &digest) {
         Ok(text) => Ok(text),
         Err(_) => Err(AllocError),
