@@ -159,6 +159,7 @@ fn add(
     }
 }
 
+/// A list of copies of these texts, as a value.
 fn list_value(alloc: Global, texts: &[&str]) -> Result<Value, AllocError>
     ensures { IfOk result (λ v. view v ≡ list_of_texts (map (λ s. s.now) texts.now)) }
 {
