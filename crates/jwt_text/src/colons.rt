@@ -5,10 +5,11 @@ ghost use Rattle.jwt_text.specs.ObjectText.{colons, colons_after};
 
 use memchr::memchr2;
 
-/// How many octets are looked at one by one before `memchr2` takes over: in an ordinary text the next mark is nearer than its call pays.
+/// How many octets are looked at one by one before `memchr2` takes over: in most texts the next mark is so near that a call costs more.
 const NEAR: usize = 16;
 
-/// The colons outside string literals.
+/// The colons outside string literals. Only colons and quotation marks matter there, and inside a literal only quotation marks
+/// and backslashes, so the count goes from one mark to the next.
 #[tactic(auto, using(crate::proofs::ColonsLemmas::outside_quote, crate::proofs::ColonsLemmas::outside_colon, crate::proofs::ColonsLemmas::outside_none))]
 pub(crate) fn count_colons(octets: &[u8]) -> usize
     ensures { result ≡ colons octets.now }

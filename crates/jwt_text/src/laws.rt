@@ -1,8 +1,9 @@
 //! Laws of the definitions: each function does nothing, and its contract holds of every text and every table.
-ghost use Rattle.std.specs.Prelude.{◌≡◌, ◌≢◌, ◌↔◌, ℕ, ◌+◌, ◌==◌, List, ◌∷◌, ◌++◌, count_by, Some, None, Ok, Err};
+ghost use Rattle.std.specs.Prelude.{◌≡◌, ◌≢◌, ◌↔◌, ℕ, ◌+◌, ◌==◌, List, ◌∷◌, ◌++◌, count_by, Some, None, Result, Ok, Err};
 ghost use Rattle.serde_json.specs.Data.{Data, Members, object};
 ghost use Rattle.serde_json.specs.Find.{as_object};
 ghost use Rattle.jwt_text.specs.Base64url.{Spells, octets_of, spelled};
+ghost use Rattle.jwt_text.specs.Answers.{each, AreAnswers, IsFirstFault};
 ghost use Rattle.jwt_text.specs.Literals.{IsLiteral, EndsNoLiteral, IsUnquoted};
 ghost use Rattle.jwt_text.specs.ObjectText.{reading, colons, members_entries, object_of, IsObjectText};
 ghost use Rattle.jwt_text.specs.Rows.{Row, first_row, IsFirstRow, NoRow};
@@ -40,4 +41,12 @@ pub fn colons_outside_literals()
 pub fn first_rows<A>()
     ensures some { (rows : List (Row A)) (answer : A) → (first_row rows ≡ Some answer) ↔ IsFirstRow rows answer }
     ensures none { (rows : List (Row A)) → (first_row rows ≡ None) ↔ NoRow rows }
+{}
+
+/// The answers of a list's elements are all of theirs, in order, or the fault of the first that has one.
+pub fn answers_in_order<A, B, F>()
+    ensures ok { (f : ℕ → A → Result B F) (i : ℕ) (xs : List A) (ys : List B)
+        → (each f i xs ≡ Ok ys) ↔ AreAnswers f i xs ys }
+    ensures err { (f : ℕ → A → Result B F) (i : ℕ) (xs : List A) (fault : F)
+        → (each f i xs ≡ Err fault) ↔ IsFirstFault f i xs fault }
 {}

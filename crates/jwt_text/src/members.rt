@@ -87,6 +87,7 @@ pub(crate) fn compact_text_or_texts(
     }
 }
 
+/// Whether the value is a text or a list of texts.
 fn is_text_or_texts(value: &Value) -> bool
     ensures { result ≡ is_text_or_texts (view value.now) }
 {
@@ -109,6 +110,7 @@ pub(crate) fn all_texts(items: &Vec<Value>) -> bool
     true
 }
 
+/// A copy of a value.
 fn copy_value(value: &Value) -> Result<Value, AllocError>
     ensures { IfOk result (λ v. view v ≡ view value.now) }
 {

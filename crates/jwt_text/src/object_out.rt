@@ -4,6 +4,7 @@ ghost use Rattle.serde_json.specs.Data.{string, number, boolean, object, no_memb
 ghost use Rattle.serde_json.specs.Find.{of_integer};
 ghost use Rattle.serde_json.specs.View.{view, items_view, members_view};
 ghost use Rattle.serde_json.specs.Written.{compact_text, members_have_float, has_float};
+ghost use Rattle.jwt_text.specs.Members.{names, AreInOrder};
 ghost use Rattle.jwt_text.specs.Writing.{list_of_texts, adding};
 
 use crate::TextFault;
@@ -42,6 +43,7 @@ pub struct ObjectOut {
 impl Model for ObjectOut {
     ghost use Rattle.std.specs.Prelude.{◌≡◌, false};
     ghost use Rattle.serde_json.specs.Data.{Members};
+    ghost use Rattle.jwt_text.specs.Members.{names, AreInOrder};
     ghost use Rattle.jwt_text.specs.Stored.{members_code};
 
     ghost Value = { Members };
@@ -53,11 +55,13 @@ impl Model for ObjectOut {
 
     ghost view = { λ o. members_view o.members.entries };
 
-    ghost invariant = { λ o. members_have_float (members_view o.members.entries) ≡ false };
+    ghost invariant = { λ o. (members_have_float (members_view o.members.entries) ≡ false)
+        × AreInOrder (names (members_view o.members.entries)) };
 }
 
 impl ObjectOut {
     /// An object with no members. It takes no memory.
+    #[tactic(auto, using(crate::proofs::OrderLemmas::none_in_order))]
     pub fn new(alloc: Global) -> ObjectOut
         ensures { result ≡ no_members }
     {
@@ -115,6 +119,7 @@ impl ObjectOut {
     ///
     /// `OutOfMemory` where a growth was refused, and no other fault.
     pub fn finish(self) -> Result<Vec<u8>, TextFault>
+        ensures order { AreInOrder (names self) }
         ensures ok { IfOk result (λ v. v.items ≡ compact_text (object self)) }
         ensures err { IsOkUnless result TextFault.OutOfMemory }
     {
@@ -127,7 +132,7 @@ impl ObjectOut {
 }
 
 /// Adds a member, where none has its name.
-#[tactic(auto, using(crate::proofs::OutLemmas::put_no_float))]
+#[tactic(auto, using(crate::proofs::OutLemmas::put_no_float, crate::proofs::OrderLemmas::put_in_order))]
 fn add(
     members: &mut Map<String, Value>,
     alloc: Global,
@@ -141,6 +146,8 @@ fn add(
     ensures floats { members_have_float (members_view members.old.entries) ≡ false
         → has_float (view value) ≡ false
         → members_have_float (members_view members.new.entries) ≡ false }
+    ensures order { AreInOrder (names (members_view members.old.entries))
+        → AreInOrder (names (members_view members.new.entries)) }
     ensures err { OnErr result (members.new.entries ≡ members.old.entries) }
 {
     if member(members, name).is_some() {
@@ -152,6 +159,7 @@ fn add(
     }
 }
 
+/// A list of copies of these texts, as a value.
 fn list_value(alloc: Global, texts: &[&str]) -> Result<Value, AllocError>
     ensures { IfOk result (λ v. view v ≡ list_of_texts (map (λ s. s.now) texts.now)) }
 {

@@ -10,7 +10,11 @@ use crate::owned::Object;
 use serde_json::{Map, Value};
 use std::alloc::Global;
 
-/// The object that the octets are the text of.
+/// The object that the octets are the text of (RFC 8259), read in one pass, with its colons counted in one more.
+///
+/// The faults, by the first cause that holds: `Json` where the octets aren't one JSON text in UTF-8 that nests at most 127 deep,
+/// `NotObject` where the text is another value, `NameTwice` where some object in it, at any depth, has a name twice
+/// (RFC 7515, section 4; RFC 7519, section 4). `OutOfMemory` may come in place of any answer, where a growth was refused.
 #[tactic(auto, unfolding(crate::specs::ObjectText::object_of))]
 pub fn object(alloc: Global, octets: &[u8]) -> Result<Object, TextFault>
     ensures text { IfOk result (IsObjectText octets.now) }
@@ -29,7 +33,7 @@ pub fn object(alloc: Global, octets: &[u8]) -> Result<Object, TextFault>
     }
 }
 
-// The value that `serde_json` reads.
+/// The value that `serde_json` reads.
 #[tactic(auto, using(crate::proofs::ReadingLemmas::reading_some, crate::proofs::ReadingLemmas::reading_none))]
 fn value(alloc: Global, octets: &[u8]) -> Result<Value, TextFault>
     ensures ok { IfOk result (λ v. reading octets.now ≡ Some (view v)) }
@@ -46,6 +50,7 @@ fn value(alloc: Global, octets: &[u8]) -> Result<Value, TextFault>
     }
 }
 
+/// The members of an object.
 fn members_in(value: Value) -> Option<Map<String, Value>>
     ensures { option_map (λ m. members_view m.entries) result ≡ as_object (view value) }
 {
