@@ -1,5 +1,5 @@
 -- What contracts see of a key and of an index.
-use Rattle.std.specs.Prelude.{◌≡◌, ℕ, List, [], option_map, map, string_bytes, Vec, String}
+use Rattle.std.specs.Prelude.{◌≡◌, ℕ, List, [], ◌∷◌, ◌++◌, Bool, if◌then◌else◌, option_map, map, string_bytes, Vec, String}
 use Rattle.std.specs.Global.{Global}
 use Rattle.std.specs.Option.{option_map_or}
 use Rattle.std.specs.BTreeMap.{BTreeMap, get_by_text}
@@ -35,6 +35,10 @@ Groups = BTreeMap (String Global) (Vec ℕ Global)
 -- the numbers that stand under a name
 abbrev pub group : Groups → List ℕ → List ℕ
 group m q = option_map_or (λ v. v.items) (get_by_text m q) []
+
+-- the numbers of a name with one more, where it has that too
+abbrev pub added : Bool → ℕ → List ℕ → List ℕ
+added has n ns = if has then ns ++ n ∷ [] else ns
 
 -- each name has the numbers of the keys with that `kid`, and of those without `kid` and with that thumbprint
 pub record IsIndex (index : Index) (keys : List Key) : Type 0 where

@@ -56,7 +56,8 @@ fn copy_texts(
     members: &ObjectRef<'_>,
     name: &str,
 ) -> Result<Option<Vec<String>>, AllocError>
-    ensures { IfOk result (λ o. option_map (λ v. map string_bytes v.items) o ≡ option_map (map text_or_empty) (list_at name.now members.now)) }
+    ensures { let texts = option_map (map text_or_empty) (list_at name.now members.now) in
+        IfOk result (λ o. option_map (λ v. map string_bytes v.items) o ≡ texts) }
 {
     match members.list(name) {
         Some(list) => Ok(Some(copy_items(alloc, &list)?)),
@@ -114,7 +115,8 @@ pub(crate) fn add_entry(
 ) -> Result<(), AllocError>
     ensures keys { OnOk result (map key_parts keys.new.items
         ≡ map key_parts keys.old.items ++ key_if (key_in place entry.entry)) }
-    ensures skipped { OnOk result (skipped.new.items ≡ skipped.old.items ++ skip_if place (key_in place entry.entry)) }
+    ensures skipped { OnOk result (skipped.new.items
+        ≡ skipped.old.items ++ skip_if place (key_in place entry.entry)) }
 {
     let Some(members) = entry else {
         skipped.push(Skip {

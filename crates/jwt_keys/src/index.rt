@@ -1,10 +1,10 @@
 //! The numbers of keys by their names.
 
-ghost use Rattle.std.specs.Prelude.{◌≡◌, ◌≤◌, ℕ, List, [], ◌∷◌, ◌++◌, Some, None, length, OnOk, IfOk, if◌then◌else◌, nat_le, find};
+ghost use Rattle.std.specs.Prelude.{◌≡◌, ◌≤◌, ℕ, List, Some, None, length, OnOk, IfOk, nat_le, find};
 ghost use Rattle.std.specs.Str.{bytes_eq};
 ghost use Rattle.std.specs.List.Sorted.{IsNonDecreasingBy};
 ghost use Rattle.jwt_keys.specs.Numbers.{earlier};
-ghost use Rattle.jwt_keys.specs.Views.{group};
+ghost use Rattle.jwt_keys.specs.Views.{added, group};
 
 use crate::key::Key;
 use std::alloc::{AllocError, Global};
@@ -44,9 +44,9 @@ impl Index {
     /// Puts a key's number under its `kid` or, where it has none, under its thumbprint.
     fn add(&mut self, alloc: Global, key: &Key, number: u32) -> Result<(), AllocError>
         ensures kids { OnOk result ((q : List ℕ) → group self.new.by_kid q
-            ≡ (if has_kid q (key_parts key.now) then group self.old.by_kid q ++ number ∷ [] else group self.old.by_kid q)) }
+            ≡ added (has_kid q (key_parts key.now)) number (group self.old.by_kid q)) }
         ensures thumbprints { OnOk result ((q : List ℕ) → group self.new.by_thumbprint q
-            ≡ (if has_thumbprint q (key_parts key.now) then group self.old.by_thumbprint q ++ number ∷ [] else group self.old.by_thumbprint q)) }
+            ≡ added (has_thumbprint q (key_parts key.now)) number (group self.old.by_thumbprint q)) }
     {
         match &key.kid {
             Some(kid) => add_number(alloc, &mut self.by_kid, kid.as_str(), number),
@@ -63,7 +63,7 @@ impl Index {
 /// Puts a number at the end of a name's numbers.
 fn add_number(alloc: Global, groups: &mut Groups, name: &str, number: u32) -> Result<(), AllocError>
     ensures { OnOk result ((q : List ℕ) → group groups.new q
-        ≡ (if bytes_eq q name.now then group groups.old q ++ number ∷ [] else group groups.old q)) }
+        ≡ added (bytes_eq q name.now) number (group groups.old q)) }
 {
     let key = String::from_str(alloc, name)?;
     groups.entry(key)?.or_default().push(number)?;

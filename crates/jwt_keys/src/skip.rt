@@ -1,23 +1,34 @@
 //! Entries that are no readable keys.
 
-/// Why an entry of a key set is no readable key. Where several hold, the reason is the first in this order, but that
-/// a `kty` of another kind or an unknown one comes before an absent member of that key type.
+/// Why an entry of a key set is no readable key: the first of these rows that holds. "Required" are `k` of `oct`; `n` and
+/// `e` of `RSA`; `crv`, `x` and `y` of `EC` (RFC 7518, section 6); `crv` and `x` of `OKP` (RFC 8037, section 2).
+///
+/// 1. `NotObject`: the entry is no object.
+/// 2. `MemberMissing`: `kty` is absent.
+/// 3. `MemberKind`: `kty` is no text.
+/// 4. `KtyUnknown`: `kty` is none of these four.
+/// 5. `MemberMissing`: a required member is absent.
+/// 6. `MemberKind`: a required member, or `kid`, `alg` or `use`, is no text, or `key_ops` is no list of texts.
+/// 7. `CrvUnknown`: `crv` is no curve of its key type.
+/// 8. `Base64`: a required member other than `crv` isn't base64url.
+/// 9. `Length`: a required member other than `crv` spells another number of octets than its key may have.
 #[derive(Clone, Copy, Debug, PartialEq, Eq)]
 pub enum SkipReason {
     /// The entry is no JSON object.
     NotObject,
-    /// `kty`, or a member that its key type requires, is absent.
+    /// `kty` or a required member is absent.
     MemberMissing,
-    /// `kty`, or a member that its key type requires, is no text; or `kid`, `alg` or `use` is there and no text, or
-    /// `key_ops` is there and no list of texts.
+    /// `kty`, or a required or optional member, has another kind.
     MemberKind,
     /// `kty` is none of `oct`, `RSA`, `EC` and `OKP`, compared by case.
     KtyUnknown,
-    /// `crv` is none of the curves of its key type, compared by case.
+    /// `crv` is none of `P-256`, `P-384` and `P-521` of an `EC` key, or of `Ed25519` and `Ed448` of an `OKP` key, compared by
+    /// case.
     CrvUnknown,
-    /// A required member other than `crv` isn't base64url without padding and with zero spare bits.
+    /// A required member isn't base64url without padding and with zero spare bits.
     Base64,
-    /// A required member spells another number of octets than its key type and curve ask for.
+    /// A required member has another number of octets: 1 to 4,096 each for `k`, `n` and `e`; 32, 48 and 66 for the
+    /// coordinates on `P-256`, `P-384` and `P-521`; 32 and 57 for the keys on `Ed25519` and `Ed448`.
     Length,
 }
 
