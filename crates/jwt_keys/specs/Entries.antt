@@ -15,13 +15,14 @@ use Rattle.jwt_keys.specs.declared.skip.Skip.{Skip}
 use Rattle.jwt_keys.specs.declared.kind.Kind.{Kind}
 use Rattle.jwt_keys.specs.declared.kind.Kind.TheVariants.{Oct, Rsa, Ec, Okp}
 
--- the octets that the members of a key of this kind spell
+-- the octets that the members of a key of this kind spell; a readable key has them all
 abbrev pub octets_in : Kind → Members → KeyOctets
 octets_in Oct ms = OctKey (member_octets (codes "k") ms)
 octets_in Rsa ms = RsaKey (member_octets (codes "n") ms) (member_octets (codes "e") ms)
 octets_in (Ec curve) ms = EcKey curve (member_octets (codes "x") ms) (member_octets (codes "y") ms)
 octets_in (Okp curve) ms = OkpKey curve (member_octets (codes "x") ms)
 
+-- each element of a readable key's `key_ops` is a text
 abbrev pub text_or_empty : Data → List ℕ
 text_or_empty d = unwrap_or (as_str d) []
 

@@ -45,6 +45,6 @@ abbrev pub allows : List ℕ → Option (List (List ℕ)) → Bool
 allows op None = true
 allows op (Some ops) = list_any (λ o. bytes_eq o op) ops
 
--- both
+-- the key may be used for this operation
 abbrev pub permits_of : List ℕ → KeyParts → Bool
 permits_of op k = is_for_signatures k.key_use && allows op k.key_ops

@@ -73,7 +73,7 @@ impl KeySet {
         requires { length entries.now ≤ 1024 }
         ensures { IfOk result (λ s. key_set s ≡ key_list entries.now) }
     {
-        let mut keys = Vec::new(alloc);
+        let mut keys = Vec::with_capacity(alloc, entries.len())?;
         let mut skipped = Vec::new(alloc);
         for place in 0..entries.len() {
             add_entry(
