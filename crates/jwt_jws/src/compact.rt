@@ -1,5 +1,5 @@
 //! Compact form: three texts joined by periods (RFC 7515, section 7.1).
-ghost use Rattle.std.specs.Prelude.{◌≡◌, ◌≢◌, [], ◌∷◌, IfErr, MatchOption, option_map};
+ghost use Rattle.std.specs.Prelude.{◌≡◌, ◌≢◌, [], ◌∷◌, ◌+◌, IfErr, IfSome, MatchOption, length, option_map};
 ghost use Rattle.std.specs.List.{slice_split, position};
 ghost use Rattle.jwt_text.specs.Answers.{Answers};
 ghost use Rattle.jwt_jws.specs.Forms.{is_period, compact, compact_texts};
@@ -70,7 +70,8 @@ pub(crate) fn segments_of(octets: &[u8]) -> Result<CompactTexts<'_>, FormFault>
 /// The three texts that two periods part (RFC 7515, section 7.1); `None` where there is another number of periods. Nothing is
 /// decoded, and it takes no memory.
 pub fn compact_texts(octets: &[u8]) -> Option<CompactTexts<'_>>
-    ensures { option_map texts_view result ≡ compact_texts octets.now }
+    ensures texts { option_map texts_view result ≡ compact_texts octets.now }
+    ensures sized { IfSome result (λ t. length t.protected.now + length t.payload.now + length t.signature.now + 2 ≡ length octets.now) }
 {
     match segments_of(octets) {
         Ok(texts) => Some(texts),

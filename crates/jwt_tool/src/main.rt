@@ -1,0 +1,6 @@
+//! The program `jwt`.
+#![tactic(auto)]
+
+pub mod words;
+
+fn main(_rt: HostRuntime) {}
