@@ -4,6 +4,8 @@
 mod mac;
 mod reply;
 mod run;
+#[cfg(test)]
+mod tests;
 mod words;
 
 use jwt_text::{Reader, Writer};
