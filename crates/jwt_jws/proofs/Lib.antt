@@ -4,3 +4,4 @@ pub mod Each
 pub mod FaultLaws
 pub mod Periods
 pub mod SignedLaws
+pub mod Texts

@@ -45,6 +45,19 @@ compact_of _ = Err Segments
 unfoldable pub compact : List ℕ → Result SpelledToken FormFault
 compact z = compact_of (slice_split is_period z)
 
+-- the three texts that two periods part
+pub record CompactTexts : Type 0 where
+  pub protected : List ℕ
+  pub payload : List ℕ
+  pub signature : List ℕ
+
+abbrev pub three_texts : List (List ℕ) → Option CompactTexts
+three_texts (h ∷ p ∷ g ∷ []) = Some (record { protected = h; payload = p; signature = g })
+three_texts _ = None
+
+abbrev pub compact_texts : List ℕ → Option CompactTexts
+compact_texts z = three_texts (slice_split is_period z)
+
 -- ---- JSON form, general and flattened
 
 -- an absent `protected` is the empty text

@@ -3,12 +3,12 @@ use Rattle.std.specs.Prelude.{ℕ, List, Option, Some, None, map, [], ◌∷◌,
 use Rattle.serde_json.specs.Data.{Members}
 use Rattle.jwt_text.specs.Parts.{part_octets, IsLent}
 use Rattle.jwt_jws.specs.Token.{SignatureParts, Token}
-use Rattle.jwt_jws.specs.Forms.{Spelled, SpelledToken, compact_token}
+use Rattle.jwt_jws.specs.Forms.{CompactTexts, Spelled, SpelledToken, compact_token}
 use Rattle.jwt_jws.specs.declared.signature.Signature.{Signature}
 use Rattle.jwt_jws.specs.declared.signed.Signed.{Signed}
 use Rattle.jwt_jws.specs.declared.unprotected.Unprotected.{Unprotected}
 use Rattle.jwt_jws.specs.declared.unprotected.Unprotected.TheVariants.{Absent, OtherKind, Members as AnObject}
-use Rattle.jwt_jws.specs.declared.compact.Segments.{Segments}
+use Rattle.jwt_jws.specs.declared.compact.CompactTexts.{CompactTexts as LentTexts}
 use Rattle.jwt_jws.specs.declared.json.SpelledSignature.{SpelledSignature}
 use Rattle.jwt_jws.specs.declared.json.SpelledJson.{SpelledJson}
 
@@ -29,7 +29,10 @@ header_view Absent = None
 header_view OtherKind = Some None
 header_view (AnObject o) = Some (Some o)
 
-abbrev pub compact_view : Segments → SpelledToken
+abbrev pub texts_view : LentTexts → CompactTexts
+texts_view s = record { protected = s.protected.now; payload = s.payload.now; signature = s.signature.now }
+
+abbrev pub compact_view : LentTexts → SpelledToken
 compact_view s = compact_token s.protected.now s.payload.now s.signature.now
 
 abbrev pub spelled_view : SpelledSignature → Spelled

@@ -1,18 +1,23 @@
 //! Compact form: three texts joined by periods (RFC 7515, section 7.1).
-ghost use Rattle.std.specs.Prelude.{◌≡◌, [], ◌∷◌, MatchOption};
+ghost use Rattle.std.specs.Prelude.{◌≡◌, ◌≢◌, [], ◌∷◌, ◌+◌, IfErr, IfSome, MatchOption, length, option_map};
 ghost use Rattle.std.specs.List.{slice_split, position};
 ghost use Rattle.jwt_text.specs.Answers.{Answers};
-ghost use Rattle.jwt_jws.specs.Forms.{is_period, compact};
-ghost use Rattle.jwt_jws.specs.Views.{compact_view};
+ghost use Rattle.jwt_jws.specs.Forms.{is_period, compact, compact_texts};
+ghost use Rattle.jwt_jws.specs.Views.{compact_view, texts_view};
 
 use crate::fault::FormFault;
 
-/// The three texts of a compact token, lent.
+/// The three texts of a token in compact form, lent.
 #[derive(Clone, Copy)]
-pub(crate) struct Segments<'a> {
-    pub(crate) protected: &'a [u8],
-    pub(crate) payload: &'a [u8],
-    pub(crate) signature: &'a [u8],
+pub struct CompactTexts<'a> {
+    /// The text before the first period.
+    pub protected: &'a [u8],
+
+    /// The text between the two.
+    pub payload: &'a [u8],
+
+    /// The text behind the second.
+    pub signature: &'a [u8],
 }
 
 fn first_period(octets: &[u8]) -> Option<usize>
@@ -36,8 +41,9 @@ fn cut(octets: &[u8]) -> Option<(&[u8], &[u8])>
 
 /// The three texts, or the fault: `Encrypted` for five, `Segments` for any other number.
 #[tactic(auto, unfolding(crate::specs::Forms::compact), using(crate::proofs::Periods::more_periods))]
-pub(crate) fn segments_of(octets: &[u8]) -> Result<Segments<'_>, FormFault>
-    ensures { Answers FormFault.OutOfMemory compact_view result (compact octets.now) }
+pub(crate) fn segments_of(octets: &[u8]) -> Result<CompactTexts<'_>, FormFault>
+    ensures value { Answers FormFault.OutOfMemory compact_view result (compact octets.now) }
+    ensures memory { IfErr result (λ fault. fault ≢ FormFault.OutOfMemory) }
 {
     let Some((protected, rest)) = cut(octets) else {
         return Err(FormFault::Segments);
@@ -46,7 +52,7 @@ pub(crate) fn segments_of(octets: &[u8]) -> Result<Segments<'_>, FormFault>
         return Err(FormFault::Segments);
     };
     let Some((_, after)) = cut(rest) else {
-        return Ok(Segments {
+        return Ok(CompactTexts {
             protected,
             payload,
             signature: rest,
@@ -58,5 +64,17 @@ pub(crate) fn segments_of(octets: &[u8]) -> Result<Segments<'_>, FormFault>
     match cut(last) {
         Some(_) => Err(FormFault::Segments),
         None => Err(FormFault::Encrypted),
+    }
+}
+
+/// The three texts that two periods part (RFC 7515, section 7.1); `None` where there is another number of periods. Nothing is
+/// decoded, and it takes no memory.
+pub fn compact_texts(octets: &[u8]) -> Option<CompactTexts<'_>>
+    ensures texts { option_map texts_view result ≡ compact_texts octets.now }
+    ensures sized { IfSome result (λ t. length t.protected.now + length t.payload.now + length t.signature.now + 2 ≡ length octets.now) }
+{
+    match segments_of(octets) {
+        Ok(texts) => Some(texts),
+        Err(_) => None,
     }
 }

@@ -17,6 +17,7 @@ mod signing;
 mod tests;
 mod unprotected;
 
+pub use compact::{CompactTexts, compact_texts};
 pub use fault::{Form, FormFault, Place};
 pub use parsing::parse;
 pub use signature::Signature;

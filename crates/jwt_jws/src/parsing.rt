@@ -4,7 +4,7 @@ ghost use Rattle.jwt_text.specs.Answers.{Answers, each};
 ghost use Rattle.jwt_jws.specs.Forms.{signed_of, signature_of, form_of, opens_object};
 ghost use Rattle.jwt_jws.specs.Views.{token, parts, spelled_view, json_view, compact_view, AreLent};
 
-use crate::compact::{Segments, segments_of};
+use crate::compact::{CompactTexts, segments_of};
 use crate::fault::{Form, FormFault, Place};
 use crate::json::{SpelledJson, SpelledSignature, json_object, opens_object, spelled_json};
 use crate::signature::Signature;
@@ -15,7 +15,7 @@ use jwt_text::Part;
 use std::alloc::Global;
 
 #[tactic(auto, unfolding(crate::specs::Forms::signed_of))]
-fn compact_signed<'a>(alloc: Global, segments: &Segments<'a>) -> Result<Signed<'a>, FormFault>
+fn compact_signed<'a>(alloc: Global, segments: &CompactTexts<'a>) -> Result<Signed<'a>, FormFault>
     ensures value { Answers FormFault.OutOfMemory token result (signed_of (compact_view segments.now)) }
     ensures lent { IfOk result AreLent }
 {

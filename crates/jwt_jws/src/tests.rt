@@ -31,7 +31,7 @@ fn names_the_first_cause(rt: HostRuntime) -> Result<(), Fail> {
         (b" e30.e30.", FormFault::Base64(Place::Protected(0))),
         (b"e30=.e30.", FormFault::Base64(Place::Protected(0))),
         (b".e30.", FormFault::Header(0)),
-        (b"W10.e30.", FormFault::Header(0)),
+        (b"Nw.e30.", FormFault::Header(0)),
         // The header {"alg":"HS256","alg":"HS256"}.
         (b"eyJhbGciOiJIUzI1NiIsImFsZyI6IkhTMjU2In0.e30.", FormFault::Header(0)),
         (b"e30.e30.AB", FormFault::Base64(Place::Signature(0))),

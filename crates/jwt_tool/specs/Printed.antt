@@ -1,0 +1,43 @@
+-- What a command prints, and its status.
+use Rattle.std.specs.Prelude.{◌≡◌, ◌≤◌, ◌⊎◌, ℕ, Bool, true, List, [], ◌∷◌, ◌++◌, Option, Some, take, drop, codes}
+use Rattle.std.specs.Io.KnownBytes.{Appends}
+
+pub record Answer : Type 0 where
+  pub text : List ℕ
+  pub status : ℕ
+
+-- the parts of a line, in order, and its line feed
+abbrev pub joined : List (List ℕ) → List ℕ
+joined [] = 10 ∷ []
+joined (part ∷ parts) = part ++ joined parts
+
+abbrev pub line : List (List ℕ) → ℕ → Answer
+line parts status = record { text = joined parts; status = status }
+
+abbrev pub read_failed : Answer
+read_failed = line (codes "failed Read" ∷ []) 3
+
+abbrev pub out_of_memory : Answer
+out_of_memory = line (codes "failed OutOfMemory" ∷ []) 4
+
+abbrev pub refused : List ℕ → Answer
+refused name = line (codes "refused " ∷ name ∷ []) 1
+
+-- From what had gone out to what has gone out: the whole text went out, and the status is the answer's; or the writer has
+-- failed, a front of the text went out, and the status is 3.
+abbrev pub Prints : Answer → Option (List ℕ) → Option (List ℕ) → Bool → ℕ → Type 0
+Prints a before after failed status = (Appends before after a.text × (status ≡ a.status))
+    ⊎ ((failed ≡ true) × ((n : ℕ) × Appends before after (take n a.text)) × (status ≡ 3))
+
+-- the answer is given, or a growth was refused
+abbrev pub Gives : Answer → Option (List ℕ) → Option (List ℕ) → Bool → ℕ → Type 0
+Gives a before after failed status = Prints a before after failed status ⊎ Prints out_of_memory before after failed status
+
+-- wrong words: some text with the status 2, or a growth was refused
+abbrev pub GivesWrongWords : Option (List ℕ) → Option (List ℕ) → Bool → ℕ → Type 0
+GivesWrongWords before after failed status = ((text : List ℕ) × Prints (record { text = text; status = 2 }) before after failed status)
+    ⊎ Prints out_of_memory before after failed status
+
+-- at most so many octets of the input were taken
+abbrev pub TakesAtMost : ℕ → List ℕ → Option (List ℕ) → Type 0
+TakesAtMost most before after = (n : ℕ) × (n ≤ most) × (after ≡ Some (drop n before))

@@ -1,0 +1,12 @@
+-- What contracts see of this crate's own values.
+use Rattle.std.specs.String.{string_bytes}
+use Rattle.jwt_tool.specs.declared.mac.Digest.{Digest as CodeDigest}
+use Rattle.jwt_tool.specs.declared.reply.Reply.{Reply}
+use Rattle.jwt_tool.specs.Mac.{Digest}
+use Rattle.jwt_tool.specs.Printed.{Answer}
+
+abbrev pub digest_view : CodeDigest → Digest
+digest_view d = record { tag = d.tag; equal = d.equal }
+
+abbrev pub reply_view : Reply → Answer
+reply_view r = record { text = string_bytes r.text; status = r.status }

@@ -1,0 +1,62 @@
+-- The words of the command `jwt`, over `clap`'s own definitions of what a command takes.
+use Rattle.std.specs.Prelude.{◌≤◌, ℕ, true, false, List, [], ◌∷◌, Option, Some, None, if◌then◌else◌, codes, option_and_then, option_map}
+use Rattle.std.specs.Str.{bytes_eq}
+use Rattle.std.specs.Str.Parse.{digits_value, without_leading_plus}
+use Rattle.clap.specs.Words.{App, Kinds, Row, Rule, Text, fault_of, first_of, new_app, new_rule, one_of, subcommand_of, with_rule, with_subcommand}
+use Rattle.clap.specs.ValueTests.{accepts}
+use Rattle.clap.specs.declared.builder.value_parser.ValueParser.{ValueParser}
+use Rattle.clap.specs.declared.builder.value_parser.ValueParser.TheVariants as vp
+
+-- ---- the options
+
+-- an option `--name VALUE`
+abbrev pub option : Text → Rule
+option name = record (new_rule name) { long = Some name; value_names = 1 }
+
+abbrev pub limit_range : ValueParser
+limit_range = vp.Unsigned 1 1048576
+
+abbrev pub key_rule : Rule
+key_rule = record (option (codes "k")) { required = true }
+
+abbrev pub limit_rule : Rule
+limit_rule = record (option (codes "limit")) { parser = Some limit_range; defaults = codes "8192" ∷ [] }
+
+-- ---- the command
+
+abbrev pub mac_app : App
+mac_app = with_rule (with_rule (new_app (codes "mac")) key_rule) limit_rule
+
+abbrev pub top_app : App
+top_app = record (new_app (codes "jwt")) { top = record (new_app (codes "jwt")).top { subcommand_required = true } }
+
+abbrev pub jwt_app : App
+jwt_app = with_subcommand top_app mac_app.top
+
+-- ---- what the words ask for
+
+pub data Order : Type 0 where
+  Mac : Text → ℕ → Order
+
+-- the numbers of an order are in their ranges
+abbrev pub HasLimits : Order → Type 0
+HasLimits (Mac key limit) = (1 ≤ limit) × (limit ≤ 1048576)
+
+-- the number that an option has, where its parser takes it
+abbrev pub number_in : ValueParser → Option Text → Option ℕ
+number_in range text = option_and_then (λ t. if accepts false range t then Some (digits_value 10 (without_leading_plus t)) else None) text
+
+abbrev pub mac_order : List Row → Option Order
+mac_order rows = option_and_then (λ key. option_map (λ limit. Mac key limit) (number_in limit_range (one_of (codes "limit") rows))) (first_of (codes "k") rows)
+
+abbrev pub order_in : Text → List Row → Option Order
+order_in name rows = if bytes_eq name (codes "mac") then mac_order rows else None
+
+-- what a subcommand with its matches asks for, where `clap` has no fault
+abbrev pub order_under : Kinds → Option (Text × List Row) → Option Order
+order_under [] matches = option_and_then (λ m. order_in m.0 m.1) matches
+order_under (fault ∷ faults) matches = None
+
+-- what the words ask for, where `clap` accepts them
+abbrev pub order_of : List Text → Option Order
+order_of words = order_under (fault_of jwt_app words) (subcommand_of jwt_app words)

@@ -1,0 +1,32 @@
+//! What a command answers: its whole output and its status.
+ghost use Rattle.std.specs.Prelude.{◌≡◌, ◌∷◌, [], IfOk};
+ghost use Rattle.jwt_tool.specs.Printed.{line, refused};
+
+use std::alloc::{AllocError, Global};
+
+/// The text that a command prints, whole before any of it goes out, and its status.
+#[derive(Debug, Drop)]
+pub(crate) struct Reply {
+    pub(crate) text: String,
+    pub(crate) status: u8,
+}
+
+impl Reply {
+    ghost use Rattle.jwt_tool.specs.Views.{reply_view};
+
+    /// A line with this text.
+    pub(crate) fn line(alloc: Global, text: &str, status: u8) -> Result<Reply, AllocError>
+        ensures { IfOk result (λ r. reply_view r ≡ line (text.now ∷ []) status) }
+    {
+        let text = format!(in alloc; "{text}\n")?;
+        Ok(Reply { text, status })
+    }
+
+    /// A refusal by its name.
+    pub(crate) fn refused(alloc: Global, name: &str) -> Result<Reply, AllocError>
+        ensures { IfOk result (λ r. reply_view r ≡ refused name.now) }
+    {
+        let text = format!(in alloc; "refused {name}\n")?;
+        Ok(Reply { text, status: 1 })
+    }
+}

@@ -1,0 +1,61 @@
+//! The command, over any source and sink.
+ghost use Rattle.std.specs.Prelude.{◌≡◌, ◌+◌, ◌⊎◌, ℕ, List, None, Some, map, true, IfOk, IfSome};
+ghost use Rattle.jwt_tool.specs.Mac.{mac_answer};
+ghost use Rattle.jwt_tool.specs.Printed.{Gives, GivesWrongWords, Prints, TakesAtMost};
+ghost use Rattle.jwt_tool.specs.Views.{reply_view};
+ghost use Rattle.jwt_tool.specs.Words.{Mac, order_of};
+
+use crate::mac::mac;
+use crate::reply::Reply;
+use crate::words::{Order, WordsFault, read_words};
+use jwt_text::{Sink, Source, write_out};
+use std::alloc::{AllocError, Global};
+
+/// Runs the command that `words` ask for on `r`, prints its answer to `w`, and answers its status. The first word is the
+/// program's name.
+///
+/// 0: done; 1: refused; 2: wrong words, and `w` has what `clap` says of them; 3: a read or a write failed; 4: want of memory.
+/// The whole answer is in hand before any of it goes out.
+pub fn run<R: Source, W: Sink>(alloc: Global, words: &[&str], r: &mut R, w: &mut W) -> u8
+    // The line of `mac`, where the words ask for it.
+    ensures mac { (key : List ℕ) (limit : ℕ) → order_of (map (λ word. word.now) words.now) ≡ Some (Mac key limit)
+        → IfSome (R.remaining r.old) (λ x. Gives (mac_answer key limit (R.failed r.new) x) (W.contents w.old) (W.contents w.new) (W.failed w.new) result) }
+    ensures taken { (key : List ℕ) (limit : ℕ) → order_of (map (λ word. word.now) words.now) ≡ Some (Mac key limit)
+        → IfSome (R.remaining r.old) (λ x. (R.failed r.new ≡ true) ⊎ TakesAtMost (limit + 1) x (R.remaining r.new)) }
+
+    // Words that `clap` refuses, and help words.
+    ensures wrong { order_of (map (λ word. word.now) words.now) ≡ None
+        → GivesWrongWords (W.contents w.old) (W.contents w.new) (W.failed w.new) result }
+    ensures unread { order_of (map (λ word. word.now) words.now) ≡ None → r.new ≡ r.old }
+{
+    match reply_to(alloc, words, r) {
+        Ok(reply) => send(w, reply.text.as_bytes(), reply.status),
+        Err(_) => send(w, b"failed OutOfMemory\n", 4),
+    }
+}
+
+// Sends a whole answer.
+fn send<W: Sink>(w: &mut W, text: &[u8], status: u8) -> u8
+    ensures { Prints (record { text = text.now; status = status }) (W.contents w.old) (W.contents w.new) (W.failed w.new) result }
+{
+    match write_out(w, text) {
+        Ok(()) => status,
+        Err(_) => 3,
+    }
+}
+
+// The answer, before any of it goes out.
+fn reply_to<R: Source>(alloc: Global, words: &[&str], r: &mut R) -> Result<Reply, AllocError>
+    ensures mac { (key : List ℕ) (limit : ℕ) → order_of (map (λ word. word.now) words.now) ≡ Some (Mac key limit)
+        → IfSome (R.remaining r.old) (λ x. IfOk result (λ a. reply_view a ≡ mac_answer key limit (R.failed r.new) x)) }
+    ensures taken { (key : List ℕ) (limit : ℕ) → order_of (map (λ word. word.now) words.now) ≡ Some (Mac key limit)
+        → IfSome (R.remaining r.old) (λ x. (R.failed r.new ≡ true) ⊎ TakesAtMost (limit + 1) x (R.remaining r.new)) }
+    ensures wrong { order_of (map (λ word. word.now) words.now) ≡ None → IfOk result (λ a. a.status ≡ 2) }
+    ensures unread { order_of (map (λ word. word.now) words.now) ≡ None → r.new ≡ r.old }
+{
+    match read_words(alloc, words) {
+        Ok(Order::Mac { key, limit }) => mac(alloc, key, limit, r),
+        Err(WordsFault::Wrong(text)) => Ok(Reply { text, status: 2 }),
+        Err(WordsFault::OutOfMemory) => Err(AllocError),
+    }
+}

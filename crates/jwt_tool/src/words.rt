@@ -1,0 +1,134 @@
+//! The words of the command, read by `clap`.
+ghost use Rattle.std.specs.Prelude.{◌≡◌, ◌≤◌, IfOk, IfErr, IfSome, None, Some, false, map, option_and_then, option_map};
+ghost use Rattle.clap.specs.Words.{app_of, found_of, one_of, rows_of, rule_of, subcommand_rows_of};
+ghost use Rattle.clap.specs.declared.builder.command.Command.TheViews.{out-Command as fields_of};
+ghost use Rattle.clap.specs.declared.builder.ValueParser.TheVariants.{Unsigned};
+ghost use Rattle.jwt_tool.specs.Words.{HasLimits, jwt_app, key_rule, limit_rule, mac_app, mac_order, number_in, order_in, order_of};
+ghost use Rattle.jwt_tool.specs.Examples.{Examples};
+ghost use Rattle.jwt_tool.specs.Seen.{IsWrong, seen};
+
+use clap::builder::ValueParser;
+use clap::error::ErrorKind;
+use clap::{Arg, ArgMatches, Command, Error};
+use std::alloc::{AllocError, Global};
+
+/// What the words ask for.
+#[derive(Clone, Copy, Debug)]
+pub enum Order<'a> {
+    Mac { key: &'a str, limit: u64 },
+}
+
+fn key_option<'a>(alloc: Global) -> Arg<'a>
+    ensures shape { rule_of result ≡ key_rule }
+    ensures local { result.global ≡ false }
+{
+    Arg::new(alloc, "k")
+        .long("k")
+        .value_name("TEXT")
+        .required(true)
+        .help("The key, octets in base64url")
+}
+
+fn limit_option<'a>(alloc: Global) -> Arg<'a>
+    ensures shape { rule_of result ≡ limit_rule }
+    ensures local { result.global ≡ false }
+{
+    Arg::new(alloc, "limit")
+        .long("limit")
+        .value_name("N")
+        .value_parser(ValueParser::unsigned(1, 1_048_576))
+        .default_value("8192")
+        .help("The most octets of a token")
+}
+
+fn mac_command<'a>(alloc: Global) -> Result<Command<'a>, AllocError>
+    ensures shape { IfOk result (λ c. app_of c ≡ mac_app) }
+    ensures local { IfOk result (λ c. (fields_of c).has_globals ≡ false) }
+{
+    Command::new(alloc, "mac")
+        .about("Computes the tag of a compact token")
+        .arg(key_option(alloc))?
+        .arg(limit_option(alloc))
+}
+
+/// The command line of the program.
+pub fn command<'a>(alloc: Global) -> Result<Command<'a>, AllocError>
+    ensures { IfOk result (λ c. app_of c ≡ jwt_app) }
+{
+    Command::new(alloc, "jwt")
+        .about("Validates, issues and explains JSON Web Tokens")
+        .subcommand_required(true)
+        .subcommand(mac_command(alloc)?)
+}
+
+/// Why the words ask for nothing.
+#[derive(Debug, Drop)]
+pub enum WordsFault {
+    OutOfMemory,
+    /// The words are wrong, and this is what the user reads of it.
+    Wrong(String),
+}
+
+impl From<AllocError> for WordsFault {
+    ghost use Rattle.jwt_tool.specs.declared.words.WordsFault.TheVariants.{OutOfMemory};
+
+    ghost from_gives = { λ _ f. f ≡ OutOfMemory };
+
+    fn from(_error: AllocError) -> WordsFault {
+        WordsFault::OutOfMemory
+    }
+}
+
+/// What the words ask for.
+pub fn read_words<'a>(alloc: Global, words: &'a [&'a str]) -> Result<Order<'a>, WordsFault>
+    ensures limits { IfOk result (λ o. HasLimits (seen o)) }
+    ensures ok { IfOk result (λ o. order_of (map (λ w. w.now) words.now) ≡ Some (seen o)) }
+    ensures err { IfErr result (λ f. IsWrong f → order_of (map (λ w. w.now) words.now) ≡ None) }
+{
+    match command(alloc)?.try_get_matches_from(words) {
+        Ok(matches) => match chosen(&matches) {
+            Some(order) => Ok(order),
+            None => Err(WordsFault::Wrong(String::new(alloc))),
+        },
+        Err(error) => match error.kind() {
+            ErrorKind::OutOfMemory => Err(WordsFault::OutOfMemory),
+            _ => Err(WordsFault::Wrong(format!(in alloc; "{error}")?)),
+        },
+    }
+}
+
+fn chosen<'a>(matches: &ArgMatches<'a>) -> Option<Order<'a>>
+    ensures limits { IfSome result (λ o. HasLimits (seen o)) }
+    ensures order { option_map seen result
+        ≡ option_and_then (λ p. order_in p.0 p.1) (subcommand_rows_of matches.now) }
+{
+    let (name, options) = matches.subcommand()?;
+    match name {
+        "mac" => chosen_mac(options),
+        _ => None,
+    }
+}
+
+fn chosen_mac<'a>(options: &ArgMatches<'a>) -> Option<Order<'a>>
+    ensures limits { IfSome result (λ o. HasLimits (seen o)) }
+    ensures order { option_map seen result ≡ mac_order (rows_of (found_of options.now)) }
+{
+    let key = options.get_str("k")?;
+    let limit = number(options, "limit", 1, 1_048_576)?;
+    Some(Order::Mac { key, limit })
+}
+
+// `clap` has refused a number out of its range; its contract says so of the words and not of the
+// matches, so the range is seen here again.
+fn number(options: &ArgMatches<'_>, id: &str, low: u64, high: u64) -> Option<u64>
+    ensures limits { IfSome result (λ n. (low ≤ n) × (n ≤ high)) }
+    ensures number { result ≡ number_in (Unsigned low high) (one_of id.now (rows_of (found_of options.now))) }
+{
+    let n = options.get_one::<u64>(id)?;
+    if low <= n && n <= high { Some(n) } else { None }
+}
+
+/// What some words ask for, by the definitions alone.
+pub fn some_words()
+    ensures { Examples }
+{}
