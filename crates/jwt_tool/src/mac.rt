@@ -191,7 +191,12 @@ fn key_octets(alloc: Global, text: &str) -> Result<Option<Vec<u8>>, AllocError>
 
 /// Runs `jwt mac` on an input: a token in compact form, and one octet 10 behind it or none. A key text that spells no 1 to
 /// 4,096 octets is refused before anything is read.
-pub(crate) fn mac<R: Source>(alloc: Global, key: &str, limit: u64, r: &mut R) -> Result<Reply, AllocError>
+pub(crate) fn mac<R: Source>(
+    alloc: Global,
+    key: &str,
+    limit: u64,
+    r: &mut R,
+) -> Result<Reply, AllocError>
     requires least { 1 ≤ limit }
     requires most { limit ≤ 1048576 }
     ensures line { IfSome (R.remaining r.old) (λ x. IfOk result (λ a. reply_view a ≡ mac_answer key.now limit (R.failed r.new) x)) }
