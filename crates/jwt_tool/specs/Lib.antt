@@ -1,4 +1,5 @@
 pub mod Examples
+pub mod Input
 pub mod Mac
 pub mod Printed
 pub mod Seen

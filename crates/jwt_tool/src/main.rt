@@ -1,6 +1,7 @@
 //! The program `jwt`: JSON Web Tokens on the command line.
 #![tactic(auto)]
 
+mod input;
 mod mac;
 mod reply;
 mod run;

@@ -1,7 +1,8 @@
 //! The command, over any source and sink.
 ghost use Rattle.std.specs.Prelude.{◌≡◌, ◌+◌, ◌⊎◌, ℕ, List, None, Some, map, true, IfOk, IfSome};
 ghost use Rattle.jwt_tool.specs.Mac.{mac_answer};
-ghost use Rattle.jwt_tool.specs.Printed.{Gives, GivesWrongWords, Prints, TakesAtMost};
+ghost use Rattle.jwt_tool.specs.Input.{TakesAtMost};
+ghost use Rattle.jwt_tool.specs.Printed.{Gives, GivesWrongWords, Prints};
 ghost use Rattle.jwt_tool.specs.Views.{reply_view};
 ghost use Rattle.jwt_tool.specs.Words.{Mac, order_of};
 
