@@ -145,10 +145,10 @@ fn digest_line(alloc: Global, digest: &Digest) -> Result<Reply, AllocError>
 {
     let tag = hex::encode(alloc, digest.tag.octets())?;
     if digest.equal {
-        let text = format!(in alloc; "mac {tag} equal\n")?;
+        let text = format!(in alloc; "mac {tag} equal\n")?.into_bytes();
         Ok(Reply { text, status: 0 })
     } else {
-        let text = format!(in alloc; "mac {tag} differ\n")?;
+        let text = format!(in alloc; "mac {tag} differ\n")?.into_bytes();
         Ok(Reply { text, status: 1 })
     }
 }
@@ -166,8 +166,8 @@ fn token_line(alloc: Global, key: &[u8], token: &[u8]) -> Result<Reply, AllocErr
     }
 }
 
-// The octets without one octet 10 at their end.
-fn without_line_feed(octets: &[u8]) -> &[u8]
+/// The octets without one octet 10 at their end.
+pub(crate) fn without_line_feed(octets: &[u8]) -> &[u8]
     ensures value { result.now ≡ without_line_feed octets.now }
     ensures short { length result.now ≤ length octets.now }
 {

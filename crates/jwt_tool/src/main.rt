@@ -1,10 +1,14 @@
 //! The program `jwt`: JSON Web Tokens on the command line.
 #![tactic(auto)]
 
+mod faults;
 mod input;
+mod keys;
 mod mac;
+mod pieces;
 mod reply;
 mod run;
+mod show;
 #[cfg(test)]
 mod tests;
 mod words;

@@ -6,8 +6,10 @@ ghost use Rattle.jwt_tool.specs.Printed.{Gives, GivesWrongWords, Prints};
 ghost use Rattle.jwt_tool.specs.Views.{reply_view};
 ghost use Rattle.jwt_tool.specs.Words.{Mac, order_of};
 
+use crate::keys::keys;
 use crate::mac::mac;
 use crate::reply::Reply;
+use crate::show::show;
 use crate::words::{Order, WordsFault, read_words};
 use jwt_text::{Sink, Source, write_out};
 use std::alloc::{AllocError, Global};
@@ -30,7 +32,7 @@ pub fn run<R: Source, W: Sink>(alloc: Global, words: &[&str], r: &mut R, w: &mut
     ensures unread { order_of (map (λ word. word.now) words.now) ≡ None → r.new ≡ r.old }
 {
     match reply_to(alloc, words, r) {
-        Ok(reply) => send(w, reply.text.as_bytes(), reply.status),
+        Ok(reply) => send(w, reply.text.as_slice(), reply.status),
         Err(_) => send(w, b"failed OutOfMemory\n", 4),
     }
 }
@@ -56,7 +58,12 @@ fn reply_to<R: Source>(alloc: Global, words: &[&str], r: &mut R) -> Result<Reply
 {
     match read_words(alloc, words) {
         Ok(Order::Mac { key, limit }) => mac(alloc, key, limit, r),
-        Err(WordsFault::Wrong(text)) => Ok(Reply { text, status: 2 }),
+        Ok(Order::Keys) => keys(alloc, r),
+        Ok(Order::Show { limit }) => show(alloc, limit, r),
+        Err(WordsFault::Wrong(text)) => Ok(Reply {
+            text: text.into_bytes(),
+            status: 2,
+        }),
         Err(WordsFault::OutOfMemory) => Err(AllocError),
     }
 }

@@ -7,7 +7,7 @@ use Rattle.jwt_tool.proofs.run.run.Goals as goal
 pub returns-in-Ok-clause-mac : goal.returns-in-Ok-clause-mac
 returns-in-Ok-clause-mac g c = λ key limit asked.
     gives_answer (g.R.Source.remaining c.args.r.now) (mac_answer key limit (g.R.Source.failed c.reply_to.new.r)) (reply_view c.in-Ok.reply) _ _ _ _
-    (c.in-Ok.ensures.mac key limit asked) (rw c.as_bytes.ensures.value at c.send.ensures)
+    (c.in-Ok.ensures.mac key limit asked) (rw c.as_slice.ensures.value at c.send.ensures)
 
 pub returns-in-Err-clause-mac : goal.returns-in-Err-clause-mac
 returns-in-Err-clause-mac g c = λ key limit asked.
