@@ -52,6 +52,12 @@ HasLimits (Mac key limit) = (1 ≤ limit) × (limit ≤ 1048576)
 HasLimits Keys = Unit {0}
 HasLimits (Show limit) = (1 ≤ limit) × (limit ≤ 1048576)
 
+-- the most octets of an order's input
+abbrev pub input_limit : Order → ℕ
+input_limit (Mac key limit) = limit
+input_limit Keys = 4194304
+input_limit (Show limit) = limit
+
 -- the number that an option has, where its parser takes it
 abbrev pub number_in : ValueParser → Option Text → Option ℕ
 number_in range text = option_and_then (λ t. if accepts false range t then Some (digits_value 10 (without_leading_plus t)) else None) text

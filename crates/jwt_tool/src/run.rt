@@ -4,7 +4,8 @@ ghost use Rattle.jwt_tool.specs.Mac.{mac_answer};
 ghost use Rattle.jwt_tool.specs.Input.{TakesAtMost};
 ghost use Rattle.jwt_tool.specs.Printed.{Gives, GivesWrongWords, Prints};
 ghost use Rattle.jwt_tool.specs.Views.{reply_view};
-ghost use Rattle.jwt_tool.specs.Words.{Mac, order_of};
+ghost use Rattle.jwt_tool.specs.Statuses.{HasStatus, keys_status, show_status};
+ghost use Rattle.jwt_tool.specs.Words.{Keys, Mac, Order as Asked, Show, input_limit, order_of};
 
 use crate::keys::keys;
 use crate::mac::mac;
@@ -23,8 +24,15 @@ pub fn run<R: Source, W: Sink>(alloc: Global, words: &[&str], r: &mut R, w: &mut
     // The line of `mac`, where the words ask for it.
     ensures mac { (key : List ℕ) (limit : ℕ) → order_of (map (λ word. word.now) words.now) ≡ Some (Mac key limit)
         → IfSome (R.remaining r.old) (λ x. Gives (mac_answer key limit (R.failed r.new) x) (W.contents w.old) (W.contents w.new) (W.failed w.new) result) }
-    ensures taken { (key : List ℕ) (limit : ℕ) → order_of (map (λ word. word.now) words.now) ≡ Some (Mac key limit)
-        → IfSome (R.remaining r.old) (λ x. (R.failed r.new ≡ true) ⊎ TakesAtMost (limit + 1) x (R.remaining r.new)) }
+    // The statuses of `keys` and `show`.
+    ensures keys { order_of (map (λ word. word.now) words.now) ≡ Some Keys
+        → IfSome (R.remaining r.old) (λ x. HasStatus (keys_status (R.failed r.new) x) (W.failed w.new) result) }
+    ensures show { (limit : ℕ) → order_of (map (λ word. word.now) words.now) ≡ Some (Show limit)
+        → IfSome (R.remaining r.old) (λ x. HasStatus (show_status limit (R.failed r.new) x) (W.failed w.new) result) }
+
+    // At most one octet past the limit is taken.
+    ensures taken { (order : Asked) → order_of (map (λ word. word.now) words.now) ≡ Some order
+        → IfSome (R.remaining r.old) (λ x. (R.failed r.new ≡ true) ⊎ TakesAtMost (input_limit order + 1) x (R.remaining r.new)) }
 
     // Words that `clap` refuses, and help words.
     ensures wrong { order_of (map (λ word. word.now) words.now) ≡ None
@@ -51,8 +59,12 @@ fn send<W: Sink>(w: &mut W, text: &[u8], status: u8) -> u8
 fn reply_to<R: Source>(alloc: Global, words: &[&str], r: &mut R) -> Result<Reply, AllocError>
     ensures mac { (key : List ℕ) (limit : ℕ) → order_of (map (λ word. word.now) words.now) ≡ Some (Mac key limit)
         → IfSome (R.remaining r.old) (λ x. IfOk result (λ a. reply_view a ≡ mac_answer key limit (R.failed r.new) x)) }
-    ensures taken { (key : List ℕ) (limit : ℕ) → order_of (map (λ word. word.now) words.now) ≡ Some (Mac key limit)
-        → IfSome (R.remaining r.old) (λ x. (R.failed r.new ≡ true) ⊎ TakesAtMost (limit + 1) x (R.remaining r.new)) }
+    ensures keys { order_of (map (λ word. word.now) words.now) ≡ Some Keys
+        → IfSome (R.remaining r.old) (λ x. IfOk result (λ a. a.status ≡ keys_status (R.failed r.new) x)) }
+    ensures show { (limit : ℕ) → order_of (map (λ word. word.now) words.now) ≡ Some (Show limit)
+        → IfSome (R.remaining r.old) (λ x. IfOk result (λ a. a.status ≡ show_status limit (R.failed r.new) x)) }
+    ensures taken { (order : Asked) → order_of (map (λ word. word.now) words.now) ≡ Some order
+        → IfSome (R.remaining r.old) (λ x. (R.failed r.new ≡ true) ⊎ TakesAtMost (input_limit order + 1) x (R.remaining r.new)) }
     ensures wrong { order_of (map (λ word. word.now) words.now) ≡ None → IfOk result (λ a. a.status ≡ 2) }
     ensures unread { order_of (map (λ word. word.now) words.now) ≡ None → r.new ≡ r.old }
 {

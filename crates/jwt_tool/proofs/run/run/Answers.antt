@@ -1,7 +1,8 @@
 use Rattle.std.proofs.Common.{◌≡◌, ℕ, List, ap, inr}
 use Rattle.jwt_tool.specs.Mac.{mac_answer}
+use Rattle.jwt_tool.specs.Statuses.{show_status}
 use Rattle.jwt_tool.specs.Views.{reply_view}
-use Rattle.jwt_tool.proofs.Printing.{gives_answer, gives_memory}
+use Rattle.jwt_tool.proofs.Printing.{gives_answer, gives_memory, has_status}
 use Rattle.jwt_tool.proofs.run.run.Goals as goal
 
 pub returns-in-Ok-clause-mac : goal.returns-in-Ok-clause-mac
@@ -15,3 +16,8 @@ returns-in-Err-clause-mac g c = λ key limit asked.
 
 pub returns-in-Err-clause-wrong : goal.returns-in-Err-clause-wrong
 returns-in-Err-clause-wrong g c = λ wrong. inr c.send-in-Err.ensures
+
+pub returns-in-Ok-clause-show : goal.returns-in-Ok-clause-show
+returns-in-Ok-clause-show g c = λ limit asked.
+    has_status (g.R.Source.remaining c.args.r.now) (show_status limit (g.R.Source.failed c.reply_to.new.r)) _ c.in-Ok.reply.status _ _ _ _
+    (c.in-Ok.ensures.show limit asked) c.send.ensures
