@@ -34,8 +34,12 @@ pub(crate) fn form_fault_text(alloc: Global, fault: FormFault) -> Result<String,
         FormFault::Members => String::from_str(alloc, "Members"),
         FormFault::TooManySignatures => String::from_str(alloc, "TooManySignatures"),
         FormFault::Base64(Place::Payload) => String::from_str(alloc, "Base64 part=payload"),
-        FormFault::Base64(Place::Protected(i)) => format!(in alloc; "Base64 part=protected sig={i}"),
-        FormFault::Base64(Place::Signature(i)) => format!(in alloc; "Base64 part=signature sig={i}"),
+        FormFault::Base64(Place::Protected(i)) => format!(in alloc;
+            "Base64 part=protected sig={i}"
+        ),
+        FormFault::Base64(Place::Signature(i)) => format!(in alloc;
+            "Base64 part=signature sig={i}"
+        ),
         FormFault::Header(i) => format!(in alloc; "Header sig={i}"),
         FormFault::UnprotectedKind(i) => format!(in alloc; "UnprotectedKind sig={i}"),
         FormFault::NamesOverlap(i) => format!(in alloc; "NamesOverlap sig={i}"),

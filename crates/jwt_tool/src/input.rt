@@ -6,7 +6,11 @@ use jwt_text::{GREATEST_LIMIT, Intake, Source, TextFault};
 use std::alloc::Global;
 
 /// Reads all of an input, of at most so many octets.
-pub(crate) fn read_input<R: Source>(alloc: Global, limit: u32, r: &mut R) -> Result<Intake, TextFault>
+pub(crate) fn read_input<R: Source>(
+    alloc: Global,
+    limit: u32,
+    r: &mut R,
+) -> Result<Intake, TextFault>
     requires least { 1 ≤ limit }
     requires greatest { limit ≤ GREATEST_LIMIT }
     ensures input { IfSome (R.remaining r.old) (λ x. ReadsInput limit (R.failed r.new) x result) }

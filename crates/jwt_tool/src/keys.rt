@@ -59,7 +59,13 @@ fn put_skip(alloc: Global, out: &mut Vec<u8>, skip: &Skip) -> Result<(), AllocEr
 }
 
 // Writes the skips from a number on that stand before a place, and answers the number of the next one.
-fn put_skips(alloc: Global, out: &mut Vec<u8>, skipped: &[Skip], from: usize, place: u32) -> Result<usize, AllocError>
+fn put_skips(
+    alloc: Global,
+    out: &mut Vec<u8>,
+    skipped: &[Skip],
+    from: usize,
+    place: u32,
+) -> Result<usize, AllocError>
     requires { from ≤ length skipped.now }
     ensures { IfOk result (λ next. next ≤ length skipped.now) }
 {

@@ -37,16 +37,28 @@ fn unprotected_count(signature: &Signature<'_>) -> usize {
 }
 
 // The line of signature `i`. The protected octets are as many as their text spells; the signing input has one period.
-fn put_signature(alloc: Global, out: &mut Vec<u8>, i: u32, signature: &Signature<'_>, payload_len: u64) -> Result<(), AllocError> {
+fn put_signature(
+    alloc: Global,
+    out: &mut Vec<u8>,
+    i: u32,
+    signature: &Signature<'_>,
+    payload_len: u64,
+) -> Result<(), AllocError> {
     let text_len = signature.protected_text().len() as u64;
     let start = format!(in alloc; "sig={i} alg=")?;
-    let alg = header_text(alloc, signature.protected().has("alg"), signature.alg_text())?;
+    let alg = header_text(
+        alloc,
+        signature.protected().has("alg"),
+        signature.alg_text(),
+    )?;
     let kid = header_text(alloc, signature.in_header("kid"), signature.kid())?;
     let protected = text_len / 4 * 3 + text_len % 4 * 3 / 4;
     let unprotected = unprotected_count(signature);
     let octets = signature.octets().len();
     let input = text_len.saturating_add(1).saturating_add(payload_len);
-    let sizes = format!(in alloc; " protected={protected} unprotected={unprotected} signature={octets} input={input}\n")?;
+    let sizes = format!(in alloc;
+        " protected={protected} unprotected={unprotected} signature={octets} input={input}\n"
+    )?;
     out.extend_from_slice(start.as_bytes())?;
     out.extend_from_slice(alg.as_slice())?;
     out.extend_from_slice(b" kid=")?;
@@ -84,7 +96,11 @@ fn put_claims(alloc: Global, out: &mut Vec<u8>, claims: &Claims) -> Result<(), A
 }
 
 // The line of claims that are refused before any policy is looked at.
-fn put_refused_claims(alloc: Global, out: &mut Vec<u8>, fault: &ClaimFault<'_>) -> Result<(), AllocError> {
+fn put_refused_claims(
+    alloc: Global,
+    out: &mut Vec<u8>,
+    fault: &ClaimFault<'_>,
+) -> Result<(), AllocError> {
     let line = match fault {
         ClaimFault::ClaimKind(claim) => {
             let name = claim.name();
@@ -115,7 +131,13 @@ fn token_lines(alloc: Global, signed: &Signed<'_>) -> Result<Vec<u8>, AllocError
     out.extend_from_slice(start.as_bytes())?;
     for i in 0..signed.count() {
         if let Some(signature) = signed.signature(i) {
-            put_signature(alloc, &mut out, i, signature, signed.payload_text().len() as u64)?;
+            put_signature(
+                alloc,
+                &mut out,
+                i,
+                signature,
+                signed.payload_text().len() as u64,
+            )?;
         }
     }
     put_claims_line(alloc, &mut out, signed.payload())?;
