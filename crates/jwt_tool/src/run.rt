@@ -2,7 +2,7 @@
 ghost use Rattle.std.specs.Prelude.{◌≡◌, ◌+◌, ◌⊎◌, ℕ, List, None, Some, map, true, IfOk, IfSome};
 ghost use Rattle.jwt_tool.specs.Mac.{mac_answer};
 ghost use Rattle.jwt_tool.specs.Input.{TakesAtMost};
-ghost use Rattle.jwt_tool.specs.Printed.{Gives, GivesWrongWords, Prints};
+ghost use Rattle.jwt_tool.specs.Printed.{Gives, GivesWrongWords, Prints, out_of_memory};
 ghost use Rattle.jwt_tool.specs.Views.{reply_view};
 ghost use Rattle.jwt_tool.specs.Statuses.{HasStatus, keys_status, show_status};
 ghost use Rattle.jwt_tool.specs.Words.{Keys, Mac, Order as Asked, Show, input_limit, order_of};
@@ -41,8 +41,15 @@ pub fn run<R: Source, W: Sink>(alloc: Global, words: &[&str], r: &mut R, w: &mut
 {
     match reply_to(alloc, words, r) {
         Ok(reply) => send(w, reply.text.as_slice(), reply.status),
-        Err(_) => send(w, b"failed OutOfMemory\n", 4),
+        Err(_) => lack_memory(w),
     }
+}
+
+/// Prints that a growth was refused, and answers the status 4, or 3 where a write fails.
+pub fn lack_memory<W: Sink>(w: &mut W) -> u8
+    ensures { Prints out_of_memory (W.contents w.old) (W.contents w.new) (W.failed w.new) result }
+{
+    send(w, b"failed OutOfMemory\n", 4)
 }
 
 // Sends a whole answer.

@@ -12,10 +12,10 @@ returns-in-Ok-clause-mac g c = λ key limit asked.
 
 pub returns-in-Err-clause-mac : goal.returns-in-Err-clause-mac
 returns-in-Err-clause-mac g c = λ key limit asked.
-    gives_memory (g.R.Source.remaining c.args.r.now) (mac_answer key limit (g.R.Source.failed c.reply_to.new.r)) _ _ _ _ c.send-in-Err.ensures
+    gives_memory (g.R.Source.remaining c.args.r.now) (mac_answer key limit (g.R.Source.failed c.reply_to.new.r)) _ _ _ _ c.lack_memory.ensures
 
 pub returns-in-Err-clause-wrong : goal.returns-in-Err-clause-wrong
-returns-in-Err-clause-wrong g c = λ wrong. inr c.send-in-Err.ensures
+returns-in-Err-clause-wrong g c = λ wrong. inr c.lack_memory.ensures
 
 pub returns-in-Ok-clause-show : goal.returns-in-Ok-clause-show
 returns-in-Ok-clause-show g c = λ limit asked.
