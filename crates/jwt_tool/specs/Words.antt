@@ -27,20 +27,36 @@ limit_rule = record (option (codes "limit")) { parser = Some limit_range; defaul
 abbrev pub mac_app : App
 mac_app = with_rule (with_rule (new_app (codes "mac")) key_rule) limit_rule
 
+abbrev pub keys_app : App
+keys_app = new_app (codes "keys")
+
+abbrev pub show_app : App
+show_app = with_rule (new_app (codes "show")) limit_rule
+
 abbrev pub top_app : App
 top_app = record (new_app (codes "jwt")) { top = record (new_app (codes "jwt")).top { subcommand_required = true } }
 
 abbrev pub jwt_app : App
-jwt_app = with_subcommand top_app mac_app.top
+jwt_app = with_subcommand (with_subcommand (with_subcommand top_app mac_app.top) keys_app.top) show_app.top
 
 -- ---- what the words ask for
 
 pub data Order : Type 0 where
   Mac : Text → ℕ → Order
+  Keys : Order
+  Show : ℕ → Order
 
 -- the numbers of an order are in their ranges
 abbrev pub HasLimits : Order → Type 0
 HasLimits (Mac key limit) = (1 ≤ limit) × (limit ≤ 1048576)
+HasLimits Keys = Unit {0}
+HasLimits (Show limit) = (1 ≤ limit) × (limit ≤ 1048576)
+
+-- the most octets of an order's input
+abbrev pub input_limit : Order → ℕ
+input_limit (Mac key limit) = limit
+input_limit Keys = 4194304
+input_limit (Show limit) = limit
 
 -- the number that an option has, where its parser takes it
 abbrev pub number_in : ValueParser → Option Text → Option ℕ
@@ -49,8 +65,15 @@ number_in range text = option_and_then (λ t. if accepts false range t then Some
 abbrev pub mac_order : List Row → Option Order
 mac_order rows = option_and_then (λ key. option_map (λ limit. Mac key limit) (number_in limit_range (one_of (codes "limit") rows))) (first_of (codes "k") rows)
 
+abbrev pub show_order : List Row → Option Order
+show_order rows = option_map (λ limit. Show limit) (number_in limit_range (one_of (codes "limit") rows))
+
 abbrev pub order_in : Text → List Row → Option Order
-order_in name rows = if bytes_eq name (codes "mac") then mac_order rows else None
+order_in name rows =
+    if bytes_eq name (codes "mac") then mac_order rows
+    else if bytes_eq name (codes "keys") then Some Keys
+    else if bytes_eq name (codes "show") then show_order rows
+    else None
 
 -- what a subcommand with its matches asks for, where `clap` has no fault
 abbrev pub order_under : Kinds → Option (Text × List Row) → Option Order

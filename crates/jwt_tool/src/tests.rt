@@ -266,7 +266,7 @@ fn a_write_that_fails_ends_with_status_3(rt: HostRuntime) -> Result<(), Fail> {
 fn wrong_words_print_what_clap_says(rt: HostRuntime) -> Result<(), Fail> {
     let alloc = rt.alloc();
     let usage =
-        "error: 'jwt' requires a subcommand but one was not provided\n  [subcommands: mac, help]\n\nUsage: jwt <COMMAND>\n\nFor more information, try '--help'.\n";
+        "error: 'jwt' requires a subcommand but one was not provided\n  [subcommands: mac, keys, show, help]\n\nUsage: jwt <COMMAND>\n\nFor more information, try '--help'.\n";
     assert_eq!(rt;
         printed(alloc, &["jwt"], b"")?.0.as_slice(),
         usage.as_bytes()
@@ -302,6 +302,117 @@ fn wrong_words_print_what_clap_says(rt: HostRuntime) -> Result<(), Fail> {
         );
         assert!(rt; !out.is_empty());
         assert!(rt; !source.failed);
+    }
+    Ok(())
+}
+
+// RFC 7638, section 3.1, and RFC 8037, appendix A.3.
+const RSA_KEY: &str =
+    "{\"keys\":[{\"kty\":\"RSA\",\"n\":\"0vx7agoebGcQSuuPiLJXZptN9nndrQmbXEps2aiAFbWhM78LhWx4cbbfAAtVT86zwu1RK7aPFFxuhDR1L6tSoc_BJECPebWKRXjBZCiFV4n3oknjhMstn64tZ_2W-5JsGY4Hc5n9yBXArwl93lqt7_RN5w6Cf0h4QyQ5v-65YGjQR0_FDW2QvzqY368QQMicAtaSqzs8KJZgnYb9c7d0zgdAZHzu6qMQvRL5hajrn1n91CbOpbISD08qNLyrdkt-bFTWhAI4vMQFh6WeZu0fM4lFd2NcRwr3XPksINHaQ-G_xBniIqbw0Ls1jF44-csFCur-kEgU8awapJzKnqDKgw\",\"e\":\"AQAB\",\"alg\":\"RS256\",\"kid\":\"2011-04-29\"}]}";
+
+#[test]
+fn keys_prints_a_line_an_entry(rt: HostRuntime) -> Result<(), Fail> {
+    let okp =
+        "{\"keys\":[{\"kty\":\"OKP\",\"crv\":\"Ed25519\",\"x\":\"11qYAYKxCrfVS_7TyWQHOg7hcvPapiMlrwIaaPcHURo\"}]}";
+    let mixed =
+        "{\"keys\":[{\"kty\":\"XYZ\"},{\"kty\":\"oct\",\"k\":\"AA\",\"kid\":\"a\\n\\\"\"},{\"kty\":\"oct\"},7,{\"kty\":\"oct\",\"k\":\"AA\"},{\"kty\":\"oct\",\"k\":\"\"}]}";
+    let cases: [(&str, &str, u8); 8] = [
+        (
+            RSA_KEY,
+            "key=0 place=0 kty=RSA kid=\"2011-04-29\" alg=\"RS256\" size=256 thumbprint=NzbLsXh8uDCcd-6MNwXF4W_7noWXFZAfHkxZsRGC9Xs\n",
+            0,
+        ),
+        (
+            okp,
+            "key=0 place=0 kty=OKP kid=- alg=- size=32 thumbprint=kPrK_qmxVWaYVA9wwBF6Iuo3vVzz7TxHCTwXBygrS4k\n",
+            0,
+        ),
+        (
+            mixed,
+            "skip place=0 KtyUnknown\nkey=0 place=1 kty=oct kid=\"a\\n\\\"\" alg=- size=1 thumbprint=xoNKolCCOwo3X8anKSSJQKMilUpNMW2KQv6Md8OcdL0\nskip place=2 MemberMissing\nskip place=3 NotObject\nkey=1 place=4 kty=oct kid=- alg=- size=1 thumbprint=xoNKolCCOwo3X8anKSSJQKMilUpNMW2KQv6Md8OcdL0\nskip place=5 Length\n",
+            0,
+        ),
+        ("{\"keys\":[]}", "", 0),
+        ("{\"keys\":7}", "refused Keys NotKeySet\n", 1),
+        ("[]", "refused Keys NotKeySet\n", 1),
+        ("{", "refused Keys Json\n", 1),
+        ("{\"keys\":[],\"keys\":[]}", "refused Keys NameTwice\n", 1),
+    ];
+    for (set, lines, status) in cases {
+        let (out, answered) = printed(rt.alloc(), &["jwt", "keys"], set.as_bytes())?;
+        assert_eq!(rt; out.as_slice(), lines.as_bytes(), "at {lines}");
+        assert_eq!(rt; answered, status);
+    }
+    Ok(())
+}
+
+#[test]
+fn show_prints_what_stands_in_a_token(rt: HostRuntime) -> Result<(), Fail> {
+    let token_a =
+        "unverified compact\npayload octets=70\nsig=0 alg=\"HS256\" kid=- protected=30 unprotected=0 signature=32 input=135\nclaims aud=- exp=1300819380 iat=- iss=\"joe\" jti=- nbf=- sub=-\n";
+    let general: &[u8] =
+        b"{\"payload\":\"e30\",\"signatures\":[{\"signature\":\"AQAB\"},{\"protected\":\"eyJhbGciOjd9\",\"header\":{\"kid\":\"k\"},\"signature\":\"\"}]}\n";
+    let flattened: &[u8] =
+        b"{\"payload\":\"eyJhdWQiOlsiYSIsImIiXSwiZXhwIjotNX0\",\"header\":{\"kid\":null},\"signature\":\"\"}";
+    let cases: [(&[u8], &str, u8); 10] = [
+        (TOKEN_A, token_a, 0),
+        (
+            general,
+            "unverified json\npayload octets=2\nsig=0 alg=- kid=- protected=0 unprotected=0 signature=3 input=4\nsig=1 alg=? kid=\"k\" protected=9 unprotected=1 signature=0 input=16\nclaims aud=- exp=- iat=- iss=- jti=- nbf=- sub=-\n",
+            0,
+        ),
+        (
+            flattened,
+            "unverified flattened\npayload octets=26\nsig=0 alg=- kid=? protected=0 unprotected=1 signature=0 input=36\nclaims aud=[\"a\",\"b\"] exp=-5 iat=- iss=- jti=- nbf=- sub=-\n",
+            0,
+        ),
+        (
+            b"e30..",
+            "unverified compact\npayload octets=0\nsig=0 alg=- kid=- protected=2 unprotected=0 signature=0 input=4\nclaims refused ClaimsShape\n",
+            0,
+        ),
+        // {"exp":"1"}, {"exp":1e3}
+        (
+            b"e30.eyJleHAiOiIxIn0.",
+            "unverified compact\npayload octets=11\nsig=0 alg=- kid=- protected=2 unprotected=0 signature=0 input=19\nclaims refused ClaimKind claim=\"exp\"\n",
+            0,
+        ),
+        (
+            b"e30.eyJleHAiOjFlM30.",
+            "unverified compact\npayload octets=11\nsig=0 alg=- kid=- protected=2 unprotected=0 signature=0 input=19\nclaims refused ClaimDate claim=\"exp\"\n",
+            0,
+        ),
+        (b"", "refused Empty\n", 1),
+        (b"a.b.c.d.e", "refused Encrypted\n", 1),
+        (b"e30.A.", "refused Base64 part=payload\n", 1),
+        (
+            b"{\"payload\":\"e30\",\"signatures\":[{\"signature\":\"\"},{\"header\":7,\"signature\":\"\"}]}",
+            "refused UnprotectedKind sig=1\n",
+            1,
+        ),
+    ];
+    for (token, lines, status) in cases {
+        let (out, answered) = printed(rt.alloc(), &["jwt", "show"], token)?;
+        assert_eq!(rt; out.as_slice(), lines.as_bytes(), "at {lines}");
+        assert_eq!(rt; answered, status);
+    }
+    for left in 0..180 {
+        let mut source = Drip {
+            rest: TOKEN_A,
+            left,
+            failed: false,
+        };
+        let mut out: Vec<u8> = Vec::new(rt.alloc());
+        assert_eq!(rt;
+            run(
+                rt.alloc(),
+                &["jwt", "show", "--limit", "179"],
+                &mut source,
+                &mut Writer::new(&mut out)
+            ),
+            3
+        );
+        assert_eq!(rt; out.as_slice(), b"failed Read\n".as_slice());
     }
     Ok(())
 }

@@ -3,7 +3,7 @@ ghost use Rattle.std.specs.Prelude.{◌≡◌, ◌≤◌, IfOk, IfErr, IfSome, N
 ghost use Rattle.clap.specs.Words.{app_of, found_of, one_of, rows_of, rule_of, subcommand_rows_of};
 ghost use Rattle.clap.specs.declared.builder.command.Command.TheViews.{out-Command as fields_of};
 ghost use Rattle.clap.specs.declared.builder.ValueParser.TheVariants.{Unsigned};
-ghost use Rattle.jwt_tool.specs.Words.{HasLimits, jwt_app, key_rule, limit_rule, mac_app, mac_order, number_in, order_in, order_of};
+ghost use Rattle.jwt_tool.specs.Words.{HasLimits, jwt_app, key_rule, keys_app, limit_rule, mac_app, mac_order, number_in, order_in, order_of, show_app, show_order};
 ghost use Rattle.jwt_tool.specs.Examples.{Examples};
 ghost use Rattle.jwt_tool.specs.Seen.{IsWrong, seen};
 
@@ -16,6 +16,8 @@ use std::alloc::{AllocError, Global};
 #[derive(Clone, Copy, Debug)]
 pub enum Order<'a> {
     Mac { key: &'a str, limit: u64 },
+    Keys,
+    Show { limit: u64 },
 }
 
 fn key_option<'a>(alloc: Global) -> Arg<'a>
@@ -51,6 +53,22 @@ fn mac_command<'a>(alloc: Global) -> Result<Command<'a>, AllocError>
         .arg(limit_option(alloc))
 }
 
+fn keys_command<'a>(alloc: Global) -> Command<'a>
+    ensures shape { app_of result ≡ keys_app }
+    ensures local { (fields_of result).has_globals ≡ false }
+{
+    Command::new(alloc, "keys").about("Lists the keys of a key set")
+}
+
+fn show_command<'a>(alloc: Global) -> Result<Command<'a>, AllocError>
+    ensures shape { IfOk result (λ c. app_of c ≡ show_app) }
+    ensures local { IfOk result (λ c. (fields_of c).has_globals ≡ false) }
+{
+    Command::new(alloc, "show")
+        .about("Shows a token without verifying it")
+        .arg(limit_option(alloc))
+}
+
 /// The command line of the program.
 pub fn command<'a>(alloc: Global) -> Result<Command<'a>, AllocError>
     ensures { IfOk result (λ c. app_of c ≡ jwt_app) }
@@ -58,7 +76,9 @@ pub fn command<'a>(alloc: Global) -> Result<Command<'a>, AllocError>
     Command::new(alloc, "jwt")
         .about("Validates, issues and explains JSON Web Tokens")
         .subcommand_required(true)
-        .subcommand(mac_command(alloc)?)
+        .subcommand(mac_command(alloc)?)?
+        .subcommand(keys_command(alloc))?
+        .subcommand(show_command(alloc)?)
 }
 
 /// Why the words ask for nothing.
@@ -105,6 +125,8 @@ fn chosen<'a>(matches: &ArgMatches<'a>) -> Option<Order<'a>>
     let (name, options) = matches.subcommand()?;
     match name {
         "mac" => chosen_mac(options),
+        "keys" => Some(Order::Keys),
+        "show" => chosen_show(options),
         _ => None,
     }
 }
@@ -116,6 +138,14 @@ fn chosen_mac<'a>(options: &ArgMatches<'a>) -> Option<Order<'a>>
     let key = options.get_str("k")?;
     let limit = number(options, "limit", 1, 1_048_576)?;
     Some(Order::Mac { key, limit })
+}
+
+fn chosen_show<'a>(options: &ArgMatches<'a>) -> Option<Order<'a>>
+    ensures limits { IfSome result (λ o. HasLimits (seen o)) }
+    ensures order { option_map seen result ≡ show_order (rows_of (found_of options.now)) }
+{
+    let limit = number(options, "limit", 1, 1_048_576)?;
+    Some(Order::Show { limit })
 }
 
 // `clap` has refused a number out of its range; its contract says so of the words and not of the
