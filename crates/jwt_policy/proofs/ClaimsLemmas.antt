@@ -1,5 +1,5 @@
 -- Claims that hold, in words.
-use Rattle.std.proofs.Common.{◌≡◌, ℕ, zero, suc, ℤ, pos, ◌+◌, ◌+ℤ◌, ◌<◌, ◌<ℤ◌, ◌≤ℤ◌, List, [], ◌∷◌, ◌++◌, length, drop, map, codes, Bool, true, false, not, ◌&&◌, ◌||◌, ◌⊎◌, inl, inr, ⊎_elim, cond, Option, Some, None, is_some, refl, sym, ap, ◌∙◌, subst, arith, Decides}
+use Rattle.std.proofs.Common.{◌≡◌, ℕ, zero, suc, ℤ, pos, ◌+◌, ◌+ℤ◌, ◌<ℤ◌, ◌≤ℤ◌, List, [], ◌∷◌, drop, map, codes, Bool, true, false, not, ◌&&◌, ◌⊎◌, inl, inr, ⊎_elim, Option, Some, None, is_some, refl, sym, ap, ◌∙◌, subst, arith, Decides}
 use Rattle.std.specs.Option.{option_or}
 use Rattle.std.specs.List.{Contains}
 use Rattle.std.proofs.lemmas.Bool.Decides.{Decides-or}
@@ -8,9 +8,8 @@ use Rattle.jwt_text.specs.Members.{has, text_at, list_at, whole_at}
 use Rattle.jwt_text.specs.Rows.{Row, ◌⇒◌, first_row}
 use Rattle.jwt_policy.specs.Settings.{Settings}
 use Rattle.jwt_policy.specs.Texts.{some_passes, is_among, any_text}
-use Rattle.jwt_policy.specs.Checks.{missing, is_empty, lacks_iat, is_other_issuer, names_audience, is_other_audience, is_before_expiry, is_expired, is_later, is_not_yet, is_issued_later, is_older, is_too_old, later_rows, check_rows, check_of}
-use Rattle.jwt_policy.specs.Laws.{Dates, IsAudience, ClaimsHold}
-use Rattle.jwt_policy.specs.declared.claim_fault.ClaimFault.{ClaimFault}
+use Rattle.jwt_policy.specs.Checks.{missing, is_empty, lacks_iat, is_other_issuer, names_audience, is_other_audience, is_before_expiry, is_expired, is_later, is_not_yet, is_issued_later, is_older, is_too_old, later_rows, check_of}
+use Rattle.jwt_policy.specs.Laws.{IsAudience, ClaimsHold}
 use Rattle.jwt_policy.specs.declared.claim_fault.ClaimFault.TheVariants.{ClaimMissing, Issuer, Audience, Expired, NotYet, IssuedLater, TooOld}
 use Rattle.jwt_policy.proofs.RowsLemmas.{first_of_both}
 use Rattle.jwt_policy.proofs.TestLemmas.{Fails, fails_not, fails_every, fails_where, decides_some, lt_decides, lt_fails, among_decides, any_text_decides}

@@ -1,6 +1,6 @@
 -- What tests on options, texts and whole numbers tell.
-use Rattle.std.proofs.Common.{◌≡◌, ℕ, zero, suc, ℤ, ◌<◌, ◌<ℤ◌, ◌≤ℤ◌, List, [], ◌∷◌, length, Bool, true, false, not, ◌&&◌, ◌||◌, T, int_lt, Option, Some, None, is_some, refl, sym, ap, ◌∙◌, subst, arith, Decides}
-use Rattle.std.specs.List.{list_any, Contains}
+use Rattle.std.proofs.Common.{◌≡◌, ℕ, suc, ℤ, ◌<ℤ◌, ◌≤ℤ◌, List, [], ◌∷◌, Bool, true, false, not, ◌&&◌, ◌||◌, T, int_lt, Option, Some, None, is_some, refl, sym, ap, ◌∙◌, subst, arith, Decides}
+use Rattle.std.specs.List.{Contains}
 use Rattle.std.specs.Str.{bytes_eq}
 use Rattle.std.specs.Int.Signed.{lt_z_yes, lt_z_no, <ℤ_irrefl, <ℤ-≤ℤ_trans}
 use Rattle.std.proofs.lemmas.Slice.Eq.{bytes_eq-Decides}

@@ -1,5 +1,5 @@
 -- What the tables come to, in words.
-use Rattle.std.specs.Prelude.{◌≡◌, ℕ, ℤ, pos, ◌+◌, ◌+ℤ◌, ◌<ℤ◌, ◌≤ℤ◌, ◌⊎◌, List, [], codes, true, Option, Some, None}
+use Rattle.std.specs.Prelude.{◌≡◌, ℕ, ℤ, pos, ◌+◌, ◌+ℤ◌, ◌<ℤ◌, ◌≤ℤ◌, ◌⊎◌, List, [], codes, true, Some, None}
 use Rattle.std.specs.List.{Contains}
 use Rattle.serde_json.specs.Data.{Data, string, Members}
 use Rattle.jwt_mac.specs.declared.algorithm.Alg.{Alg}
