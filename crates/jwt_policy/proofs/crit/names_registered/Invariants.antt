@@ -1,0 +1,9 @@
+use Rattle.std.proofs.Common.{◌≡◌, drop, not, map, string_bytes}
+use Rattle.jwt_jws.specs.Views.{parts}
+use Rattle.jwt_policy.specs.Texts.{any_text, is_among}
+use Rattle.jwt_jws.specs.Token.{in_header}
+use Rattle.jwt_policy.specs.Bars.{is_registered}
+use Rattle.jwt_policy.proofs.crit.names_registered.Given as goal
+
+abbrev pub invariant-loop-place : goal.invariant-loop-place
+invariant-loop-place l = any_text is_registered (drop l.place l.list) ≡ any_text is_registered l.list

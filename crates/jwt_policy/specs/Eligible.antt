@@ -1,0 +1,76 @@
+-- Which pairs of a signature and a key are eligible.
+use Rattle.std.specs.Prelude.{ℕ, List, Bool, true, false, ◌&&◌, codes, nat_le, length, Option, is_none}
+use Rattle.std.specs.Option.{option_map_or}
+use Rattle.std.specs.Str.{bytes_eq}
+use Rattle.jwt_mac.specs.declared.algorithm.Alg.{Alg}
+use Rattle.jwt_mac.specs.declared.algorithm.Alg.TheVariants.{HS256, HS384, HS512, RS256, RS384, RS512, PS256, PS384, PS512, ES256, ES384, ES512, EdDSA}
+use Rattle.jwt_mac.specs.declared.message.Curve.{Curve}
+use Rattle.jwt_mac.specs.declared.message.Curve.TheVariants.{P256, P384, P521}
+use Rattle.jwt_mac.specs.Algorithm.{name_of}
+use Rattle.jwt_mac.specs.Verifying.{KeyOctets, OctKey, RsaKey, EcKey, OkpKey, Meaning}
+use Rattle.jwt_jws.specs.Token.{SignatureParts, kid}
+use Rattle.jwt_keys.specs.Keys.{KeyParts, permits_of, names}
+use Rattle.jwt_policy.specs.Settings.{Settings}
+use Rattle.jwt_policy.specs.Texts.{some_passes}
+use Rattle.jwt_policy.specs.Bars.{alg, bar_of}
+
+-- ---- the kind, curve and size of a key (RFC 7518, sections 3.2 to 3.5; RFC 8037, section 3.1; RFC 8725, section 3.5)
+
+-- a shared secret of at least so many octets
+abbrev pub is_oct_of : ℕ → KeyOctets → Bool
+is_oct_of least (OctKey k) = nat_le least (length k)
+is_oct_of least _ = false
+
+abbrev pub is_rsa : KeyOctets → Bool
+is_rsa (RsaKey n e) = true
+is_rsa _ = false
+
+abbrev pub is_p256 : KeyOctets → Bool
+is_p256 (EcKey P256 x y) = true
+is_p256 _ = false
+
+abbrev pub is_p384 : KeyOctets → Bool
+is_p384 (EcKey P384 x y) = true
+is_p384 _ = false
+
+abbrev pub is_p521 : KeyOctets → Bool
+is_p521 (EcKey P521 x y) = true
+is_p521 _ = false
+
+abbrev pub is_okp : KeyOctets → Bool
+is_okp (OkpKey curve x) = true
+is_okp _ = false
+
+-- the key is of the kind, curve and size that the algorithm asks for
+abbrev pub suits : Alg → KeyOctets → Bool
+suits HS256 key = is_oct_of 32 key
+suits HS384 key = is_oct_of 48 key
+suits HS512 key = is_oct_of 64 key
+suits RS256 key = is_rsa key
+suits RS384 key = is_rsa key
+suits RS512 key = is_rsa key
+suits PS256 key = is_rsa key
+suits PS384 key = is_rsa key
+suits PS512 key = is_rsa key
+suits ES256 key = is_p256 key
+suits ES384 key = is_p384 key
+suits ES512 key = is_p521 key
+suits EdDSA key = is_okp key
+
+-- ---- the pair
+
+-- the key is for this algorithm: its kind, and its own `alg`, where present (RFC 7517, section 4.4; RFC 8725, section 3.1)
+abbrev pub is_for : KeyParts → Alg → Bool
+is_for key a = suits a key.octets && option_map_or (bytes_eq (name_of a)) key.alg true
+
+-- where the signature has a `kid`, the key answers to it (RFC 7515, section 4.1.4)
+abbrev pub answers_to : Settings → SignatureParts → KeyParts → Bool
+answers_to p s key = option_map_or (λ name. names name p.header.thumb_kid key) (kid s) true
+
+-- what eligibility asks of the pair, the bar aside
+abbrev pub fits : Settings → SignatureParts → KeyParts → Bool
+fits p s key = some_passes (is_for key) (alg s) && permits_of (codes "verify") key && answers_to p s key
+
+-- the pair is eligible: the signature has no bar, and the key fits
+unfoldable pub eligible_for : Settings → SignatureParts → KeyParts → List Meaning → Bool
+eligible_for p s key verifiers = is_none (bar_of p s verifiers) && fits p s key

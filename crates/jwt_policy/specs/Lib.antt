@@ -1,0 +1,11 @@
+pub mod Settings
+pub mod Ranges
+pub mod Texts
+pub mod Bars
+pub mod Eligible
+pub mod ClaimKinds
+pub mod Audiences
+pub mod Checks
+pub mod MemberKinds
+pub mod Document
+pub mod Dates

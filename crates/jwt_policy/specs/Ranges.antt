@@ -1,0 +1,12 @@
+-- The ranges of a policy's numbers.
+use Rattle.std.specs.Prelude.{◌≡◌, ℕ, ◌≤◌, Option, Some}
+use Rattle.jwt_policy.specs.Settings.{RunSettings, ClaimSettings}
+
+pub record IsRunInRange (run : RunSettings) : Type 0 where
+  pub version_least : 1 ≤ run.version
+  pub version_most : run.version ≤ 2
+  pub limit_least : 1 ≤ run.limit
+  pub limit_most : run.limit ≤ 1048576
+  pub work_most : run.work ≤ 1000000000000
+  pub signatures_least : 1 ≤ run.max_signatures
+  pub signatures_most : run.max_signatures ≤ 32

@@ -1,0 +1,36 @@
+-- Texts, lists of texts, and media types.
+use Rattle.std.specs.Prelude.{ℕ, List, ◌++◌, Bool, false, ◌&&◌, ◌==◌, codes, Option, is_none, if◌then◌else◌}
+use Rattle.std.specs.Option.{option_map_or}
+use Rattle.std.specs.List.{list_any}
+use Rattle.std.specs.Str.{bytes_eq, str_eq_ignore_ascii_case}
+use Rattle.serde_json.specs.Data.{Data, Members}
+use Rattle.serde_json.specs.Find.{as_str}
+use Rattle.jwt_text.specs.Members.{has, text_at}
+
+-- there is a value, and it passes
+abbrev pub some_passes : {A : Type 0} → (A → Bool) → Option A → Bool
+some_passes test o = option_map_or test o false
+
+-- a text is among these, compared octet by octet
+abbrev pub is_among : List (List ℕ) → List ℕ → Bool
+is_among ts t = list_any (λ u. bytes_eq t u) ts
+
+-- an element is a text, and it passes
+abbrev pub is_text_with : (List ℕ → Bool) → Data → Bool
+is_text_with test d = some_passes test (as_str d)
+
+-- some text of a list passes
+abbrev pub any_text : (List ℕ → Bool) → List Data → Bool
+any_text test ds = list_any (is_text_with test) ds
+
+-- a member is there, and is no text
+abbrev pub is_no_text : List ℕ → Members → Bool
+is_no_text name ms = has name ms && is_none (text_at name ms)
+
+-- a media type in full: `application/` is put before one that holds no `/` (RFC 7515, section 4.1.9)
+abbrev pub media_type : List ℕ → List ℕ
+media_type t = if list_any (λ c. c == 47) t then t else codes "application/" ++ t
+
+-- equal as media types: in full, and with ASCII case ignored
+unfoldable pub same_media_type : List ℕ → List ℕ → Bool
+same_media_type a b = str_eq_ignore_ascii_case (media_type a) (media_type b)

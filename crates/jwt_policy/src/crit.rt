@@ -1,0 +1,114 @@
+//! The header `crit` (RFC 7515, section 4.1.11).
+
+ghost use Rattle.std.specs.Prelude.{◌≡◌, ◌||◌, not, codes, drop, option_map, map, string_bytes};
+ghost use Rattle.jwt_jws.specs.Views.{parts};
+ghost use Rattle.jwt_policy.specs.Texts.{any_text, is_among};
+ghost use Rattle.jwt_policy.specs.Bars.{is_registered, names_absent, is_no_name_list, is_crit_misshapen, is_crit_unknown};
+
+use crate::policy::Policy;
+use crate::texts::is_among;
+use jwt_jws::Signature;
+use jwt_text::List;
+
+/// Whether this is a header name of RFC 7515, section 4.1.
+pub(crate) fn is_registered(name: &str) -> bool
+    ensures { result ≡ is_registered name.now }
+{
+    match name {
+        "alg"
+        | "jku"
+        | "jwk"
+        | "kid"
+        | "x5u"
+        | "x5c"
+        | "x5t"
+        | "x5t#S256"
+        | "typ"
+        | "cty"
+        | "crit" => true,
+        _ => false,
+    }
+}
+
+/// Whether the list holds a header name of RFC 7515, section 4.1.
+#[tactic(auto, using(crate::proofs::ItemsLemmas::any_more, std::proofs::lemmas::List::at_drop_all))]
+fn names_registered(list: &List<'_>) -> bool
+    ensures { result ≡ any_text is_registered list.now }
+{
+    for place in 0..list.len() {
+        if let Some(name) = list.text(place) {
+            if is_registered(name) {
+                return true;
+            }
+        }
+    }
+    false
+}
+
+/// Whether the list holds a name that the header lacks.
+#[tactic(auto, using(crate::proofs::ItemsLemmas::any_more, std::proofs::lemmas::List::at_drop_all))]
+fn names_absent(signature: &Signature<'_>, list: &List<'_>) -> bool
+    ensures { result ≡ names_absent (parts signature.now) list.now }
+{
+    for place in 0..list.len() {
+        if let Some(name) = list.text(place) {
+            if !signature.in_header(name) {
+                return true;
+            }
+        }
+    }
+    false
+}
+
+/// Whether the list holds a text that isn't among these.
+#[tactic(auto, using(crate::proofs::ItemsLemmas::any_more, std::proofs::lemmas::List::at_drop_all))]
+fn names_other(texts: &[String], list: &List<'_>) -> bool
+    ensures { result ≡ any_text (λ t. not (is_among (map string_bytes texts.now) t)) list.now }
+{
+    for place in 0..list.len() {
+        if let Some(name) = list.text(place) {
+            if !is_among(texts, name) {
+                return true;
+            }
+        }
+    }
+    false
+}
+
+/// Whether the list, which is `crit` of the protected header, isn't one of names that it may hold.
+fn is_no_name_list(signature: &Signature<'_>, list: &List<'_>) -> bool
+    ensures { result ≡ is_no_name_list (parts signature.now) list.now }
+{
+    list.len() == 0
+        || !list.are_texts()
+        || signature.crit_repeats()
+        || names_registered(list)
+        || names_absent(signature, list)
+}
+
+/// Whether `crit` has another shape than it may have.
+pub(crate) fn is_crit_misshapen(signature: &Signature<'_>) -> bool
+    ensures { result ≡ is_crit_misshapen (parts signature.now) }
+{
+    if signature.in_unprotected("crit") {
+        return true;
+    }
+    let protected = signature.protected();
+    if !protected.has("crit") {
+        return false;
+    }
+    match protected.list("crit") {
+        Some(list) => is_no_name_list(signature, &list),
+        None => true,
+    }
+}
+
+/// Whether the policy doesn't understand a name in `crit`.
+pub(crate) fn is_crit_unknown(policy: &Policy, signature: &Signature<'_>) -> bool
+    ensures { result ≡ is_crit_unknown policy.now (parts signature.now) }
+{
+    match signature.protected().list("crit") {
+        Some(list) => names_other(policy.understood(), &list),
+        None => false,
+    }
+}

@@ -1,0 +1,101 @@
+//! Which pairs of a signature and a key are eligible.
+
+ghost use Rattle.std.specs.Prelude.{◌≡◌, map};
+ghost use Rattle.jwt_mac.specs.Verifying.{key_octets};
+ghost use Rattle.jwt_jws.specs.Views.{parts};
+ghost use Rattle.jwt_keys.specs.Views.{key_parts};
+ghost use Rattle.jwt_policy.specs.Eligible.{suits, is_for, answers_to, fits, eligible_for};
+
+use crate::algorithm::known_alg;
+use crate::bars::bar;
+use crate::policy::Policy;
+use jwt_jws::Signature;
+use jwt_keys::Key;
+use jwt_mac::{Alg, Curve, KeyView, Verifier};
+
+/// Whether the key is of the kind, curve and size that the algorithm asks for (RFC 7518, sections 3.2 to 3.5; RFC 8037,
+/// section 3.1). The least size of an RSA key is the verifier's to ask for.
+fn suits(alg: Alg, key: KeyView<'_>) -> bool
+    ensures { result ≡ suits alg (key_octets key.entry) }
+{
+    match key {
+        KeyView::Oct { k } => match alg {
+            Alg::HS256 => k.len() >= 32,
+            Alg::HS384 => k.len() >= 48,
+            Alg::HS512 => k.len() >= 64,
+            _ => false,
+        },
+        KeyView::Rsa { n: _, e: _ } => match alg {
+            Alg::RS256 | Alg::RS384 | Alg::RS512 | Alg::PS256 | Alg::PS384 | Alg::PS512 => true,
+            _ => false,
+        },
+        KeyView::Ec { curve, x: _, y: _ } => match (alg, curve) {
+            (Alg::ES256, Curve::P256) | (Alg::ES384, Curve::P384) | (Alg::ES512, Curve::P521) =>
+                true,
+            _ => false,
+        },
+        KeyView::Okp { curve: _, x: _ } => match alg {
+            Alg::EdDSA => true,
+            _ => false,
+        },
+    }
+}
+
+/// Whether the key is for this algorithm: by its kind, and by its own `alg`, where present.
+fn is_for(key: &Key, alg: Alg) -> bool
+    ensures { result ≡ is_for (key_parts key.now) alg }
+{
+    suits(alg, key.view())
+        && match key.alg_text() {
+            Some(text) => alg.text() == text,
+            None => true,
+        }
+}
+
+/// Whether the key answers to the signature's `kid`, where it has one.
+fn answers_to(policy: &Policy, signature: &Signature<'_>, key: &Key) -> bool
+    ensures { result ≡ answers_to policy.now (parts signature.now) (key_parts key.now) }
+{
+    let Some(kid) = signature.kid() else {
+        return true;
+    };
+    match key.kid() {
+        Some(own) => kid == own,
+        None => policy.thumb_kid() && kid.as_bytes() == key.thumbprint(),
+    }
+}
+
+/// What [`eligible`] asks of the pair, the bar of the signature aside. A run computes [`bar`] once for a signature and this once
+/// for each of its keys. It takes no memory.
+pub fn fits(policy: &Policy, signature: &Signature<'_>, key: &Key) -> bool
+    ensures { result ≡ fits policy.now (parts signature.now) (key_parts key.now) }
+{
+    let for_alg = match known_alg(signature) {
+        Some(alg) => is_for(key, alg),
+        None => false,
+    };
+    for_alg && key.permits("verify") && answers_to(policy, signature, key)
+}
+
+/// Whether the key may be tried on the signature. All of these hold:
+///
+/// - the signature has no [`bar`];
+/// - the key's kind, curve and size are those of `alg` (RFC 7518, section 3.1): `oct` of at least 32, 48 or 64 octets for HS256,
+///   HS384 or HS512, RSA for RS and PS, EC on P-256, P-384 or P-521 for ES256, ES384 or ES512, OKP for EdDSA;
+/// - the key's `alg`, where present, is that of the signature, its `use`, where present, is `sig`, and its `key_ops`, where
+///   present, holds `verify` (RFC 7517, sections 4.2 to 4.4);
+/// - where the signature has a `kid`, the key has the same one, or it has none, the policy has `thumb_kid` and the key's
+///   thumbprint is the `kid` (RFC 7517, section 4.5; RFC 7638).
+///
+/// It takes no memory.
+#[tactic(auto, unfolding(crate::specs::Eligible::eligible_for))]
+pub fn eligible(
+    policy: &Policy,
+    signature: &Signature<'_>,
+    key: &Key,
+    verifiers: &[Box<dyn Verifier>],
+) -> bool
+    ensures { result ≡ eligible_for policy.now (parts signature.now) (key_parts key.now) (map meaning verifiers.now) }
+{
+    bar(policy, signature, verifiers).is_none() && fits(policy, signature, key)
+}

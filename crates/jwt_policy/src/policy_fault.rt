@@ -1,0 +1,95 @@
+//! Why a policy document is refused.
+
+ghost use Rattle.std.specs.Prelude.{◌≡◌, ◌≢◌, IfOk};
+ghost use Rattle.jwt_policy.specs.declared.policy_fault.PolicyFault.TheVariants.{OutOfMemory};
+
+use std::alloc::{AllocError, AllocFailed, Global};
+use std::marker::Model;
+
+/// The name of a member.
+#[derive(Drop)]
+pub struct MemberName {
+    text: String,
+}
+
+impl Model for MemberName {
+    ghost use Rattle.std.specs.Prelude.{ℕ, List, string_bytes};
+
+    ghost Value = { List ℕ };
+
+    ghost view = { λ n. string_bytes n.text };
+}
+
+impl MemberName {
+    /// This name. Refused where a growth was.
+    fn new(alloc: Global, text: &str) -> Result<MemberName, AllocError>
+        ensures { IfOk result (λ n. n ≡ text.now) }
+    {
+        let text = String::from_str(alloc, text)?;
+        Ok(MemberName { text })
+    }
+
+    /// The name, with JSON escapes undone.
+    pub fn text(&self) -> &str
+        ensures { result.now ≡ self.now }
+    {
+        self.text.as_str()
+    }
+}
+
+/// Why a policy document is refused.
+#[derive(Drop)]
+pub enum PolicyFault {
+    /// A growth of memory was refused.
+    OutOfMemory,
+    /// The octets are no JSON text in UTF-8, or its value is no object.
+    Json,
+    /// A name stands twice in one object, at any depth.
+    NameTwice,
+    /// The member isn't one of a policy, or is of another kind.
+    Member(MemberName),
+    /// The member's value is out of its range.
+    Range(MemberName),
+    /// The list `algs` is absent or empty.
+    NoAlgorithm,
+    /// There are more than 65,536 octets.
+    TooLong,
+}
+
+impl PolicyFault {
+    /// The member is unknown, or of another kind.
+    pub(crate) fn member(alloc: Global, name: &str) -> PolicyFault
+        ensures { result ≢ PolicyFault.OutOfMemory → result ≡ PolicyFault.Member name.now }
+    {
+        match MemberName::new(alloc, name) {
+            Ok(name) => PolicyFault::Member(name),
+            Err(_) => PolicyFault::OutOfMemory,
+        }
+    }
+
+    /// The member is out of its range.
+    pub(crate) fn range(alloc: Global, name: &str) -> PolicyFault
+        ensures { result ≢ PolicyFault.OutOfMemory → result ≡ PolicyFault.Range name.now }
+    {
+        match MemberName::new(alloc, name) {
+            Ok(name) => PolicyFault::Range(name),
+            Err(_) => PolicyFault::OutOfMemory,
+        }
+    }
+}
+
+impl From<AllocError> for PolicyFault {
+    ghost from_gives = { λ _ e. e ≡ OutOfMemory };
+
+    fn from(_error: AllocError) -> PolicyFault {
+        PolicyFault::OutOfMemory
+    }
+}
+
+impl<T: Drop> From<AllocFailed<T>> for PolicyFault {
+    ghost from_gives = { λ _ e. e ≡ OutOfMemory };
+
+    fn from(_error: AllocFailed<T>) -> PolicyFault {
+        PolicyFault::OutOfMemory
+    }
+}
