@@ -1,4 +1,5 @@
 pub mod AllSome
+pub mod EligibleLemmas
 pub mod ItemsLemmas
 pub mod MediaLemmas
 pub mod NamesLemmas

@@ -8,4 +8,4 @@ pub mod Audiences
 pub mod Checks
 pub mod MemberKinds
 pub mod Document
-pub mod Dates
+pub mod Laws

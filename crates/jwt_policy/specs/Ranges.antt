@@ -1,5 +1,5 @@
 -- The ranges of a policy's numbers.
-use Rattle.std.specs.Prelude.{◌≡◌, ℕ, ◌≤◌, Option, Some}
+use Rattle.std.specs.Prelude.{◌≤◌, IfSome}
 use Rattle.jwt_policy.specs.Settings.{RunSettings, ClaimSettings}
 
 pub record IsRunInRange (run : RunSettings) : Type 0 where
@@ -10,3 +10,7 @@ pub record IsRunInRange (run : RunSettings) : Type 0 where
   pub work_most : run.work ≤ 1000000000000
   pub signatures_least : 1 ≤ run.max_signatures
   pub signatures_most : run.max_signatures ≤ 32
+
+pub record IsClaimInRange (claims : ClaimSettings) : Type 0 where
+  pub leeway_most : claims.leeway ≤ 86400
+  pub age_least : IfSome claims.max_age (λ age. 1 ≤ age)

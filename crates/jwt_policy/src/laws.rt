@@ -1,1 +1,49 @@
-//! Laws over the definitions.
+//! Laws of the definitions: each function does nothing, and its contract holds of every signature, key and payload.
+
+ghost use Rattle.std.specs.Prelude.{◌≡◌, ◌↔◌, ℤ, true, List, Option, Some, None};
+ghost use Rattle.serde_json.specs.Data.{Members};
+ghost use Rattle.jwt_mac.specs.Verifying.{Meaning};
+ghost use Rattle.jwt_text.specs.Rows.{IsFirstRow, NoRow};
+ghost use Rattle.jwt_jws.specs.Token.{SignatureParts};
+ghost use Rattle.jwt_keys.specs.Keys.{KeyParts};
+ghost use Rattle.jwt_policy.specs.Settings.{Settings};
+ghost use Rattle.jwt_policy.specs.Bars.{bar_rows, bar_of};
+ghost use Rattle.jwt_policy.specs.Eligible.{eligible_for};
+ghost use Rattle.jwt_policy.specs.Checks.{check_rows, check_of};
+ghost use Rattle.jwt_policy.specs.Laws.{IsEligible};
+
+use crate::claim_fault::ClaimFault;
+use crate::sig_fault::SigFault;
+use jwt_text::laws::first_rows;
+
+/// The bar of a signature is the answer of the first row of its table that holds, and there is none exactly where no row holds.
+#[tactic(auto, unfolding(crate::specs::Bars::bar_of))]
+pub fn bar_is_first_row()
+    ensures some { (p : Settings) (s : SignatureParts) (verifiers : List Meaning) (fault : SigFault)
+        → (bar_of p s verifiers ≡ Some fault) ↔ IsFirstRow (bar_rows p s verifiers) fault }
+    ensures none { (p : Settings) (s : SignatureParts) (verifiers : List Meaning)
+        → (bar_of p s verifiers ≡ None) ↔ NoRow (bar_rows p s verifiers) }
+{
+    first_rows::<SigFault>();
+}
+
+/// The claim fault under a policy is the answer of the first row of its table that holds, and there is none exactly where no row
+/// holds.
+#[tactic(auto, unfolding(crate::specs::Checks::check_of))]
+pub fn check_is_first_row()
+    ensures some { (p : Settings) (ms : Members) (now : ℤ) (fault : ClaimFault)
+        → (check_of p ms now ≡ Some fault) ↔ IsFirstRow (check_rows p ms now) fault }
+    ensures none { (p : Settings) (ms : Members) (now : ℤ)
+        → (check_of p ms now ≡ None) ↔ NoRow (check_rows p ms now) }
+{
+    first_rows::<ClaimFault<'static>>();
+}
+
+/// A pair is eligible exactly where it is so in words: the signature has no bar, and names an algorithm that the key suits and
+/// that is HMAC or named by a verifier; what the key says of itself allows it; and the key answers to the signature's `kid`.
+pub fn eligible_pairs()
+    ensures { (p : Settings) (s : SignatureParts) (key : KeyParts) (verifiers : List Meaning)
+        → (eligible_for p s key verifiers ≡ true) ↔ IsEligible p s key verifiers }
+{
+    bar_is_first_row();
+}

@@ -1,7 +1,7 @@
 //! Members of a policy document by kind and range. Each function answers the value, or its default where the member is absent;
 //! `Member` where its kind is another, `Range` where its value is out of range, and `OutOfMemory` where a growth was refused.
 
-ghost use Rattle.std.specs.Prelude.{◌≡◌, ◌≤◌, ◌<◌, ◌^◌, IsErrOf, IfOk, map, option_map, string_bytes, ◌||◌};
+ghost use Rattle.std.specs.Prelude.{◌≡◌, ◌≤◌, ◌<◌, ◌^◌, IsErrOf, IfOk, IfSome, map, option_map, string_bytes, ◌||◌};
 ghost use Rattle.std.specs.List.{list_any};
 ghost use Rattle.jwt_text.specs.Answers.{Answers};
 ghost use Rattle.jwt_policy.specs.MemberKinds.{whole_of, whole_in, between, optional, flag_in, mode_named, mode_in, typ_in, texts_of, texts_in, all_some, is_reserved, understood_in, algs_named, algs_in};
@@ -76,7 +76,8 @@ pub(crate) fn optional(
     high: u64,
 ) -> Result<Option<u32>, PolicyFault>
     requires { high < 2 ^ 32 }
-    ensures { ¬ IsErrOf result PolicyFault.OutOfMemory → result ≡ optional (whole_of low high) name.now members.now }
+    ensures value { ¬ IsErrOf result PolicyFault.OutOfMemory → result ≡ optional (whole_of low high) name.now members.now }
+    ensures range { IfOk result (λ o. IfSome o (λ n. (low ≤ n) × (n ≤ high))) }
 {
     if !members.has(name) {
         return Ok(None);

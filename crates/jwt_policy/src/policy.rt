@@ -1,11 +1,12 @@
-//! A policy, as contracts see it: a record of its settings.
+//! A policy: what a service asks of the tokens that it takes.
 
-ghost use Rattle.std.specs.Prelude.{◌≡◌, ◌<◌, ◌≤◌, map, option_map, string_bytes};
+ghost use Rattle.std.specs.Prelude.{◌≡◌, ◌≤◌, IfSome, map, option_map, string_bytes};
 
 use crate::mode::Mode;
 use jwt_mac::Alg;
 use std::marker::Model;
 
+/// How a run goes.
 #[derive(Drop)]
 pub(crate) struct RunPart {
     pub(crate) version: u32,
@@ -18,18 +19,17 @@ pub(crate) struct RunPart {
 }
 
 impl Model for RunPart {
-    ghost use Rattle.std.specs.Prelude.{◌≤◌};
+    ghost use Rattle.jwt_policy.specs.Ranges.{IsRunInRange};
     ghost use Rattle.jwt_policy.specs.Settings.{RunSettings};
 
     ghost Value = { RunSettings };
 
     ghost view = { λ p. record { version = p.version; algs = p.algs.items; mode = p.mode; limit = p.limit; work = p.work; max_signatures = p.max_signatures; line_feed = p.line_feed } };
 
-    ghost use Rattle.jwt_policy.specs.Ranges.{IsRunInRange};
-
     ghost invariant = { λ p. IsRunInRange (record { version = p.version; algs = p.algs.items; mode = p.mode; limit = p.limit; work = p.work; max_signatures = p.max_signatures; line_feed = p.line_feed }) };
 }
 
+/// What a header has to be.
 #[derive(Drop)]
 pub(crate) struct HeaderPart {
     pub(crate) typ: Option<String>,
@@ -47,6 +47,7 @@ impl Model for HeaderPart {
     ghost view = { λ p. record { typ = option_map string_bytes p.typ; need_kid = p.need_kid; thumb_kid = p.thumb_kid; understood = map string_bytes p.understood.items } };
 }
 
+/// What the claims have to be.
 #[derive(Drop)]
 pub(crate) struct ClaimPart {
     pub(crate) issuers: Vec<String>,
@@ -58,14 +59,24 @@ pub(crate) struct ClaimPart {
 
 impl Model for ClaimPart {
     ghost use Rattle.std.specs.Prelude.{map, string_bytes};
+    ghost use Rattle.jwt_policy.specs.Ranges.{IsClaimInRange};
     ghost use Rattle.jwt_policy.specs.Settings.{ClaimSettings};
 
     ghost Value = { ClaimSettings };
 
     ghost view = { λ p. record { issuers = map string_bytes p.issuers.items; audiences = map string_bytes p.audiences.items; required = map string_bytes p.required.items; leeway = p.leeway; max_age = p.max_age } };
+
+    ghost invariant = { λ p. IsClaimInRange (record { issuers = map string_bytes p.issuers.items; audiences = map string_bytes p.audiences.items; required = map string_bytes p.required.items; leeway = p.leeway; max_age = p.max_age }) };
 }
 
-/// A policy.
+/// What a service asks of the tokens that it takes, as its document says (RFC 8725). [`Policy::read`] reads it, and each getter
+/// says what its setting does, in which unit, what holds where the document doesn't say it, and what is dangerous about it.
+///
+/// No setting switches the check of signatures off, and none allows the algorithm `none`.
+///
+/// ```rust
+/// let policy = Policy::read(alloc, b"{\"algs\":[\"HS256\"],\"issuers\":[\"https://id.example\"],\"audiences\":[\"api\"],\"required\":[\"aud\",\"exp\"]}")?;
+/// ```
 #[derive(Drop)]
 pub struct Policy {
     pub(crate) run: RunPart,
@@ -75,15 +86,28 @@ pub struct Policy {
 }
 
 impl Model for Policy {
+    ghost use Rattle.std.specs.Prelude.{◌≤◌, IfSome};
     ghost use Rattle.jwt_policy.specs.Settings.{Settings};
 
     ghost Value = { Settings };
 
     ghost view = { λ p. record { run = p.run; header = p.header; claims = p.claims; max_calls = p.max_calls } };
+
+    ghost invariant = { λ p. IfSome p.max_calls (λ n. n ≤ 32768) };
 }
 
 impl Policy {
-    /// The allowed algorithms.
+    /// The version of the document, 1 or 2. By default 1.
+    pub fn version(&self) -> u32
+        ensures value { result ≡ self.now.run.version }
+        ensures range { (1 ≤ self.now.run.version) × (self.now.run.version ≤ 2) }
+    {
+        let run = &self.run;
+        run.version
+    }
+
+    /// The algorithms that signatures may use (RFC 8725, section 3.1). There is no default. A key can be for several of them: a
+    /// key that says no `alg` of its own is tried by each that its kind suits, so name no more than are in use.
     pub fn algs(&self) -> &[Alg]
         ensures { result.now ≡ self.now.run.algs }
     {
@@ -91,7 +115,15 @@ impl Policy {
         run.algs.as_slice()
     }
 
-    /// The greatest number of octets of a token.
+    /// Which signatures of a token must be verified. By default any one of them: the others may then be forged.
+    pub fn mode(&self) -> Mode
+        ensures { result ≡ self.now.run.mode }
+    {
+        let run = &self.run;
+        run.mode
+    }
+
+    /// The greatest number of octets of a token, 1 to 1,048,576. By default 8,192.
     pub fn limit(&self) -> u32
         ensures value { result ≡ self.now.run.limit }
         ensures range { (1 ≤ self.now.run.limit) × (self.now.run.limit ≤ 1048576) }
@@ -100,16 +132,8 @@ impl Policy {
         run.limit
     }
 
-    /// The greatest number of signatures of a token.
-    pub fn max_signatures(&self) -> u32
-        ensures value { result ≡ self.now.run.max_signatures }
-        ensures range { (1 ≤ self.now.run.max_signatures) × (self.now.run.max_signatures ≤ 32) }
-    {
-        let run = &self.run;
-        run.max_signatures
-    }
-
-    /// The ceiling for the caller's budget.
+    /// The ceiling for the octets that HMAC may hash in a run, at most 1,000,000,000,000. By default 1,048,576. It is for the
+    /// caller, who makes the budget of a run; nothing in this crate looks at it.
     pub fn work(&self) -> u64
         ensures value { result ≡ self.now.run.work }
         ensures range { self.now.run.work ≤ 1000000000000 }
@@ -118,23 +142,17 @@ impl Policy {
         run.work
     }
 
-    /// The version of the document.
-    pub fn version(&self) -> u32
-        ensures { result ≡ self.now.run.version }
+    /// The greatest number of signatures of a token, 1 to 32. By default 8.
+    pub fn max_signatures(&self) -> u32
+        ensures value { result ≡ self.now.run.max_signatures }
+        ensures range { (1 ≤ self.now.run.max_signatures) × (self.now.run.max_signatures ≤ 32) }
     {
         let run = &self.run;
-        run.version
+        run.max_signatures
     }
 
-    /// Which signatures must verify.
-    pub fn mode(&self) -> Mode
-        ensures { result ≡ self.now.run.mode }
-    {
-        let run = &self.run;
-        run.mode
-    }
-
-    /// Whether one final octet 10 is dropped.
+    /// Whether one final octet 10 of the input is dropped before the token is read. By default it isn't, and such a token in
+    /// compact form is refused.
     pub fn line_feed(&self) -> bool
         ensures { result ≡ self.now.run.line_feed }
     {
@@ -142,7 +160,8 @@ impl Policy {
         run.line_feed
     }
 
-    /// The media type that is asked for.
+    /// The media type that `typ` of the protected header must be (RFC 8725, section 3.11), and that isn't empty; None where none
+    /// is asked for, which is the default: a token of another purpose under the same keys is then told apart by its claims alone.
     pub fn typ(&self) -> Option<&str>
         ensures { option_map (λ s. s.now) result ≡ self.now.header.typ }
     {
@@ -153,7 +172,8 @@ impl Policy {
         }
     }
 
-    /// Whether a key id is demanded.
+    /// Whether a signature must have a `kid` (RFC 7515, section 4.1.4). By default it needn't, and one without is tried with
+    /// every key that suits it.
     pub fn need_kid(&self) -> bool
         ensures { result ≡ self.now.header.need_kid }
     {
@@ -161,7 +181,7 @@ impl Policy {
         header.need_kid
     }
 
-    /// Whether a key without a key id answers to its thumbprint.
+    /// Whether a key without `kid` answers to its thumbprint (RFC 7638) as to a `kid`. By default it doesn't.
     pub fn thumb_kid(&self) -> bool
         ensures { result ≡ self.now.header.thumb_kid }
     {
@@ -169,7 +189,8 @@ impl Policy {
         header.thumb_kid
     }
 
-    /// The names that `crit` may hold.
+    /// The names that `crit` may hold (RFC 7515, section 4.1.11), none of them `b64` or a name of section 4.1. By default none.
+    /// Nothing here acts on such a member: a caller who names it owes what its extension asks for.
     pub fn understood(&self) -> &[String]
         ensures { map string_bytes result.now ≡ self.now.header.understood }
     {
@@ -177,7 +198,8 @@ impl Policy {
         header.understood.as_slice()
     }
 
-    /// The allowed issuers, no demand where there is none.
+    /// The allowed `iss` (RFC 8725, section 3.8). Where there is none, which is the default, any issuer is allowed, and a claim
+    /// without issuer too.
     pub fn issuers(&self) -> &[String]
         ensures { map string_bytes result.now ≡ self.now.claims.issuers }
     {
@@ -185,7 +207,8 @@ impl Policy {
         claims.issuers.as_slice()
     }
 
-    /// The recipient's names.
+    /// The recipient's own names, one of which `aud` must hold where it is there (RFC 7519, section 4.1.3). By default none, so
+    /// every token with `aud` is refused. A token without `aud` is taken unless `required` names it.
     pub fn audiences(&self) -> &[String]
         ensures { map string_bytes result.now ≡ self.now.claims.audiences }
     {
@@ -193,7 +216,7 @@ impl Policy {
         claims.audiences.as_slice()
     }
 
-    /// The claims that must be there.
+    /// The claims that must be there, of any kind and value. By default none: a token without `exp` then never expires.
     pub fn required(&self) -> &[String]
         ensures { map string_bytes result.now ≡ self.now.claims.required }
     {
@@ -201,25 +224,29 @@ impl Policy {
         claims.required.as_slice()
     }
 
-    /// The leeway, in seconds.
+    /// The seconds by which clocks may differ, 0 to 86,400, granted to every date (RFC 7519, section 4.1.4). By default 0.
     pub fn leeway(&self) -> u32
-        ensures { result ≡ self.now.claims.leeway }
+        ensures value { result ≡ self.now.claims.leeway }
+        ensures range { self.now.claims.leeway ≤ 86400 }
     {
         let claims = &self.claims;
         claims.leeway
     }
 
-    /// The greatest age, in seconds.
+    /// The greatest age in seconds since `iat` (RFC 7519, section 4.1.6), 1 to 4,294,967,295; `iat` must then be there. None
+    /// where none is asked for, which is the default: `iat` isn't compared with anything then.
     pub fn max_age(&self) -> Option<u32>
-        ensures { result ≡ self.now.claims.max_age }
+        ensures value { result ≡ self.now.claims.max_age }
+        ensures range { IfSome self.now.claims.max_age (λ n. 1 ≤ n) }
     {
         let claims = &self.claims;
         claims.max_age
     }
 
-    /// The ceiling on the calls of a run.
+    /// The ceiling on the tries of a run, by whatever algorithm, 0 to 32,768; None where there is none, as always in version 1.
     pub fn max_calls(&self) -> Option<u32>
-        ensures { result ≡ self.now.max_calls }
+        ensures value { result ≡ self.now.max_calls }
+        ensures range { IfSome self.now.max_calls (λ n. n ≤ 32768) }
     {
         self.max_calls
     }

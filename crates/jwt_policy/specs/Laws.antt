@@ -1,0 +1,41 @@
+-- What the tables come to, in words.
+use Rattle.std.specs.Prelude.{◌≡◌, ℕ, ℤ, pos, ◌+◌, ◌+ℤ◌, ◌<ℤ◌, ◌≤ℤ◌, ◌⊎◌, List, codes, true, Option, Some, None}
+use Rattle.std.specs.List.{Contains}
+use Rattle.serde_json.specs.Data.{Members}
+use Rattle.jwt_mac.specs.declared.algorithm.Alg.{Alg}
+use Rattle.jwt_mac.specs.Algorithm.{name_of}
+use Rattle.jwt_mac.specs.Verifying.{Meaning}
+use Rattle.jwt_text.specs.Members.{has, whole_at}
+use Rattle.jwt_jws.specs.Token.{SignatureParts, kid}
+use Rattle.jwt_keys.specs.Keys.{KeyParts}
+use Rattle.jwt_policy.specs.Settings.{Settings}
+use Rattle.jwt_policy.specs.Bars.{alg, can_verify, bar_of}
+use Rattle.jwt_policy.specs.Eligible.{suits}
+
+-- a key answers to a key id: its own `kid` is this, or it has none, thumbprints count, and its thumbprint is this
+abbrev pub AnswersTo : List ℕ → Settings → KeyParts → Type 0
+AnswersTo name p key = (key.kid ≡ Some name) ⊎ ((key.kid ≡ None) × (p.header.thumb_kid ≡ true) × (key.thumbprint ≡ name))
+
+-- The signature has no bar, and names an algorithm that the key suits and that is HMAC or named by a verifier; the key's
+-- `alg`, `use` and `key_ops`, where they are there, are that algorithm's name, `sig`, and a list that holds `verify`; where the
+-- signature has a `kid`, the key answers to it.
+pub record IsEligible (p : Settings) (s : SignatureParts) (key : KeyParts) (verifiers : List Meaning) : Type 0 where
+  pub unbarred : bar_of p s verifiers ≡ None
+  pub algorithm : Alg
+  pub named : alg s ≡ Some algorithm
+  pub verified : can_verify verifiers algorithm ≡ true
+  pub suited : suits algorithm key.octets ≡ true
+  pub key_alg : (name : List ℕ) → key.alg ≡ Some name → name ≡ name_of algorithm
+  pub key_use : (name : List ℕ) → key.key_use ≡ Some name → name ≡ codes "sig"
+  pub key_ops : (names : List (List ℕ)) → key.key_ops ≡ Some names → Contains names (codes "verify")
+  pub answers : (name : List ℕ) → kid s ≡ Some name → AnswersTo name p key
+
+-- `exp`, where it is there, is later than now, the leeway added to it (RFC 7519, section 4.1.4); `nbf`, where it is there, is
+-- not later than now and the leeway (section 4.1.5); where the policy has a greatest age, `iat` is there, is not later than
+-- now and the leeway, and is not older than that age and the leeway (section 4.1.6)
+pub record Dates (p : Settings) (ms : Members) (now : ℤ) : Type 0 where
+  pub exp : (exp : ℤ) → whole_at (codes "exp") ms ≡ Some exp → now <ℤ (exp +ℤ pos p.claims.leeway)
+  pub nbf : (nbf : ℤ) → whole_at (codes "nbf") ms ≡ Some nbf → nbf ≤ℤ (now +ℤ pos p.claims.leeway)
+  pub iat_is_there : (age : ℕ) → p.claims.max_age ≡ Some age → has (codes "iat") ms ≡ true
+  pub iat_least : (age : ℕ) (iat : ℤ) → p.claims.max_age ≡ Some age → whole_at (codes "iat") ms ≡ Some iat → iat ≤ℤ (now +ℤ pos p.claims.leeway)
+  pub iat_most : (age : ℕ) (iat : ℤ) → p.claims.max_age ≡ Some age → whole_at (codes "iat") ms ≡ Some iat → now ≤ℤ (iat +ℤ pos (age + p.claims.leeway))
