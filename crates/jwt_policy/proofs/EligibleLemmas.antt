@@ -116,11 +116,11 @@ unfolding eligible_for
 is_eligible p s key verifiers h =
     let a = h.algorithm in
     let for_alg = some_from (is_for key) (alg s) a h.named
-          (and_from (suits a key.octets) (option_map_or (bytes_eq (name_of a)) key.alg true) h.suited
-            (every_from (bytes_eq (name_of a)) key.alg (λ name is. (bytes_eq-Decides (name_of a) name).1 (sym (h.key_alg name is))))) in
+    (and_from (suits a key.octets) (option_map_or (bytes_eq (name_of a)) key.alg true) h.suited
+    (every_from (bytes_eq (name_of a)) key.alg (λ name is. (bytes_eq-Decides (name_of a) name).1 (sym (h.key_alg name is))))) in
     let permits = and_from (is_for_signatures key.key_use) (allows (codes "verify") key.key_ops) (uses_from key.key_use h.key_use) (allowed_from (codes "verify") key.key_ops h.key_ops) in
     let answers = every_from (λ n. names n p.header.thumb_kid key) (kid s) (λ name is. named_from name p.header.thumb_kid key.kid key.thumbprint (h.answers name is)) in
     and_from (is_none (bar_of p s verifiers)) (fits p s key) (ap is_none h.unbarred)
-      (and_from (some_passes (is_for key) (alg s) && permits_of (codes "verify") key) (answers_to p s key)
-        (and_from (some_passes (is_for key) (alg s)) (permits_of (codes "verify") key) for_alg permits)
-        answers)
+    (and_from (some_passes (is_for key) (alg s) && permits_of (codes "verify") key) (answers_to p s key)
+    (and_from (some_passes (is_for key) (alg s)) (permits_of (codes "verify") key) for_alg permits)
+    answers)

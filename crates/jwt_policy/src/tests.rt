@@ -1,1 +1,628 @@
-//! Tests.
+use crate::{
+    Audience, ClaimFault, Claims, Mode, Policy, PolicyFault, SigFault, bar, check, eligible, fits,
+};
+use jwt_jws::parse;
+use jwt_keys::KeySet;
+use jwt_mac::{Alg, Answer, KeyView, Message, Verifier};
+use jwt_text::encode_text;
+use std::alloc::Global;
+use std::test::Fail;
+
+/// It names RS256, and accepts exactly where the signature's octets are the modulus.
+#[derive(Drop)]
+struct Same;
+
+impl Verifier for Same {
+    ghost use Rattle.jwt_mac.specs.TestVerifiers.{same_meaning};
+
+    ghost meaning = { λ _. same_meaning };
+
+    fn names(&self, alg: Alg) -> bool {
+        matches!(alg, Alg::RS256)
+    }
+
+    fn verify(&self, _alg: Alg, key: &KeyView, _message: Message, signature: &[u8]) -> Answer {
+        match key {
+            KeyView::Rsa { n, .. } if *n == signature => Answer::Valid,
+            _ => Answer::Invalid,
+        }
+    }
+}
+
+/// A policy of HS256 alone.
+const HS256: &str = "{\"algs\":[\"HS256\"]}";
+
+/// A policy that says something about everything.
+const FULL: &str =
+    "{\"version\":2,\"algs\":[\"EdDSA\",\"HS512\"],\"mode\":\"all\",\"limit\":1048576,\"work\":0,\"max_signatures\":32,\"line_feed\":true,\"typ\":\"JWT\",\"need_kid\":true,\"thumb_kid\":true,\"understood\":[\"x\"],\"issuers\":[\"ann\",\"bob\"],\"audiences\":[\"api\"],\"required\":[\"sub\"],\"leeway\":86400,\"max_age\":4294967295,\"max_calls\":32768}";
+
+// ---- documents
+
+/// The fault of a document with the member that it names, or `read`.
+fn refusal(alloc: Global, document: &[u8]) -> Result<String, Fail> {
+    let text = match Policy::read(alloc, document) {
+        Ok(_) => String::from_str(alloc, "read")?,
+        Err(PolicyFault::OutOfMemory) => String::from_str(alloc, "OutOfMemory")?,
+        Err(PolicyFault::Json) => String::from_str(alloc, "Json")?,
+        Err(PolicyFault::NameTwice) => String::from_str(alloc, "NameTwice")?,
+        Err(PolicyFault::Member(name)) => format!(in alloc; "Member {}", name.text())?,
+        Err(PolicyFault::Range(name)) => format!(in alloc; "Range {}", name.text())?,
+        Err(PolicyFault::NoAlgorithm) => String::from_str(alloc, "NoAlgorithm")?,
+        Err(PolicyFault::TooLong) => String::from_str(alloc, "TooLong")?,
+    };
+    Ok(text)
+}
+
+#[test]
+fn a_document_is_read_or_refused_for_its_first_fault(rt: HostRuntime) -> Result<(), Fail> {
+    for (document, want) in [
+        ("", "Json"),
+        ("[]", "Json"),
+        ("[{\"a\":1,\"a\":2}]", "Json"),
+        ("{\"zz\":1,\"zz\":2}", "NameTwice"),
+        ("{}", "NoAlgorithm"),
+        ("{\"algs\":[]}", "NoAlgorithm"),
+        ("{\"mode\":7}", "NoAlgorithm"),
+        ("{\"zz\":1}", "Member zz"),
+        ("{\"algs\":[\"HS256\"],\"exp\":1}", "Member exp"),
+        // Byte order isn't the order of UTF-16: U+FFEE comes before U+1F511.
+        ("{\"\\ud83d\\udd11\":1,\"\\uffee\":1}", "Member \u{ffee}"),
+        ("{\"algs\":null}", "Member algs"),
+        ("{\"algs\":\"HS256\"}", "Member algs"),
+        ("{\"algs\":[1,\"none\"]}", "Member algs"),
+        ("{\"algs\":[\"none\"]}", "Range algs"),
+        ("{\"algs\":[\"HS256\",\"hs256\"]}", "Range algs"),
+        ("{\"version\":3}", "Range version"),
+        ("{\"version\":1.0,\"algs\":[]}", "Member version"),
+        ("{\"algs\":[\"HS256\"],\"mode\":\"Any\"}", "Range mode"),
+        (
+            "{\"algs\":[\"HS256\"],\"limit\":0,\"mode\":7}",
+            "Member mode",
+        ),
+        ("{\"algs\":[\"HS256\"],\"limit\":0}", "Range limit"),
+        ("{\"algs\":[\"HS256\"],\"limit\":1048577}", "Range limit"),
+        (
+            "{\"algs\":[\"HS256\"],\"work\":9223372036854775807}",
+            "Range work",
+        ),
+        (
+            "{\"algs\":[\"HS256\"],\"work\":9223372036854775808}",
+            "Member work",
+        ),
+        (
+            "{\"algs\":[\"HS256\"],\"max_signatures\":33}",
+            "Range max_signatures",
+        ),
+        ("{\"algs\":[\"HS256\"],\"line_feed\":1}", "Member line_feed"),
+        ("{\"algs\":[\"HS256\"],\"typ\":\"\"}", "Range typ"),
+        (
+            "{\"algs\":[\"HS256\"],\"understood\":[\"b64\"]}",
+            "Range understood",
+        ),
+        (
+            "{\"algs\":[\"HS256\"],\"understood\":[\"x\",\"crit\"]}",
+            "Range understood",
+        ),
+        (
+            "{\"algs\":[\"HS256\"],\"understood\":[\"crit\",7]}",
+            "Member understood",
+        ),
+        ("{\"algs\":[\"HS256\"],\"leeway\":86401}", "Range leeway"),
+        ("{\"algs\":[\"HS256\"],\"leeway\":-1}", "Range leeway"),
+        ("{\"algs\":[\"HS256\"],\"leeway\":1.5}", "Member leeway"),
+        ("{\"algs\":[\"HS256\"],\"max_age\":0}", "Range max_age"),
+        ("{\"version\":3,\"algs\":[\"HS256\"]}", "Range version"),
+        ("{\"algs\":[\"HS256\"],\"max_calls\":1}", "Member max_calls"),
+        ("{\"version\":\"2\",\"max_calls\":1}", "Member max_calls"),
+        (
+            "{\"version\":2,\"algs\":[\"HS256\"],\"max_calls\":32769}",
+            "Range max_calls",
+        ),
+        (
+            "{\"version\":2,\"algs\":[\"HS256\",\"HS256\",\"EdDSA\"],\"max_calls\":0}",
+            "read",
+        ),
+        (FULL, "read"),
+    ] {
+        let found = refusal(rt.alloc(), document.as_bytes())?;
+        assert_eq!(rt; found.as_str(), want, "at {document}");
+    }
+    Ok(())
+}
+
+#[test]
+fn a_document_has_at_most_65536_octets(rt: HostRuntime) -> Result<(), Fail> {
+    let alloc = rt.alloc();
+    let mut document = Vec::from_slice(alloc, HS256.as_bytes())?;
+    document.resize(65_536, b' ')?;
+    assert_eq!(rt; refusal(alloc, &document)?.as_str(), "read");
+    document.push(b' ')?;
+    assert_eq!(rt; refusal(alloc, &document)?.as_str(), "TooLong");
+    Ok(())
+}
+
+#[test]
+fn a_policy_says_what_its_document_says(rt: HostRuntime) -> Result<(), Fail> {
+    let Ok(plain) = Policy::read(rt.alloc(), HS256.as_bytes()) else {
+        return Err("refused".into());
+    };
+    assert_eq!(rt; plain.version(), 1);
+    assert_eq!(rt; plain.algs(), [Alg::HS256].as_slice());
+    assert_eq!(rt; plain.mode(), Mode::Any);
+    assert_eq!(rt;
+        (plain.limit(), plain.work(), plain.max_signatures()),
+        (8192, 1_048_576, 8)
+    );
+    assert_eq!(rt;
+        (plain.line_feed(), plain.need_kid(), plain.thumb_kid()),
+        (false, false, false)
+    );
+    assert_eq!(rt; plain.typ(), None);
+    assert!(rt;
+        plain.understood().is_empty()
+            && plain.issuers().is_empty()
+            && plain.audiences().is_empty()
+            && plain.required().is_empty()
+    );
+    assert_eq!(rt;
+        (plain.leeway(), plain.max_age(), plain.max_calls()),
+        (0, None, None)
+    );
+    let Ok(full) = Policy::read(rt.alloc(), FULL.as_bytes()) else {
+        return Err("refused".into());
+    };
+    assert_eq!(rt; full.version(), 2);
+    assert_eq!(rt; full.algs(), [Alg::EdDSA, Alg::HS512].as_slice());
+    assert_eq!(rt; full.mode(), Mode::All);
+    assert_eq!(rt;
+        (full.limit(), full.work(), full.max_signatures()),
+        (1_048_576, 0, 32)
+    );
+    assert_eq!(rt;
+        (full.line_feed(), full.need_kid(), full.thumb_kid()),
+        (true, true, true)
+    );
+    assert_eq!(rt; full.typ(), Some("JWT"));
+    assert_eq!(rt; full.issuers().len(), 2);
+    assert_eq!(rt; full.required()[0].as_str(), "sub");
+    assert_eq!(rt;
+        (full.leeway(), full.max_age(), full.max_calls()),
+        (86_400, Some(4_294_967_295), Some(32_768))
+    );
+    Ok(())
+}
+
+// ---- headers
+
+/// A flattened token with these headers; the second is left out where it is empty.
+fn flattened(alloc: Global, protected: &str, unprotected: &str) -> Result<String, Fail> {
+    let text = encode_text(alloc, protected.as_bytes())?;
+    let token = if unprotected.is_empty() {
+        format!(in alloc;
+            "{{\"payload\":\"e30\",\"protected\":\"{text}\",\"signature\":\"AQAB\"}}"
+        )?
+    } else {
+        format!(in alloc;
+            "{{\"payload\":\"e30\",\"protected\":\"{text}\",\"header\":{unprotected},\"signature\":\"AQAB\"}}"
+        )?
+    };
+    Ok(token)
+}
+
+/// The bar of a signature with these headers.
+fn bar_of(
+    alloc: Global,
+    policy: &str,
+    protected: &str,
+    unprotected: &str,
+) -> Result<Option<SigFault>, Fail> {
+    let Ok(policy) = Policy::read(alloc, policy.as_bytes()) else {
+        return Err("no policy".into());
+    };
+    let token = flattened(alloc, protected, unprotected)?;
+    let Ok(signed) = parse(alloc, token.as_bytes(), 1) else {
+        return Err("no token".into());
+    };
+    let signature = signed.signature(0).ok_or("no signature")?;
+    let verifiers: [Box<dyn Verifier>; 0] = [];
+    Ok(bar(&policy, signature, &verifiers))
+}
+
+#[test]
+fn the_first_bar_is_answered(rt: HostRuntime) -> Result<(), Fail> {
+    let rs256 = "{\"algs\":[\"RS256\"]}";
+    let typed = "{\"algs\":[\"HS256\"],\"typ\":\"at+jwt\"}";
+    let understands = "{\"algs\":[\"HS256\"],\"understood\":[\"x\"]}";
+    let with_kid = "{\"algs\":[\"HS256\"],\"need_kid\":true}";
+    for (policy, protected, unprotected, want) in [
+        (HS256, "{\"alg\":\"HS256\"}", "", None),
+        (
+            HS256,
+            "{}",
+            "{\"alg\":\"HS256\"}",
+            Some(SigFault::AlgMissing),
+        ),
+        (HS256, "{\"alg\":7}", "", Some(SigFault::AlgMissing)),
+        (HS256, "{\"alg\":\"none\"}", "", Some(SigFault::AlgNone)),
+        (HS256, "{\"alg\":\"hs256\"}", "", Some(SigFault::AlgUnknown)),
+        (
+            HS256,
+            "{\"alg\":\"HS384\"}",
+            "",
+            Some(SigFault::AlgNotAllowed),
+        ),
+        (
+            HS256,
+            "{\"alg\":\"RS256\"}",
+            "",
+            Some(SigFault::AlgNotAllowed),
+        ),
+        (rs256, "{\"alg\":\"RS256\"}", "", Some(SigFault::NoVerifier)),
+        (
+            HS256,
+            "{\"alg\":\"HS256\"}",
+            "{\"jku\":null}",
+            Some(SigFault::KeyUrl),
+        ),
+        (
+            HS256,
+            "{\"alg\":\"HS256\",\"crit\":[\"x\"],\"x\":1,\"x5u\":\"\"}",
+            "",
+            Some(SigFault::KeyUrl),
+        ),
+        (
+            HS256,
+            "{\"alg\":\"HS256\",\"enc\":1,\"b64\":true}",
+            "",
+            Some(SigFault::EncHeader),
+        ),
+        (
+            HS256,
+            "{\"alg\":\"HS256\",\"crit\":[\"b64\"],\"b64\":false}",
+            "",
+            Some(SigFault::Unencoded),
+        ),
+        (
+            HS256,
+            "{\"alg\":\"HS256\",\"crit\":[\"b64\"]}",
+            "",
+            Some(SigFault::CritShape),
+        ),
+        (
+            HS256,
+            "{\"alg\":\"HS256\",\"crit\":[]}",
+            "",
+            Some(SigFault::CritShape),
+        ),
+        (
+            HS256,
+            "{\"alg\":\"HS256\",\"crit\":null}",
+            "",
+            Some(SigFault::CritShape),
+        ),
+        (
+            HS256,
+            "{\"alg\":\"HS256\",\"crit\":[\"x\"]}",
+            "",
+            Some(SigFault::CritShape),
+        ),
+        (
+            HS256,
+            "{\"alg\":\"HS256\",\"crit\":[\"alg\"]}",
+            "",
+            Some(SigFault::CritShape),
+        ),
+        (
+            understands,
+            "{\"alg\":\"HS256\",\"crit\":[\"x\",\"x\"],\"x\":1}",
+            "",
+            Some(SigFault::CritShape),
+        ),
+        (
+            understands,
+            "{\"alg\":\"HS256\"}",
+            "{\"crit\":[\"x\"],\"x\":1}",
+            Some(SigFault::CritShape),
+        ),
+        (
+            understands,
+            "{\"alg\":\"HS256\",\"crit\":[\"x\"]}",
+            "{\"x\":1}",
+            None,
+        ),
+        (
+            HS256,
+            "{\"alg\":\"HS256\",\"crit\":[\"x\"],\"x\":1}",
+            "",
+            Some(SigFault::CritUnknown),
+        ),
+        (
+            HS256,
+            "{\"alg\":\"HS256\",\"typ\":null}",
+            "",
+            Some(SigFault::TypShape),
+        ),
+        (
+            HS256,
+            "{\"alg\":\"HS256\",\"cty\":7}",
+            "{\"typ\":7}",
+            Some(SigFault::TypShape),
+        ),
+        (HS256, "{\"alg\":\"HS256\"}", "{\"typ\":7}", None),
+        (
+            typed,
+            "{\"alg\":\"HS256\"}",
+            "{\"typ\":\"at+jwt\"}",
+            Some(SigFault::TypMismatch),
+        ),
+        (
+            typed,
+            "{\"alg\":\"HS256\",\"typ\":\"JWT\"}",
+            "",
+            Some(SigFault::TypMismatch),
+        ),
+        (
+            typed,
+            "{\"alg\":\"HS256\",\"typ\":\"at+jwt; x=1\"}",
+            "",
+            Some(SigFault::TypMismatch),
+        ),
+        (
+            typed,
+            "{\"alg\":\"HS256\",\"typ\":\"application/AT+JWT\"}",
+            "",
+            None,
+        ),
+        (
+            HS256,
+            "{\"alg\":\"HS256\",\"cty\":\"jwt\"}",
+            "",
+            Some(SigFault::Nested),
+        ),
+        (
+            HS256,
+            "{\"alg\":\"HS256\",\"cty\":\"APPLICATION/JWT\"}",
+            "",
+            Some(SigFault::Nested),
+        ),
+        (HS256, "{\"alg\":\"HS256\",\"cty\":\"jwt/\"}", "", None),
+        (
+            HS256,
+            "{\"alg\":\"HS256\"}",
+            "{\"kid\":null}",
+            Some(SigFault::KidShape),
+        ),
+        (
+            with_kid,
+            "{\"alg\":\"HS256\"}",
+            "",
+            Some(SigFault::KidMissing),
+        ),
+        (with_kid, "{\"alg\":\"HS256\"}", "{\"kid\":\"\"}", None),
+    ] {
+        let found = bar_of(rt.alloc(), policy, protected, unprotected)?;
+        assert_eq!(rt; found, want, "at {protected} {unprotected}");
+    }
+    Ok(())
+}
+
+// ---- keys
+
+/// The secret of 64 octets of RFC 7515, appendix A.1, without its closing brace.
+const SECRET: &str =
+    "{\"kty\":\"oct\",\"k\":\"AyM1SysPpbyDfgZld3umj1qzKObwVMkoqQ-EstJQLr_T-1qS0gZH75aKtMN3Yj0iPS4hcgUuTwjAzZr1Z9CAow\"";
+
+/// The key of RFC 7638, section 3.1, without its `kid` and its closing brace.
+const RSA: &str =
+    "{\"kty\":\"RSA\",\"n\":\"0vx7agoebGcQSuuPiLJXZptN9nndrQmbXEps2aiAFbWhM78LhWx4cbbfAAtVT86zwu1RK7aPFFxuhDR1L6tSoc_BJECPebWKRXjBZCiFV4n3oknjhMstn64tZ_2W-5JsGY4Hc5n9yBXArwl93lqt7_RN5w6Cf0h4QyQ5v-65YGjQR0_FDW2QvzqY368QQMicAtaSqzs8KJZgnYb9c7d0zgdAZHzu6qMQvRL5hajrn1n91CbOpbISD08qNLyrdkt-bFTWhAI4vMQFh6WeZu0fM4lFd2NcRwr3XPksINHaQ-G_xBniIqbw0Ls1jF44-csFCur-kEgU8awapJzKnqDKgw\",\"e\":\"AQAB\",\"alg\":\"RS256\"";
+
+/// Whether a key is eligible for a signature with these headers, with a verifier of RS256.
+fn is_eligible(
+    alloc: Global,
+    policy: &str,
+    protected: &str,
+    unprotected: &str,
+    key: &str,
+) -> Result<bool, Fail> {
+    let Ok(policy) = Policy::read(alloc, policy.as_bytes()) else {
+        return Err("no policy".into());
+    };
+    let token = flattened(alloc, protected, unprotected)?;
+    let Ok(signed) = parse(alloc, token.as_bytes(), 1) else {
+        return Err("no token".into());
+    };
+    let signature = signed.signature(0).ok_or("no signature")?;
+    let document = format!(in alloc; "{{\"keys\":[{key}}}]}}")?;
+    let keys = KeySet::read(alloc, document.as_bytes())?;
+    let key = keys.key(0).ok_or("no key")?;
+    let same: Box<dyn Verifier> = Box::new(alloc, Same)?;
+    let found = eligible(&policy, signature, key, &[same]);
+    if found && !fits(&policy, signature, key) {
+        return Err("eligible and unfit".into());
+    }
+    Ok(found)
+}
+
+#[test]
+fn a_key_is_eligible_by_kind_members_and_kid(rt: HostRuntime) -> Result<(), Fail> {
+    let alloc = rt.alloc();
+    let hs256 = "{\"alg\":\"HS256\"}";
+    let rs256 = "{\"alg\":\"RS256\"}";
+    let two = "{\"algs\":[\"HS256\",\"RS256\"]}";
+    let by_thumbprint = "{\"algs\":[\"RS256\"],\"thumb_kid\":true}";
+    let of_rsa = "{\"kid\":\"NzbLsXh8uDCcd-6MNwXF4W_7noWXFZAfHkxZsRGC9Xs\"}";
+    let short = "{\"kty\":\"oct\",\"k\":\"eW91ci0yNTYtYml0LXNlY3JldA\"";
+    for (policy, protected, unprotected, key, more, want) in [
+        (HS256, hs256, "", SECRET, "", true),
+        (HS256, hs256, "", short, "", false),
+        (two, hs256, "", RSA, "", false),
+        (two, rs256, "", SECRET, "", false),
+        (two, rs256, "", RSA, "", true),
+        (HS256, rs256, "", RSA, "", false),
+        (HS256, hs256, "", SECRET, ",\"alg\":\"HS384\"", false),
+        (
+            HS256,
+            hs256,
+            "",
+            SECRET,
+            ",\"alg\":\"HS256\",\"use\":\"sig\",\"key_ops\":[\"sign\",\"verify\"]",
+            true,
+        ),
+        (HS256, hs256, "", SECRET, ",\"use\":\"enc\"", false),
+        (HS256, hs256, "", SECRET, ",\"key_ops\":[\"sign\"]", false),
+        (
+            HS256,
+            hs256,
+            "{\"kid\":\"x\"}",
+            SECRET,
+            ",\"kid\":\"x\"",
+            true,
+        ),
+        (
+            HS256,
+            hs256,
+            "{\"kid\":\"x\"}",
+            SECRET,
+            ",\"kid\":\"y\"",
+            false,
+        ),
+        (HS256, hs256, "{\"kid\":\"x\"}", SECRET, "", false),
+        (HS256, hs256, "", SECRET, ",\"kid\":\"y\"", true),
+        (two, rs256, of_rsa, RSA, "", false),
+        (by_thumbprint, rs256, of_rsa, RSA, "", true),
+        (by_thumbprint, rs256, of_rsa, RSA, ",\"kid\":\"x\"", false),
+        (by_thumbprint, rs256, "{\"kid\":\"x\"}", RSA, "", false),
+    ] {
+        let key = format!(in alloc; "{key}{more}")?;
+        let found = is_eligible(alloc, policy, protected, unprotected, key.as_str())?;
+        assert_eq!(rt; found, want, "at {protected} {unprotected} {more}");
+    }
+    Ok(())
+}
+
+// ---- claims
+
+/// The fault of claims with the claim that it names, or `none`.
+fn fault_of(alloc: Global, policy: &str, payload: &str, now: i64) -> Result<String, Fail> {
+    let Ok(policy) = Policy::read(alloc, policy.as_bytes()) else {
+        return Err("no policy".into());
+    };
+    let found = match Claims::read(alloc, payload.as_bytes()) {
+        Ok(claims) => check(&policy, &claims, now),
+        Err(fault) => Some(fault),
+    };
+    let text = match found {
+        None => String::from_str(alloc, "none")?,
+        Some(ClaimFault::OutOfMemory) => String::from_str(alloc, "OutOfMemory")?,
+        Some(ClaimFault::ClaimsShape) => String::from_str(alloc, "ClaimsShape")?,
+        Some(ClaimFault::ClaimKind(claim)) => format!(in alloc; "ClaimKind {}", claim.name())?,
+        Some(ClaimFault::ClaimDate(claim)) => format!(in alloc; "ClaimDate {}", claim.name())?,
+        Some(ClaimFault::ClaimMissing(name)) => format!(in alloc; "ClaimMissing {}", name.text())?,
+        Some(ClaimFault::Issuer) => String::from_str(alloc, "Issuer")?,
+        Some(ClaimFault::Audience) => String::from_str(alloc, "Audience")?,
+        Some(ClaimFault::Expired) => String::from_str(alloc, "Expired")?,
+        Some(ClaimFault::NotYet) => String::from_str(alloc, "NotYet")?,
+        Some(ClaimFault::IssuedLater) => String::from_str(alloc, "IssuedLater")?,
+        Some(ClaimFault::TooOld) => String::from_str(alloc, "TooOld")?,
+    };
+    Ok(text)
+}
+
+#[test]
+fn claims_hold_or_are_refused_for_their_first_fault(rt: HostRuntime) -> Result<(), Fail> {
+    let lenient = "{\"algs\":[\"HS256\"],\"leeway\":1}";
+    let most = "{\"algs\":[\"HS256\"],\"leeway\":86400}";
+    let aged = "{\"algs\":[\"HS256\"],\"max_age\":10}";
+    let asks = "{\"algs\":[\"HS256\"],\"required\":[\"sub\",\"iat\",\"jti\"],\"max_age\":10}";
+    let issued = "{\"algs\":[\"HS256\"],\"issuers\":[\"ann\"]}";
+    let api = "{\"algs\":[\"HS256\"],\"audiences\":[\"b\",\"api\"]}";
+    for (policy, payload, now, want) in [
+        (HS256, "{}", 0, "none"),
+        (HS256, "[]", 0, "ClaimsShape"),
+        (HS256, "{\"a\":1,\"a\":1}", 0, "ClaimsShape"),
+        (HS256, "{\"iss\":7,\"sub\":7}", 0, "ClaimKind iss"),
+        (
+            HS256,
+            "{\"iss\":\"a\",\"exp\":1.0,\"nbf\":\"x\"}",
+            0,
+            "ClaimDate exp",
+        ),
+        (HS256, "{\"exp\":\"1\"}", 0, "ClaimKind exp"),
+        (HS256, "{\"exp\":1e3}", 0, "ClaimDate exp"),
+        (HS256, "{\"exp\":9223372036854775808}", 0, "ClaimDate exp"),
+        (HS256, "{\"nbf\":null}", 0, "ClaimKind nbf"),
+        (HS256, "{\"iat\":-0}", 0, "ClaimDate iat"),
+        (HS256, "{\"jti\":[]}", 0, "ClaimKind jti"),
+        (HS256, "{\"aud\":[\"a\",7]}", 0, "ClaimKind aud"),
+        (HS256, "{\"exp\":100}", 99, "none"),
+        (HS256, "{\"exp\":100}", 100, "Expired"),
+        (lenient, "{\"exp\":100}", 100, "none"),
+        (HS256, "{\"nbf\":100}", 99, "NotYet"),
+        (lenient, "{\"nbf\":100}", 99, "none"),
+        (aged, "{\"iat\":100}", 99, "IssuedLater"),
+        (aged, "{\"iat\":100}", 110, "none"),
+        (aged, "{\"iat\":100}", 111, "TooOld"),
+        (aged, "{}", 0, "ClaimMissing iat"),
+        (asks, "{}", 0, "ClaimMissing sub"),
+        (asks, "{\"sub\":\"a\"}", 0, "ClaimMissing iat"),
+        (
+            asks,
+            "{\"sub\":\"a\",\"iat\":1,\"exp\":0}",
+            0,
+            "ClaimMissing jti",
+        ),
+        (issued, "{}", 0, "Issuer"),
+        (issued, "{\"iss\":\"Ann\",\"aud\":\"a\"}", 0, "Issuer"),
+        (issued, "{\"iss\":\"ann\"}", 0, "none"),
+        (HS256, "{\"aud\":\"a\"}", 0, "Audience"),
+        (api, "{\"aud\":[]}", 0, "Audience"),
+        (api, "{\"aud\":[\"a\",\"api\"]}", 0, "none"),
+        (api, "{\"aud\":\"api\"}", 0, "none"),
+        (most, "{\"exp\":9223372036854775807}", i64::MAX, "none"),
+        (HS256, "{\"exp\":-9223372036854775808}", i64::MIN, "Expired"),
+    ] {
+        let found = fault_of(rt.alloc(), policy, payload, now)?;
+        assert_eq!(rt; found.as_str(), want, "at {payload} {now}");
+    }
+    Ok(())
+}
+
+#[test]
+fn claims_say_what_their_payload_says(rt: HostRuntime) -> Result<(), Fail> {
+    let payload =
+        b"{\"iss\":\"joe\",\"sub\":\"\",\"aud\":[\"a\",\"b\"],\"exp\":1300819380,\"nbf\":-1,\"jti\":\"x\",\"z\":true}";
+    let Ok(claims) = Claims::read(rt.alloc(), payload) else {
+        return Err("refused".into());
+    };
+    assert_eq!(rt;
+        (claims.iss(), claims.sub(), claims.jti()),
+        (Some("joe"), Some(""), Some("x"))
+    );
+    assert_eq!(rt;
+        (claims.exp(), claims.nbf(), claims.iat()),
+        (Some(1_300_819_380), Some(-1), None)
+    );
+    assert!(rt; matches!(claims.aud(), Some(Audience::Texts(list)) if list.text(1) == Some("b")));
+    assert_eq!(rt; claims.object().flag("z"), Some(true));
+    Ok(())
+}
+
+/// Run with each allocation refused in turn.
+#[test]
+fn a_refused_growth_is_out_of_memory(rt: HostRuntime) -> Result<(), Fail> {
+    let alloc = rt.alloc();
+    match Policy::read(alloc, FULL.as_bytes()) {
+        Ok(policy) => assert_eq!(rt; policy.max_calls(), Some(32_768)),
+        Err(fault) => assert!(rt; matches!(fault, PolicyFault::OutOfMemory)),
+    }
+    match Policy::read(alloc, b"{\"algs\":[\"none\"]}") {
+        Ok(_) => return Err("read".into()),
+        Err(PolicyFault::Range(name)) => assert_eq!(rt; name.text(), "algs"),
+        Err(fault) => assert!(rt; matches!(fault, PolicyFault::OutOfMemory)),
+    }
+    match Claims::read(alloc, b"{\"aud\":[\"a\"],\"exp\":5}") {
+        Ok(claims) => assert_eq!(rt; claims.exp(), Some(5)),
+        Err(fault) => assert!(rt; matches!(fault, ClaimFault::OutOfMemory)),
+    }
+    Ok(())
+}
