@@ -1,0 +1,56 @@
+-- What a report says of a verdict.
+use Rattle.std.specs.Prelude.{◌≡◌, ◌≤◌, ℕ, ℤ, ◌++◌, true, List, [], ◌∷◌, length, slice_get, Option, Some, None, option_and_then}
+use Rattle.jwt_mac.specs.Verifying.{Meaning}
+use Rattle.jwt_keys.specs.declared.set.KeySet.{KeySet}
+use Rattle.jwt_keys.specs.KeySets.{key_set}
+use Rattle.jwt_policy.specs.Settings.{Settings}
+use Rattle.jwt_policy.specs.declared.sig_fault.SigFault.{SigFault}
+use Rattle.jwt_verify.specs.declared.report.Try.{Try}
+use Rattle.jwt_verify.specs.declared.report.SigState.{SigState}
+use Rattle.jwt_verify.specs.declared.report.SigState.TheVariants.{Verified}
+use Rattle.jwt_verify.specs.declared.report.InputFault.TheVariants.{Read}
+use Rattle.jwt_verify.specs.declared.report.Fault.TheVariants.{OutOfMemory, VerifierMemory, Text}
+use Rattle.jwt_verify.specs.declared.report.Verdict.{Verdict}
+use Rattle.jwt_verify.specs.declared.report.Verdict.TheVariants.{Refused}
+use Rattle.jwt_verify.specs.Table.{Table, paid, states, states_at}
+use Rattle.jwt_verify.specs.Verdict.{Terms, fault_of}
+
+abbrev pub terms : Settings → KeySet → ℤ → List Meaning → Terms
+terms p keys now verifiers = record { policy = p; keys = (key_set keys).keys; now = now; verifiers = verifiers }
+
+-- the verdict is this one, unless memory was refused to the run or to a verifier
+abbrev pub Says : Verdict → Verdict → Type 0
+Says (Refused OutOfMemory) v = Unit {0}
+Says (Refused VerifierMemory) v = Unit {0}
+Says said v = v ≡ said
+
+-- A run that found memory lists all that is paid, and every state. Where a verifier lacked it, the last try is the one that it
+-- was asked for, and the states are those of a run that stopped there.
+abbrev pub IsWhole : Table → ℕ → Option ℕ → List Try → List SigState → Verdict → Type 0
+IsWhole t w calls es sts (Refused OutOfMemory) = Unit {0}
+IsWhole t w calls es sts (Refused VerifierMemory) =
+    (before : List Try) × (e : Try) × (es ≡ before ++ e ∷ []) × (t.may_lack e.signature e.key ≡ true) × (sts ≡ states_at t (Some e))
+IsWhole t w calls es sts _ = (es ≡ paid t w calls) × (sts ≡ states t w calls)
+
+-- the source failed, and nothing was tried; or memory was refused before anything was
+abbrev pub Failed : Verdict → List Try → Type 0
+Failed (Refused (Text Read)) es = es ≡ []
+Failed (Refused OutOfMemory) es = es ≡ []
+Failed _ es = ⊥
+
+-- at most so many octets of x were taken, and the others are still to come
+abbrev pub TakesAtMost : ℕ → List ℕ → Option (List ℕ) → Type 0
+TakesAtMost most x rest = (front : List ℕ) × (back : List ℕ) × (x ≡ front ++ back) × (rest ≡ Some back) × (length front ≤ most)
+
+-- ---- the states of a run, one by one
+
+-- the key that verifies a signature in this state
+abbrev pub key_of : SigState → Option ℕ
+key_of (Verified j) = Some j
+key_of _ = None
+
+abbrev pub key_in : List SigState → ℕ → Option ℕ
+key_in states i = option_and_then key_of (slice_get states i)
+
+abbrev pub fault_in : List SigState → ℕ → Option SigFault
+fault_in states i = option_and_then fault_of (slice_get states i)
