@@ -1,6 +1,7 @@
 -- The first number that has an answer.
-use Rattle.std.proofs.Common.{◌≡◌, ℕ, zero, suc, ◌+◌, ◌-◌, ◌<◌, ◌≤◌, List, [], ◌∷◌, ◌++◌, Option, Some, None, arith, add-one, refl, sym, ◌∙◌, ap}
+use Rattle.std.proofs.Common.{◌≡◌, ℕ, zero, suc, ◌+◌, ◌-◌, ◌<◌, ◌≤◌, List, [], ◌∷◌, ◌++◌, Option, Some, None, arith, add-one, refl, sym, ◌∙◌, ap, inl, inr}
 use Rattle.std.specs.Option.{option_map_or}
+use Rattle.std.proofs.lemmas.Bool.{cases_lt}
 use Rattle.jwt_verify.specs.Table.{below}
 use Rattle.jwt_verify.specs.Verdict.{first_in}
 use Rattle.jwt_verify.proofs.Below.{below-zero, below_more}
@@ -43,3 +44,19 @@ first_agree {A} f g (suc n) h =
     go : (o : Option (ℕ × A)) → o ≡ first_in f (below n) → or_else o (option_map_or (λ a. Some (n, a)) (g n) None) ≡ or_else o (option_map_or (λ a. Some (n, a)) (f n) None)
     go (Some p) e = refl
     go None e = ap (λ q. option_map_or (λ a. Some (n, a)) q None) (h n (omega arith) (sym e))
+
+none_both : {A : Type 0} (o : Option (ℕ × A)) (n : ℕ) (q : Option A) → or_else o (option_map_or (λ a. Some (n, a)) q None) ≡ None → (o ≡ None) × (q ≡ None)
+none_both (Some p) n q h = cc
+none_both None n (Some a) h = cc
+none_both None n None h = (refl, refl)
+
+-- where none of the numbers has an answer
+pub first_none_at : {A : Type 0} (f : ℕ → Option A) (n k : ℕ) → k < n → first_in f (below n) ≡ None → f k ≡ None
+first_none_at f zero k l h = absurd (omega (arith, l))
+first_none_at f (suc n) k l h =
+    let e = rw (sym (add-one n)) at h in
+    let q = none_both (first_in f (below n)) n (f n) (sym (first-below f n) ∙ e) in
+    elim (cases_lt k n) [
+      | inl m ↦ first_none_at f n k m q.0
+      | inr m ↦ (let s : k ≡ n = omega (arith, l, m) in ap f s ∙ q.1)
+    ]

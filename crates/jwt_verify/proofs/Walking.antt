@@ -233,7 +233,7 @@ at_front {t} {i} {j} {es} a l m =
 pub through_front : {t : Table} {i : ℕ} {v : Bool} {es : List Try} → IsThrough t i v es → i < t.signatures → IsFront t es
 through_front {t} {i} {v} {es} a l = let q = rows_front t (i + 1) (omega arith) in (q.0, q.1 ∙ ap (λ ys. ys ++ q.0) (sym a.listed))
 
-find_none : (p : ℕ → Bool) (xs : List ℕ) → list_any p xs ≡ false → find p xs ≡ None
+pub find_none : (p : ℕ → Bool) (xs : List ℕ) → list_any p xs ≡ false → find p xs ≡ None
 find_none p [] h = refl
 find_none p (x ∷ xs) h = grind (arith, find_none p xs)
 

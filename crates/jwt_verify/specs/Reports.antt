@@ -3,6 +3,7 @@ use Rattle.std.specs.Prelude.{◌≡◌, ◌≤◌, ℕ, ℤ, ◌++◌, true, Li
 use Rattle.jwt_mac.specs.Verifying.{Meaning}
 use Rattle.jwt_keys.specs.declared.set.KeySet.{KeySet}
 use Rattle.jwt_keys.specs.KeySets.{key_set}
+use Rattle.jwt_policy.specs.declared.mode.Mode.{Mode}
 use Rattle.jwt_policy.specs.Settings.{Settings}
 use Rattle.jwt_policy.specs.declared.sig_fault.SigFault.{SigFault}
 use Rattle.jwt_verify.specs.declared.report.Try.{Try}
@@ -12,17 +13,17 @@ use Rattle.jwt_verify.specs.declared.report.InputFault.TheVariants.{Read}
 use Rattle.jwt_verify.specs.declared.report.Fault.TheVariants.{OutOfMemory, VerifierMemory, Text}
 use Rattle.jwt_verify.specs.declared.report.Verdict.{Verdict}
 use Rattle.jwt_verify.specs.declared.report.Verdict.TheVariants.{Refused}
-use Rattle.jwt_verify.specs.Table.{Table, paid, states, states_at}
-use Rattle.jwt_verify.specs.Verdict.{Terms, fault_of}
+use Rattle.jwt_verify.specs.Table.{Table, below, paid, states, states_at}
+use Rattle.jwt_verify.specs.Verdict.{Terms, Signing, fault_of, first_in, signing_in}
 
 abbrev pub terms : Settings → KeySet → ℤ → List Meaning → Terms
 terms p keys now verifiers = record { policy = p; keys = (key_set keys).keys; now = now; verifiers = verifiers }
 
--- the verdict is this one, unless memory was refused to the run or to a verifier
-abbrev pub Says : Verdict → Verdict → Type 0
-Says (Refused OutOfMemory) v = Unit {0}
-Says (Refused VerifierMemory) v = Unit {0}
-Says said v = v ≡ said
+-- the verdict doesn't say that memory was refused, to the run or to a verifier that was asked
+abbrev pub FoundMemory : Verdict → Type 0
+FoundMemory (Refused OutOfMemory) = ⊥
+FoundMemory (Refused VerifierMemory) = ⊥
+FoundMemory _ = Unit {0}
 
 -- A run that found memory lists all that is paid, and every state. Where a verifier lacked it, the last try is the one that it
 -- was asked for, and the states are those of a run that stopped there.
@@ -54,3 +55,7 @@ key_in states i = option_and_then key_of (slice_get states i)
 
 abbrev pub fault_in : List SigState → ℕ → Option SigFault
 fault_in states i = option_and_then fault_of (slice_get states i)
+
+-- what the signatures in these states come to
+abbrev pub signing_by : Mode → List SigState → Signing
+signing_by mode states = signing_in mode (first_in (key_in states) (below (length states))) (first_in (fault_in states) (below (length states)))

@@ -23,7 +23,7 @@ use Rattle.jwt_verify.specs.declared.report.SigState.{SigState}
 use Rattle.jwt_verify.specs.declared.report.SigState.TheVariants.{Barred, NoKey, BadSignature, Verified}
 use Rattle.jwt_verify.specs.declared.report.InputFault.TheVariants.{TooLong}
 use Rattle.jwt_verify.specs.declared.report.Fault.{Fault}
-use Rattle.jwt_verify.specs.declared.report.Fault.TheVariants.{Text, Form, WorkExceeded, CallsExceeded, Signature, Claim}
+use Rattle.jwt_verify.specs.declared.report.Fault.TheVariants.{Text, Form, WorkExceeded, CallsExceeded, VerifierMemory, Signature, Claim}
 use Rattle.jwt_verify.specs.declared.report.Verdict.{Verdict}
 use Rattle.jwt_verify.specs.declared.report.Verdict.TheVariants.{Accepted, Refused}
 use Rattle.jwt_verify.specs.Table.{Table, below, verifies, outcome, ending}
@@ -121,11 +121,12 @@ abbrev pub concluded : Settings → ℤ → List ℕ → Signing → Verdict
 concluded p now payload (VerifiedBy i j) = claimed p now i j (claims_of payload)
 concluded p now payload (Unverified i f) = Refused (Signature i f)
 
--- a run that stopped is refused for that
+-- a run that stopped gives a refusal
 abbrev pub ended : End → Verdict → Verdict
 ended (end.WorkExceeded i j) v = Refused (WorkExceeded i j)
 ended (end.CallsExceeded i j) v = Refused (CallsExceeded i j)
-ended _ v = v
+ended (end.VerifierMemory i j) v = Refused VerifierMemory
+ended end.Done v = v
 
 -- the verdict on a signed token, where w is the budget's ceiling
 unfoldable pub token_verdict : Terms → ℕ → Token → Verdict

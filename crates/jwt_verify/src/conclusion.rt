@@ -1,11 +1,15 @@
 //! From the states of the signatures to the verdict.
 
-ghost use Rattle.std.specs.Prelude.{◌≡◌, ◌≤◌, length};
+ghost use Rattle.std.specs.Prelude.{◌≡◌, ◌≢◌, ◌≤◌, length};
+ghost use Rattle.jwt_policy.specs.ClaimKinds.{claims_of};
 ghost use Rattle.jwt_verify.specs.Table.{below};
-ghost use Rattle.jwt_verify.specs.Verdict.{first_in, signing_in, concluded, VerifiedBy};
-ghost use Rattle.jwt_verify.specs.Reports.{key_in, fault_in, Says};
+ghost use Rattle.jwt_verify.specs.Verdict.{first_in, claimed, concluded, ended};
+ghost use Rattle.jwt_verify.specs.declared.report.Verdict.TheVariants.{Refused};
+ghost use Rattle.jwt_verify.specs.declared.report.Fault.TheVariants.{OutOfMemory};
+ghost use Rattle.jwt_verify.specs.Reports.{key_in, fault_in, signing_by};
 
 use crate::report::{Fault, SigState, Verdict};
+use crate::tries::End;
 use jwt_policy::{ClaimFault, Claims, Mode, Policy, SigFault, check};
 use std::alloc::Global;
 
@@ -60,13 +64,13 @@ fn first_fault(states: &[SigState]) -> Option<(u32, SigFault)>
 /// The claims are read and held against the policy.
 fn claim<'p>(
     alloc: Global,
-    i: u32,
-    j: u32,
+    signature: u32,
+    key: u32,
     payload: &[u8],
     policy: &'p Policy,
     now: i64,
 ) -> Verdict<'p>
-    ensures { Says result (concluded policy.now now payload.now (VerifiedBy i j)) }
+    ensures { result ≢ Refused OutOfMemory → result ≡ claimed policy.now now signature key (claims_of payload.now) }
 {
     match Claims::read(alloc, payload) {
         Err(ClaimFault::OutOfMemory) => Verdict::Refused(Fault::OutOfMemory),
@@ -74,16 +78,16 @@ fn claim<'p>(
         Ok(claims) => match check(policy, &claims, now) {
             Some(fault) => Verdict::Refused(Fault::Claim(fault)),
             None => Verdict::Accepted {
-                signature: i,
-                key: j,
+                signature,
+                key,
                 claims,
             },
         },
     }
 }
 
-/// The verdict, once all tries are done.
-pub(crate) fn conclude<'p>(
+/// The verdict, once every try is made.
+fn conclude<'p>(
     alloc: Global,
     states: &[SigState],
     payload: &[u8],
@@ -91,13 +95,33 @@ pub(crate) fn conclude<'p>(
     now: i64,
 ) -> Verdict<'p>
     requires { length states.now ≤ 32 }
-    ensures { Says result (concluded policy.now now payload.now (signing_in policy.now.run.mode
-        (first_in (key_in states.now) (below (length states.now))) (first_in (fault_in states.now) (below (length states.now))))) }
+    ensures { result ≢ Refused OutOfMemory → result ≡ concluded policy.now now payload.now (signing_by policy.now.run.mode states.now) }
 {
     match (policy.mode(), first_verified(states), first_fault(states)) {
         (Mode::Any, Some((i, j)), _) => claim(alloc, i, j, payload, policy, now),
         (Mode::All, Some((i, j)), None) => claim(alloc, i, j, payload, policy, now),
         (_, _, Some((i, fault))) => Verdict::Refused(Fault::Signature(i, fault)),
         (_, None, None) => Verdict::Refused(Fault::Signature(0, SigFault::NoKey)),
+    }
+}
+
+/// The verdict, once the run has ended.
+pub(crate) fn verdict_after<'p>(
+    alloc: Global,
+    end: End,
+    states: &[SigState],
+    payload: &[u8],
+    policy: &'p Policy,
+    now: i64,
+) -> Verdict<'p>
+    requires { length states.now ≤ 32 }
+    ensures { result ≢ Refused OutOfMemory
+        → result ≡ ended end (concluded policy.now now payload.now (signing_by policy.now.run.mode states.now)) }
+{
+    match end {
+        End::Done => conclude(alloc, states, payload, policy, now),
+        End::WorkExceeded(i, j) => Verdict::Refused(Fault::WorkExceeded(i, j)),
+        End::CallsExceeded(i, j) => Verdict::Refused(Fault::CallsExceeded(i, j)),
+        End::VerifierMemory(_, _) => Verdict::Refused(Fault::VerifierMemory),
     }
 }

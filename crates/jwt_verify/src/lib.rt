@@ -8,10 +8,12 @@
 mod asked;
 mod candidates;
 mod conclusion;
+mod judging;
 pub mod laws;
 mod pair;
 mod report;
 mod trial;
 mod tries;
 
+pub use judging::{judge, validate};
 pub use report::{Fault, InputFault, Report, SigState, Try, Verdict};
