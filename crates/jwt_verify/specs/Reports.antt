@@ -1,6 +1,7 @@
 -- What a report says of a verdict.
-use Rattle.std.specs.Prelude.{◌≡◌, ◌≤◌, ℕ, ℤ, ◌++◌, true, List, [], ◌∷◌, length, slice_get, Option, Some, None, option_and_then}
+use Rattle.std.specs.Prelude.{◌≡◌, ◌≤◌, ◌+◌, ℕ, ℤ, ◌++◌, Bool, true, drop, Result, Ok, Err, List, [], ◌∷◌, length, slice_get, Option, Some, None, option_and_then}
 use Rattle.jwt_mac.specs.Verifying.{Meaning}
+use Rattle.jwt_text.specs.Intake.{Bounded, taken}
 use Rattle.jwt_keys.specs.declared.set.KeySet.{KeySet}
 use Rattle.jwt_keys.specs.KeySets.{key_set}
 use Rattle.jwt_policy.specs.declared.mode.Mode.{Mode}
@@ -10,6 +11,7 @@ use Rattle.jwt_verify.specs.declared.report.Try.{Try}
 use Rattle.jwt_verify.specs.declared.report.SigState.{SigState}
 use Rattle.jwt_verify.specs.declared.report.SigState.TheVariants.{Verified}
 use Rattle.jwt_verify.specs.declared.report.InputFault.TheVariants.{Read}
+use Rattle.jwt_verify.specs.declared.report.Fault.{Fault}
 use Rattle.jwt_verify.specs.declared.report.Fault.TheVariants.{OutOfMemory, VerifierMemory, Text}
 use Rattle.jwt_verify.specs.declared.report.Verdict.{Verdict}
 use Rattle.jwt_verify.specs.declared.report.Verdict.TheVariants.{Refused}
@@ -42,6 +44,18 @@ Failed _ es = ⊥
 -- at most so many octets of x were taken, and the others are still to come
 abbrev pub TakesAtMost : ℕ → List ℕ → Option (List ℕ) → Type 0
 TakesAtMost most x rest = (front : List ℕ) × (back : List ℕ) × (x ≡ front ++ back) × (rest ≡ Some back) × (length front ≤ most)
+
+-- the octets of x that are held, and what is still to come; or memory was refused, and not more were taken
+abbrev pub Holds : Result Bounded Fault → ℕ → List ℕ → Option (List ℕ) → Type 0
+Holds (Ok held) limit x rest = (held.octets ≡ taken x limit) × (rest ≡ Some (drop (limit + 1) x))
+Holds (Err OutOfMemory) limit x rest = TakesAtMost (limit + 1) x rest
+Holds (Err _) limit x rest = Unit {0}
+
+-- why nothing is held, by whether the source has failed
+abbrev pub IsSourceFault : Bool → Fault → Type 0
+IsSourceFault failed OutOfMemory = Unit {0}
+IsSourceFault failed (Text Read) = failed ≡ true
+IsSourceFault failed _ = ⊥
 
 -- ---- the states of a run, one by one
 

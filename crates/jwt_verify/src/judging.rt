@@ -1,6 +1,6 @@
 //! Judges a token in hand, or one that a source gives.
 
-ghost use Rattle.std.specs.Prelude.{◌≡◌, ◌≢◌, ◌≤◌, ◌+◌, ◌++◌, [], List, Some, true, map, length, drop, IfOk, IfSome};
+ghost use Rattle.std.specs.Prelude.{◌≡◌, ◌≢◌, ◌≤◌, ◌+◌, ◌++◌, [], List, Some, true, false, map, length, drop, IfOk, OnOk, IfErr, IfSome};
 ghost use Rattle.jwt_text.specs.Answers.{Answers};
 ghost use Rattle.jwt_jws.specs.Views.{token};
 ghost use Rattle.jwt_keys.specs.KeySets.{key_set};
@@ -8,7 +8,7 @@ ghost use Rattle.jwt_policy.specs.Bars.{bar_of};
 ghost use Rattle.jwt_verify.specs.Table.{work, paid, IsRun};
 ghost use Rattle.jwt_verify.specs.Trying.{table_of};
 ghost use Rattle.jwt_verify.specs.Verdict.{token_verdict, token_of, verdict_of, table, without_line_feed};
-ghost use Rattle.jwt_verify.specs.Reports.{FoundMemory, IsWhole, Failed, TakesAtMost, terms};
+ghost use Rattle.jwt_verify.specs.Reports.{FoundMemory, IsWhole, Failed, TakesAtMost, Holds, IsSourceFault, terms};
 ghost use Rattle.jwt_verify.specs.declared.report.InputFault.TheVariants.{Read};
 ghost use Rattle.jwt_verify.specs.declared.report.Fault.TheVariants.{OutOfMemory, Text};
 ghost use Rattle.jwt_verify.specs.declared.report.Verdict.TheVariants.{Refused};
@@ -178,6 +178,23 @@ pub fn judge<'p, B: Budget>(
     }
 }
 
+/// The octets of the source, as far as they are looked at: all, or one more than the limit.
+fn take_in<'p, R: Source>(alloc: Global, r: &mut R, limit: u32) -> Result<Intake, Fault<'p>>
+    requires least { 1 ≤ limit }
+    requires greatest { limit ≤ 1048576 }
+    ensures octets { IfSome (R.remaining r.old) (λ x. Holds result limit x (R.remaining r.new)) }
+    ensures ok { OnOk result (R.failed r.new ≡ false) }
+    ensures fault { IfErr result (IsSourceFault (R.failed r.new)) }
+{
+    let mut intake = Intake::new(alloc, limit);
+    match intake.read_from(r) {
+        Ok(()) => Ok(intake),
+        Err(TextFault::TooLong) => Ok(intake),
+        Err(TextFault::Read) => Err(Fault::Text(InputFault::Read)),
+        Err(_) => Err(Fault::OutOfMemory),
+    }
+}
+
 /// The verdict on what a source gives.
 pub fn validate<'p, R: Source, B: Budget>(
     alloc: Global,
@@ -210,11 +227,8 @@ pub fn validate<'p, R: Source, B: Budget>(
     ensures calls { B.calls b.new ≡ length result.tries.items }
     ensures ceiling { B.ceiling b.new ≡ B.ceiling b.old }
 {
-    let mut intake = Intake::new(alloc, policy.limit());
-    match intake.read_from(r) {
-        Ok(()) | Err(TextFault::TooLong) =>
-            judge(alloc, intake.octets(), keys, policy, now, verifiers, b),
-        Err(TextFault::Read) => refused(alloc, Fault::Text(InputFault::Read)),
-        Err(_) => refused(alloc, Fault::OutOfMemory),
+    match take_in(alloc, r, policy.limit()) {
+        Ok(intake) => judge(alloc, intake.octets(), keys, policy, now, verifiers, b),
+        Err(fault) => refused(alloc, fault),
     }
 }
