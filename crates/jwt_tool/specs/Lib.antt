@@ -5,5 +5,6 @@ pub mod Mac
 pub mod Printed
 pub mod Seen
 pub mod Statuses
+pub mod TakenLines
 pub mod Views
 pub mod Words

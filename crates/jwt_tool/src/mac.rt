@@ -1,5 +1,5 @@
 //! The command `mac`: the tag of a token in compact form under a key, and whether its signature is that tag.
-ghost use Rattle.std.specs.Prelude.{◌≡◌, ◌≤◌, ◌+◌, ◌⊎◌, true, IfOk, IfSome, IsTrue, length, option_map};
+ghost use Rattle.std.specs.Prelude.{◌≡◌, ◌≤◌, ◌+◌, ◌⊎◌, true, None, IfOk, IfSome, IsTrue, length, option_map};
 ghost use Rattle.std.specs.Str.{bytes_eq};
 ghost use Rattle.jwt_text.specs.Answers.{Answers, or_fault};
 ghost use Rattle.jwt_text.specs.Base64url.{spelled};
@@ -202,6 +202,7 @@ pub(crate) fn mac<R: Source>(
     requires most { limit ≤ 1048576 }
     ensures line { IfSome (R.remaining r.old) (λ x. IfOk result (λ a. reply_view a ≡ mac_answer key.now limit (R.failed r.new) x)) }
     ensures taken { IfSome (R.remaining r.old) (λ x. (R.failed r.new ≡ true) ⊎ TakesAtMost (limit + 1) x (R.remaining r.new)) }
+    ensures unread { key_spelled key.now ≡ None → r.new ≡ r.old }
 {
     let Some(key) = key_octets(alloc, key)? else {
         return Reply::line(alloc, "refused Key", 2);

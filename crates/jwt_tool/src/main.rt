@@ -9,6 +9,7 @@ mod pieces;
 mod reply;
 mod run;
 mod show;
+mod take_line;
 #[cfg(test)]
 mod tests;
 mod words;

@@ -1,6 +1,6 @@
 //! The command, over any source and sink.
 ghost use Rattle.std.specs.Prelude.{◌≡◌, ◌+◌, ◌⊎◌, ℕ, List, None, Some, map, true, IfOk, IfSome};
-ghost use Rattle.jwt_tool.specs.Mac.{mac_answer};
+ghost use Rattle.jwt_tool.specs.Mac.{key_spelled, mac_answer};
 ghost use Rattle.jwt_tool.specs.Input.{TakesAtMost};
 ghost use Rattle.jwt_tool.specs.Printed.{Gives, GivesWrongWords, Prints, out_of_memory};
 ghost use Rattle.jwt_tool.specs.Views.{reply_view};
@@ -33,6 +33,10 @@ pub fn run<R: Source, W: Sink>(alloc: Global, words: &[&str], r: &mut R, w: &mut
     // At most one octet past the limit is taken.
     ensures taken { (order : Asked) → order_of (map (λ word. word.now) words.now) ≡ Some order
         → IfSome (R.remaining r.old) (λ x. (R.failed r.new ≡ true) ⊎ TakesAtMost (input_limit order + 1) x (R.remaining r.new)) }
+
+    // Where the key is refused, nothing is read.
+    ensures unread_key { (key : List ℕ) (limit : ℕ) → order_of (map (λ word. word.now) words.now) ≡ Some (Mac key limit)
+        → key_spelled key ≡ None → r.new ≡ r.old }
 
     // Words that `clap` refuses, and help words.
     ensures wrong { order_of (map (λ word. word.now) words.now) ≡ None
@@ -72,6 +76,8 @@ fn reply_to<R: Source>(alloc: Global, words: &[&str], r: &mut R) -> Result<Reply
         → IfSome (R.remaining r.old) (λ x. IfOk result (λ a. a.status ≡ show_status limit (R.failed r.new) x)) }
     ensures taken { (order : Asked) → order_of (map (λ word. word.now) words.now) ≡ Some order
         → IfSome (R.remaining r.old) (λ x. (R.failed r.new ≡ true) ⊎ TakesAtMost (input_limit order + 1) x (R.remaining r.new)) }
+    ensures unread_key { (key : List ℕ) (limit : ℕ) → order_of (map (λ word. word.now) words.now) ≡ Some (Mac key limit)
+        → key_spelled key ≡ None → r.new ≡ r.old }
     ensures wrong { order_of (map (λ word. word.now) words.now) ≡ None → IfOk result (λ a. a.status ≡ 2) }
     ensures unread { order_of (map (λ word. word.now) words.now) ≡ None → r.new ≡ r.old }
 {
