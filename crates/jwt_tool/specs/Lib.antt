@@ -6,5 +6,6 @@ pub mod Printed
 pub mod Seen
 pub mod Statuses
 pub mod TakenLines
+pub mod Verify
 pub mod Views
 pub mod Words

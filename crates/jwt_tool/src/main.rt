@@ -12,6 +12,7 @@ mod show;
 mod take_line;
 #[cfg(test)]
 mod tests;
+mod verify;
 mod words;
 
 use crate::run::{lack_memory, run};

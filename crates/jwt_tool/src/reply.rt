@@ -1,5 +1,5 @@
 //! What a command answers: its whole output and its status.
-ghost use Rattle.std.specs.Prelude.{◌≡◌, ◌∷◌, [], IfOk, codes};
+ghost use Rattle.std.specs.Prelude.{◌≡◌, ◌++◌, ◌∷◌, [], IfOk, codes};
 ghost use Rattle.jwt_tool.specs.Printed.{line, refused};
 
 use std::alloc::{AllocError, Global};
@@ -20,6 +20,25 @@ impl Reply {
     {
         let text = format!(in alloc; "{text}\n")?.into_bytes();
         Ok(Reply { text, status })
+    }
+
+    /// A text between two others.
+    pub(crate) fn around(
+        alloc: Global,
+        start: &str,
+        text: &[u8],
+        end: &str,
+        status: u8,
+    ) -> Result<Reply, AllocError>
+        ensures { IfOk result (λ r. reply_view r ≡ record { text = start.now ++ (text.now ++ end.now); status = status }) }
+    {
+        let mut whole = start.as_bytes().to_vec(alloc)?;
+        whole.extend_from_slice(text)?;
+        whole.extend_from_slice(end.as_bytes())?;
+        Ok(Reply {
+            text: whole,
+            status,
+        })
     }
 
     /// A refusal by its name.

@@ -3,7 +3,7 @@ ghost use Rattle.std.specs.Prelude.{◌≡◌, ◌≤◌, IfOk, IfErr, IfSome, N
 ghost use Rattle.clap.specs.Words.{app_of, found_of, one_of, rows_of, rule_of, subcommand_rows_of};
 ghost use Rattle.clap.specs.declared.builder.command.Command.TheViews.{out-Command as fields_of};
 ghost use Rattle.clap.specs.declared.builder.ValueParser.TheVariants.{Unsigned};
-ghost use Rattle.jwt_tool.specs.Words.{HasLimits, jwt_app, key_rule, keys_app, limit_rule, mac_app, mac_order, number_in, order_in, order_of, show_app, show_order};
+ghost use Rattle.jwt_tool.specs.Words.{HasLimits, jwt_app, key_rule, keys_app, limit_rule, mac_app, mac_order, now_rule, number_in, order_in, order_of, show_app, show_order, verify_app, verify_order};
 ghost use Rattle.jwt_tool.specs.Examples.{Examples};
 ghost use Rattle.jwt_tool.specs.Seen.{IsWrong, seen};
 
@@ -18,6 +18,7 @@ pub enum Order<'a> {
     Mac { key: &'a str, limit: u64 },
     Keys,
     Show { limit: u64 },
+    Verify { now: u64 },
 }
 
 fn key_option<'a>(alloc: Global) -> Arg<'a>
@@ -41,6 +42,18 @@ fn limit_option<'a>(alloc: Global) -> Arg<'a>
         .value_parser(ValueParser::unsigned(1, 1_048_576))
         .default_value("8192")
         .help("The most octets of a token")
+}
+
+fn now_option<'a>(alloc: Global) -> Arg<'a>
+    ensures shape { rule_of result ≡ now_rule }
+    ensures local { result.global ≡ false }
+{
+    Arg::new(alloc, "now")
+        .long("now")
+        .value_name("N")
+        .value_parser(ValueParser::unsigned(0, 9_223_372_036_854_775_807))
+        .required(true)
+        .help("The moment, in seconds since 1970-01-01T00:00:00Z")
 }
 
 fn mac_command<'a>(alloc: Global) -> Result<Command<'a>, AllocError>
@@ -69,6 +82,15 @@ fn show_command<'a>(alloc: Global) -> Result<Command<'a>, AllocError>
         .arg(limit_option(alloc))
 }
 
+fn verify_command<'a>(alloc: Global) -> Result<Command<'a>, AllocError>
+    ensures shape { IfOk result (λ c. app_of c ≡ verify_app) }
+    ensures local { IfOk result (λ c. (fields_of c).has_globals ≡ false) }
+{
+    Command::new(alloc, "verify")
+        .about("Validates a token by a policy and a key set")
+        .arg(now_option(alloc))
+}
+
 /// The command line of the program.
 pub fn command<'a>(alloc: Global) -> Result<Command<'a>, AllocError>
     ensures { IfOk result (λ c. app_of c ≡ jwt_app) }
@@ -78,7 +100,8 @@ pub fn command<'a>(alloc: Global) -> Result<Command<'a>, AllocError>
         .subcommand_required(true)
         .subcommand(mac_command(alloc)?)?
         .subcommand(keys_command(alloc))?
-        .subcommand(show_command(alloc)?)
+        .subcommand(show_command(alloc)?)?
+        .subcommand(verify_command(alloc)?)
 }
 
 /// Why the words ask for nothing.
@@ -127,6 +150,7 @@ fn chosen<'a>(matches: &ArgMatches<'a>) -> Option<Order<'a>>
         "mac" => chosen_mac(options),
         "keys" => Some(Order::Keys),
         "show" => chosen_show(options),
+        "verify" => chosen_verify(options),
         _ => None,
     }
 }
@@ -146,6 +170,14 @@ fn chosen_show<'a>(options: &ArgMatches<'a>) -> Option<Order<'a>>
 {
     let limit = number(options, "limit", 1, 1_048_576)?;
     Some(Order::Show { limit })
+}
+
+fn chosen_verify<'a>(options: &ArgMatches<'a>) -> Option<Order<'a>>
+    ensures limits { IfSome result (λ o. HasLimits (seen o)) }
+    ensures order { option_map seen result ≡ verify_order (rows_of (found_of options.now)) }
+{
+    let now = number(options, "now", 0, 9_223_372_036_854_775_807)?;
+    Some(Order::Verify { now })
 }
 
 // `clap` has refused a number out of its range; its contract says so of the words and not of the
