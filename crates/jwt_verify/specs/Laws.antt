@@ -21,3 +21,16 @@ bound t common extra = t.signatures * t.keys * common + sum_by (λ e. extra e.si
 abbrev pub TriesAreBounded : Type 0
 TriesAreBounded = (t : Table) → AllPairs IsBefore (tries t) × All (λ e. t.eligible e.signature e.key ≡ true) (tries t) × (length (tries t) ≤ t.signatures * t.keys)
     × ((common : ℕ) (extra : ℕ → ℕ → ℕ) → ((i j : ℕ) → t.cost i j ≤ common + extra i j) → work (tries t) ≤ bound t common extra)
+
+-- the table with other validity
+abbrev pub with_valid : Table → (ℕ → ℕ → Bool) → Table
+with_valid t v = record { signatures = t.signatures; keys = t.keys; mode = t.mode; bar = t.bar; eligible = t.eligible; valid = v; may_lack = t.may_lack; cost = t.cost }
+
+-- What two validities agree on, for the paid tries of one, decides all that a run leaves; where they differ at one paid try
+-- alone, the states differ. No key is eligible for a barred signature.
+abbrev pub LeastTries : Type 0
+LeastTries = (t : Table) (v : ℕ → ℕ → Bool) (octets : ℕ) (calls : Option ℕ) → ((i j : ℕ) → t.eligible i j ≡ true → t.bar i ≡ None)
+    → (All (λ e. t.valid e.signature e.key ≡ v e.signature e.key) (paid t octets calls)
+      → (paid (with_valid t v) octets calls ≡ paid t octets calls) × (states (with_valid t v) octets calls ≡ states t octets calls) × (ending (with_valid t v) octets calls ≡ ending t octets calls))
+    × ((i j : ℕ) → Contains (paid t octets calls) (entry t i j) → v i j ≡ not (t.valid i j) → ((m n : ℕ) → (m ≡ i → n ≡ j → ⊥) → v m n ≡ t.valid m n)
+      → states (with_valid t v) octets calls ≢ states t octets calls)

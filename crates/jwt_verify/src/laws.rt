@@ -1,9 +1,15 @@
 //! Laws of the definitions: each function does nothing, and its contract holds of every table.
 
-ghost use Rattle.jwt_verify.specs.Laws.{TriesAreBounded};
+ghost use Rattle.jwt_verify.specs.Laws.{TriesAreBounded, LeastTries};
 
 /// The tries stand in dictionary order, so no pair twice, and each is eligible; there are no more than pairs, and their costs
 /// add up to no more than the bound.
 pub fn tries_are_bounded()
     ensures { TriesAreBounded }
+{}
+
+/// No try can be spared: two tables that agree on the validity of the paid tries of one leave the same tries, the same states
+/// and the same end, and where one paid try alone has other validity, the states differ.
+pub fn least_tries()
+    ensures { LeastTries }
 {}
