@@ -38,14 +38,14 @@ found_any p [] j h = cc
 found_any p (x ∷ xs) j h = elim (cases_Bool (p x)) [
   | inl y ↦ rw y refl
   | inr n ↦ (let k = rw n at h in rw n (found_any p xs j k))
-  ]
+]
 
 not_found : (p : ℕ → Bool) (xs : List ℕ) → find p xs ≡ None → list_any p xs ≡ false
 not_found p [] h = refl
 not_found p (x ∷ xs) h = elim (cases_Bool (p x)) [
   | inl y ↦ (let k = rw y at h in cc)
   | inr n ↦ (let k = rw n at h in rw n (not_found p xs k))
-  ]
+]
 
 -- ---- one signature
 
@@ -59,10 +59,10 @@ key_is : (t : Table) (i : ℕ) → ((j : ℕ) → t.eligible i j ≡ true → t.
 unfolding outcome
 key_is t i barred = go (t.bar i) refl
   where
-  go : (o : Option SigFault) → o ≡ t.bar i → key_of (settled o (list_any (t.eligible i) (below t.keys)) (find (verifies t i) (below t.keys))) ≡ find (verifies t i) (below t.keys)
-  go None e = settled_key (list_any (t.eligible i) (below t.keys)) (find (verifies t i) (below t.keys))
-  go (Some f) e = sym (find_none (verifies t i) (below t.keys) (none_below (verifies t i) t.keys
-    (λ j l. elim (cases_Bool (t.eligible i j)) [ inl y ↦ (let q = e ∙ barred j y in cc) | inr n ↦ verifies_ineligible t i j n ])))
+    go : (o : Option SigFault) → o ≡ t.bar i → key_of (settled o (list_any (t.eligible i) (below t.keys)) (find (verifies t i) (below t.keys))) ≡ find (verifies t i) (below t.keys)
+    go None e = settled_key (list_any (t.eligible i) (below t.keys)) (find (verifies t i) (below t.keys))
+    go (Some f) e = sym (find_none (verifies t i) (below t.keys) (none_below (verifies t i) t.keys
+        (λ j l. elim (cases_Bool (t.eligible i j)) [ inl y ↦ (let q = e ∙ barred j y in cc) | inr n ↦ verifies_ineligible t i j n ])))
 
 key_none : (t : Table) (i : ℕ) → key_at t i ≡ None → verified t i ≡ false
 unfolding verified

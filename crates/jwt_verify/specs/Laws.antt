@@ -31,6 +31,6 @@ with_valid t v = record { signatures = t.signatures; keys = t.keys; mode = t.mod
 abbrev pub LeastTries : Type 0
 LeastTries = (t : Table) (v : ℕ → ℕ → Bool) (octets : ℕ) (calls : Option ℕ) → ((i j : ℕ) → t.eligible i j ≡ true → t.bar i ≡ None)
     → (All (λ e. t.valid e.signature e.key ≡ v e.signature e.key) (paid t octets calls)
-      → (paid (with_valid t v) octets calls ≡ paid t octets calls) × (states (with_valid t v) octets calls ≡ states t octets calls) × (ending (with_valid t v) octets calls ≡ ending t octets calls))
+    → (paid (with_valid t v) octets calls ≡ paid t octets calls) × (states (with_valid t v) octets calls ≡ states t octets calls) × (ending (with_valid t v) octets calls ≡ ending t octets calls))
     × ((i j : ℕ) → Contains (paid t octets calls) (entry t i j) → v i j ≡ not (t.valid i j) → ((m n : ℕ) → (m ≡ i → n ≡ j → ⊥) → v m n ≡ t.valid m n)
-      → states (with_valid t v) octets calls ≢ states t octets calls)
+    → states (with_valid t v) octets calls ≢ states t octets calls)

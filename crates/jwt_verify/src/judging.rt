@@ -127,7 +127,16 @@ fn judge_token<'p, B: Budget>(
 {
     let mut tries = Vec::new(alloc);
     let mut states = Vec::new(alloc);
-    let run = try_token(alloc, signed, keys, policy, verifiers, b, &mut tries, &mut states);
+    let run = try_token(
+        alloc,
+        signed,
+        keys,
+        policy,
+        verifiers,
+        b,
+        &mut tries,
+        &mut states,
+    );
     let verdict = match run {
         Ok(end) => verdict_after(alloc, end, states.as_slice(), signed.payload(), policy, now),
         Err(_) => Verdict::Refused(Fault::OutOfMemory),
