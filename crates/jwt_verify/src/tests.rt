@@ -284,3 +284,195 @@ fn a_token_that_is_cut_is_not_accepted(rt: HostRuntime) -> Result<(), Fail> {
     }
     Ok(())
 }
+
+/// A token with one octet changed is never accepted, and at most one key is tried on it.
+#[test]
+fn a_token_with_one_octet_changed_is_not_accepted(rt: HostRuntime) -> Result<(), Fail> {
+    let alloc = rt.alloc();
+    let none = verifiers(alloc, &[])?;
+    let Ok(policy) = Policy::read(alloc, HS256.as_bytes()) else {
+        return Err("the policy is refused")?;
+    };
+    let keys = KeySet::read(alloc, KEY_A.as_bytes())?;
+    for place in 0..TOKEN_A.len() {
+        for change in 1..=255u8 {
+            let mut token = Vec::from_slice(alloc, TOKEN_A.as_bytes())?;
+            token[place] ^= change;
+            let mut b = CountDown::new(AMPLE);
+            let report = judge(alloc, &token, &keys, &policy, NOW, &none, &mut b);
+            let accepted = matches!(report.verdict, Verdict::Accepted { .. });
+            assert!(rt;
+                !accepted && b.calls() <= 1,
+                "octet {place}, changed by {change}"
+            );
+        }
+    }
+    Ok(())
+}
+
+/// So many times this text, with a comma between two.
+fn list_of(alloc: Global, text: &str, times: usize) -> Result<String, AllocError> {
+    let mut all = String::new(alloc);
+    for place in 0..times {
+        if place > 0 {
+            all.push_str(",")?;
+        }
+        all.push_str(text)?;
+    }
+    Ok(all)
+}
+
+/// What `judge` says, under this policy, of a JSON token of so many equal signatures without octets, with 1,024 keys of 32 zero
+/// octets.
+fn judged_all_pairs(alloc: Global, count: usize, ceiling: u64) -> Result<(String, usize), Fail> {
+    let text = "{\"algs\":[\"HS256\"],\"max_signatures\":32,\"limit\":1048576}";
+    let Ok(policy) = Policy::read(alloc, text.as_bytes()) else {
+        return Err("the policy is refused")?;
+    };
+    let key = "{\"kty\":\"oct\",\"k\":\"AAAAAAAAAAAAAAAAAAAAAAAAAAAAAAAAAAAAAAAAAAA\"}";
+    let list = list_of(alloc, key, 1024)?;
+    let document = format!(in alloc; "{{\"keys\":[{list}]}}")?;
+    let keys = KeySet::read(alloc, document.as_bytes())?;
+    let element = "{\"protected\":\"eyJhbGciOiJIUzI1NiJ9\",\"signature\":\"\"}";
+    let list = list_of(alloc, element, count)?;
+    let token = format!(in alloc; "{{\"payload\":\"e30\",\"signatures\":[{list}]}}")?;
+    let none = verifiers(alloc, &[])?;
+    let mut b = CountDown::new(ceiling);
+    let report = judge(alloc, token.as_bytes(), &keys, &policy, NOW, &none, &mut b);
+    let verdict = told_verdict(alloc, &report.verdict)?;
+    let octets = b.octets();
+    Ok((
+        format!(in alloc; "{verdict} work {octets}")?,
+        report.tries.len(),
+    ))
+}
+
+#[test]
+fn as_many_pairs_as_there_can_be(rt: HostRuntime) -> Result<(), Fail> {
+    let alloc = rt.alloc();
+    for (count, ceiling, said, tries) in [
+        (32, 6_029_312, "BadSignature 0 work 6029312", 32_768),
+        (32, 6_029_311, "WorkExceeded 31 1023 work 6029128", 32_767),
+        (33, 6_029_312, "TooManySignatures work 0", 0),
+    ] {
+        let (verdict, length) = judged_all_pairs(alloc, count, ceiling)?;
+        assert_eq!(rt; verdict.as_str(), said);
+        assert_eq!(rt; length, tries);
+    }
+    Ok(())
+}
+
+#[test]
+fn keys_of_another_kid_are_not_tried(rt: HostRuntime) -> Result<(), Fail> {
+    let alloc = rt.alloc();
+    let Ok(policy) = Policy::read(alloc, HS256.as_bytes()) else {
+        return Err("the policy is refused")?;
+    };
+    let none = verifiers(alloc, &[])?;
+    let token = "eyJhbGciOiJIUzI1NiIsImtpZCI6IngifQ.e30.";
+    let same =
+        "{\"kty\":\"oct\",\"k\":\"AAAAAAAAAAAAAAAAAAAAAAAAAAAAAAAAAAAAAAAAAAA\",\"kid\":\"x\"}";
+    let other =
+        "{\"kty\":\"oct\",\"k\":\"AAAAAAAAAAAAAAAAAAAAAAAAAAAAAAAAAAAAAAAAAAA\",\"kid\":\"y\"}";
+    for (first, work, calls, key) in [(same, 202_752, 1024, 0), (other, 198, 1, 1023)] {
+        let list = list_of(alloc, first, 1023)?;
+        let document = format!(in alloc; "{{\"keys\":[{list},{same}]}}")?;
+        let keys = KeySet::read(alloc, document.as_bytes())?;
+        let mut b = CountUp::new(AMPLE);
+        let report = judge(alloc, token.as_bytes(), &keys, &policy, NOW, &none, &mut b);
+        let verdict = told_verdict(alloc, &report.verdict)?;
+        assert_eq!(rt; verdict.as_str(), "BadSignature 0");
+        assert_eq!(rt; (b.octets(), b.calls()), (work, calls));
+        assert_eq!(rt; report.tries.len(), calls as usize);
+        assert_eq!(rt; report.tries.first().map(|entry| entry.key), Some(key));
+    }
+    Ok(())
+}
+
+/// A source that never ends, fills each buffer and counts the octets.
+#[derive(Drop)]
+struct Endless {
+    given: usize,
+}
+
+impl Source for Endless {
+    ghost use Rattle.std.specs.Prelude.{None, false};
+
+    ghost remaining = { λ _. None };
+
+    ghost failed = { λ _. false };
+
+    fn pull(&mut self, buf: &mut [u8]) -> Option<usize> {
+        self.given = self.given.saturating_add(buf.len());
+        for octet in buf.iter_mut() {
+            *octet = b'A';
+        }
+        Some(buf.len())
+    }
+
+    fn failed(&self) -> bool {
+        false
+    }
+}
+
+#[test]
+fn a_source_that_never_ends_is_too_long(rt: HostRuntime) -> Result<(), Fail> {
+    let alloc = rt.alloc();
+    let none = verifiers(alloc, &[])?;
+    let mut case = CASES[0];
+    case.policy = "{\"algs\":[\"HS256\"],\"limit\":1048576}";
+    let mut b = CountUp::new(AMPLE);
+    let mut source = Endless { given: 0 };
+    let said = validated(alloc, &mut source, &case, &none, &mut b)?;
+    assert_eq!(rt; said.as_str(), "TooLong; tries work 0 calls 0;");
+    assert_eq!(rt; source.given, 1_048_577);
+    Ok(())
+}
+
+/// A verifier for RS256 that accepts nothing, and finds no memory after so many questions.
+#[derive(Drop)]
+struct Counting {
+    asked: Cell<u32>,
+}
+
+impl Verifier for Counting {
+    ghost use Rattle.std.specs.Prelude.{true, false};
+    ghost use Rattle.jwt_verify.specs.TestVerifiers.{test_meaning};
+    ghost use Rattle.jwt_mac.specs.declared.algorithm.Alg.TheVariants.{RS256};
+
+    ghost meaning = { λ _. test_meaning RS256 false true };
+
+    fn names(&self, alg: Alg) -> bool {
+        alg.text() == "RS256"
+    }
+
+    fn verify(&self, _alg: Alg, _key: &KeyView, _message: Message, _signature: &[u8]) -> Answer {
+        let before = self.asked.get();
+        if before >= 4 {
+            return Answer::NoMemory;
+        }
+        self.asked.set(before + 1);
+        Answer::Invalid
+    }
+}
+
+#[test]
+fn a_verifier_is_asked_once_for_each_call(rt: HostRuntime) -> Result<(), Fail> {
+    let alloc = rt.alloc();
+    let asked = Cell::new(0);
+    let mut all: Vec<Box<dyn Verifier>> = Vec::new(alloc);
+    all.push(Box::new(alloc, Counting { asked })?)?;
+    let mut case = ASKING[0].case;
+    case.keys =
+        "{\"keys\":[{\"kty\":\"RSA\",\"n\":\"AQAB\",\"e\":\"AQAB\"},{\"kty\":\"RSA\",\"n\":\"AQAB\",\"e\":\"AQAB\"}]}";
+    for gives in [
+        "BadSignature 0; tries 0.0 0.1 work 0 calls 2; BadSignature",
+        "BadSignature 0; tries 0.0 0.1 work 0 calls 2; BadSignature",
+        "VerifierMemory; tries 0.0 work 0 calls 1; Stopped",
+    ] {
+        let mut b = CountUp::new(AMPLE);
+        let said = judged(alloc, &case, &all, &mut b)?;
+        assert_eq!(rt; said.as_str(), gives);
+    }
+    Ok(())
+}
