@@ -219,44 +219,66 @@ impl Source for Drip<'_> {
     }
 }
 
+/// What `validate` says of a token that is dripped, what is unread then, and how many pulls there were.
+#[derive(Drop)]
+struct Dripped {
+    said: String,
+    unread: usize,
+    pulls: usize,
+}
+
+fn drip_in(
+    alloc: Global,
+    policy: &'static str,
+    token: &[u8],
+    left: usize,
+) -> Result<Dripped, Fail> {
+    let none = verifiers(alloc, &[])?;
+    let mut case = CASES[0];
+    case.policy = policy;
+    let mut b = CountUp::new(AMPLE);
+    let mut source = Drip::new(token, left);
+    let said = validated(alloc, &mut source, &case, &none, &mut b)?;
+    Ok(Dripped {
+        said,
+        unread: source.rest.len(),
+        pulls: source.pulls,
+    })
+}
+
 #[test]
 fn a_source_that_fails_is_a_read_fault(rt: HostRuntime) -> Result<(), Fail> {
     let alloc = rt.alloc();
-    let none = verifiers(alloc, &[])?;
-    let mut case = CASES[0];
-    case.policy = "{\"algs\":[\"HS256\"],\"limit\":179}";
-    for left in 0..180 {
-        let mut b = CountUp::new(AMPLE);
-        let mut source = Drip::new(TOKEN_A.as_bytes(), left);
-        let said = validated(alloc, &mut source, &case, &none, &mut b)?;
-        assert_eq!(rt; said.as_str(), "Read; tries work 0 calls 0;", "at {left}");
-        assert_eq!(rt; source.rest.len(), TOKEN_A.len() - left, "at {left}");
+    let policy = "{\"algs\":[\"HS256\"],\"limit\":179}";
+    for left in 0..=180 {
+        let run = drip_in(alloc, policy, TOKEN_A.as_bytes(), left)?;
+        if left < 180 {
+            assert_eq!(rt;
+                run.said.as_str(),
+                "Read; tries work 0 calls 0;",
+                "at {left}"
+            );
+            assert_eq!(rt; run.unread, TOKEN_A.len() - left, "at {left}");
+        } else {
+            assert_eq!(rt; run.said.as_str(), CASES[0].gives);
+            assert_eq!(rt; run.pulls, 180);
+        }
     }
-    let mut b = CountUp::new(AMPLE);
-    let mut source = Drip::new(TOKEN_A.as_bytes(), 180);
-    let said = validated(alloc, &mut source, &case, &none, &mut b)?;
-    assert_eq!(rt; said.as_str(), case.gives);
-    assert_eq!(rt; source.pulls, 180);
     Ok(())
 }
 
 #[test]
 fn what_follows_one_octet_past_the_limit_is_unread(rt: HostRuntime) -> Result<(), Fail> {
     let alloc = rt.alloc();
-    let none = verifiers(alloc, &[])?;
     let mut token = String::new(alloc);
     token.push_str(TOKEN_A)?;
     for _ in 0..1000 {
         token.push_str("A")?;
     }
-    let mut case = CASES[0];
-    case.policy = "{\"algs\":[\"HS256\"],\"limit\":178}";
-    let mut b = CountUp::new(AMPLE);
-    let mut source = Drip::new(token.as_bytes(), 2000);
-    let said = validated(alloc, &mut source, &case, &none, &mut b)?;
-    assert_eq!(rt; said.as_str(), "TooLong; tries work 0 calls 0;");
-    assert_eq!(rt; source.rest.len(), 1000);
-    assert_eq!(rt; source.pulls, 179);
+    let policy = "{\"algs\":[\"HS256\"],\"limit\":178}";
+    let run = drip_in(alloc, policy, token.as_bytes(), 2000)?;
+    assert_eq!(rt; run.said.as_str(), "TooLong; tries work 0 calls 0;");
+    assert_eq!(rt; (run.unread, run.pulls), (1000, 179));
     Ok(())
 }
 
