@@ -65,7 +65,7 @@ unbarred_by p v ks t i j h = go (slice_get t.signatures i) (slice_get ks j) h
 found_not : (v : Verdict) → FoundMemory v → v ≢ Refused OutOfMemory
 found_not v h e = subst FoundMemory e h
 
-done_stop : (t : Table) (w : ℕ) (calls : Option ℕ) → end.Done ≡ ending t w calls → stop t w calls ≡ None
+pub done_stop : (t : Table) (w : ℕ) (calls : Option ℕ) → end.Done ≡ ending t w calls → stop t w calls ≡ None
 done_stop t w calls h = go (stop t w calls) h
   where
     exceeded : (b : Bool) (e : Try) → end.Done ≡ (if b then end.WorkExceeded e.signature e.key else end.CallsExceeded e.signature e.key) → ⊥

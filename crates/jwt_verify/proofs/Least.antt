@@ -43,7 +43,7 @@ not_true true h = sym h
 not_true false h = refl
 
 -- the least number that passes
-least_found : (p : ℕ → Bool) (n : ℕ) → list_any p (below n) ≡ true → (j : ℕ) × (j < n) × (p j ≡ true) × (list_any p (below j) ≡ false)
+pub least_found : (p : ℕ → Bool) (n : ℕ) → list_any p (below n) ≡ true → (j : ℕ) × (j < n) × (p j ≡ true) × (list_any p (below j) ≡ false)
 least_found p zero h = absurd (false≢true (sym (ap (list_any p) below-zero) ∙ h))
 least_found p (suc n) h =
     let r = least_found p n in

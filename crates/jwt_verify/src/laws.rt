@@ -1,5 +1,6 @@
 //! Laws of the definitions: each function does nothing, and its contract holds of every table.
 
+ghost use Rattle.jwt_verify.specs.Accepted.{AcceptsExactly};
 ghost use Rattle.jwt_verify.specs.Laws.{TriesAreBounded, LeastTries};
 
 /// The tries stand in dictionary order, so no pair twice, and each is eligible; there are no more than pairs, and their costs
@@ -12,4 +13,11 @@ pub fn tries_are_bounded()
 /// and the same end, and where one paid try alone has other validity, the states differ.
 pub fn least_tries()
     ensures { LeastTries }
+{}
+
+/// The verdict is an acceptance exactly where the token is accepted in words: it isn't too long and is a signed token, no
+/// ceiling stops the run, in mode `any` some signature is verified and in mode `all` each one is, and the claims hold. It names
+/// the first verified signature, its least key and the payload's claims.
+pub fn accepts_exactly()
+    ensures { AcceptsExactly }
 {}
