@@ -36,19 +36,19 @@ use Rattle.jwt_verify.proofs.Judged.{unbarred_by, done_stop, table_of_token}
 
 -- ---- the least number that passes, and the first that has an answer
 
-any_at : (p : ℕ → Bool) (n k : ℕ) → list_any p (below n) ≡ false → k < n → p k ≡ false
+pub any_true : (p : ℕ → Bool) (n k : ℕ) → k < n → p k ≡ true → list_any p (below n) ≡ true
+any_true p n k l y = elim (cases_Bool (list_any p (below k))) [
+  | inl t ↦ (let q = least_found p k t in let e : (q.0 + 1) + (n - (q.0 + 1)) ≡ n = omega (arith, q.1, l) in found_any p (below n) q.0 (ap (λ m. find p (below m)) (sym e) ∙ find-below p q.0 (n - (q.0 + 1)) q.3 q.2))
+  | inr f ↦ (let e : (k + 1) + (n - (k + 1)) ≡ n = omega (arith, l) in found_any p (below n) k (ap (λ m. find p (below m)) (sym e) ∙ find-below p k (n - (k + 1)) f y))
+  ]
+
+pub any_at : (p : ℕ → Bool) (n k : ℕ) → list_any p (below n) ≡ false → k < n → p k ≡ false
 any_at p n k h l = elim (cases_Bool (p k)) [
-  | inl y ↦ absurd (false≢true (sym h ∙ seen p n k l y))
+  | inl y ↦ absurd (false≢true (sym h ∙ any_true p n k l y))
   | inr f ↦ f
   ]
-  where
-  seen : (p : ℕ → Bool) (n k : ℕ) → k < n → p k ≡ true → list_any p (below n) ≡ true
-  seen p n k l y = elim (cases_Bool (list_any p (below k))) [
-    | inl t ↦ (let q = least_found p k t in let e : (q.0 + 1) + (n - (q.0 + 1)) ≡ n = omega (arith, q.1, l) in found_any p (below n) q.0 (ap (λ m. find p (below m)) (sym e) ∙ find-below p q.0 (n - (q.0 + 1)) q.3 q.2))
-    | inr f ↦ (let e : (k + 1) + (n - (k + 1)) ≡ n = omega (arith, l) in found_any p (below n) k (ap (λ m. find p (below m)) (sym e) ∙ find-below p k (n - (k + 1)) f y))
-    ]
 
-find_least : (p : ℕ → Bool) (n j : ℕ) → j < n → p j ≡ true → ((k : ℕ) → k < j → p k ≡ false) → find p (below n) ≡ Some j
+pub find_least : (p : ℕ → Bool) (n j : ℕ) → j < n → p j ≡ true → ((k : ℕ) → k < j → p k ≡ false) → find p (below n) ≡ Some j
 find_least p n j l y h = let e : (j + 1) + (n - (j + 1)) ≡ n = omega (arith, l) in ap (λ m. find p (below m)) (sym e) ∙ find-below p j (n - (j + 1)) (none_below p j h) y
 
 least_find : (p : ℕ → Bool) (n j : ℕ) → find p (below n) ≡ Some j → (j < n) × (p j ≡ true) × ((k : ℕ) → k < j → p k ≡ false)
@@ -89,7 +89,7 @@ first_is {A} f (suc n) i a h =
 
 -- ---- the signatures
 
-not_verified : (t : Table) (i : ℕ) → verified t i ≡ false → key_at t i ≡ None
+pub not_verified : (t : Table) (i : ℕ) → verified t i ≡ false → key_at t i ≡ None
 unfolding verified
 not_verified t i h = find_none_of (verifies t i) (below t.keys) h
   where
@@ -100,7 +100,7 @@ not_verified t i h = find_none_of (verifies t i) (below t.keys) h
     go None e = sym e
     go (Some j) e = absurd (false≢true (sym h ∙ found_any p xs j (sym e)))
 
-verified_key : (t : Table) (i j : ℕ) → key_at t i ≡ Some j → verified t i ≡ true
+pub verified_key : (t : Table) (i j : ℕ) → key_at t i ≡ Some j → verified t i ≡ true
 unfolding verified
 verified_key t i j h = found_any (verifies t i) (below t.keys) j h
 
@@ -191,7 +191,7 @@ ended_is (end.WorkExceeded a b) v i j claims h = cc
 ended_is (end.CallsExceeded a b) v i j claims h = cc
 ended_is (end.VerifierMemory a b) v i j claims h = cc
 
-stop_done : (t : Table) (w : ℕ) (calls : Option ℕ) → stop t w calls ≡ None → ending t w calls ≡ end.Done
+pub stop_done : (t : Table) (w : ℕ) (calls : Option ℕ) → stop t w calls ≡ None → ending t w calls ≡ end.Done
 stop_done t w calls h = rw h refl
 
 -- ---- the token

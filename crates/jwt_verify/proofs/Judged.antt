@@ -201,7 +201,7 @@ no_paid : (t : Table) (w : ℕ) (calls : Option ℕ) → t.signatures ≡ 0 → 
 unfolding paid
 no_paid t w calls h = take_none (prefix_len (affords t w calls) (range_with_len 1 (length (tries t)))) (tries t) (no_tries t h)
 
-no_states : (t : Table) (o : Option Try) → t.signatures ≡ 0 → states_at t o ≡ []
+pub no_states : (t : Table) (o : Option Try) → t.signatures ≡ 0 → states_at t o ≡ []
 unfolding states_at
 no_states t o h = rw (h, below-zero) refl
 
@@ -219,7 +219,7 @@ token_not p x f h n = go (nat_lt p.run.limit (length x)) h n
     go true h (inr n) = cc
     go false h n = formed_not (form_of p.run.max_signatures (without_line_feed p.run.line_feed x)) f h n
 
-table_none : (q : Terms) (x : List ℕ) (f : Fault) → token_of q.policy x ≡ Err f → (table q x).signatures ≡ 0
+pub table_none : (q : Terms) (x : List ℕ) (f : Fault) → token_of q.policy x ≡ Err f → (table q x).signatures ≡ 0
 unfolding table
 table_none q x f h = rw h refl
 

@@ -1,5 +1,10 @@
 -- Laws of the definitions of `Table`.
-use Rattle.std.specs.Prelude.{ℕ, ◌+◌, ◌*◌, ◌<◌, ◌≤◌, ◌≡◌, ◌≢◌, ◌⊎◌, Bool, true, false, not, List, length, slice_get, Option, None, IsTrue}
+use Rattle.serde_json.specs.Data.{Members}
+use Rattle.jwt_keys.specs.Keys.{KeyParts}
+use Rattle.jwt_verify.specs.declared.report.Verdict.{Verdict}
+use Rattle.jwt_verify.specs.declared.report.Verdict.TheVariants.{Accepted}
+use Rattle.jwt_verify.specs.Verdict.{Terms, table, verdict_of}
+use Rattle.std.specs.Prelude.{map, ℕ, ◌+◌, ◌*◌, ◌<◌, ◌≤◌, ◌≡◌, ◌≢◌, ◌⊎◌, Bool, true, false, not, List, length, slice_get, Option, None, IsTrue}
 use Rattle.std.specs.List.{list_any, list_all, sum_by, All, AllPairs, Contains}
 use Rattle.std.specs.Option.{option_map_or}
 use Rattle.jwt_policy.specs.declared.mode.Mode.{Mode}
@@ -34,3 +39,42 @@ LeastTries = (t : Table) (v : ℕ → ℕ → Bool) (octets : ℕ) (calls : Opti
     → (paid (with_valid t v) octets calls ≡ paid t octets calls) × (states (with_valid t v) octets calls ≡ states t octets calls) × (ending (with_valid t v) octets calls ≡ ending t octets calls))
     × ((i j : ℕ) → Contains (paid t octets calls) (entry t i j) → v i j ≡ not (t.valid i j) → ((m n : ℕ) → (m ≡ i → n ≡ j → ⊥) → v m n ≡ t.valid m n)
     → states (with_valid t v) octets calls ≢ states t octets calls)
+
+-- ---- other keys
+
+-- a key, whatever its place in the key set document
+abbrev pub unplaced : KeyParts → KeyParts
+unplaced k = record { octets = k.octets; kid = k.kid; alg = k.alg; key_use = k.key_use; key_ops = k.key_ops; thumbprint = k.thumbprint; place = 0 }
+
+-- each key is among the others, but for number and place
+abbrev pub AreAmong : List KeyParts → List KeyParts → Type 0
+AreAmong others keys = All (λ k. (o : KeyParts) × Contains others o × (unplaced o ≡ unplaced k)) keys
+
+abbrev pub with_keys : Terms → List KeyParts → Terms
+with_keys q keys = record { policy = q.policy; keys = keys; now = q.now; verifiers = q.verifiers }
+
+-- each ceiling leaves room for all tries
+abbrev pub HasRoom : Table → ℕ → Option ℕ → Type 0
+HasRoom t octets calls = (work (tries t) ≤ octets) × (is_within calls (t.signatures * t.keys) ≡ true)
+
+-- what is accepted with some keys is accepted with more, with the same claims
+abbrev pub MoreKeys : Type 0
+MoreKeys = (q : Terms) (more : List KeyParts) (x : List ℕ) (w more_w i j : ℕ) (claims : Members) → AreAmong more q.keys
+    → HasRoom (table (with_keys q more) x) more_w q.policy.max_calls → verdict_of q x w ≡ Accepted i j claims
+    → (m : ℕ) × (n : ℕ) × (verdict_of (with_keys q more) x more_w ≡ Accepted m n claims)
+
+-- a state, a verdict without the key that it names
+abbrev pub kind_of : SigState → SigState
+kind_of (Verified j) = Verified 0
+kind_of s = s
+
+abbrev pub without_key : Verdict → Verdict
+without_key (Accepted i j claims) = Accepted i 0 claims
+without_key v = v
+
+-- lists of the same keys, in any order and with repeats, give the same verdict and states, but for the numbers of keys
+abbrev pub SameKeys : Type 0
+SameKeys = (q : Terms) (others : List KeyParts) (x : List ℕ) (w other_w : ℕ) → AreAmong others q.keys → AreAmong q.keys others
+    → HasRoom (table q x) w q.policy.max_calls → HasRoom (table (with_keys q others) x) other_w q.policy.max_calls
+    → (without_key (verdict_of q x w) ≡ without_key (verdict_of (with_keys q others) x other_w))
+    × (map kind_of (states (table q x) w q.policy.max_calls) ≡ map kind_of (states (table (with_keys q others) x) other_w q.policy.max_calls))

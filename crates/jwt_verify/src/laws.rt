@@ -1,7 +1,7 @@
 //! Laws of the definitions: each function does nothing, and its contract holds of every table.
 
 ghost use Rattle.jwt_verify.specs.Accepted.{AcceptsExactly};
-ghost use Rattle.jwt_verify.specs.Laws.{TriesAreBounded, LeastTries};
+ghost use Rattle.jwt_verify.specs.Laws.{TriesAreBounded, LeastTries, MoreKeys, SameKeys};
 
 /// The tries stand in dictionary order, so no pair twice, and each is eligible; there are no more than pairs, and their costs
 /// add up to no more than the bound.
@@ -20,4 +20,16 @@ pub fn least_tries()
 /// the first verified signature, its least key and the payload's claims.
 pub fn accepts_exactly()
     ensures { AcceptsExactly }
+{}
+
+/// More keys never refuse: what is accepted with some keys is accepted with more, with the same claims, where the ceilings leave
+/// room for all tries. So a key set may be rotated by adding first and removing later.
+pub fn more_keys()
+    ensures { MoreKeys }
+{}
+
+/// Key sets with the same keys, in any order and with repeats, give the same verdict and the same states but for the numbers of
+/// keys, where the ceilings leave room for all tries.
+pub fn same_keys()
+    ensures { SameKeys }
 {}
