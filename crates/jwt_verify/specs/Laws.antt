@@ -2,9 +2,17 @@
 use Rattle.serde_json.specs.Data.{Members}
 use Rattle.jwt_keys.specs.Keys.{KeyParts}
 use Rattle.jwt_verify.specs.declared.report.Verdict.{Verdict}
-use Rattle.jwt_verify.specs.declared.report.Verdict.TheVariants.{Accepted}
-use Rattle.jwt_verify.specs.Verdict.{Terms, table, verdict_of}
-use Rattle.std.specs.Prelude.{map, ℕ, ◌+◌, ◌*◌, ◌<◌, ◌≤◌, ◌≡◌, ◌≢◌, ◌⊎◌, Bool, true, false, not, List, length, slice_get, Option, None, IsTrue}
+use Rattle.jwt_verify.specs.declared.report.Verdict.TheVariants.{Accepted, Refused}
+use Rattle.jwt_verify.specs.Verdict.{Terms, token_of, token_or_none, table, verdict_of}
+use Rattle.jwt_mac.specs.declared.algorithm.Alg.{Alg}
+use Rattle.jwt_mac.specs.Algorithm.{is_hmac_alg, block_size, digest_size, key_cost}
+use Rattle.jwt_mac.specs.Verifying.{KeyOctets, OctKey, signing_input}
+use Rattle.jwt_jws.specs.Token.{Token, SignatureParts, message_of}
+use Rattle.jwt_policy.specs.Settings.{Settings}
+use Rattle.jwt_policy.specs.Bars.{alg}
+use Rattle.jwt_verify.specs.declared.report.Fault.TheVariants.{WorkExceeded}
+use Rattle.jwt_verify.specs.Trying.{at_pair}
+use Rattle.std.specs.Prelude.{[], ◌∷◌, max, if◌then◌else◌, map, ℕ, ◌+◌, ◌*◌, ◌<◌, ◌≤◌, ◌≡◌, ◌≢◌, ◌⊎◌, Bool, true, false, not, List, length, slice_get, Option, None, IsTrue}
 use Rattle.std.specs.List.{list_any, list_all, sum_by, All, AllPairs, Contains}
 use Rattle.std.specs.Option.{option_map_or}
 use Rattle.jwt_policy.specs.declared.mode.Mode.{Mode}
@@ -25,7 +33,7 @@ bound t common extra = t.signatures * t.keys * common + sum_by (λ e. extra e.si
 -- no pair is tried twice, each is eligible, and the work is within the bound
 abbrev pub TriesAreBounded : Type 0
 TriesAreBounded = (t : Table) → AllPairs IsBefore (tries t) × All (λ e. t.eligible e.signature e.key ≡ true) (tries t) × (length (tries t) ≤ t.signatures * t.keys)
-    × ((common : ℕ) (extra : ℕ → ℕ → ℕ) → ((i j : ℕ) → t.cost i j ≤ common + extra i j) → work (tries t) ≤ bound t common extra)
+    × ((common : ℕ) (extra : ℕ → ℕ → ℕ) → ((i j : ℕ) → t.eligible i j ≡ true → t.cost i j ≤ common + extra i j) → work (tries t) ≤ bound t common extra)
 
 -- the table with other validity
 abbrev pub with_valid : Table → (ℕ → ℕ → Bool) → Table
@@ -78,3 +86,44 @@ SameKeys = (q : Terms) (others : List KeyParts) (x : List ℕ) (w other_w : ℕ)
     → HasRoom (table q x) w q.policy.max_calls → HasRoom (table (with_keys q others) x) other_w q.policy.max_calls
     → (without_key (verdict_of q x w) ≡ without_key (verdict_of (with_keys q others) x other_w))
     × (map kind_of (states (table q x) w q.policy.max_calls) ≡ map kind_of (states (table (with_keys q others) x) other_w q.policy.max_calls))
+
+-- ---- the bound on the work
+
+-- the greatest of these numbers, 0 where there is none
+abbrev pub greatest : List ℕ → ℕ
+greatest [] = 0
+greatest (n ∷ ns) = max n (greatest ns)
+
+-- the length of the longest signing input
+abbrev pub longest_input : Token → ℕ
+longest_input t = greatest (map (λ s. length (signing_input (message_of t s))) t.signatures)
+
+-- what a try costs at most, but for its key: the longest signing input, two blocks and a digest, these the greatest among the
+-- policy's algorithms (RFC 2104, section 2)
+abbrev pub common_cost : Settings → Token → ℕ
+common_cost p t = longest_input t + 2 * greatest (map block_size p.run.algs) + greatest (map digest_size p.run.algs)
+
+abbrev pub long_secret : Alg → KeyOctets → ℕ
+long_secret a (OctKey k) = if is_hmac_alg a then key_cost (block_size a) (length k) else 0
+long_secret a _ = 0
+
+-- what a try costs for its key: the length of a secret that is longer than a block of the signature's algorithm
+abbrev pub long_key : SignatureParts → KeyParts → ℕ
+long_key s k = option_map_or (λ a. long_secret a k.octets) (alg s) 0
+
+-- the common cost for each pair of signature and key, and each long key once for each of its tries
+abbrev pub work_bound : Terms → List ℕ → ℕ
+work_bound q x = let t = token_or_none (token_of q.policy x) in
+    bound (table q x) (common_cost q.policy t) (at_pair long_key 0 t q.keys)
+
+-- the work is within the bound
+abbrev pub WorkIsBounded : Type 0
+WorkIsBounded = (q : Terms) (x : List ℕ) → work (tries (table q x)) ≤ work_bound q x
+
+-- a ceiling of the bound is never exceeded, and how much more it is changes neither the verdict nor the tries nor the states
+abbrev pub CeilingSuffices : Type 0
+CeilingSuffices = (q : Terms) (x : List ℕ) (w v : ℕ) → work_bound q x ≤ w → work_bound q x ≤ v
+    → ((i j : ℕ) → verdict_of q x w ≢ Refused (WorkExceeded i j))
+    × (verdict_of q x w ≡ verdict_of q x v)
+    × (paid (table q x) w q.policy.max_calls ≡ paid (table q x) v q.policy.max_calls)
+    × (states (table q x) w q.policy.max_calls ≡ states (table q x) v q.policy.max_calls)

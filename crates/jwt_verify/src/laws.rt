@@ -1,13 +1,25 @@
 //! Laws of the definitions: each function does nothing, and its contract holds of every table.
 
 ghost use Rattle.jwt_verify.specs.Accepted.{AcceptsExactly};
-ghost use Rattle.jwt_verify.specs.Laws.{TriesAreBounded, LeastTries, MoreKeys, SameKeys};
+ghost use Rattle.jwt_verify.specs.Laws.{TriesAreBounded, LeastTries, MoreKeys, SameKeys, WorkIsBounded};
+
+use jwt_policy::laws::{bar_is_first_row, eligible_pairs};
 
 /// The tries stand in dictionary order, so no pair twice, and each is eligible; there are no more than pairs, and their costs
 /// add up to no more than the bound.
 pub fn tries_are_bounded()
     ensures { TriesAreBounded }
 {}
+
+/// The work of a run is at most the common cost for each pair of signature and key, and the length of each key that is longer than
+/// a block, once for each of its tries. The common cost is the length of the longest signing input, two blocks and a digest, these
+/// the greatest among the policy's algorithms (RFC 2104, section 2).
+pub fn work_is_bounded()
+    ensures { WorkIsBounded }
+{
+    eligible_pairs();
+    bar_is_first_row();
+}
 
 /// No try can be spared: two tables that agree on the validity of the paid tries of one leave the same tries, the same states
 /// and the same end, and where one paid try alone has other validity, the states differ.
