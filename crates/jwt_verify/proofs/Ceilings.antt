@@ -1,6 +1,6 @@
 -- The work of a run is within the bound, so a ceiling of the bound is never exceeded.
-use Rattle.std.proofs.Common.{◌≡◌, ◌≢◌, ℕ, zero, suc, ◌+◌, ◌*◌, ◌<◌, ◌≤◌, max, Bool, true, false, List, [], ◌∷◌, length, map, take, drop, Option, Some, None, Result, Ok, Err, arith, refl, sym, ◌∙◌, ap, subst, inl, inr}
-use Rattle.std.specs.Prelude.{◌&&◌, ◌||◌, not, slice_get, nat_le, if◌then◌else◌}
+use Rattle.std.proofs.Common.{◌≡◌, ◌≢◌, ℕ, ℤ, zero, suc, ◌+◌, ◌*◌, ◌<◌, ◌≤◌, max, Bool, true, false, List, [], ◌∷◌, length, map, take, drop, Option, Some, None, Result, Ok, Err, arith, refl, sym, ◌∙◌, ap, subst, inl, inr}
+use Rattle.std.specs.Prelude.{◌&&◌, ◌||◌, not, slice_get, nat_le, nat_lt, if◌then◌else◌}
 use Rattle.std.specs.Option.{option_map_or, option_and_then}
 use Rattle.std.specs.List.{list_any, prefix_len, range_with_len}
 use Rattle.std.proofs.Math.Nat.{le-max_left, le-max_right}
@@ -23,14 +23,23 @@ use Rattle.jwt_policy.specs.Laws.{IsEligible}
 use Rattle.jwt_verify.specs.declared.tries.End.TheVariants as end
 use Rattle.jwt_verify.specs.declared.report.Try.{Try}
 use Rattle.jwt_verify.specs.declared.report.Fault.{Fault}
-use Rattle.jwt_verify.specs.declared.report.Fault.TheVariants.{WorkExceeded}
+use Rattle.jwt_verify.specs.declared.report.Fault.TheVariants.{Text, WorkExceeded}
 use Rattle.jwt_verify.specs.declared.report.Verdict.{Verdict}
 use Rattle.jwt_verify.specs.declared.report.Verdict.TheVariants.{Refused}
-use Rattle.jwt_verify.specs.Table.{Table, tries, work, is_within, affords, paid, stop, ending, states}
+use Rattle.serde_json.specs.Data.{Members}
+use Rattle.jwt_jws.specs.declared.fault.FormFault.{FormFault}
+use Rattle.jwt_jws.specs.Forms.{form_of}
+use Rattle.jwt_policy.specs.declared.claim_fault.ClaimFault.{ClaimFault}
+use Rattle.jwt_policy.specs.ClaimKinds.{claims_of}
+use Rattle.jwt_policy.specs.Checks.{check_of}
+use Rattle.jwt_verify.specs.declared.tries.End.{End}
+use Rattle.jwt_verify.specs.declared.report.InputFault.TheVariants.{TooLong}
+use Rattle.jwt_verify.specs.Table.{Table, tries, work, is_within, affords, paid, stop, ending, states_at, states}
 use Rattle.jwt_verify.specs.Trying.{cost_under, cost_by, at_pair, table_of}
-use Rattle.jwt_verify.specs.Verdict.{Terms, token_of, token_or_none, table, verdict_of}
-use Rattle.jwt_verify.specs.Laws.{greatest, longest_input, common_cost, long_secret, long_key, work_bound, bound}
+use Rattle.jwt_verify.specs.Verdict.{Terms, Signing, VerifiedBy, Unverified, signing_of, checked, claimed, concluded, ended, token_verdict, formed, token_of, token_or_none, table, decided, verdict_of, without_line_feed}
+use Rattle.jwt_verify.specs.Laws.{greatest, longest_input, common_cost, long_secret, long_key, work_bound, bound, CeilingSuffices}
 use Rattle.jwt_verify.proofs.Bounds.{work_bounded}
+use Rattle.jwt_verify.proofs.Judged.{table_of_token}
 use Rattle.jwt_verify.proofs.Paying.{work-append, paid_over}
 
 -- ---- the greatest of some numbers
@@ -176,3 +185,71 @@ module _ (t : Table) (calls : Option ℕ) (w v : ℕ) (enough : work (tries t) �
     not_work o true f h = cc
     not_work None false f h = cc
     not_work (Some e) false f h = cc
+
+-- ---- the verdict
+
+checked_work : (a b i j : ℕ) (claims : Members) (o : Option ClaimFault) → checked a b claims o ≡ Refused (WorkExceeded i j) → ⊥
+checked_work a b i j claims None h = cc
+checked_work a b i j claims (Some f) h = cc
+
+claimed_work : (p : Settings) (now : ℤ) (a b i j : ℕ) (r : Result Members ClaimFault) → claimed p now a b r ≡ Refused (WorkExceeded i j) → ⊥
+claimed_work p now a b i j (Ok claims) h = checked_work a b i j claims (check_of p claims now) h
+claimed_work p now a b i j (Err f) h = cc
+
+concluded_work : (p : Settings) (now : ℤ) (payload : List ℕ) (i j : ℕ) (s : Signing) → concluded p now payload s ≡ Refused (WorkExceeded i j) → ⊥
+concluded_work p now payload i j (VerifiedBy a b) h = claimed_work p now a b i j (claims_of payload) h
+concluded_work p now payload i j (Unverified a f) h = cc
+
+ended_work : (r : End) (p : Settings) (now : ℤ) (payload : List ℕ) (i j : ℕ) (s : Signing) → ended r (concluded p now payload s) ≡ Refused (WorkExceeded i j) → r ≡ end.WorkExceeded i j
+ended_work end.Done p now payload i j s h = absurd (concluded_work p now payload i j s h)
+ended_work (end.WorkExceeded a b) p now payload i j s h = let x : a ≡ i = cc in let y : b ≡ j = cc in rw (x, y) refl
+ended_work (end.CallsExceeded a b) p now payload i j s h = cc
+ended_work (end.VerifierMemory a b) p now payload i j s h = cc
+
+formed_work : (r : Result Token FormFault) (i j : ℕ) → formed r ≡ Err (WorkExceeded i j) → ⊥
+formed_work (Ok t) i j h = cc
+formed_work (Err e) i j h = cc
+
+token_work : (p : Settings) (x : List ℕ) (i j : ℕ) → token_of p x ≡ Err (WorkExceeded i j) → ⊥
+unfolding token_of
+token_work p x i j h = go (nat_lt p.run.limit (length x)) h
+  where
+  go : (b : Bool) → (if b then Err (Text TooLong) else formed (form_of p.run.max_signatures (without_line_feed p.run.line_feed x))) ≡ Err (WorkExceeded i j) → ⊥
+  go true h = cc
+  go false h = formed_work (form_of p.run.max_signatures (without_line_feed p.run.line_feed x)) i j h
+
+refusal : (f g : Fault) → Refused f ≡ Refused g → f ≡ g
+refusal f g h = cc
+
+module _ (q : Terms) (x : List ℕ) (w v : ℕ) (enough : work (tries (table q x)) ≤ w) (as_well : work (tries (table q x)) ≤ v) where
+  decided_work : (r : Result Token Fault) → r ≡ token_of q.policy x → (i j : ℕ) → decided q w r ≡ Refused (WorkExceeded i j) → ⊥
+  unfolding token_verdict
+  decided_work (Err f) e i j h = token_work q.policy x i j (sym e ∙ ap Err (refusal f (WorkExceeded i j) h))
+  decided_work (Ok t) e i j h =
+      let T = table_of q.policy q.verifiers q.keys t in
+      let r = ended_work (ending T w q.policy.max_calls) q.policy q.now t.payload i j (signing_of T) h in
+      not_for_work (table q x) q.policy.max_calls w v enough as_well i j (ap (λ t. ending t w q.policy.max_calls) (sym (table_of_token q x t (sym e))) ∙ r)
+
+  decided_same : (r : Result Token Fault) → r ≡ token_of q.policy x → decided q w r ≡ decided q v r
+  unfolding token_verdict
+  decided_same (Err f) e = refl
+  decided_same (Ok t) e =
+      let T = table_of q.policy q.verifiers q.keys t in
+      let s : ending T w q.policy.max_calls ≡ ending T v q.policy.max_calls = subst (λ t. ending t w q.policy.max_calls ≡ ending t v q.policy.max_calls) (sym (table_of_token q x t (sym e))) (ending_same (table q x) q.policy.max_calls w v enough as_well) in
+      ap (λ r. ended r (concluded q.policy q.now t.payload (signing_of T))) s
+
+  pub suffices : ((i j : ℕ) → verdict_of q x w ≢ Refused (WorkExceeded i j)) × (verdict_of q x w ≡ verdict_of q x v)
+      × (paid (table q x) w q.policy.max_calls ≡ paid (table q x) v q.policy.max_calls) × (states (table q x) w q.policy.max_calls ≡ states (table q x) v q.policy.max_calls)
+  unfolding verdict_of
+  suffices = (
+    λ i j h. decided_work (token_of q.policy x) refl i j h,
+    decided_same (token_of q.policy x) refl,
+    paid_same (table q x) q.policy.max_calls w v enough as_well,
+    ap (states_at (table q x)) (stop_same (table q x) q.policy.max_calls w v enough as_well),
+  )
+
+pub within_both : (eligible_words : (p : Settings) (s : SignatureParts) (k : KeyParts) (v : List Meaning) → eligible_for p s k v ≡ true → IsEligible p s k v)
+    → (no_row : (p : Settings) (s : SignatureParts) (v : List Meaning) → bar_of p s v ≡ None → NoRow (bar_rows p s v)) → CeilingSuffices
+within_both eligible_words no_row q x w v l m =
+    let b = within_bound eligible_words no_row q x in
+    suffices q x w v (omega (arith, b, l)) (omega (arith, b, m))

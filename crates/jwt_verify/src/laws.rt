@@ -1,7 +1,7 @@
 //! Laws of the definitions: each function does nothing, and its contract holds of every table.
 
 ghost use Rattle.jwt_verify.specs.Accepted.{AcceptsExactly};
-ghost use Rattle.jwt_verify.specs.Laws.{TriesAreBounded, LeastTries, MoreKeys, SameKeys, WorkIsBounded};
+ghost use Rattle.jwt_verify.specs.Laws.{TriesAreBounded, LeastTries, MoreKeys, SameKeys, WorkIsBounded, CeilingSuffices};
 
 use jwt_policy::laws::{bar_is_first_row, eligible_pairs};
 
@@ -16,6 +16,14 @@ pub fn tries_are_bounded()
 /// the greatest among the policy's algorithms (RFC 2104, section 2).
 pub fn work_is_bounded()
     ensures { WorkIsBounded }
+{
+    eligible_pairs();
+    bar_is_first_row();
+}
+
+/// A ceiling of that bound is never exceeded, and how much greater it is changes neither the verdict nor the tries nor the states.
+pub fn ceiling_suffices()
+    ensures { CeilingSuffices }
 {
     eligible_pairs();
     bar_is_first_row();
