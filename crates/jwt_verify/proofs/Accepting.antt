@@ -40,13 +40,13 @@ pub any_true : (p : ℕ → Bool) (n k : ℕ) → k < n → p k ≡ true → lis
 any_true p n k l y = elim (cases_Bool (list_any p (below k))) [
   | inl t ↦ (let q = least_found p k t in let e : (q.0 + 1) + (n - (q.0 + 1)) ≡ n = omega (arith, q.1, l) in found_any p (below n) q.0 (ap (λ m. find p (below m)) (sym e) ∙ find-below p q.0 (n - (q.0 + 1)) q.3 q.2))
   | inr f ↦ (let e : (k + 1) + (n - (k + 1)) ≡ n = omega (arith, l) in found_any p (below n) k (ap (λ m. find p (below m)) (sym e) ∙ find-below p k (n - (k + 1)) f y))
-  ]
+]
 
 pub any_at : (p : ℕ → Bool) (n k : ℕ) → list_any p (below n) ≡ false → k < n → p k ≡ false
 any_at p n k h l = elim (cases_Bool (p k)) [
   | inl y ↦ absurd (false≢true (sym h ∙ any_true p n k l y))
   | inr f ↦ f
-  ]
+]
 
 pub find_least : (p : ℕ → Bool) (n j : ℕ) → j < n → p j ≡ true → ((k : ℕ) → k < j → p k ≡ false) → find p (below n) ≡ Some j
 find_least p n j l y h = let e : (j + 1) + (n - (j + 1)) ≡ n = omega (arith, l) in ap (λ m. find p (below m)) (sym e) ∙ find-below p j (n - (j + 1)) (none_below p j h) y
@@ -79,13 +79,13 @@ first_is {A} f (suc n) i a h =
     let ih = first_is f n i a in
     go (first_in f (below n)) refl (f n) refl (sym (first-below f n) ∙ e) ih
   where
-  go : (o : Option (ℕ × A)) → o ≡ first_in f (below n) → (q : Option A) → q ≡ f n → or_else o (option_map_or (λ a. Some (n, a)) q None) ≡ Some (i, a)
-      → (first_in f (below n) ≡ Some (i, a) → (i < n) × (f i ≡ Some a) × ((k : ℕ) → k < i → f k ≡ None)) → (i < suc n) × (f i ≡ Some a) × ((k : ℕ) → k < i → f k ≡ None)
-  go (Some p) e q u h ih = let r = ih (sym e ∙ h) in (omega (arith, r.0), r.1, r.2)
-  go None e None u h ih = cc
-  go None e (Some b) u h ih =
-      let r = parts_of n i b a h in
-      subst (λ m. (m < suc n) × (f m ≡ Some a) × ((k : ℕ) → k < m → f k ≡ None)) r.0 (omega arith, sym u ∙ ap Some r.1, λ k l. first_none_at f n k l (sym e))
+    go : (o : Option (ℕ × A)) → o ≡ first_in f (below n) → (q : Option A) → q ≡ f n → or_else o (option_map_or (λ a. Some (n, a)) q None) ≡ Some (i, a)
+        → (first_in f (below n) ≡ Some (i, a) → (i < n) × (f i ≡ Some a) × ((k : ℕ) → k < i → f k ≡ None)) → (i < suc n) × (f i ≡ Some a) × ((k : ℕ) → k < i → f k ≡ None)
+    go (Some p) e q u h ih = let r = ih (sym e ∙ h) in (omega (arith, r.0), r.1, r.2)
+    go None e None u h ih = cc
+    go None e (Some b) u h ih =
+        let r = parts_of n i b a h in
+        subst (λ m. (m < suc n) × (f m ≡ Some a) × ((k : ℕ) → k < m → f k ≡ None)) r.0 (omega arith, sym u ∙ ap Some r.1, λ k l. first_none_at f n k l (sym e))
 
 -- ---- the signatures
 
@@ -93,12 +93,12 @@ pub not_verified : (t : Table) (i : ℕ) → verified t i ≡ false → key_at t
 unfolding verified
 not_verified t i h = find_none_of (verifies t i) (below t.keys) h
   where
-  find_none_of : (p : ℕ → Bool) (xs : List ℕ) → list_any p xs ≡ false → find p xs ≡ None
-  find_none_of p xs h = go (find p xs) refl
-    where
-    go : (o : Option ℕ) → o ≡ find p xs → find p xs ≡ None
-    go None e = sym e
-    go (Some j) e = absurd (false≢true (sym h ∙ found_any p xs j (sym e)))
+    find_none_of : (p : ℕ → Bool) (xs : List ℕ) → list_any p xs ≡ false → find p xs ≡ None
+    find_none_of p xs h = go (find p xs) refl
+      where
+        go : (o : Option ℕ) → o ≡ find p xs → find p xs ≡ None
+        go None e = sym e
+        go (Some j) e = absurd (false≢true (sym h ∙ found_any p xs j (sym e)))
 
 pub verified_key : (t : Table) (i j : ℕ) → key_at t i ≡ Some j → verified t i ≡ true
 unfolding verified
@@ -113,9 +113,9 @@ verified_none t i barred v =
     let found : find (verifies t i) (below t.keys) ≡ Some l.0 = find_least (verifies t i) t.keys l.0 l.1 l.2 (λ k m. any_at (verifies t i) l.0 k l.3 m) in
     rw (free, found) refl
   where
-  and_left : (a b : Bool) → (a && b) ≡ true → a ≡ true
-  and_left true b h = refl
-  and_left false b h = cc
+    and_left : (a b : Bool) → (a && b) ≡ true → a ≡ true
+    and_left true b h = refl
+    and_left false b h = cc
 
 unverified_not : (f : Option (ℕ × SigFault)) (i j : ℕ) → unverified f ≡ VerifiedBy i j → ⊥
 unverified_not None i j h = cc
@@ -125,8 +125,8 @@ verified_is : (f : Option (ℕ × SigFault)) (v : Option (ℕ × ℕ)) (i j : �
 verified_is f None i j h = absurd (unverified_not f i j h)
 verified_is f (Some v) i j h = same v.0 v.1 h
   where
-  same : (a b : ℕ) → VerifiedBy a b ≡ VerifiedBy i j → pair a b ≡ pair i j
-  same a b h = let x : a ≡ i = cc in let y : b ≡ j = cc in rw (x, y) refl
+    same : (a b : ℕ) → VerifiedBy a b ≡ VerifiedBy i j → pair a b ≡ pair i j
+    same a b h = let x : a ≡ i = cc in let y : b ≡ j = cc in rw (x, y) refl
 
 all_is : (v : Option (ℕ × ℕ)) (f : Option (ℕ × SigFault)) (i j : ℕ) → signing_in All v f ≡ VerifiedBy i j → (f ≡ None) × (v ≡ pair i j)
 all_is v (Some f) i j h = cc
@@ -205,7 +205,7 @@ unfolding token_of
 token_is q x t h = elim (cases_lt q.policy.run.limit (length x)) [
   | inl l ↦ (let e = rw (lt-ltb q.policy.run.limit (length x) l) at h in cc)
   | inr m ↦ (let e = rw (le-ltb q.policy.run.limit (length x) m) at h in (m, formed_is (form_of q.policy.run.max_signatures (without_line_feed q.policy.run.line_feed x)) t e))
-  ]
+]
 
 pub is_token : (q : Terms) (x : List ℕ) (t : Token) → IsToken q x t → token_of q.policy x ≡ Ok t
 unfolding token_of

@@ -76,7 +76,7 @@ greatest_allowed f [] a h = cc
 greatest_allowed f (b ∷ algs) a h = elim (cases_Bool (same_alg b a)) [
   | inl y ↦ (let e : b ≡ a = alg_same b a y in rw (sym e) (le-max_left (f b) (greatest (map f algs))))
   | inr n ↦ (let k = rw n at h in omega (arith, greatest_allowed f algs a k, le-max_right (f b) (greatest (map f algs))))
-  ]
+]
 
 -- ---- the cost of an eligible pair
 
@@ -87,17 +87,17 @@ allowed p s v a none e =
     let m = rw e at n in
     not_not (is_allowed p.run.algs a) m
   where
-  not_not : (b : Bool) → not b ≡ false → b ≡ true
-  not_not true h = refl
-  not_not false h = cc
+    not_not : (b : Bool) → not b ≡ false → b ≡ true
+    not_not true h = refl
+    not_not false h = cc
 
 hmac_cost : (a : Alg) (input key : ℕ) → try_cost a key input ≤ input + 2 * block_size a + digest_size a + (if is_hmac_alg a then key_cost (block_size a) key else 0)
 unfolding try_cost
 hmac_cost a input key = go (is_hmac_alg a)
   where
-  go : (b : Bool) → (if b then input + 2 * block_size a + digest_size a + key_cost (block_size a) key else 0) ≤ input + 2 * block_size a + digest_size a + (if b then key_cost (block_size a) key else 0)
-  go true = omega arith
-  go false = omega arith
+    go : (b : Bool) → (if b then input + 2 * block_size a + digest_size a + key_cost (block_size a) key else 0) ≤ input + 2 * block_size a + digest_size a + (if b then key_cost (block_size a) key else 0)
+    go true = omega arith
+    go false = omega arith
 
 under : (a : Alg) (k : KeyOctets) (m : MessageOctets) → cost_under a k m ≤ length (signing_input m) + 2 * block_size a + digest_size a + long_secret a k
 under a (OctKey k) m = hmac_cost a (length (signing_input m)) (length k)
@@ -127,12 +127,12 @@ module _ (eligible_words : (p : Settings) (s : SignatureParts) (k : KeyParts) (v
       → at_pair (λ s k. cost_by (message_of t s) s k) 0 t ks i j ≤ common_cost p t + at_pair long_key 0 t ks i j
   table_cost p v ks t i j h = go (slice_get t.signatures i) refl (slice_get ks j) h
     where
-    go : (s : Option SignatureParts) → s ≡ slice_get t.signatures i → (k : Option KeyParts)
-        → option_map_or (λ s. option_map_or (λ k. eligible_for p s k v) k false) s false ≡ true
-        → option_map_or (λ s. option_map_or (λ k. cost_by (message_of t s) s k) k 0) s 0 ≤ common_cost p t + option_map_or (λ s. option_map_or (long_key s) k 0) s 0
-    go None e k h = cc
-    go (Some s) e None h = cc
-    go (Some s) e (Some k) h = pair_cost p v t i s k (sym e) h
+      go : (s : Option SignatureParts) → s ≡ slice_get t.signatures i → (k : Option KeyParts)
+          → option_map_or (λ s. option_map_or (λ k. eligible_for p s k v) k false) s false ≡ true
+          → option_map_or (λ s. option_map_or (λ k. cost_by (message_of t s) s k) k 0) s 0 ≤ common_cost p t + option_map_or (λ s. option_map_or (long_key s) k 0) s 0
+      go None e k h = cc
+      go (Some s) e None h = cc
+      go (Some s) e (Some k) h = pair_cost p v t i s k (sym e) h
 
   pub within_bound : (q : Terms) (x : List ℕ) → work (tries (table q x)) ≤ work_bound q x
   unfolding table
@@ -179,12 +179,12 @@ module _ (t : Table) (calls : Option ℕ) (w v : ℕ) (enough : work (tries t) �
         let calls_over : is_within calls (length (paid t w calls) + 1) ≡ false = rw (le-leb (work (take (length (paid t w calls) + 1) (tries t))) w (omega (arith, f, enough))) at over in
         not_work (slice_get (tries t) (length (paid t w calls))) (is_within calls (length (paid t w calls) + 1)) calls_over h)
     | inr m ↦ (let none = slice_get_past (tries t) (length (paid t w calls)) m in let z = rw none at h in cc)
-    ]
+  ]
     where
-    not_work : (o : Option Try) (b : Bool) → b ≡ false → option_map_or (λ e. if b then end.WorkExceeded e.signature e.key else end.CallsExceeded e.signature e.key) o end.Done ≡ end.WorkExceeded i j → ⊥
-    not_work o true f h = cc
-    not_work None false f h = cc
-    not_work (Some e) false f h = cc
+      not_work : (o : Option Try) (b : Bool) → b ≡ false → option_map_or (λ e. if b then end.WorkExceeded e.signature e.key else end.CallsExceeded e.signature e.key) o end.Done ≡ end.WorkExceeded i j → ⊥
+      not_work o true f h = cc
+      not_work None false f h = cc
+      not_work (Some e) false f h = cc
 
 -- ---- the verdict
 
@@ -214,9 +214,9 @@ token_work : (p : Settings) (x : List ℕ) (i j : ℕ) → token_of p x ≡ Err 
 unfolding token_of
 token_work p x i j h = go (nat_lt p.run.limit (length x)) h
   where
-  go : (b : Bool) → (if b then Err (Text TooLong) else formed (form_of p.run.max_signatures (without_line_feed p.run.line_feed x))) ≡ Err (WorkExceeded i j) → ⊥
-  go true h = cc
-  go false h = formed_work (form_of p.run.max_signatures (without_line_feed p.run.line_feed x)) i j h
+    go : (b : Bool) → (if b then Err (Text TooLong) else formed (form_of p.run.max_signatures (without_line_feed p.run.line_feed x))) ≡ Err (WorkExceeded i j) → ⊥
+    go true h = cc
+    go false h = formed_work (form_of p.run.max_signatures (without_line_feed p.run.line_feed x)) i j h
 
 refusal : (f g : Fault) → Refused f ≡ Refused g → f ≡ g
 refusal f g h = cc

@@ -63,7 +63,7 @@ found_kind p [] d = refl
 found_kind p (x ∷ xs) d = elim (cases_Bool (p x)) [
   | inl t ↦ rw t refl
   | inr f ↦ rw f (found_kind p xs d)
-  ]
+]
 
 abbrev barred_or : Option SigFault → SigState → SigState
 barred_or (Some f) s = Barred f
@@ -104,24 +104,24 @@ module _ (p : Settings) (v : List Meaning) (t : Token) where
   unfolding fits_at
   fits_key keys i j = go (slice_get t.signatures i) (slice_get keys j)
     where
-    go : (s : Option SignatureParts) (k : Option KeyParts) → option_map_or (λ s. option_map_or (λ k. eligible_for p s k v) k false) s false
-        ≡ option_map_or (λ k. option_map_or (λ s. eligible_for p s k v) s false) k false
-    go None None = refl
-    go None (Some k) = refl
-    go (Some s) None = refl
-    go (Some s) (Some k) = refl
+      go : (s : Option SignatureParts) (k : Option KeyParts) → option_map_or (λ s. option_map_or (λ k. eligible_for p s k v) k false) s false
+          ≡ option_map_or (λ k. option_map_or (λ s. eligible_for p s k v) s false) k false
+      go None None = refl
+      go None (Some k) = refl
+      go (Some s) None = refl
+      go (Some s) (Some k) = refl
 
   passes_key : (keys : List KeyParts) (i j : ℕ) → verifies (of keys) i j ≡ at_key (passes_at i) keys j
   unfolding verifies passes_at
   passes_key keys i j = go (slice_get t.signatures i) (slice_get keys j)
     where
-    go : (s : Option SignatureParts) (k : Option KeyParts)
-        → (option_map_or (λ s. option_map_or (λ k. eligible_for p s k v) k false) s false && option_map_or (λ s. option_map_or (λ k. valid_by v (message_of t s) s k) k false) s false)
-        ≡ option_map_or (λ k. option_map_or (λ s. eligible_for p s k v && valid_by v (message_of t s) s k) s false) k false
-    go None None = refl
-    go None (Some k) = refl
-    go (Some s) None = refl
-    go (Some s) (Some k) = refl
+      go : (s : Option SignatureParts) (k : Option KeyParts)
+          → (option_map_or (λ s. option_map_or (λ k. eligible_for p s k v) k false) s false && option_map_or (λ s. option_map_or (λ k. valid_by v (message_of t s) s k) k false) s false)
+          ≡ option_map_or (λ k. option_map_or (λ s. eligible_for p s k v && valid_by v (message_of t s) s k) s false) k false
+      go None None = refl
+      go None (Some k) = refl
+      go (Some s) None = refl
+      go (Some s) (Some k) = refl
 
   verified_of : (keys : List KeyParts) (i : ℕ) → verified (of keys) i ≡ list_any (passes_at i) keys
   unfolding verified below

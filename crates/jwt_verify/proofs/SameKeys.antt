@@ -47,16 +47,16 @@ more_counts : (t u : Table) → u.mode ≡ t.mode → u.signatures ≡ t.signatu
     → (i j : ℕ) → IsVerifiedBy t i j → (m : ℕ) × (n : ℕ) × IsVerifiedBy u m n
 more_counts t u same count more i j h = go t.mode h.1 (λ m c. c) same
   where
-  go : (m : Mode) → Counts m t i → ((k : ℕ) → Counts m u k → Counts m u k) → u.mode ≡ m → (m : ℕ) × (n : ℕ) × IsVerifiedBy u m n
-  go Any c k e =
-      let v : verified u i ≡ true = more i (verified_by_key t i j h.2) in
-      let l = least_found (verified u) (i + 1) (any_true (verified u) (i + 1) i (omega arith) v) in
-      let key = least_key u l.0 l.2 in
-      (l.0, key.0, (omega (arith, l.1, h.0, count), subst (λ m. Counts m u l.0) (sym e) (λ k m. any_at (verified u) l.0 k l.3 m), key.1))
-  go All c k e =
-      let each : (n : ℕ) → n < u.signatures → verified u n ≡ true = λ n l. more n (c.1 n (omega (arith, l, count))) in
-      let key = least_key u 0 (each 0 (omega (arith, h.0, count))) in
-      (0, key.0, (omega (arith, h.0, count), subst (λ m. Counts m u 0) (sym e) (refl, each), key.1))
+    go : (m : Mode) → Counts m t i → ((k : ℕ) → Counts m u k → Counts m u k) → u.mode ≡ m → (m : ℕ) × (n : ℕ) × IsVerifiedBy u m n
+    go Any c k e =
+        let v : verified u i ≡ true = more i (verified_by_key t i j h.2) in
+        let l = least_found (verified u) (i + 1) (any_true (verified u) (i + 1) i (omega arith) v) in
+        let key = least_key u l.0 l.2 in
+        (l.0, key.0, (omega (arith, l.1, h.0, count), subst (λ m. Counts m u l.0) (sym e) (λ k m. any_at (verified u) l.0 k l.3 m), key.1))
+    go All c k e =
+        let each : (n : ℕ) → n < u.signatures → verified u n ≡ true = λ n l. more n (c.1 n (omega (arith, l, count))) in
+        let key = least_key u 0 (each 0 (omega (arith, h.0, count))) in
+        (0, key.0, (omega (arith, h.0, count), subst (λ m. Counts m u 0) (sym e) (refl, each), key.1))
 
 pub more_keys_hold : MoreKeys
 more_keys_hold q more x w more_w i j claims among room accepted =
@@ -66,15 +66,18 @@ more_keys_hold q more x w more_w i j claims among room accepted =
     let t : table q x ≡ table_of q.policy q.verifiers q.keys a.token = sym (table_of_token q x a.token e) in
     let u : table p x ≡ table_of q.policy q.verifiers more a.token = sym (table_of_token p x a.token e) in
     let by = more_counts (table_of q.policy q.verifiers q.keys a.token) (table_of q.policy q.verifiers more a.token) refl refl
-        (verified_more q.policy q.verifiers a.token q.keys more among) i j (subst (λ t. IsVerifiedBy t i j) t a.verified_by) in
-    (by.0, by.1, (accepts_exactly_holds p x more_w by.0 by.1 claims).1 (record {
-      token = a.token;
-      signed = a.signed;
-      unstopped = never_stops (table p x) more_w q.policy.max_calls room.0 room.1;
-      verified_by = subst (λ t. IsVerifiedBy t by.0 by.1) (sym u) by.2;
-      read = a.read;
-      hold = a.hold;
-    }))
+    (verified_more q.policy q.verifiers a.token q.keys more among) i j (subst (λ t. IsVerifiedBy t i j) t a.verified_by) in (
+      by.0,
+      by.1,
+      (accepts_exactly_holds p x more_w by.0 by.1 claims).1 (record {
+        token = a.token;
+        signed = a.signed;
+        unstopped = never_stops (table p x) more_w q.policy.max_calls room.0 room.1;
+        verified_by = subst (λ t. IsVerifiedBy t by.0 by.1) (sym u) by.2;
+        read = a.read;
+        hold = a.hold;
+      }),
+    )
 
 -- ---- the same keys
 
@@ -87,9 +90,9 @@ blind_claimed : (p : Settings) (now : ℤ) (i j : ℕ) (r : Result Members Claim
 blind_claimed p now i j (Err f) = refl
 blind_claimed p now i j (Ok claims) = go (check_of p claims now)
   where
-  go : (o : Option ClaimFault) → without_key (checked i j claims o) ≡ without_key (checked i 0 claims o)
-  go None = refl
-  go (Some f) = refl
+    go : (o : Option ClaimFault) → without_key (checked i j claims o) ≡ without_key (checked i 0 claims o)
+    go None = refl
+    go (Some f) = refl
 
 blind_concluded : (p : Settings) (now : ℤ) (payload : List ℕ) (s : Signing) → without_key (concluded p now payload s) ≡ without_key (concluded p now payload (blind s))
 blind_concluded p now payload (VerifiedBy i j) = blind_claimed p now i j (claims_of payload)
@@ -118,19 +121,19 @@ numbers_same : (f g : ℕ → Option ℕ) → ((i : ℕ) → option_map_or (λ j
 numbers_same f g h [] = refl
 numbers_same f g h (i ∷ is) = go (f i) (g i) (h i) (numbers_same f g h is)
   where
-  go : (o p : Option ℕ) → option_map_or (λ j. true) o false ≡ option_map_or (λ j. true) p false → number_of (first_in f is) ≡ number_of (first_in g is)
-      → number_of (option_map_or (λ a. Some (i, a)) o (first_in f is)) ≡ number_of (option_map_or (λ a. Some (i, a)) p (first_in g is))
-  go None None e rest = rest
-  go None (Some b) e rest = cc
-  go (Some a) None e rest = cc
-  go (Some a) (Some b) e rest = refl
+    go : (o p : Option ℕ) → option_map_or (λ j. true) o false ≡ option_map_or (λ j. true) p false → number_of (first_in f is) ≡ number_of (first_in g is)
+        → number_of (option_map_or (λ a. Some (i, a)) o (first_in f is)) ≡ number_of (option_map_or (λ a. Some (i, a)) p (first_in g is))
+    go None None e rest = rest
+    go None (Some b) e rest = cc
+    go (Some a) None e rest = cc
+    go (Some a) (Some b) e rest = refl
 
 key_there : (t : Table) (i : ℕ) → option_map_or (λ j. true) (key_at t i) false ≡ verified t i
 key_there t i = go (key_at t i) refl
   where
-  go : (o : Option ℕ) → o ≡ key_at t i → option_map_or (λ j. true) o false ≡ verified t i
-  go None e = sym (key_none t i (sym e))
-  go (Some j) e = sym (verified_key t i j (sym e))
+    go : (o : Option ℕ) → o ≡ key_at t i → option_map_or (λ j. true) o false ≡ verified t i
+    go None e = sym (key_none t i (sym e))
+    go (Some j) e = sym (verified_key t i j (sym e))
 
 fault_kind : (s : SigState) → fault_of s ≡ fault_of (kind_of s)
 fault_kind (Barred f) = refl
@@ -146,7 +149,7 @@ unfolding signing_of
 same_signing t u mode count same kinds =
     let keys = numbers_same (key_at t) (key_at u) (λ i. key_there t i ∙ same i ∙ sym (key_there u i)) (below t.signatures) in
     let faults : first_in (fault_at t) (below t.signatures) ≡ first_in (fault_at u) (below t.signatures) =
-      first_agree (fault_at u) (fault_at t) t.signatures (λ i l h. fault_kind (outcome t i) ∙ ap fault_of (kinds i) ∙ sym (fault_kind (outcome u i))) in
+    first_agree (fault_at u) (fault_at t) t.signatures (λ i l h. fault_kind (outcome t i) ∙ ap fault_of (kinds i) ∙ sym (fault_kind (outcome u i))) in
     blind_in t.mode (first_in (key_at t) (below t.signatures)) (first_in (key_at u) (below t.signatures)) (first_in (fault_at t) (below t.signatures)) keys
     ∙ ap (λ f. blind (signing_in t.mode (first_in (key_at u) (below t.signatures)) f)) faults
     ∙ ap (λ m. blind (signing_in m (first_in (key_at u) (below t.signatures)) (first_in (fault_at u) (below t.signatures)))) (sym mode)
@@ -167,27 +170,30 @@ verdict_refused q x w f e = ap (decided q w) e
 pub same_keys_hold : SameKeys
 same_keys_hold q others x w other_w h k room other_room = go (token_of q.policy x) refl
   where
-  p : Terms
-  p = with_keys q others
-  none : stop (table q x) w q.policy.max_calls ≡ None
-  none = never_stops (table q x) w q.policy.max_calls room.0 room.1
-  other_none : stop (table (with_keys q others) x) other_w q.policy.max_calls ≡ None
-  other_none = never_stops (table (with_keys q others) x) other_w q.policy.max_calls other_room.0 other_room.1
-  go : (r : Result Token Fault) → r ≡ token_of q.policy x
-      → (without_key (verdict_of q x w) ≡ without_key (verdict_of (with_keys q others) x other_w))
-      × (map kind_of (states_at (table q x) (stop (table q x) w q.policy.max_calls)) ≡ map kind_of (states_at (table (with_keys q others) x) (stop (table (with_keys q others) x) other_w q.policy.max_calls)))
-  go (Err f) e = (
-    ap without_key (verdict_refused q x w f (sym e) ∙ sym (verdict_refused (with_keys q others) x other_w f (sym e))),
-    ap (map kind_of) (no_states (table q x) (stop (table q x) w q.policy.max_calls) (table_none q x f (sym e)) ∙ sym (no_states (table (with_keys q others) x) (stop (table (with_keys q others) x) other_w q.policy.max_calls) (table_none (with_keys q others) x f (sym e)))),
-  )
-  go (Ok t) e =
-      let T = table_of q.policy q.verifiers q.keys t in
-      let U = table_of q.policy q.verifiers others t in
-      let s : blind (signing_of T) ≡ blind (signing_of U) = same_signing T U refl refl (verified_same q.policy q.verifiers t q.keys others h k) (outcome_same q.policy q.verifiers t q.keys others h k) in (
-        ap without_key (verdict_here q x w t (sym e) none) ∙ blind_concluded q.policy q.now t.payload (signing_of T)
-        ∙ ap (λ s. without_key (concluded q.policy q.now t.payload s)) s
-        ∙ sym (blind_concluded q.policy q.now t.payload (signing_of U)) ∙ sym (ap without_key (verdict_here (with_keys q others) x other_w t (sym e) other_none)),
-        ap (λ o. map kind_of (states_at (table q x) o)) none ∙ ap (λ t. map kind_of (states_at t None)) (sym (table_of_token q x t (sym e)))
-        ∙ states_same q.policy q.verifiers t q.keys others h k
-        ∙ ap (λ t. map kind_of (states_at t None)) (table_of_token (with_keys q others) x t (sym e)) ∙ sym (ap (λ o. map kind_of (states_at (table (with_keys q others) x) o)) other_none),
-      )
+    p : Terms
+    p = with_keys q others
+
+    none : stop (table q x) w q.policy.max_calls ≡ None
+    none = never_stops (table q x) w q.policy.max_calls room.0 room.1
+
+    other_none : stop (table (with_keys q others) x) other_w q.policy.max_calls ≡ None
+    other_none = never_stops (table (with_keys q others) x) other_w q.policy.max_calls other_room.0 other_room.1
+
+    go : (r : Result Token Fault) → r ≡ token_of q.policy x
+        → (without_key (verdict_of q x w) ≡ without_key (verdict_of (with_keys q others) x other_w))
+        × (map kind_of (states_at (table q x) (stop (table q x) w q.policy.max_calls)) ≡ map kind_of (states_at (table (with_keys q others) x) (stop (table (with_keys q others) x) other_w q.policy.max_calls)))
+    go (Err f) e = (
+      ap without_key (verdict_refused q x w f (sym e) ∙ sym (verdict_refused (with_keys q others) x other_w f (sym e))),
+      ap (map kind_of) (no_states (table q x) (stop (table q x) w q.policy.max_calls) (table_none q x f (sym e)) ∙ sym (no_states (table (with_keys q others) x) (stop (table (with_keys q others) x) other_w q.policy.max_calls) (table_none (with_keys q others) x f (sym e)))),
+    )
+    go (Ok t) e =
+        let T = table_of q.policy q.verifiers q.keys t in
+        let U = table_of q.policy q.verifiers others t in
+        let s : blind (signing_of T) ≡ blind (signing_of U) = same_signing T U refl refl (verified_same q.policy q.verifiers t q.keys others h k) (outcome_same q.policy q.verifiers t q.keys others h k) in (
+          ap without_key (verdict_here q x w t (sym e) none) ∙ blind_concluded q.policy q.now t.payload (signing_of T)
+              ∙ ap (λ s. without_key (concluded q.policy q.now t.payload s)) s
+              ∙ sym (blind_concluded q.policy q.now t.payload (signing_of U)) ∙ sym (ap without_key (verdict_here (with_keys q others) x other_w t (sym e) other_none)),
+          ap (λ o. map kind_of (states_at (table q x) o)) none ∙ ap (λ t. map kind_of (states_at t None)) (sym (table_of_token q x t (sym e)))
+              ∙ states_same q.policy q.verifiers t q.keys others h k
+              ∙ ap (λ t. map kind_of (states_at t None)) (table_of_token (with_keys q others) x t (sym e)) ∙ sym (ap (λ o. map kind_of (states_at (table (with_keys q others) x) o)) other_none),
+        )

@@ -91,7 +91,18 @@ pub(super) const TOKEN_A: &str =
 
 pub(super) const HS256: &str = "{\"algs\":[\"HS256\"]}";
 
-pub(super) const CASES: [Case; 56] = [
+/// The token of RFC 7515, appendix A.1, is accepted.
+pub(super) const ACCEPTED: Case = Case {
+    shows: "a token of RFC 7515, appendix A.1, is accepted",
+    policy: HS256,
+    keys: KEY_A,
+    token: TOKEN_A,
+    now: NOW,
+    ceiling: AMPLE,
+    gives: "accepted 0 0; tries 0.0 work 295 calls 1; Verified(0)",
+};
+
+pub(super) const FORMS: [Case; 14] = [
     Case {
         shows: "a token of RFC 7515, appendix A.1, is accepted",
         policy: HS256,
@@ -218,6 +229,9 @@ pub(super) const CASES: [Case; 56] = [
         ceiling: 590,
         gives: "accepted 0 1; tries 0.0 0.1 work 590 calls 2; Verified(1)",
     },
+];
+
+pub(super) const HEADERS: [Case; 14] = [
     Case {
         shows: "two keys, and one octet less",
         policy: HS256,
@@ -344,6 +358,9 @@ pub(super) const CASES: [Case; 56] = [
         ceiling: AMPLE,
         gives: "accepted 0 0; tries 0.0 work 295 calls 1; Verified(0)",
     },
+];
+
+pub(super) const CLAIMS_AND_MODES: [Case; 13] = [
     Case {
         shows: "a final octet 10 counts towards the limit",
         policy: "{\"algs\":[\"HS256\"],\"line_feed\":true,\"limit\":179}",
@@ -461,6 +478,9 @@ pub(super) const CASES: [Case; 56] = [
         ceiling: 0,
         gives: "WorkExceeded 0 0; tries work 0 calls 0; Stopped",
     },
+];
+
+pub(super) const CEILINGS: [Case; 15] = [
     Case {
         shows: "four keys with a ceiling of 294",
         policy: HS256,
