@@ -1,4 +1,4 @@
--- Laws of the definitions of `Table`.
+-- What the laws say: how many tries there are and what they cost, that none can be spared, and what other keys change.
 use Rattle.serde_json.specs.Data.{Members}
 use Rattle.jwt_keys.specs.Keys.{KeyParts}
 use Rattle.jwt_verify.specs.declared.report.Verdict.{Verdict}
