@@ -1,6 +1,6 @@
 -- The verdict is an acceptance exactly where the token is accepted.
-use Rattle.std.proofs.Common.{◌≡◌, ◌≢◌, ℕ, ℤ, zero, suc, ◌+◌, ◌-◌, ◌<◌, ◌≤◌, Bool, true, false, List, [], ◌∷◌, ◌++◌, length, map, Option, Some, None, Result, Ok, Err, arith, add-one, refl, sym, ◌∙◌, ap, subst, inl, inr, ◌⊎◌, leb, ltb}
-use Rattle.std.specs.Prelude.{◌↔◌, ◌&&◌, nat_lt, if◌then◌else◌, slice_get}
+use Rattle.std.proofs.Common.{◌≡◌, ℕ, ℤ, zero, suc, ◌+◌, ◌-◌, ◌<◌, Bool, true, false, List, length, Option, Some, None, Result, Ok, Err, arith, add-one, refl, sym, ◌∙◌, ap, subst, inl, inr}
+use Rattle.std.specs.Prelude.{◌↔◌, ◌&&◌}
 use Rattle.std.specs.Option.{option_map_or}
 use Rattle.std.specs.List.{list_any, find}
 use Rattle.std.proofs.lemmas.Bool.{cases_Bool, cases_lt, lt-ltb, le-ltb, false≢true}
@@ -17,21 +17,17 @@ use Rattle.jwt_policy.specs.ClaimKinds.{claims_of}
 use Rattle.jwt_policy.specs.Checks.{check_of}
 use Rattle.jwt_verify.specs.declared.tries.End.{End}
 use Rattle.jwt_verify.specs.declared.tries.End.TheVariants as end
-use Rattle.jwt_verify.specs.declared.report.Try.{Try}
-use Rattle.jwt_verify.specs.declared.report.InputFault.TheVariants.{TooLong}
 use Rattle.jwt_verify.specs.declared.report.Fault.{Fault}
-use Rattle.jwt_verify.specs.declared.report.Fault.TheVariants.{Text, Form}
 use Rattle.jwt_verify.specs.declared.report.Verdict.{Verdict}
-use Rattle.jwt_verify.specs.declared.report.Verdict.TheVariants.{Accepted, Refused}
-use Rattle.jwt_verify.specs.Table.{Table, below, verifies, verified, outcome, settled, paid, stop, ending, is_within}
+use Rattle.jwt_verify.specs.declared.report.Verdict.TheVariants.{Accepted}
+use Rattle.jwt_verify.specs.Table.{Table, below, verifies, verified, outcome, stop, ending}
 use Rattle.jwt_verify.specs.Trying.{table_of}
-use Rattle.jwt_verify.specs.Verdict.{Terms, Signing, VerifiedBy, Unverified, first_in, fault_of, key_at, fault_at, unverified, verified_or, signing_in, signing_of, checked, claimed, concluded, ended, token_verdict, formed, token_of, decided, verdict_of, table, without_line_feed}
+use Rattle.jwt_verify.specs.Verdict.{Terms, Signing, VerifiedBy, Unverified, first_in, key_at, fault_at, unverified, verified_or, signing_in, signing_of, checked, claimed, concluded, ended, token_verdict, formed, token_of, decided, verdict_of, table, without_line_feed}
 use Rattle.jwt_verify.specs.Accepted.{IsLeastKey, Counts, IsVerifiedBy, IsToken, IsAccepted, AcceptsExactly}
-use Rattle.jwt_verify.proofs.Below.{below-zero}
 use Rattle.jwt_verify.proofs.First.{first_zero, first_here, first_more, first_none_at, first-below, or_else}
 use Rattle.jwt_verify.proofs.Walking.{find-below}
 use Rattle.jwt_verify.proofs.Least.{least_found}
-use Rattle.jwt_verify.proofs.Signing.{none_below, found_any, not_found, key_none, fault_none}
+use Rattle.jwt_verify.proofs.Signing.{none_below, found_any, key_none, fault_none}
 use Rattle.jwt_verify.proofs.Judged.{unbarred_by, done_stop, table_of_token}
 
 -- ---- the least number that passes, and the first that has an answer

@@ -1,14 +1,14 @@
 -- The tries are in order, eligible and within the bound.
-use Rattle.std.proofs.Common.{◌≡◌, ℕ, zero, suc, ◌+◌, ◌*◌, ◌<◌, ◌≤◌, Bool, true, false, cond, List, [], ◌∷◌, ◌++◌, map, length, get_or, refl, sym, ◌∙◌, ap, subst, arith, add-one, append_assoc, length-append, inl, inr, ◌⊎◌, Option, None}
-use Rattle.std.specs.Prelude.{◌&&◌, not}
-use Rattle.std.specs.List.{All, AllPairs, sum_by, filter, list_any}
+use Rattle.std.proofs.Common.{◌≡◌, ℕ, zero, suc, ◌+◌, ◌*◌, ◌<◌, ◌≤◌, Bool, true, false, cond, List, [], ◌∷◌, ◌++◌, length, refl, sym, arith, add-one, append_assoc, inl, inr, ◌⊎◌, Option, None}
+use Rattle.std.specs.Prelude.{◌&&◌}
+use Rattle.std.specs.List.{All, AllPairs, sum_by}
 use Rattle.std.proofs.lemmas.List.{append-nil}
-use Rattle.std.proofs.lemmas.List.Elements.{All-nil, All-head, All-tail, All-push, All-append, All-weaker, All-same, filter_passes}
+use Rattle.std.proofs.lemmas.List.Elements.{All-nil, All-head, All-tail, All-push, All-weaker, filter_passes}
 use Rattle.std.proofs.lemmas.List.Quantifiers.{all_pairs_push}
 use Rattle.std.proofs.lemmas.List.Sums.{sum_by-cons}
 use Rattle.std.proofs.Math.Nat.{mul-le-mul_right, suc-mul}
 use Rattle.jwt_verify.specs.declared.report.Try.{Try}
-use Rattle.jwt_verify.specs.Table.{Table, below, verifies, reached, tried, entry, pairs, tries, work, is_within, paid, stop}
+use Rattle.jwt_verify.specs.Table.{Table, reached, tried, entry, pairs, tries, work, is_within, stop}
 use Rattle.jwt_verify.specs.Walk.{is_tried, row, rows}
 use Rattle.jwt_verify.specs.Laws.{IsBefore, bound, TriesAreBounded}
 use Rattle.jwt_verify.proofs.Paying.{paid_all, within_less}

@@ -1,16 +1,16 @@
 -- The work of a run is within the bound, so a ceiling of the bound is never exceeded.
-use Rattle.std.proofs.Common.{◌≡◌, ◌≢◌, ℕ, ℤ, zero, suc, ◌+◌, ◌*◌, ◌<◌, ◌≤◌, max, Bool, true, false, List, [], ◌∷◌, length, map, take, drop, Option, Some, None, Result, Ok, Err, arith, refl, sym, ◌∙◌, ap, subst, inl, inr}
-use Rattle.std.specs.Prelude.{◌&&◌, ◌||◌, not, slice_get, nat_le, nat_lt, if◌then◌else◌}
-use Rattle.std.specs.Option.{option_map_or, option_and_then}
-use Rattle.std.specs.List.{list_any, prefix_len, range_with_len}
+use Rattle.std.proofs.Common.{◌≡◌, ◌≢◌, ℕ, ℤ, zero, suc, ◌+◌, ◌*◌, ◌≤◌, Bool, true, false, List, [], ◌∷◌, length, map, take, drop, Option, Some, None, Result, Ok, Err, arith, refl, sym, ◌∙◌, ap, subst, inl, inr}
+use Rattle.std.specs.Prelude.{not, slice_get, nat_lt, if◌then◌else◌}
+use Rattle.std.specs.Option.{option_map_or}
+use Rattle.std.specs.List.{prefix_len, range_with_len}
 use Rattle.std.proofs.Math.Nat.{le-max_left, le-max_right}
-use Rattle.std.proofs.lemmas.Bool.{cases_Bool, cases_lt, false≢true, le-leb, leb-true}
+use Rattle.std.proofs.lemmas.Bool.{cases_Bool, cases_lt, le-leb}
 use Rattle.std.proofs.lemmas.Option.{slice_get_past}
 use Rattle.std.proofs.lemmas.List.{take-append-drop}
 use Rattle.std.proofs.lemmas.Slice.Eq.{bytes_eq-Decides}
 use Rattle.jwt_mac.specs.declared.algorithm.Alg.{Alg}
 use Rattle.jwt_mac.specs.declared.algorithm.Alg.TheVariants.{HS256, HS384, HS512, RS256, RS384, RS512, PS256, PS384, PS512, ES256, ES384, ES512, EdDSA}
-use Rattle.jwt_mac.specs.Algorithm.{is_hmac_alg, block_size, digest_size, try_cost, cost_of, key_cost, name_of, alg_named}
+use Rattle.jwt_mac.specs.Algorithm.{is_hmac_alg, block_size, digest_size, try_cost, key_cost, name_of, alg_named}
 use Rattle.jwt_mac.specs.Verifying.{Meaning, KeyOctets, OctKey, RsaKey, EcKey, OkpKey, MessageOctets, signing_input}
 use Rattle.jwt_text.specs.Rows.{NoRow}
 use Rattle.jwt_jws.specs.Token.{Token, SignatureParts, message_of}
@@ -24,7 +24,6 @@ use Rattle.jwt_verify.specs.declared.tries.End.TheVariants as end
 use Rattle.jwt_verify.specs.declared.report.Try.{Try}
 use Rattle.jwt_verify.specs.declared.report.Fault.{Fault}
 use Rattle.jwt_verify.specs.declared.report.Fault.TheVariants.{Text, WorkExceeded}
-use Rattle.jwt_verify.specs.declared.report.Verdict.{Verdict}
 use Rattle.jwt_verify.specs.declared.report.Verdict.TheVariants.{Refused}
 use Rattle.serde_json.specs.Data.{Members}
 use Rattle.jwt_jws.specs.declared.fault.FormFault.{FormFault}
@@ -37,7 +36,7 @@ use Rattle.jwt_verify.specs.declared.report.InputFault.TheVariants.{TooLong}
 use Rattle.jwt_verify.specs.Table.{Table, tries, work, is_within, affords, paid, stop, ending, states_at, states}
 use Rattle.jwt_verify.specs.Trying.{cost_under, cost_by, at_pair, table_of}
 use Rattle.jwt_verify.specs.Verdict.{Terms, Signing, VerifiedBy, Unverified, signing_of, checked, claimed, concluded, ended, token_verdict, formed, token_of, token_or_none, table, decided, verdict_of, without_line_feed}
-use Rattle.jwt_verify.specs.Laws.{greatest, longest_input, common_cost, long_secret, long_key, work_bound, bound, CeilingSuffices}
+use Rattle.jwt_verify.specs.Laws.{greatest, common_cost, long_secret, long_key, work_bound, CeilingSuffices}
 use Rattle.jwt_verify.proofs.Bounds.{work_bounded}
 use Rattle.jwt_verify.proofs.Judged.{table_of_token}
 use Rattle.jwt_verify.proofs.Paying.{work-append, paid_over}

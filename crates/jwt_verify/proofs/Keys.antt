@@ -1,8 +1,8 @@
 -- What is verified depends on which keys are there, and not on their order.
-use Rattle.std.proofs.Common.{◌≡◌, ℕ, ℤ, zero, suc, ◌+◌, ◌*◌, ◌<◌, ◌≤◌, Bool, true, false, cond, List, [], ◌∷◌, ◌++◌, map, length, get_or, refl, sym, ◌∙◌, ap, subst, arith, add-one, inl, inr, ◌⊎◌, Option, None, Some, Result, Ok, Err}
-use Rattle.std.specs.Prelude.{◌&&◌, ◌||◌, not, slice_get, if◌then◌else◌}
-use Rattle.std.specs.List.{All, Any, Contains, list_any, list_all, range_with_len, find}
-use Rattle.std.specs.Option.{option_map_or, option_and_then}
+use Rattle.std.proofs.Common.{◌≡◌, ℕ, zero, suc, ◌+◌, Bool, true, false, cond, List, [], ◌∷◌, map, length, refl, sym, ◌∙◌, ap, arith, inl, inr, Option, None, Some}
+use Rattle.std.specs.Prelude.{◌&&◌, ◌||◌, not, slice_get}
+use Rattle.std.specs.List.{list_any, list_all, range_with_len, find}
+use Rattle.std.specs.Option.{option_map_or}
 use Rattle.std.proofs.lemmas.List.Folds.{Any-from_list_any, list_any_at}
 use Rattle.std.proofs.lemmas.Simd.{map-map}
 use Rattle.std.proofs.lemmas.Bool.{cases_Bool}
@@ -15,9 +15,9 @@ use Rattle.jwt_policy.specs.declared.sig_fault.SigFault.{SigFault}
 use Rattle.jwt_policy.specs.Settings.{Settings}
 use Rattle.jwt_policy.specs.Eligible.{eligible_for}
 use Rattle.jwt_verify.specs.declared.report.SigState.{SigState}
-use Rattle.jwt_verify.specs.declared.report.SigState.TheVariants.{Barred, NoKey, BadSignature, Verified, NotReached, Stopped}
-use Rattle.jwt_verify.specs.Table.{Table, below, verifies, verified, tries, stop, reached, reached_in, state_at, states_at, outcome, settled}
-use Rattle.jwt_verify.specs.Trying.{valid_by, at_pair, table_of}
+use Rattle.jwt_verify.specs.declared.report.SigState.TheVariants.{Barred, NoKey, BadSignature, Verified, NotReached}
+use Rattle.jwt_verify.specs.Table.{Table, below, verifies, verified, reached, reached_in, state_at, states_at, outcome, settled}
+use Rattle.jwt_verify.specs.Trying.{valid_by, table_of}
 use Rattle.jwt_verify.specs.Laws.{unplaced, AreAmong, kind_of}
 use Rattle.jwt_verify.proofs.Below.{map-agree}
 

@@ -1,7 +1,7 @@
 -- A run asks for the validity of its tries alone.
-use Rattle.std.proofs.Common.{◌≡◌, ℕ, zero, suc, ◌+◌, ◌-◌, ◌*◌, ◌<◌, ◌≤◌, Bool, true, false, cond, List, [], ◌∷◌, ◌++◌, map, length, take, drop, get_or, refl, sym, ◌∙◌, ap, subst, arith, add-one, append_assoc, length-append, inl, inr, ◌⊎◌, Option, None, Some, eqb, ltb}
+use Rattle.std.proofs.Common.{◌≡◌, ℕ, zero, suc, ◌+◌, ◌-◌, ◌<◌, ◌≤◌, Bool, true, false, cond, List, [], ◌∷◌, ◌++◌, map, length, take, drop, get_or, refl, sym, ◌∙◌, ap, subst, arith, add-one, append_assoc, length-append, inl, inr, ◌⊎◌, Option, None, Some, eqb, ltb}
 use Rattle.std.specs.Prelude.{◌&&◌, ◌||◌, not, slice_get}
-use Rattle.std.specs.List.{All, Contains, list_any, list_all, range_with_len, find}
+use Rattle.std.specs.List.{All, Contains, list_any, find}
 use Rattle.std.proofs.lemmas.List.{append-nil, get_or_append_left, get_or_push, take_at, take-append-drop, drop_more}
 use Rattle.std.proofs.lemmas.List.Elements.{All-weaker}
 use Rattle.std.proofs.lemmas.List.FromFn.{get_or-map-range_with_len}
@@ -15,8 +15,8 @@ use Rattle.std.proofs.lemmas.Bool.{cases_Bool, false≢true}
 use Rattle.jwt_policy.specs.declared.sig_fault.SigFault.{SigFault}
 use Rattle.jwt_verify.specs.declared.report.Try.{Try}
 use Rattle.jwt_verify.specs.declared.report.SigState.{SigState}
-use Rattle.jwt_verify.specs.declared.report.SigState.TheVariants.{Barred, NoKey, BadSignature, Verified, NotReached, Stopped}
-use Rattle.jwt_verify.specs.Table.{Table, below, verifies, verified, tried, entry, tries, stop, reached, state_at, states_at, outcome, settled, work, is_within, paid, ending, affords}
+use Rattle.jwt_verify.specs.declared.report.SigState.TheVariants.{Verified, NotReached, Stopped}
+use Rattle.jwt_verify.specs.Table.{Table, below, verifies, verified, tried, entry, tries, stop, reached, state_at, states_at, outcome, settled, work, is_within, paid, affords}
 use Rattle.jwt_verify.specs.Walk.{IsAt, IsThrough, IsPending, row, rows, goes_on}
 use Rattle.jwt_verify.specs.Laws.{with_valid, LeastTries}
 use Rattle.jwt_verify.proofs.Below.{below-zero, list_any-below, map-agree, grows}

@@ -1,10 +1,8 @@
 -- More keys never refuse, and the same keys give the same verdict.
-use Rattle.std.proofs.Common.{◌≡◌, ℕ, ℤ, zero, suc, ◌+◌, ◌*◌, ◌<◌, ◌≤◌, Bool, true, false, List, [], ◌∷◌, map, length, refl, sym, ◌∙◌, ap, subst, arith, add-one, inl, inr, Option, None, Some, Result, Ok, Err}
-use Rattle.std.specs.List.{list_any, find}
+use Rattle.std.proofs.Common.{◌≡◌, ℕ, ℤ, ◌+◌, ◌<◌, true, false, List, [], ◌∷◌, map, refl, sym, ◌∙◌, ap, subst, arith, Option, None, Some, Result, Ok, Err}
 use Rattle.std.specs.Option.{option_map_or}
 use Rattle.serde_json.specs.Data.{Members}
 use Rattle.jwt_jws.specs.Token.{Token}
-use Rattle.jwt_keys.specs.Keys.{KeyParts}
 use Rattle.jwt_policy.specs.declared.mode.Mode.{Mode}
 use Rattle.jwt_policy.specs.declared.mode.Mode.TheVariants.{Any, All}
 use Rattle.jwt_policy.specs.declared.sig_fault.SigFault.{SigFault}
@@ -12,24 +10,21 @@ use Rattle.jwt_policy.specs.declared.claim_fault.ClaimFault.{ClaimFault}
 use Rattle.jwt_policy.specs.Settings.{Settings}
 use Rattle.jwt_policy.specs.ClaimKinds.{claims_of}
 use Rattle.jwt_policy.specs.Checks.{check_of}
-use Rattle.jwt_verify.specs.declared.tries.End.TheVariants as end
 use Rattle.jwt_verify.specs.declared.report.SigState.{SigState}
 use Rattle.jwt_verify.specs.declared.report.SigState.TheVariants.{Barred, NoKey, BadSignature, Verified, NotReached, Stopped}
 use Rattle.jwt_verify.specs.declared.report.Fault.{Fault}
-use Rattle.jwt_verify.specs.declared.report.Verdict.{Verdict}
-use Rattle.jwt_verify.specs.declared.report.Verdict.TheVariants.{Accepted, Refused}
-use Rattle.jwt_verify.specs.Table.{Table, below, verifies, verified, outcome, stop, ending, states_at}
+use Rattle.jwt_verify.specs.declared.report.Verdict.TheVariants.{Refused}
+use Rattle.jwt_verify.specs.Table.{Table, below, verifies, verified, outcome, stop, states_at}
 use Rattle.jwt_verify.specs.Trying.{table_of}
 use Rattle.jwt_verify.specs.Verdict.{Terms, Signing, VerifiedBy, Unverified, first_in, fault_of, key_at, fault_at, unverified, verified_or, signing_in, signing_of, checked, claimed, concluded, ended, token_verdict, token_of, decided, verdict_of, table}
-use Rattle.jwt_verify.specs.Accepted.{IsLeastKey, Counts, IsVerifiedBy, IsAccepted}
-use Rattle.jwt_verify.specs.Laws.{AreAmong, with_keys, HasRoom, MoreKeys, SameKeys, kind_of, without_key}
-use Rattle.jwt_verify.proofs.Below.{below-zero}
-use Rattle.jwt_verify.proofs.First.{first_zero, first_agree, first-below, or_else}
+use Rattle.jwt_verify.specs.Accepted.{IsLeastKey, Counts, IsVerifiedBy}
+use Rattle.jwt_verify.specs.Laws.{with_keys, MoreKeys, SameKeys, kind_of, without_key}
+use Rattle.jwt_verify.proofs.First.{first_agree}
 use Rattle.jwt_verify.proofs.Bounds.{never_stops}
 use Rattle.jwt_verify.proofs.Least.{least_found}
 use Rattle.jwt_verify.proofs.Signing.{key_none}
 use Rattle.jwt_verify.proofs.Judged.{no_states, table_none, table_of_token}
-use Rattle.jwt_verify.proofs.Accepting.{accepts_exactly_holds, is_token, any_at, any_true, stop_done, verified_key, not_verified}
+use Rattle.jwt_verify.proofs.Accepting.{accepts_exactly_holds, is_token, any_at, any_true, stop_done, verified_key}
 use Rattle.jwt_verify.proofs.Keys.{verified_more, verified_same, outcome_same, states_same}
 
 -- ---- more keys

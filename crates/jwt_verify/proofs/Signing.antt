@@ -1,9 +1,8 @@
 -- What the states of a run come to is what the table says of the signatures.
-use Rattle.std.proofs.Common.{◌≡◌, ℕ, zero, suc, ◌+◌, ◌<◌, ◌≤◌, Bool, true, false, List, [], ◌∷◌, length, map, Option, Some, None, arith, add-one, zero-add, refl, sym, ◌∙◌, ap, inl, inr}
-use Rattle.std.specs.Prelude.{slice_get, not, if◌then◌else◌}
-use Rattle.std.specs.Option.{option_map_or, option_and_then}
+use Rattle.std.proofs.Common.{◌≡◌, ℕ, zero, suc, ◌<◌, ◌≤◌, Bool, true, false, List, [], ◌∷◌, length, Option, Some, None, arith, add-one, zero-add, refl, sym, ◌∙◌, ap, inl, inr}
+use Rattle.std.specs.Prelude.{slice_get, not}
 use Rattle.std.specs.List.{range_with_len, list_any, list_all, find}
-use Rattle.std.proofs.lemmas.Bool.{cases_Bool, cases_lt}
+use Rattle.std.proofs.lemmas.Bool.{cases_Bool}
 use Rattle.std.proofs.lemmas.List.{length-map}
 use Rattle.std.proofs.lemmas.List.FromFn.{get_or-range_with_len, length-range_with_len}
 use Rattle.std.proofs.lemmas.Option.{slice_get-map, slice_get-get_or}
@@ -11,7 +10,6 @@ use Rattle.jwt_policy.specs.declared.mode.Mode.{Mode}
 use Rattle.jwt_policy.specs.declared.mode.Mode.TheVariants.{Any, All}
 use Rattle.jwt_policy.specs.declared.sig_fault.SigFault.{SigFault}
 use Rattle.jwt_verify.specs.declared.report.SigState.{SigState}
-use Rattle.jwt_verify.specs.declared.report.SigState.TheVariants.{Barred, NoKey, BadSignature, Verified}
 use Rattle.jwt_verify.specs.Table.{Table, below, verifies, verified, reached_in, reached, settled, outcome, state_at, states_at}
 use Rattle.jwt_verify.specs.Verdict.{first_in, fault_of, key_at, fault_at, signing_in, signing_of}
 use Rattle.jwt_verify.specs.Reports.{key_of, key_in, fault_in, signing_by}

@@ -1,20 +1,15 @@
 -- When a token is accepted, and why it is refused, in words.
-use Rattle.std.specs.Prelude.{ℕ, ◌<◌, ◌≤◌, ◌≡◌, ◌⊎◌, ◌↔◌, true, false, List, length, Option, Some, None, Ok, Err, ◌+◌}
+use Rattle.std.specs.Prelude.{ℕ, ◌<◌, ◌≤◌, ◌≡◌, ◌↔◌, true, false, List, length, None, Ok}
 use Rattle.serde_json.specs.Data.{Members}
 use Rattle.jwt_jws.specs.Token.{Token}
 use Rattle.jwt_jws.specs.Forms.{form_of}
 use Rattle.jwt_policy.specs.declared.mode.Mode.{Mode}
 use Rattle.jwt_policy.specs.declared.mode.Mode.TheVariants.{Any, All}
-use Rattle.jwt_policy.specs.declared.claim_fault.ClaimFault.{ClaimFault}
 use Rattle.jwt_policy.specs.ClaimKinds.{claims_of}
 use Rattle.jwt_policy.specs.Checks.{check_of}
-use Rattle.jwt_verify.specs.declared.report.Try.{Try}
-use Rattle.jwt_verify.specs.declared.report.InputFault.TheVariants.{TooLong}
-use Rattle.jwt_verify.specs.declared.report.Fault.{Fault}
-use Rattle.jwt_verify.specs.declared.report.Fault.TheVariants.{Text, Form, WorkExceeded, CallsExceeded, Signature, Claim}
-use Rattle.jwt_verify.specs.declared.report.Verdict.TheVariants.{Accepted, Refused}
-use Rattle.jwt_verify.specs.Table.{Table, verifies, verified, paid, stop, is_within}
-use Rattle.jwt_verify.specs.Verdict.{Terms, without_line_feed, fault_at, table, verdict_of}
+use Rattle.jwt_verify.specs.declared.report.Verdict.TheVariants.{Accepted}
+use Rattle.jwt_verify.specs.Table.{Table, verifies, verified, stop}
+use Rattle.jwt_verify.specs.Verdict.{Terms, without_line_feed, table, verdict_of}
 
 -- j is the least key that is eligible and valid for signature i
 abbrev pub IsLeastKey : Table → ℕ → ℕ → Type 0

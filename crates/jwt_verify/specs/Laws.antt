@@ -12,15 +12,13 @@ use Rattle.jwt_policy.specs.Settings.{Settings}
 use Rattle.jwt_policy.specs.Bars.{alg}
 use Rattle.jwt_verify.specs.declared.report.Fault.TheVariants.{WorkExceeded}
 use Rattle.jwt_verify.specs.Trying.{at_pair}
-use Rattle.std.specs.Prelude.{[], ◌∷◌, max, if◌then◌else◌, map, ℕ, ◌+◌, ◌*◌, ◌<◌, ◌≤◌, ◌≡◌, ◌≢◌, ◌⊎◌, Bool, true, false, not, List, length, slice_get, Option, None, IsTrue}
-use Rattle.std.specs.List.{list_any, list_all, sum_by, All, AllPairs, Contains}
+use Rattle.std.specs.Prelude.{[], ◌∷◌, max, if◌then◌else◌, map, ℕ, ◌+◌, ◌*◌, ◌<◌, ◌≤◌, ◌≡◌, ◌≢◌, ◌⊎◌, Bool, true, not, List, length, Option, None}
+use Rattle.std.specs.List.{sum_by, All, AllPairs, Contains}
 use Rattle.std.specs.Option.{option_map_or}
-use Rattle.jwt_policy.specs.declared.mode.Mode.{Mode}
-use Rattle.jwt_policy.specs.declared.mode.Mode.TheVariants.{Any, All as AllOf}
 use Rattle.jwt_verify.specs.declared.report.Try.{Try}
 use Rattle.jwt_verify.specs.declared.report.SigState.{SigState}
 use Rattle.jwt_verify.specs.declared.report.SigState.TheVariants.{Verified}
-use Rattle.jwt_verify.specs.Table.{Table, below, verified, tries, work, is_within, paid, stop, states, ending, entry, state_at}
+use Rattle.jwt_verify.specs.Table.{Table, tries, work, is_within, paid, states, ending, entry}
 
 -- a stands before b in dictionary order
 abbrev pub IsBefore : Try → Try → Type 0

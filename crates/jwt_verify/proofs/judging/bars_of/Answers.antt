@@ -1,4 +1,4 @@
-use Rattle.std.proofs.Common.{◌≡◌, ◌<◌, map, sym, arith, length}
+use Rattle.std.proofs.Common.{◌<◌, map, sym, arith, length}
 use Rattle.jwt_jws.specs.Views.{token, parts}
 use Rattle.jwt_policy.specs.Bars.{bar_of}
 use Rattle.jwt_verify.proofs.Bars.{map_more, slice_within}

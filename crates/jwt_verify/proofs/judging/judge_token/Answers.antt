@@ -1,4 +1,4 @@
-use Rattle.std.proofs.Common.{◌≡◌, ◌≤◌, refl, sym, map, arith, length, ◌∙◌, ap, w64}
+use Rattle.std.proofs.Common.{map, w64}
 use Rattle.std.proofs.lemmas.Int.{to_z-of_z}
 use Rattle.std.proofs.lemmas.List.{length-map}
 use Rattle.jwt_jws.specs.Views.{token, parts}

@@ -1,9 +1,9 @@
-use Rattle.std.proofs.Common.{◌≡◌, refl, sym, map, ◌∙◌, ap, w64}
+use Rattle.std.proofs.Common.{sym, map, ◌∙◌, ap, w64}
 use Rattle.std.proofs.lemmas.Int.{to_z-of_z}
 use Rattle.std.proofs.lemmas.Option.{IfSome_then}
 use Rattle.jwt_verify.specs.Table.{paid}
 use Rattle.jwt_verify.specs.Verdict.{token_of, table}
-use Rattle.jwt_verify.specs.Reports.{terms, IsWhole}
+use Rattle.jwt_verify.specs.Reports.{terms}
 use Rattle.jwt_verify.proofs.Judged.{same_verdict, same_table, front_none, octets_none}
 use Rattle.jwt_verify.proofs.Taking.{token_taken, takes_taken}
 use Rattle.jwt_verify.proofs.judging.validate.Goals as goal
