@@ -1,0 +1,120 @@
+-- What is issued: the octets of a token (RFC 7515, section 5.1), and the first cause why there is none.
+use Rattle.std.specs.Prelude.{◌≡◌, ℕ, suc, ◌+◌, ◌-◌, ◌*◌, ◌/◌, ◌&&◌, Bool, true, false, not, List, [], ◌∷◌, ◌++◌, length, Option, Some, None, Result, Ok, Err, if◌then◌else◌, nat_le, nat_lt, codes, map}
+use Rattle.std.specs.Str.{bytes_eq}
+use Rattle.serde_json.specs.Data.{Members, no_members, string, object, put}
+use Rattle.serde_json.specs.Written.{compact_text}
+use Rattle.jwt_text.specs.Base64url.{spelling}
+use Rattle.jwt_mac.specs.Algorithm.{is_hmac_alg, digest_size, tag_of, cost_of, name_of}
+use Rattle.jwt_mac.specs.Verifying.{KeyOctets, OctKey, RsaKey, EcKey, OkpKey, MessageOctets, signing_input}
+use Rattle.jwt_mac.specs.declared.algorithm.Alg.{Alg}
+use Rattle.jwt_keys.specs.Keys.{KeyParts, permits_of}
+use Rattle.jwt_issue.specs.declared.fault.IssueFault.{IssueFault}
+use Rattle.jwt_issue.specs.declared.fault.IssueFault.TheVariants.{NoKey, TooManySignatures, AlgNotHmac, KeyUnfit, TooLong, Spent}
+
+-- an algorithm and the key that signs by it
+pub record PairParts : Type 0 where
+  pub alg : Alg
+  pub key : KeyParts
+
+-- ---- one signature
+
+-- a member, where there is a text for it
+abbrev pub with_text : List ℕ → Option (List ℕ) → Members → Members
+with_text name None ms = ms
+with_text name (Some t) ms = put name (string t) ms
+
+-- the protected header: `alg`, the key's `kid` where it has one, and `typ` where it is given (RFC 7515, section 4.1)
+abbrev pub header : Option (List ℕ) → PairParts → Members
+header typ pair =
+    with_text (codes "typ") typ (with_text (codes "kid") pair.key.kid
+    (put (codes "alg") (string (name_of pair.alg)) no_members))
+
+-- its text: what spells the compact JSON text of the header, whose names are in ascending byte order
+unfoldable pub protected_text : Option (List ℕ) → PairParts → List ℕ
+protected_text typ pair = spelling (compact_text (object (header typ pair)))
+
+-- the secret of a key (RFC 7518, section 6.4), if it is one
+abbrev pub secret_in : KeyOctets → Option (List ℕ)
+secret_in (OctKey k) = Some k
+secret_in (RsaKey n e) = None
+secret_in (EcKey curve x y) = None
+secret_in (OkpKey curve x) = None
+
+abbrev pub octets_or_none : Option (List ℕ) → List ℕ
+octets_or_none None = []
+octets_or_none (Some octets) = octets
+
+-- what a pair signs with: its algorithm, the octets of its secret, and the text of its protected header
+pub record SignerParts : Type 0 where
+  pub alg : Alg
+  pub secret : List ℕ
+  pub protected : List ℕ
+
+abbrev pub signer_of : Option (List ℕ) → PairParts → SignerParts
+signer_of typ pair = record {
+  alg = pair.alg;
+  secret = octets_or_none (secret_in pair.key.octets);
+  protected = protected_text typ pair;
+}
+
+-- what it signs: the protected text, a period, the payload text (RFC 7515, section 5.1)
+abbrev pub input_of : List ℕ → SignerParts → List ℕ
+input_of payload s = signing_input (record { protected = s.protected; payload = payload })
+
+-- the text of its signature, which spells the HMAC of the signing input (RFC 7518, section 3.2)
+abbrev pub signature_text : List ℕ → SignerParts → List ℕ
+signature_text payload s = spelling (tag_of s.alg s.secret (input_of payload s))
+
+-- what the HMAC costs
+abbrev pub signing_cost : List ℕ → SignerParts → ℕ
+signing_cost payload s = cost_of s.alg s.secret (input_of payload s)
+
+-- ---- the token
+
+-- compact form (RFC 7515, section 7.1)
+abbrev pub compact_token : List ℕ → SignerParts → List ℕ
+compact_token payload s = input_of payload s ++ 46 ∷ signature_text payload s
+
+-- the octets of the text that spells n octets (RFC 4648, section 5)
+abbrev pub spelled_size : ℕ → ℕ
+spelled_size n = (4 * n + 2) / 3
+
+-- how many octets a token in compact form has
+abbrev pub compact_size : List ℕ → SignerParts → ℕ
+compact_size payload s = length (input_of payload s) + 1 + spelled_size (digest_size s.alg)
+
+-- ---- why a pair may not sign
+
+-- the key's `alg`, where present, is the algorithm (RFC 7517, section 4.4)
+abbrev pub is_for : Alg → Option (List ℕ) → Bool
+is_for alg None = true
+is_for alg (Some text) = bytes_eq text (name_of alg)
+
+-- the secret has at least as many octets as a digest of the algorithm (RFC 7518, section 3.2)
+abbrev pub is_long_enough : Alg → Option (List ℕ) → Bool
+is_long_enough alg None = false
+is_long_enough alg (Some secret) = nat_le (digest_size alg) (length secret)
+
+-- the key may sign by the algorithm
+abbrev pub may_sign : PairParts → Bool
+may_sign pair =
+    is_long_enough pair.alg (secret_in pair.key.octets)
+    && is_for pair.alg pair.key.alg
+    && permits_of (codes "sign") pair.key
+
+-- why pair i may not sign, if so
+unfoldable pub unfit : ℕ → PairParts → Option IssueFault
+unfit i pair =
+    if not (is_hmac_alg pair.alg) then Some (AlgNotHmac i)
+    else if not (may_sign pair) then Some (KeyUnfit i)
+    else None
+
+-- ---- what is answered
+
+-- what pair i signs with, or why it may not
+abbrev pub unless_unfit : Option IssueFault → SignerParts → Result SignerParts IssueFault
+unless_unfit None s = Ok s
+unless_unfit (Some fault) s = Err fault
+
+abbrev pub signer_at : Option (List ℕ) → ℕ → PairParts → Result SignerParts IssueFault
+signer_at typ i pair = unless_unfit (unfit i pair) (signer_of typ pair)

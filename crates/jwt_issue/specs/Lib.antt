@@ -1,0 +1,3 @@
+pub mod ClaimSets
+pub mod Issued
+pub mod Views

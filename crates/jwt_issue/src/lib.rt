@@ -1,0 +1,11 @@
+//! Issuing of signed JSON Web Tokens (RFC 7519), by HMAC with SHA-2 (RFC 7518, section 3.2), in compact, general JSON and
+//! flattened JSON form (RFC 7515, section 7).
+#![tactic(auto)]
+
+mod claim_set;
+mod compact;
+mod fault;
+mod signer;
+
+pub use claim_set::ClaimSet;
+pub use fault::IssueFault;
