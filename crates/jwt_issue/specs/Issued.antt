@@ -1,17 +1,18 @@
--- What is issued: the octets of a token (RFC 7515, section 5.1), and the first cause why there is none.
-use Rattle.std.specs.Prelude.{◌≡◌, ℕ, suc, ◌+◌, ◌-◌, ◌*◌, ◌/◌, ◌&&◌, Bool, true, false, not, List, [], ◌∷◌, ◌++◌, length, Option, Some, None, Result, Ok, Err, if◌then◌else◌, nat_le, nat_lt, codes, map}
+-- What is issued: the octets of a token (RFC 7515, sections 5.1 and 7), or the first cause why there is none.
+use Rattle.std.specs.Prelude.{ℕ, ◌+◌, ◌-◌, ◌&&◌, Bool, true, false, not, ◌==◌, List, [], ◌∷◌, ◌++◌, length, Option, Some, None, Result, Ok, Err, if◌then◌else◌, nat_le, nat_lt, codes, map}
 use Rattle.std.specs.Str.{bytes_eq}
+use Rattle.std.specs.List.{join_with_byte}
 use Rattle.serde_json.specs.Data.{Members, no_members, string, object, put}
 use Rattle.serde_json.specs.Written.{compact_text}
 use Rattle.jwt_text.specs.Base64url.{spelling}
 use Rattle.jwt_mac.specs.Algorithm.{is_hmac_alg, digest_size, tag_of, cost_of, name_of}
-use Rattle.jwt_mac.specs.Verifying.{KeyOctets, OctKey, RsaKey, EcKey, OkpKey, MessageOctets, signing_input}
+use Rattle.jwt_mac.specs.Verifying.{KeyOctets, OctKey, RsaKey, EcKey, OkpKey, signing_input}
 use Rattle.jwt_mac.specs.declared.algorithm.Alg.{Alg}
 use Rattle.jwt_keys.specs.Keys.{KeyParts, permits_of}
 use Rattle.jwt_issue.specs.declared.fault.IssueFault.{IssueFault}
 use Rattle.jwt_issue.specs.declared.fault.IssueFault.TheVariants.{NoKey, TooManySignatures, AlgNotHmac, KeyUnfit, TooLong, Spent}
 
--- an algorithm and the key that signs by it
+-- an algorithm, and the key that signs by it
 pub record PairParts : Type 0 where
   pub alg : Alg
   pub key : KeyParts
@@ -33,7 +34,7 @@ header typ pair =
 unfoldable pub protected_text : Option (List ℕ) → PairParts → List ℕ
 protected_text typ pair = spelling (compact_text (object (header typ pair)))
 
--- the secret of a key (RFC 7518, section 6.4), if it is one
+-- the secret of a key, if it is one (RFC 7518, section 6.4)
 abbrev pub secret_in : KeyOctets → Option (List ℕ)
 secret_in (OctKey k) = Some k
 secret_in (RsaKey n e) = None
@@ -62,7 +63,7 @@ abbrev pub input_of : List ℕ → SignerParts → List ℕ
 input_of payload s = signing_input (record { protected = s.protected; payload = payload })
 
 -- the text of its signature, which spells the HMAC of the signing input (RFC 7518, section 3.2)
-abbrev pub signature_text : List ℕ → SignerParts → List ℕ
+unfoldable pub signature_text : List ℕ → SignerParts → List ℕ
 signature_text payload s = spelling (tag_of s.alg s.secret (input_of payload s))
 
 -- what the HMAC costs
@@ -73,15 +74,26 @@ signing_cost payload s = cost_of s.alg s.secret (input_of payload s)
 
 -- compact form (RFC 7515, section 7.1)
 abbrev pub compact_token : List ℕ → SignerParts → List ℕ
-compact_token payload s = input_of payload s ++ 46 ∷ signature_text payload s
+compact_token payload s = input_of payload s ++ 46 ∷ [] ++ signature_text payload s
 
--- the octets of the text that spells n octets (RFC 4648, section 5)
-abbrev pub spelled_size : ℕ → ℕ
-spelled_size n = (4 * n + 2) / 3
+-- flattened JSON form (RFC 7515, section 7.2.2), with no white space
+abbrev pub flattened_token : List ℕ → SignerParts → List ℕ
+flattened_token payload s =
+    codes "{\"payload\":\"" ++ payload
+    ++ codes "\",\"protected\":\"" ++ s.protected
+    ++ codes "\",\"signature\":\"" ++ signature_text payload s ++ codes "\"}"
 
--- how many octets a token in compact form has
-abbrev pub compact_size : List ℕ → SignerParts → ℕ
-compact_size payload s = length (input_of payload s) + 1 + spelled_size (digest_size s.alg)
+-- one element of the list `signatures`
+abbrev pub element : List ℕ → SignerParts → List ℕ
+element payload s =
+    codes "{\"protected\":\"" ++ s.protected
+    ++ codes "\",\"signature\":\"" ++ signature_text payload s ++ codes "\"}"
+
+-- general JSON form (RFC 7515, section 7.2.1), with no white space
+abbrev pub general_token : List ℕ → List SignerParts → List ℕ
+general_token payload ss =
+    codes "{\"payload\":\"" ++ payload
+    ++ codes "\",\"signatures\":[" ++ join_with_byte 44 (map (element payload) ss) ++ codes "]}"
 
 -- ---- why a pair may not sign
 
@@ -109,12 +121,56 @@ unfit i pair =
     else if not (may_sign pair) then Some (KeyUnfit i)
     else None
 
+abbrev or_else : Option IssueFault → Option IssueFault → Option IssueFault
+or_else None later = later
+or_else (Some fault) later = Some fault
+
+-- why the first pair that may not sign may not, if there is one; the pairs are numbered from i
+abbrev pub first_unfit : ℕ → List PairParts → Option IssueFault
+first_unfit i [] = None
+first_unfit i (pair ∷ pairs) = or_else (unfit i pair) (first_unfit (i + 1) pairs)
+
 -- ---- what is answered
 
--- what pair i signs with, or why it may not
-abbrev pub unless_unfit : Option IssueFault → SignerParts → Result SignerParts IssueFault
-unless_unfit None s = Ok s
-unless_unfit (Some fault) s = Err fault
+-- the number of the first cost that exceeds what those before it leave, numbered from i
+abbrev pub first_beyond : ℕ → ℕ → List ℕ → Option ℕ
+first_beyond i left [] = None
+first_beyond i left (cost ∷ costs) = if nat_lt left cost then Some i else first_beyond (i + 1) (left - cost) costs
 
-abbrev pub signer_at : Option (List ℕ) → ℕ → PairParts → Result SignerParts IssueFault
-signer_at typ i pair = unless_unfit (unfit i pair) (signer_of typ pair)
+abbrev pub unless_beyond : Option ℕ → List ℕ → Result (List ℕ) IssueFault
+unless_beyond None token = Ok token
+unless_beyond (Some i) token = Err (Spent i)
+
+-- the token, unless it has more than 1,048,576 octets or the costs exceed what is left
+unfoldable pub within : ℕ → List ℕ → List ℕ → Result (List ℕ) IssueFault
+within left costs token =
+    if nat_lt 1048576 (length token) then Err TooLong
+    else unless_beyond (first_beyond 0 left costs) token
+
+abbrev pub unless_unfit : {A : Type 0} → Option IssueFault → Result A IssueFault → Result A IssueFault
+unless_unfit None answer = answer
+unless_unfit (Some fault) answer = Err fault
+
+-- what a pair's signature over these claims costs
+abbrev pub pair_cost : Option (List ℕ) → List ℕ → PairParts → ℕ
+pair_cost typ claims pair = signing_cost (spelling claims) (signer_of typ pair)
+
+abbrev pub pair_costs : Option (List ℕ) → List ℕ → List PairParts → List ℕ
+pair_costs typ claims pairs = map (pair_cost typ claims) pairs
+
+-- what is issued in each form where so many octets are left, or the first refusal
+
+unfoldable pub compact_of : ℕ → Option (List ℕ) → List ℕ → PairParts → Result (List ℕ) IssueFault
+compact_of left typ claims pair =
+    unless_unfit (unfit 0 pair) (within left (pair_cost typ claims pair ∷ []) (compact_token (spelling claims) (signer_of typ pair)))
+
+unfoldable pub flattened_of : ℕ → Option (List ℕ) → List ℕ → PairParts → Result (List ℕ) IssueFault
+flattened_of left typ claims pair =
+    unless_unfit (unfit 0 pair) (within left (pair_cost typ claims pair ∷ []) (flattened_token (spelling claims) (signer_of typ pair)))
+
+unfoldable pub general_of : ℕ → Option (List ℕ) → List ℕ → List PairParts → Result (List ℕ) IssueFault
+general_of left typ claims pairs =
+    if length pairs == 0 then Err NoKey
+    else if nat_lt 32 (length pairs) then Err TooManySignatures
+    else unless_unfit (first_unfit 0 pairs)
+        (within left (pair_costs typ claims pairs) (general_token (spelling claims) (map (signer_of typ) pairs)))

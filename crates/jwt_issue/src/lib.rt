@@ -5,7 +5,11 @@
 mod claim_set;
 mod compact;
 mod fault;
+mod fitness;
+mod header;
 mod signer;
+mod size;
 
 pub use claim_set::ClaimSet;
+pub use compact::issue_compact;
 pub use fault::IssueFault;

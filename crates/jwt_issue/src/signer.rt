@@ -1,17 +1,12 @@
 //! What one pair of an algorithm and a key signs with.
-ghost use Rattle.std.specs.Prelude.{◌≡◌, ◌+◌, ◌<◌, ◌≤◌, ◌^◌, IfOk, IfErr, IsErrOf, OnOk, OnErr, IsOkUnless, option_map};
-ghost use Rattle.serde_json.specs.Data.{object};
-ghost use Rattle.serde_json.specs.Written.{compact_text};
-ghost use Rattle.jwt_text.specs.Answers.{Answers};
-ghost use Rattle.jwt_text.specs.Base64url.{spelling};
-ghost use Rattle.jwt_keys.specs.Views.{key_parts};
-ghost use Rattle.jwt_issue.specs.Issued.{header, protected_text, secret_in, is_for, may_sign, unfit, signer_at, signature_text, signing_cost};
-ghost use Rattle.jwt_issue.specs.Views.{pair_of, signer_parts};
+ghost use Rattle.std.specs.Prelude.{IsTrue};
+ghost use Rattle.jwt_mac.specs.Algorithm.{is_hmac_alg};
 
 use crate::fault::IssueFault;
+use crate::fitness::{secret, unfit};
+use crate::header::{protected_text, spell};
 use jwt_keys::Key;
-use jwt_mac::{Alg, Budget, KeyView, Message, hmac};
-use jwt_text::{ObjectOut, encode};
+use jwt_mac::{Alg, Budget, Message, hmac};
 use std::alloc::Global;
 
 /// What a pair signs with: its algorithm, the secret, lent by the key, and the text of the protected header.
@@ -20,103 +15,65 @@ pub(crate) struct Signer<'a> {
     pub(crate) alg: Alg,
     pub(crate) secret: &'a [u8],
     pub(crate) protected: Vec<u8>,
+    ghost hmac: { IsTrue (is_hmac_alg alg) },
 }
 
-/// The secret, if the key is one.
-fn secret<'a>(key: &'a Key) -> Option<&'a [u8]>
-    ensures { option_map (λ k. k.now) result ≡ secret_in (key_parts key.entry.now).octets }
-{
-    match key.view() {
-        KeyView::Oct { k } => Some(k),
-        _ => None,
-    }
-}
+impl<'a> Signer<'a> {
+    ghost use Rattle.std.specs.Prelude.{◌≡◌, ◌≢◌, ◌+◌, ◌*◌, ◌<◌, ◌≤◌, ◌^◌, IfOk, IfErr, OnOk, Ok};
+    ghost use Rattle.jwt_text.specs.Answers.{Answers, some_or};
+    ghost use Rattle.jwt_issue.specs.Issued.{unfit, signer_of, unless_unfit, signature_text, signing_cost};
+    ghost use Rattle.jwt_issue.specs.Paying.{PaysOnce};
+    ghost use Rattle.jwt_issue.specs.Views.{pair_of, text_of, signer_parts};
 
-/// Whether the key's `alg`, where present, is the algorithm.
-fn is_for(alg: Alg, key: &Key) -> bool
-    ensures { result ≡ is_for alg (key_parts key.now).alg }
-{
-    match key.alg_text() {
-        Some(text) => text == alg.text(),
-        None => true,
-    }
-}
-
-/// Whether the key may sign by the algorithm.
-fn may_sign(alg: Alg, key: &Key) -> bool
-    ensures { result ≡ may_sign (pair_of alg key.now) }
-{
-    match secret(key) {
-        Some(k) => alg.digest() as usize <= k.len() && is_for(alg, key) && key.permits("sign"),
-        None => false,
-    }
-}
-
-/// The compact text of the protected header.
-fn header_text(
-    alloc: Global,
-    alg: Alg,
-    key: &Key,
-    typ: Option<&str>,
-) -> Result<Vec<u8>, IssueFault>
-    ensures ok { IfOk result (λ v. v.items ≡ compact_text (object (header (option_map (λ s. s.now) typ.entry) (pair_of alg key.now)))) }
-    ensures err { IsOkUnless result IssueFault.OutOfMemory }
-{
-    let mut header = ObjectOut::new(alloc);
-    if header.text("alg", alg.text()).is_err() {
-        return Err(IssueFault::OutOfMemory);
-    }
-    if let Some(kid) = key.kid() {
-        if header.text("kid", kid).is_err() {
-            return Err(IssueFault::OutOfMemory);
+    /// What pair `i` signs with, or why it may not.
+    #[tactic(auto, unfolding(crate::specs::Issued::unfit))]
+    pub(crate) fn new(
+        alloc: Global,
+        i: u32,
+        alg: Alg,
+        key: &'a Key,
+        typ: Option<&str>,
+    ) -> Result<Signer<'a>, IssueFault>
+        ensures { Answers IssueFault.OutOfMemory signer_parts result (unless_unfit (unfit i (pair_of alg key.entry.now)) (Ok (signer_of (text_of typ.entry) (pair_of alg key.entry.now)))) }
+    {
+        if let Some(fault) = unfit(i, alg, key) {
+            return Err(fault);
         }
+        let secret = secret(key).unwrap_or(&[]);
+        let protected = protected_text(alloc, alg, key, typ)?;
+        Ok(Signer {
+            alg,
+            secret,
+            protected,
+        })
     }
-    if let Some(typ) = typ {
-        if header.text("typ", typ).is_err() {
-            return Err(IssueFault::OutOfMemory);
-        }
-    }
-    match header.finish() {
-        Ok(text) => Ok(text),
-        Err(_) => Err(IssueFault::OutOfMemory),
-    }
-}
 
-/// The base64url text that spells the octets.
-pub(crate) fn spell(alloc: Global, octets: &[u8]) -> Result<Vec<u8>, IssueFault>
-    ensures ok { IfOk result (λ v. v.items ≡ spelling octets.now) }
-    ensures err { IsOkUnless result IssueFault.OutOfMemory }
-{
-    match encode(alloc, octets) {
-        Ok(text) => Ok(text),
-        Err(_) => Err(IssueFault::OutOfMemory),
+    /// The text of signature `i` over this payload text, paid from the budget.
+    #[tactic(auto, unfolding(crate::specs::Issued::signature_text))]
+    pub(crate) fn sign<B: Budget>(
+        &self,
+        alloc: Global,
+        b: &mut B,
+        i: u32,
+        payload: &[u8],
+    ) -> Result<Vec<u8>, IssueFault>
+        requires { B.calls b.old + 1 < 2 ^ 32 }
+        ensures text { IfOk result (λ v. v.items ≡ signature_text payload.now (signer_parts self.now)) }
+        ensures fault { IfErr result (λ e. e ≢ IssueFault.OutOfMemory → e ≡ IssueFault.Spent i) }
+        ensures afforded { OnOk result (B.octets b.old + signing_cost payload.now (signer_parts self.now) ≤ B.ceiling b.old) }
+        ensures spent { IfErr result (λ e. e ≢ IssueFault.OutOfMemory → B.ceiling b.old < B.octets b.old + signing_cost payload.now (signer_parts self.now)) }
+        ensures unchanged { IfErr result (λ e. e ≢ IssueFault.OutOfMemory → b.new ≡ b.old) }
+        ensures octets { PaysOnce result (λ n. B.octets b.new ≡ B.octets b.old + n * signing_cost payload.now (signer_parts self.now)) }
+        ensures calls { PaysOnce result (λ n. B.calls b.new ≡ B.calls b.old + n) }
+        ensures ceiling { B.ceiling b.new ≡ B.ceiling b.old }
+    {
+        let message = Message {
+            protected: &self.protected,
+            payload,
+        };
+        let Ok(tag) = hmac(b, self.alg, self.secret, message.parts()) else {
+            return Err(IssueFault::Spent(i));
+        };
+        spell(alloc, tag.octets())
     }
-}
-
-#[tactic(auto, unfolding(crate::specs::Issued::protected_text))]
-fn protected_text(
-    alloc: Global,
-    alg: Alg,
-    key: &Key,
-    typ: Option<&str>,
-) -> Result<Vec<u8>, IssueFault>
-    ensures ok { IfOk result (λ v. v.items ≡ protected_text (option_map (λ s. s.now) typ.entry) (pair_of alg key.now)) }
-    ensures err { IsOkUnless result IssueFault.OutOfMemory }
-{
-    let text = header_text(alloc, alg, key, typ)?;
-    spell(alloc, &text)
-}
-
-/// Why pair `i` may not sign.
-#[tactic(auto, unfolding(crate::specs::Issued::unfit))]
-pub(crate) fn unfit(i: u32, alg: Alg, key: &Key) -> Option<IssueFault>
-    ensures { result ≡ unfit i (pair_of alg key.now) }
-{
-    if !alg.is_hmac() {
-        return Some(IssueFault::AlgNotHmac(i));
-    }
-    if !may_sign(alg, key) {
-        return Some(IssueFault::KeyUnfit(i));
-    }
-    None
 }

@@ -1,0 +1,36 @@
+//! How many octets a token will have, before anything is signed.
+ghost use Rattle.std.specs.Prelude.{◌≡◌, ◌≤◌, ℕ, List, SomeIff, length};
+ghost use Rattle.jwt_issue.specs.Issued.{signature_text, compact_token};
+ghost use Rattle.jwt_issue.specs.Views.{signer_parts};
+
+use crate::signer::Signer;
+use jwt_mac::laws::tags_are_digests;
+
+/// The most octets of a token.
+const MOST: usize = 1_048_576;
+
+/// The octets of a signature text, over any payload.
+fn signature_len(signer: &Signer<'_>) -> usize
+    ensures is { (payload : List ℕ) → length (signature_text payload (signer_parts signer.now)) ≡ result }
+    ensures few { result ≤ 86 }
+{
+    tags_are_digests();
+    (4 * signer.alg.digest() as usize + 2) / 3
+}
+
+/// The length of a token, if it isn't too long.
+fn at_most(len: usize) -> Option<usize>
+    ensures { SomeIff result (len ≤ 1048576) len }
+{
+    if len <= MOST { Some(len) } else { None }
+}
+
+/// The octets of the token in compact form, `None` where they are too many.
+pub(crate) fn compact_len(signer: &Signer<'_>, payload: &[u8]) -> Option<usize>
+    ensures { SomeIff result (length (compact_token payload.now (signer_parts signer.now)) ≤ 1048576) (length (compact_token payload.now (signer_parts signer.now))) }
+{
+    if signer.protected.len() > MOST || payload.len() > MOST {
+        return None;
+    }
+    at_most(signer.protected.len() + payload.len() + 2 + signature_len(signer))
+}
