@@ -1,1 +1,2 @@
+mod Fit
 mod Lengths
