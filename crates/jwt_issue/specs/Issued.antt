@@ -76,18 +76,18 @@ signing_cost payload s = cost_of s.alg s.secret (input_of payload s)
 abbrev pub compact_token : List ℕ → SignerParts → List ℕ
 compact_token payload s = input_of payload s ++ 46 ∷ [] ++ signature_text payload s
 
+-- the members of one signature in JSON form (RFC 7515, section 7.2.1), with the closing brace
+abbrev pub signature_members : List ℕ → SignerParts → List ℕ
+signature_members payload s =
+    codes "\"protected\":\"" ++ s.protected ++ codes "\",\"signature\":\"" ++ signature_text payload s ++ codes "\"}"
+
 -- flattened JSON form (RFC 7515, section 7.2.2), with no white space
 abbrev pub flattened_token : List ℕ → SignerParts → List ℕ
-flattened_token payload s =
-    codes "{\"payload\":\"" ++ payload
-    ++ codes "\",\"protected\":\"" ++ s.protected
-    ++ codes "\",\"signature\":\"" ++ signature_text payload s ++ codes "\"}"
+flattened_token payload s = codes "{\"payload\":\"" ++ payload ++ codes "\"," ++ signature_members payload s
 
 -- one element of the list `signatures`
 abbrev pub element : List ℕ → SignerParts → List ℕ
-element payload s =
-    codes "{\"protected\":\"" ++ s.protected
-    ++ codes "\",\"signature\":\"" ++ signature_text payload s ++ codes "\"}"
+element payload s = codes "{" ++ signature_members payload s
 
 -- general JSON form (RFC 7515, section 7.2.1), with no white space
 abbrev pub general_token : List ℕ → List SignerParts → List ℕ

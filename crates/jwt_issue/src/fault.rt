@@ -1,8 +1,18 @@
-//! Why nothing was issued.
+//! Why a claim wasn't added, and why nothing was issued.
 ghost use Rattle.std.specs.Prelude.{◌≡◌};
 ghost use Rattle.jwt_issue.specs.declared.fault.IssueFault.TheVariants.{OutOfMemory};
 
 use std::alloc::{AllocError, AllocFailed};
+
+/// Why a claim wasn't added. The builder is as before.
+#[derive(Clone, Copy, Debug, PartialEq, Eq)]
+pub enum BuildFault {
+    /// A growth of memory was refused.
+    OutOfMemory,
+
+    /// A claim of this name is there already.
+    NameTwice,
+}
 
 /// Why nothing was issued. The first that holds is answered, in the order `NoKey`, `TooManySignatures`, pair by pair
 /// `AlgNotHmac` and `KeyUnfit`, `TooLong`, `Spent`. Pairs of an algorithm and a key are numbered from 0.

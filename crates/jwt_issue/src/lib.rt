@@ -2,14 +2,19 @@
 //! flattened JSON form (RFC 7515, section 7).
 #![tactic(auto)]
 
+mod builder;
 mod claim_set;
 mod compact;
 mod fault;
 mod fitness;
+mod flattened;
 mod header;
 mod signer;
 mod size;
+mod writing;
 
+pub use builder::Builder;
 pub use claim_set::ClaimSet;
 pub use compact::issue_compact;
-pub use fault::IssueFault;
+pub use fault::{BuildFault, IssueFault};
+pub use flattened::issue_flat;

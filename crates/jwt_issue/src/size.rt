@@ -1,6 +1,6 @@
 //! How many octets a token will have, before anything is signed.
 ghost use Rattle.std.specs.Prelude.{◌≡◌, ◌≤◌, ℕ, List, SomeIff, length};
-ghost use Rattle.jwt_issue.specs.Issued.{signature_text, compact_token};
+ghost use Rattle.jwt_issue.specs.Issued.{signature_text, compact_token, flattened_token};
 ghost use Rattle.jwt_issue.specs.Views.{signer_parts};
 
 use crate::signer::Signer;
@@ -33,4 +33,14 @@ pub(crate) fn compact_len(signer: &Signer<'_>, payload: &[u8]) -> Option<usize>
         return None;
     }
     at_most(signer.protected.len() + payload.len() + 2 + signature_len(signer))
+}
+
+/// The octets of the token in flattened JSON form, `None` where they are too many.
+pub(crate) fn flattened_len(signer: &Signer<'_>, payload: &[u8]) -> Option<usize>
+    ensures { SomeIff result (length (flattened_token payload.now (signer_parts signer.now)) ≤ 1048576) (length (flattened_token payload.now (signer_parts signer.now))) }
+{
+    if signer.protected.len() > MOST || payload.len() > MOST {
+        return None;
+    }
+    at_most(signer.protected.len() + payload.len() + 44 + signature_len(signer))
 }
