@@ -132,24 +132,21 @@ first_unfit i (pair ∷ pairs) = or_else (unfit i pair) (first_unfit (i + 1) pai
 
 -- ---- what is answered
 
--- the number of the first cost that exceeds what those before it leave, numbered from i
-abbrev pub first_beyond : ℕ → ℕ → List ℕ → Option ℕ
-first_beyond i left [] = None
-first_beyond i left (cost ∷ costs) = if nat_lt left cost then Some i else first_beyond (i + 1) (left - cost) costs
+-- why the first signature whose cost exceeds what those before it leave isn't made, if there is one; they are numbered from i
+abbrev pub first_spent : ℕ → ℕ → List ℕ → Option IssueFault
+first_spent i left [] = None
+first_spent i left (cost ∷ costs) = if nat_lt left cost then Some (Spent i) else first_spent (i + 1) (left - cost) costs
 
-abbrev pub unless_beyond : Option ℕ → List ℕ → Result (List ℕ) IssueFault
-unless_beyond None token = Ok token
-unless_beyond (Some i) token = Err (Spent i)
+-- the answer, unless there is a fault
+abbrev pub unless : {A : Type 0} → Option IssueFault → Result A IssueFault → Result A IssueFault
+unless None answer = answer
+unless (Some fault) answer = Err fault
 
 -- the token, unless it has more than 1,048,576 octets or the costs exceed what is left
 unfoldable pub within : ℕ → List ℕ → List ℕ → Result (List ℕ) IssueFault
 within left costs token =
     if nat_lt 1048576 (length token) then Err TooLong
-    else unless_beyond (first_beyond 0 left costs) token
-
-abbrev pub unless_unfit : {A : Type 0} → Option IssueFault → Result A IssueFault → Result A IssueFault
-unless_unfit None answer = answer
-unless_unfit (Some fault) answer = Err fault
+    else unless (first_spent 0 left costs) (Ok token)
 
 -- what a pair's signature over these claims costs
 abbrev pub pair_cost : Option (List ℕ) → List ℕ → PairParts → ℕ
@@ -162,15 +159,15 @@ pair_costs typ claims pairs = map (pair_cost typ claims) pairs
 
 unfoldable pub compact_of : ℕ → Option (List ℕ) → List ℕ → PairParts → Result (List ℕ) IssueFault
 compact_of left typ claims pair =
-    unless_unfit (unfit 0 pair) (within left (pair_cost typ claims pair ∷ []) (compact_token (spelling claims) (signer_of typ pair)))
+    unless (unfit 0 pair) (within left (pair_cost typ claims pair ∷ []) (compact_token (spelling claims) (signer_of typ pair)))
 
 unfoldable pub flattened_of : ℕ → Option (List ℕ) → List ℕ → PairParts → Result (List ℕ) IssueFault
 flattened_of left typ claims pair =
-    unless_unfit (unfit 0 pair) (within left (pair_cost typ claims pair ∷ []) (flattened_token (spelling claims) (signer_of typ pair)))
+    unless (unfit 0 pair) (within left (pair_cost typ claims pair ∷ []) (flattened_token (spelling claims) (signer_of typ pair)))
 
 unfoldable pub general_of : ℕ → Option (List ℕ) → List ℕ → List PairParts → Result (List ℕ) IssueFault
 general_of left typ claims pairs =
     if length pairs == 0 then Err NoKey
     else if nat_lt 32 (length pairs) then Err TooManySignatures
-    else unless_unfit (first_unfit 0 pairs)
+    else unless (first_unfit 0 pairs)
         (within left (pair_costs typ claims pairs) (general_token (spelling claims) (map (signer_of typ) pairs)))

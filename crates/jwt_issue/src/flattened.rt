@@ -1,5 +1,5 @@
 //! Tokens in flattened JSON form.
-ghost use Rattle.std.specs.Prelude.{◌≡◌, ◌≢◌, ◌+◌, ◌-◌, ◌*◌, ◌<◌, ◌^◌, IfErr};
+ghost use Rattle.std.specs.Prelude.{◌≡◌, ◌≢◌, ◌+◌, ◌-◌, ◌*◌, ◌<◌, ◌^◌, ◌++◌, IfErr, OnOk, codes};
 ghost use Rattle.jwt_text.specs.Answers.{Answers};
 ghost use Rattle.jwt_issue.specs.Issued.{flattened_of, pair_cost};
 ghost use Rattle.jwt_issue.specs.Paying.{PaysOnce};
@@ -13,7 +13,22 @@ use crate::size::flattened_len;
 use crate::writing::{add_signature, add_text};
 use jwt_keys::Key;
 use jwt_mac::{Alg, Budget};
-use std::alloc::Global;
+use std::alloc::{AllocError, Global};
+
+/// Adds the three members, with the braces (RFC 7515, section 7.2.2).
+fn add_members(
+    token: &mut Vec<u8>,
+    payload: &[u8],
+    protected: &[u8],
+    signature: &[u8],
+) -> Result<(), AllocError>
+    ensures { OnOk result (token.new.items ≡ token.old.items ++ codes "{\"payload\":\"" ++ payload.now ++ codes "\","
+        ++ codes "\"protected\":\"" ++ protected.now ++ codes "\",\"signature\":\"" ++ signature.now ++ codes "\"}") }
+{
+    add_text(token, b"{\"payload\":\"", payload)?;
+    token.extend_from_slice(b"\",")?;
+    add_signature(token, protected, signature)
+}
 
 /// A signed token in flattened JSON form (RFC 7515, section 7.2.2).
 #[tactic(auto, unfolding(crate::specs::Issued::flattened_of, crate::specs::Issued::within))]
@@ -39,8 +54,6 @@ pub fn issue_flat<B: Budget>(
     let len = flattened_len(&signer, &payload).ok_or(IssueFault::TooLong)?;
     let mut token = Vec::with_capacity(alloc, len)?;
     let signature = signer.sign(alloc, b, 0, &payload)?;
-    add_text(&mut token, b"{\"payload\":\"", &payload)?;
-    token.extend_from_slice(b"\",")?;
-    add_signature(&mut token, &signer.protected, &signature)?;
+    add_members(&mut token, &payload, &signer.protected, &signature)?;
     Ok(token)
 }

@@ -8,6 +8,7 @@ mod compact;
 mod fault;
 mod fitness;
 mod flattened;
+mod general;
 mod header;
 mod signer;
 mod size;

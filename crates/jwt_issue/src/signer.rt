@@ -21,7 +21,7 @@ pub(crate) struct Signer<'a> {
 impl<'a> Signer<'a> {
     ghost use Rattle.std.specs.Prelude.{◌≡◌, ◌≢◌, ◌+◌, ◌*◌, ◌<◌, ◌≤◌, ◌^◌, IfOk, IfErr, OnOk, Ok};
     ghost use Rattle.jwt_text.specs.Answers.{Answers, some_or};
-    ghost use Rattle.jwt_issue.specs.Issued.{unfit, signer_of, unless_unfit, signature_text, signing_cost};
+    ghost use Rattle.jwt_issue.specs.Issued.{unfit, signer_of, unless, signature_text, signing_cost};
     ghost use Rattle.jwt_issue.specs.Paying.{PaysOnce};
     ghost use Rattle.jwt_issue.specs.Views.{pair_of, text_of, signer_parts};
 
@@ -34,7 +34,7 @@ impl<'a> Signer<'a> {
         key: &'a Key,
         typ: Option<&str>,
     ) -> Result<Signer<'a>, IssueFault>
-        ensures { Answers IssueFault.OutOfMemory signer_parts result (unless_unfit (unfit i (pair_of alg key.entry.now)) (Ok (signer_of (text_of typ.entry) (pair_of alg key.entry.now)))) }
+        ensures { Answers IssueFault.OutOfMemory signer_parts result (unless (unfit i (pair_of alg key.entry.now)) (Ok (signer_of (text_of typ.entry) (pair_of alg key.entry.now)))) }
     {
         if let Some(fault) = unfit(i, alg, key) {
             return Err(fault);

@@ -1,6 +1,6 @@
 //! How many octets a token will have, before anything is signed.
-ghost use Rattle.std.specs.Prelude.{◌≡◌, ◌≤◌, ℕ, List, SomeIff, length};
-ghost use Rattle.jwt_issue.specs.Issued.{signature_text, compact_token, flattened_token};
+ghost use Rattle.std.specs.Prelude.{◌≡◌, ◌≤◌, ◌<◌, ℕ, List, SomeIff, length, map};
+ghost use Rattle.jwt_issue.specs.Issued.{signature_text, compact_token, flattened_token, general_token};
 ghost use Rattle.jwt_issue.specs.Views.{signer_parts};
 
 use crate::signer::Signer;
@@ -43,4 +43,22 @@ pub(crate) fn flattened_len(signer: &Signer<'_>, payload: &[u8]) -> Option<usize
         return None;
     }
     at_most(signer.protected.len() + payload.len() + 44 + signature_len(signer))
+}
+
+/// The octets of the token in general JSON form, `None` where they are too many.
+pub(crate) fn general_len(signers: &[Signer<'_>], payload: &[u8]) -> Option<usize>
+    requires { 0 < length signers.now }
+    ensures { SomeIff result (length (general_token payload.now (map signer_parts signers.now)) ≤ 1048576) (length (general_token payload.now (map signer_parts signers.now))) }
+{
+    if payload.len() > MOST {
+        return None;
+    }
+    let mut len = 29 + payload.len();
+    for signer in signers {
+        if len > MOST || signer.protected.len() > MOST {
+            return None;
+        }
+        len += 32 + signer.protected.len() + signature_len(signer);
+    }
+    at_most(len)
 }

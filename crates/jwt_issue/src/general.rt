@@ -1,0 +1,80 @@
+//! Tokens in general JSON form.
+ghost use Rattle.std.specs.Prelude.{◌≡◌, ◌≢◌, ◌+◌, ◌-◌, ◌≤◌, ◌<◌, ◌^◌, ◌++◌, ◌∷◌, [], List, length, map, take, codes, nat_lt, None, Some, Ok, IfErr, OnOk, OnErr, if◌then◌else◌};
+ghost use Rattle.std.specs.List.{sum, join_with_byte};
+ghost use Rattle.jwt_text.specs.Answers.{Answers};
+ghost use Rattle.jwt_issue.specs.Issued.{general_of, pair_costs, first_unfit, first_spent, signer_of, signing_cost, signature_members, element, unless};
+ghost use Rattle.jwt_issue.specs.Paying.{Pays};
+ghost use Rattle.jwt_issue.specs.Views.{pair_parts, text_of, signer_parts};
+
+use crate::claim_set::ClaimSet;
+use crate::fault::IssueFault;
+use crate::header::spell;
+use crate::signer::Signer;
+use crate::size::general_len;
+use crate::writing::{add_signature, add_text};
+use jwt_keys::Key;
+use jwt_mac::{Alg, Budget};
+use std::alloc::{AllocError, Global};
+
+/// The most signatures of a token.
+const MOST_SIGNATURES: usize = 32;
+
+/// What the pairs sign with, or why the first that may not sign may not.
+fn signers<'a>(
+    alloc: Global,
+    pairs: &[(Alg, &'a Key)],
+    typ: Option<&str>,
+) -> Result<Vec<Signer<'a>>, IssueFault>
+    requires { length pairs.now ≤ 32 }
+    ensures { Answers IssueFault.OutOfMemory (λ v. map signer_parts v.items) result (unless (first_unfit 0 (map pair_parts pairs.now)) (Ok (map (signer_of (text_of typ.entry)) (map pair_parts pairs.now)))) }
+{
+    let mut signers = Vec::with_capacity(alloc, pairs.len())?;
+    for i in 0..pairs.len() {
+        let (alg, key) = pairs[i];
+        signers.push(Signer::new(alloc, i as u32, alg, key, typ)?)?;
+    }
+    Ok(signers)
+}
+
+/// Adds one element of `signatures`, after a comma where it isn't the first (RFC 7515, section 7.2.1).
+fn add_element(
+    token: &mut Vec<u8>,
+    later: bool,
+    protected: &[u8],
+    signature: &[u8],
+) -> Result<(), AllocError>
+    ensures { OnOk result (token.new.items ≡ token.old.items ++ (if later then 44 ∷ [] else []) ++ codes "{"
+        ++ codes "\"protected\":\"" ++ protected.now ++ codes "\",\"signature\":\"" ++ signature.now ++ codes "\"}") }
+{
+    if later {
+        token.push(b',')?;
+    }
+    token.push(b'{')?;
+    add_signature(token, protected, signature)
+}
+
+/// Adds the elements of `signatures`, each signed when those before it are paid.
+#[tactic(auto, unfolding(crate::specs::Issued::signature_text))]
+fn add_elements<B: Budget>(
+    alloc: Global,
+    b: &mut B,
+    signers: &[Signer<'_>],
+    payload: &[u8],
+    token: &mut Vec<u8>,
+) -> Result<(), IssueFault>
+    requires few { length signers.now ≤ 32 }
+    requires room { B.calls b.old + 32 < 2 ^ 32 }
+    ensures text { OnOk result (token.new.items ≡ token.old.items ++ join_with_byte 44 (map (element payload.now) (map signer_parts signers.now))) }
+    ensures afforded { OnOk result (first_spent 0 (B.ceiling b.old - B.octets b.old) (map (signing_cost payload.now) (map signer_parts signers.now)) ≡ None) }
+    ensures fault { IfErr result (λ e. e ≢ IssueFault.OutOfMemory → first_spent 0 (B.ceiling b.old - B.octets b.old) (map (signing_cost payload.now) (map signer_parts signers.now)) ≡ Some e) }
+    ensures octets { Pays result (length signers.now) (λ n. B.octets b.new ≡ B.octets b.old + sum (take n (map (signing_cost payload.now) (map signer_parts signers.now)))) }
+    ensures calls { Pays result (length signers.now) (λ n. B.calls b.new ≡ B.calls b.old + n) }
+    ensures ceiling { B.ceiling b.new ≡ B.ceiling b.old }
+{
+    for i in 0..signers.len() {
+        let signer = &signers[i];
+        let signature = signer.sign(alloc, b, i as u32, payload)?;
+        add_element(token, i > 0, &signer.protected, &signature)?;
+    }
+    Ok(())
+}
