@@ -1,2 +1,3 @@
 mod Fit
 mod Lengths
+mod Steps

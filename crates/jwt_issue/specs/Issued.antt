@@ -76,10 +76,12 @@ signing_cost payload s = cost_of s.alg s.secret (input_of payload s)
 abbrev pub compact_token : List ℕ → SignerParts → List ℕ
 compact_token payload s = input_of payload s ++ 46 ∷ [] ++ signature_text payload s
 
--- the members of one signature in JSON form (RFC 7515, section 7.2.1), with the closing brace
+-- the members of one signature in JSON form (RFC 7515, section 7.2.1), of these two texts, with the closing brace
+abbrev pub text_members : List ℕ → List ℕ → List ℕ
+text_members protected signature = codes "\"protected\":\"" ++ protected ++ codes "\",\"signature\":\"" ++ signature ++ codes "\"}"
+
 abbrev pub signature_members : List ℕ → SignerParts → List ℕ
-signature_members payload s =
-    codes "\"protected\":\"" ++ s.protected ++ codes "\",\"signature\":\"" ++ signature_text payload s ++ codes "\"}"
+signature_members payload s = text_members s.protected (signature_text payload s)
 
 -- flattened JSON form (RFC 7515, section 7.2.2), with no white space
 abbrev pub flattened_token : List ℕ → SignerParts → List ℕ

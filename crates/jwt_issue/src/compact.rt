@@ -45,8 +45,7 @@ pub fn issue_compact<B: Budget>(
     ensures answer { Answers IssueFault.OutOfMemory (λ v. v.items) result (compact_of (B.ceiling b.old - B.octets b.old) (text_of typ.entry) claims.now (pair_of alg key.now)) }
 
     // What the budget counts.
-    ensures octets { PaysOnce result (λ n. B.octets b.new ≡ B.octets b.old + n * pair_cost (text_of typ.entry) claims.now (pair_of alg key.now)) }
-    ensures calls { PaysOnce result (λ n. B.calls b.new ≡ B.calls b.old + n) }
+    ensures paid { PaysOnce result (λ n. (B.octets b.new ≡ B.octets b.old + n * pair_cost (text_of typ.entry) claims.now (pair_of alg key.now)) × (B.calls b.new ≡ B.calls b.old + n)) }
     ensures ceiling { B.ceiling b.new ≡ B.ceiling b.old }
     ensures unchanged { IfErr result (λ e. e ≢ IssueFault.OutOfMemory → b.new ≡ b.old) }
 {

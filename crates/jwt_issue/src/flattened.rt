@@ -1,7 +1,7 @@
 //! Tokens in flattened JSON form.
 ghost use Rattle.std.specs.Prelude.{◌≡◌, ◌≢◌, ◌+◌, ◌-◌, ◌*◌, ◌<◌, ◌^◌, ◌++◌, IfErr, OnOk, codes};
 ghost use Rattle.jwt_text.specs.Answers.{Answers};
-ghost use Rattle.jwt_issue.specs.Issued.{flattened_of, pair_cost};
+ghost use Rattle.jwt_issue.specs.Issued.{flattened_of, pair_cost, text_members};
 ghost use Rattle.jwt_issue.specs.Paying.{PaysOnce};
 ghost use Rattle.jwt_issue.specs.Views.{pair_of, text_of};
 
@@ -23,7 +23,7 @@ fn add_members(
     signature: &[u8],
 ) -> Result<(), AllocError>
     ensures { OnOk result (token.new.items ≡ token.old.items ++ codes "{\"payload\":\"" ++ payload.now ++ codes "\","
-        ++ codes "\"protected\":\"" ++ protected.now ++ codes "\",\"signature\":\"" ++ signature.now ++ codes "\"}") }
+        ++ text_members protected.now signature.now) }
 {
     add_text(token, b"{\"payload\":\"", payload)?;
     token.extend_from_slice(b"\",")?;
@@ -44,8 +44,7 @@ pub fn issue_flat<B: Budget>(
     ensures answer { Answers IssueFault.OutOfMemory (λ v. v.items) result (flattened_of (B.ceiling b.old - B.octets b.old) (text_of typ.entry) claims.now (pair_of alg key.now)) }
 
     // What the budget counts.
-    ensures octets { PaysOnce result (λ n. B.octets b.new ≡ B.octets b.old + n * pair_cost (text_of typ.entry) claims.now (pair_of alg key.now)) }
-    ensures calls { PaysOnce result (λ n. B.calls b.new ≡ B.calls b.old + n) }
+    ensures paid { PaysOnce result (λ n. (B.octets b.new ≡ B.octets b.old + n * pair_cost (text_of typ.entry) claims.now (pair_of alg key.now)) × (B.calls b.new ≡ B.calls b.old + n)) }
     ensures ceiling { B.ceiling b.new ≡ B.ceiling b.old }
     ensures unchanged { IfErr result (λ e. e ≢ IssueFault.OutOfMemory → b.new ≡ b.old) }
 {

@@ -1,9 +1,9 @@
 //! Tokens in general JSON form.
-ghost use Rattle.std.specs.Prelude.{◌≡◌, ◌≢◌, ◌+◌, ◌-◌, ◌≤◌, ◌<◌, ◌^◌, ◌++◌, ◌∷◌, [], List, length, map, take, codes, nat_lt, None, Some, Ok, IfErr, OnOk, OnErr, if◌then◌else◌};
+ghost use Rattle.std.specs.Prelude.{◌≡◌, ◌≢◌, ◌+◌, ◌-◌, ◌*◌, ◌≤◌, ◌<◌, ◌^◌, ◌++◌, ◌∷◌, [], List, length, map, take, codes, nat_lt, None, Some, Ok, IfErr, OnOk, OnErr, if◌then◌else◌};
 ghost use Rattle.std.specs.List.{sum, join_with_byte};
 ghost use Rattle.jwt_text.specs.Answers.{Answers};
-ghost use Rattle.jwt_issue.specs.Issued.{general_of, pair_costs, first_unfit, first_spent, signer_of, signing_cost, signature_members, element, unless};
-ghost use Rattle.jwt_issue.specs.Paying.{Pays};
+ghost use Rattle.jwt_issue.specs.Issued.{general_of, pair_costs, first_unfit, first_spent, signer_of, signing_cost, text_members, element, unless};
+ghost use Rattle.jwt_issue.specs.Paying.{Pays, PaysOnce};
 ghost use Rattle.jwt_issue.specs.Views.{pair_parts, text_of, signer_parts};
 
 use crate::claim_set::ClaimSet;
@@ -43,8 +43,7 @@ fn add_element(
     protected: &[u8],
     signature: &[u8],
 ) -> Result<(), AllocError>
-    ensures { OnOk result (token.new.items ≡ token.old.items ++ (if later then 44 ∷ [] else []) ++ codes "{"
-        ++ codes "\"protected\":\"" ++ protected.now ++ codes "\",\"signature\":\"" ++ signature.now ++ codes "\"}") }
+    ensures { OnOk result (token.new.items ≡ token.old.items ++ ((if later then 44 ∷ [] else []) ++ (codes "{" ++ text_members protected.now signature.now))) }
 {
     if later {
         token.push(b',')?;
@@ -53,8 +52,30 @@ fn add_element(
     add_signature(token, protected, signature)
 }
 
-/// Adds the elements of `signatures`, each signed when those before it are paid.
+/// Signs as number `i`, and adds the element.
 #[tactic(auto, unfolding(crate::specs::Issued::signature_text))]
+fn add_signed<B: Budget>(
+    alloc: Global,
+    b: &mut B,
+    i: u32,
+    signer: &Signer<'_>,
+    payload: &[u8],
+    token: &mut Vec<u8>,
+) -> Result<(), IssueFault>
+    requires { B.calls b.old + 1 < 2 ^ 32 }
+    ensures text { OnOk result (token.new.items ≡ token.old.items ++ ((if nat_lt 0 i then 44 ∷ [] else []) ++ element payload.now (signer_parts signer.now))) }
+    ensures fault { IfErr result (λ e. e ≢ IssueFault.OutOfMemory → e ≡ IssueFault.Spent i) }
+    ensures afforded { OnOk result (B.octets b.old + signing_cost payload.now (signer_parts signer.now) ≤ B.ceiling b.old) }
+    ensures spent { IfErr result (λ e. e ≢ IssueFault.OutOfMemory → B.ceiling b.old < B.octets b.old + signing_cost payload.now (signer_parts signer.now)) }
+    ensures paid { PaysOnce result (λ n. (B.octets b.new ≡ B.octets b.old + n * signing_cost payload.now (signer_parts signer.now)) × (B.calls b.new ≡ B.calls b.old + n)) }
+    ensures ceiling { B.ceiling b.new ≡ B.ceiling b.old }
+{
+    let signature = signer.sign(alloc, b, i, payload)?;
+    add_element(token, i > 0, &signer.protected, &signature)?;
+    Ok(())
+}
+
+/// Adds the elements of `signatures`, each signed when those before it are paid.
 fn add_elements<B: Budget>(
     alloc: Global,
     b: &mut B,
@@ -67,14 +88,44 @@ fn add_elements<B: Budget>(
     ensures text { OnOk result (token.new.items ≡ token.old.items ++ join_with_byte 44 (map (element payload.now) (map signer_parts signers.now))) }
     ensures afforded { OnOk result (first_spent 0 (B.ceiling b.old - B.octets b.old) (map (signing_cost payload.now) (map signer_parts signers.now)) ≡ None) }
     ensures fault { IfErr result (λ e. e ≢ IssueFault.OutOfMemory → first_spent 0 (B.ceiling b.old - B.octets b.old) (map (signing_cost payload.now) (map signer_parts signers.now)) ≡ Some e) }
-    ensures octets { Pays result (length signers.now) (λ n. B.octets b.new ≡ B.octets b.old + sum (take n (map (signing_cost payload.now) (map signer_parts signers.now)))) }
-    ensures calls { Pays result (length signers.now) (λ n. B.calls b.new ≡ B.calls b.old + n) }
+    ensures paid { Pays result (length signers.now) (λ n. (B.octets b.new ≡ B.octets b.old + sum (take n (map (signing_cost payload.now) (map signer_parts signers.now)))) × (B.calls b.new ≡ B.calls b.old + n)) }
     ensures ceiling { B.ceiling b.new ≡ B.ceiling b.old }
 {
     for i in 0..signers.len() {
-        let signer = &signers[i];
-        let signature = signer.sign(alloc, b, i as u32, payload)?;
-        add_element(token, i > 0, &signer.protected, &signature)?;
+        add_signed(alloc, b, i as u32, &signers[i], payload, token)?;
     }
     Ok(())
+}
+
+/// A signed token in general JSON form (RFC 7515, section 7.2.1).
+#[tactic(auto, unfolding(crate::specs::Issued::general_of, crate::specs::Issued::within))]
+pub fn issue_json<B: Budget>(
+    alloc: Global,
+    b: &mut B,
+    pairs: &[(Alg, &Key)],
+    typ: Option<&str>,
+    claims: &ClaimSet,
+) -> Result<Vec<u8>, IssueFault>
+    requires { B.calls b.old + 32 < 2 ^ 32 }
+    ensures answer { Answers IssueFault.OutOfMemory (λ v. v.items) result (general_of (B.ceiling b.old - B.octets b.old) (text_of typ.entry) claims.now (map pair_parts pairs.now)) }
+
+    // What the budget counts.
+    ensures paid { Pays result (length pairs.now) (λ n. (B.octets b.new ≡ B.octets b.old + sum (take n (pair_costs (text_of typ.entry) claims.now (map pair_parts pairs.now)))) × (B.calls b.new ≡ B.calls b.old + n)) }
+    ensures ceiling { B.ceiling b.new ≡ B.ceiling b.old }
+{
+    if pairs.is_empty() {
+        return Err(IssueFault::NoKey);
+    }
+    if pairs.len() > MOST_SIGNATURES {
+        return Err(IssueFault::TooManySignatures);
+    }
+    let signers = signers(alloc, pairs, typ)?;
+    let payload = spell(alloc, claims.octets())?;
+    let len = general_len(&signers, &payload).ok_or(IssueFault::TooLong)?;
+    let mut token = Vec::with_capacity(alloc, len)?;
+    add_text(&mut token, b"{\"payload\":\"", &payload)?;
+    token.extend_from_slice(b"\",\"signatures\":[")?;
+    add_elements(alloc, b, &signers, &payload, &mut token)?;
+    token.extend_from_slice(b"]}")?;
+    Ok(token)
 }

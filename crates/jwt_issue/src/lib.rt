@@ -19,3 +19,4 @@ pub use claim_set::ClaimSet;
 pub use compact::issue_compact;
 pub use fault::{BuildFault, IssueFault};
 pub use flattened::issue_flat;
+pub use general::issue_json;

@@ -63,8 +63,7 @@ impl<'a> Signer<'a> {
         ensures afforded { OnOk result (B.octets b.old + signing_cost payload.now (signer_parts self.now) ≤ B.ceiling b.old) }
         ensures spent { IfErr result (λ e. e ≢ IssueFault.OutOfMemory → B.ceiling b.old < B.octets b.old + signing_cost payload.now (signer_parts self.now)) }
         ensures unchanged { IfErr result (λ e. e ≢ IssueFault.OutOfMemory → b.new ≡ b.old) }
-        ensures octets { PaysOnce result (λ n. B.octets b.new ≡ B.octets b.old + n * signing_cost payload.now (signer_parts self.now)) }
-        ensures calls { PaysOnce result (λ n. B.calls b.new ≡ B.calls b.old + n) }
+        ensures paid { PaysOnce result (λ n. (B.octets b.new ≡ B.octets b.old + n * signing_cost payload.now (signer_parts self.now)) × (B.calls b.new ≡ B.calls b.old + n)) }
         ensures ceiling { B.ceiling b.new ≡ B.ceiling b.old }
     {
         let message = Message {

@@ -1,5 +1,6 @@
 //! The pieces of a token in JSON form.
-ghost use Rattle.std.specs.Prelude.{◌≡◌, ◌++◌, OnOk, codes};
+ghost use Rattle.std.specs.Prelude.{◌≡◌, ◌++◌, OnOk};
+ghost use Rattle.jwt_issue.specs.Issued.{text_members};
 
 use std::alloc::AllocError;
 
@@ -17,8 +18,7 @@ pub(crate) fn add_signature(
     protected: &[u8],
     signature: &[u8],
 ) -> Result<(), AllocError>
-    ensures { OnOk result (token.new.items ≡ token.old.items
-        ++ codes "\"protected\":\"" ++ protected.now ++ codes "\",\"signature\":\"" ++ signature.now ++ codes "\"}") }
+    ensures { OnOk result (token.new.items ≡ token.old.items ++ text_members protected.now signature.now) }
 {
     add_text(token, b"\"protected\":\"", protected)?;
     add_text(token, b"\",\"signature\":\"", signature)?;
