@@ -1,9 +1,9 @@
 //! Tokens in flattened JSON form.
-ghost use Rattle.std.specs.Prelude.{◌≡◌, ◌≢◌, ◌+◌, ◌-◌, ◌*◌, ◌<◌, ◌^◌, ◌++◌, IfErr, OnOk, codes};
+ghost use Rattle.std.specs.Prelude.{◌≡◌, ◌≢◌, ◌+◌, ◌-◌, ◌*◌, ◌<◌, ◌^◌, ◌∷◌, [], ◌++◌, IfErr, OnOk, codes};
 ghost use Rattle.jwt_text.specs.Answers.{Answers};
-ghost use Rattle.jwt_issue.specs.Issued.{flattened_of, pair_cost, text_members};
+ghost use Rattle.jwt_issue.specs.Issued.{flattened_of, flattened_token, within, signing_cost, pair_cost, text_members};
 ghost use Rattle.jwt_issue.specs.Paying.{PaysOnce};
-ghost use Rattle.jwt_issue.specs.Views.{pair_of, text_of};
+ghost use Rattle.jwt_issue.specs.Views.{pair_of, text_of, signer_parts};
 
 use crate::claim_set::ClaimSet;
 use crate::fault::IssueFault;
@@ -30,8 +30,29 @@ fn add_members(
     add_signature(token, protected, signature)
 }
 
+/// The token of this signer and payload text.
+#[tactic(auto, unfolding(crate::specs::Issued::within))]
+fn flattened_token<B: Budget>(
+    alloc: Global,
+    b: &mut B,
+    signer: &Signer<'_>,
+    payload: &[u8],
+) -> Result<Vec<u8>, IssueFault>
+    requires { B.calls b.old + 1 < 2 ^ 32 }
+    ensures answer { Answers IssueFault.OutOfMemory (λ v. v.items) result (within (B.ceiling b.old - B.octets b.old) (signing_cost payload.now (signer_parts signer.now) ∷ []) (flattened_token payload.now (signer_parts signer.now))) }
+    ensures paid { PaysOnce result (λ n. (B.octets b.new ≡ B.octets b.old + n * signing_cost payload.now (signer_parts signer.now)) × (B.calls b.new ≡ B.calls b.old + n)) }
+    ensures ceiling { B.ceiling b.new ≡ B.ceiling b.old }
+    ensures unchanged { IfErr result (λ e. e ≢ IssueFault.OutOfMemory → b.new ≡ b.old) }
+{
+    let len = flattened_len(signer, payload).ok_or(IssueFault::TooLong)?;
+    let mut token = Vec::with_capacity(alloc, len)?;
+    let signature = signer.sign(alloc, b, 0, payload)?;
+    add_members(&mut token, payload, &signer.protected, &signature)?;
+    Ok(token)
+}
+
 /// A signed token in flattened JSON form (RFC 7515, section 7.2.2).
-#[tactic(auto, unfolding(crate::specs::Issued::flattened_of, crate::specs::Issued::within))]
+#[tactic(auto, unfolding(crate::specs::Issued::flattened_of))]
 pub fn issue_flat<B: Budget>(
     alloc: Global,
     b: &mut B,
@@ -50,9 +71,5 @@ pub fn issue_flat<B: Budget>(
 {
     let signer = Signer::new(alloc, 0, alg, key, typ)?;
     let payload = spell(alloc, claims.octets())?;
-    let len = flattened_len(&signer, &payload).ok_or(IssueFault::TooLong)?;
-    let mut token = Vec::with_capacity(alloc, len)?;
-    let signature = signer.sign(alloc, b, 0, &payload)?;
-    add_members(&mut token, &payload, &signer.protected, &signature)?;
-    Ok(token)
+    flattened_token(alloc, b, &signer, &payload)
 }

@@ -2,7 +2,7 @@
 ghost use Rattle.std.specs.Prelude.{◌≡◌, ◌≢◌, ◌+◌, ◌-◌, ◌*◌, ◌≤◌, ◌<◌, ◌^◌, ◌++◌, ◌∷◌, [], List, length, map, take, codes, nat_lt, None, Some, Ok, IfErr, OnOk, OnErr, if◌then◌else◌};
 ghost use Rattle.std.specs.List.{sum, join_with_byte};
 ghost use Rattle.jwt_text.specs.Answers.{Answers};
-ghost use Rattle.jwt_issue.specs.Issued.{general_of, pair_costs, first_unfit, first_spent, signer_of, signing_cost, text_members, element, unless};
+ghost use Rattle.jwt_issue.specs.Issued.{general_of, general_token, within, pair_costs, first_unfit, first_spent, signer_of, signing_cost, text_members, element, unless};
 ghost use Rattle.jwt_issue.specs.Paying.{Pays, PaysOnce};
 ghost use Rattle.jwt_issue.specs.Views.{pair_parts, text_of, signer_parts};
 
@@ -97,8 +97,32 @@ fn add_elements<B: Budget>(
     Ok(())
 }
 
+/// The token of these signers and this payload text.
+#[tactic(auto, unfolding(crate::specs::Issued::within))]
+fn general_token<B: Budget>(
+    alloc: Global,
+    b: &mut B,
+    signers: &[Signer<'_>],
+    payload: &[u8],
+) -> Result<Vec<u8>, IssueFault>
+    requires some { 0 < length signers.now }
+    requires few { length signers.now ≤ 32 }
+    requires room { B.calls b.old + 32 < 2 ^ 32 }
+    ensures answer { Answers IssueFault.OutOfMemory (λ v. v.items) result (within (B.ceiling b.old - B.octets b.old) (map (signing_cost payload.now) (map signer_parts signers.now)) (general_token payload.now (map signer_parts signers.now))) }
+    ensures paid { Pays result (length signers.now) (λ n. (B.octets b.new ≡ B.octets b.old + sum (take n (map (signing_cost payload.now) (map signer_parts signers.now)))) × (B.calls b.new ≡ B.calls b.old + n)) }
+    ensures ceiling { B.ceiling b.new ≡ B.ceiling b.old }
+{
+    let len = general_len(signers, payload).ok_or(IssueFault::TooLong)?;
+    let mut token = Vec::with_capacity(alloc, len)?;
+    add_text(&mut token, b"{\"payload\":\"", payload)?;
+    token.extend_from_slice(b"\",\"signatures\":[")?;
+    add_elements(alloc, b, signers, payload, &mut token)?;
+    token.extend_from_slice(b"]}")?;
+    Ok(token)
+}
+
 /// A signed token in general JSON form (RFC 7515, section 7.2.1).
-#[tactic(auto, unfolding(crate::specs::Issued::general_of, crate::specs::Issued::within))]
+#[tactic(auto, unfolding(crate::specs::Issued::general_of))]
 pub fn issue_json<B: Budget>(
     alloc: Global,
     b: &mut B,
@@ -121,11 +145,5 @@ pub fn issue_json<B: Budget>(
     }
     let signers = signers(alloc, pairs, typ)?;
     let payload = spell(alloc, claims.octets())?;
-    let len = general_len(&signers, &payload).ok_or(IssueFault::TooLong)?;
-    let mut token = Vec::with_capacity(alloc, len)?;
-    add_text(&mut token, b"{\"payload\":\"", &payload)?;
-    token.extend_from_slice(b"\",\"signatures\":[")?;
-    add_elements(alloc, b, &signers, &payload, &mut token)?;
-    token.extend_from_slice(b"]}")?;
-    Ok(token)
+    general_token(alloc, b, &signers, &payload)
 }
