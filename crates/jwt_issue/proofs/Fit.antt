@@ -67,3 +67,7 @@ pub signers_more : (f : PairParts → SignerParts) (pairs : List PairParts) (i :
     → map f (take (i + 1) pairs) ≡ map f (take i pairs) ++ f pair ∷ []
 signers_more f pairs i pair within e =
     map_more f pairs i pair within ∙ ap (λ (p : PairParts). map f (take i pairs) ++ f p ∷ []) (sym e)
+
+pub fit_refuses : {A : Type 0} (found : Option IssueFault) (s : A) (fault : IssueFault) → unless found (Ok s) ≡ Err fault → found ≡ Some fault
+fit_refuses None s fault e = absurd (cc e)
+fit_refuses (Some f) s fault e = cc

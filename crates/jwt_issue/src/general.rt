@@ -30,8 +30,8 @@ fn signers<'a>(
 {
     let mut signers = Vec::with_capacity(alloc, pairs.len())?;
     for i in 0..pairs.len() {
-        let (alg, key) = pairs[i];
-        signers.push(Signer::new(alloc, i as u32, alg, key, typ)?)?;
+        let pair = &pairs[i];
+        signers.push(Signer::new(alloc, i as u32, pair.0, pair.1, typ)?)?;
     }
     Ok(signers)
 }
