@@ -49,7 +49,7 @@ pub spent_at : {A : Type 0} (f : A → ℕ) (xs : List A) (i left : ℕ) (x : A)
 spent_at f xs i left x within e =
     let same = length-map xs f in
     let first : drop i (map f xs) ≡ f x ∷ drop (i + 1) (map f xs) =
-        rw add-one (drop-cons (map f xs) i (f x) (omega arith) ∙ ap (λ (n : ℕ). n ∷ drop (suc i) (map f xs)) (seen f xs i x within e)) in
+    rw add-one (drop-cons (map f xs) i (f x) (omega arith) ∙ ap (λ (n : ℕ). n ∷ drop (suc i) (map f xs)) (seen f xs i x within e)) in
     ap (λ (costs : List ℕ). first_spent i left costs) first
 
 pub stops_at : {A : Type 0} (f : A → ℕ) (xs : List A) (i left : ℕ) (x : A) → i < length xs → x ≡ get_or xs i x → left < f x

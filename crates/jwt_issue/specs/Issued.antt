@@ -123,7 +123,7 @@ unfit i pair =
     else if not (may_sign pair) then Some (KeyUnfit i)
     else None
 
-abbrev or_else : Option IssueFault → Option IssueFault → Option IssueFault
+abbrev pub or_else : Option IssueFault → Option IssueFault → Option IssueFault
 or_else None later = later
 or_else (Some fault) later = Some fault
 
@@ -172,4 +172,4 @@ general_of left typ claims pairs =
     if length pairs == 0 then Err NoKey
     else if nat_lt 32 (length pairs) then Err TooManySignatures
     else unless (first_unfit 0 pairs)
-        (within left (pair_costs typ claims pairs) (general_token (spelling claims) (map (signer_of typ) pairs)))
+    (within left (pair_costs typ claims pairs) (general_token (spelling claims) (map (signer_of typ) pairs)))

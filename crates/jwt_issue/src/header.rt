@@ -13,12 +13,7 @@ use jwt_text::{ObjectOut, encode};
 use std::alloc::Global;
 
 /// The compact text of the protected header.
-fn header_text(
-    alloc: Global,
-    alg: Alg,
-    key: &Key,
-    typ: Option<&str>,
-) -> Result<Vec<u8>, IssueFault>
+fn header_text(alloc: Global, alg: Alg, key: &Key, typ: Option<&str>) -> Result<Vec<u8>, IssueFault>
     ensures ok { IfOk result (λ v. v.items ≡ compact_text (object (header (text_of typ.entry) (pair_of alg key.now)))) }
     ensures err { IsOkUnless result IssueFault.OutOfMemory }
 {

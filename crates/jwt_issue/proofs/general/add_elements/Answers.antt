@@ -20,8 +20,8 @@ returns-in_err-add_signed-clause-fault g c =
     let within : i < length ss = omega (arith, length-map c.args.signers.now signer_parts) in
     let is = mapped_at signer_parts c.args.signers.now i c.index-signers-i.result c.loop-i-test.true c.index-signers-i.is in
     rw (p.1, p.2) (λ some. c.loop-i.invariant.left
-        ∙ stops_at price ss i _ s within is (omega (arith, c.in_err-add_signed.ensures.spent some, g.met.B.Budget.within c.loop-i.b))
-        ∙ ap Some (sym (c.in_err-add_signed.ensures.fault some)))
+    ∙ stops_at price ss i _ s within is (omega (arith, c.in_err-add_signed.ensures.spent some, g.met.B.Budget.within c.loop-i.b))
+    ∙ ap Some (sym (c.in_err-add_signed.ensures.fault some)))
 
 pub returns-in_err-add_signed-clause-paid : goal.returns-in_err-add_signed-clause-paid
 returns-in_err-add_signed-clause-paid g c =
@@ -35,9 +35,9 @@ returns-in_err-add_signed-clause-paid g c =
     let more = sum_more price ss i s within is in
     let kept = c.loop-i.invariant in
     rw (p.1, p.2) (paid_after ⊤ c.in_err-add_signed.field-0.0 i (length c.args.signers.now) _ _ c.loop-i-test.true c.in_err-add_signed.ensures.fault
-        (λ none. (omega (arith, none.0, kept.octets), omega (arith, none.1, kept.calls)))
-        (λ one. (omega (arith, one.0, kept.octets, more), omega (arith, one.1, kept.calls)))
-        c.in_err-add_signed.ensures.paid)
+    (λ none. (omega (arith, none.0, kept.octets), omega (arith, none.1, kept.calls)))
+    (λ one. (omega (arith, one.0, kept.octets, more), omega (arith, one.1, kept.calls)))
+    c.in_err-add_signed.ensures.paid)
 
 pub loop-i-preserved : goal.loop-i-preserved
 loop-i-preserved g c =

@@ -19,8 +19,8 @@ returns-in_err-new c =
     let within : i < length pairs = omega (arith, length-map c.args.pairs.now pair_parts) in
     let is : pair ≡ get_or pairs i pair = mapped_at pair_parts c.args.pairs.now i c.index-pairs-i.result c.loop-i-test.true c.index-pairs-i.is in
     rw (p.1, p.2) (λ some.
-        let here : unfit i pair ≡ Some fault = fit_refuses (unfit i pair) (signer_of (text_of c.args.typ) pair) fault (c.in_err-new.ensures some) in
-        ap (λ (f : Option IssueFault). unless f (Ok (map (signer_of (text_of c.args.typ)) pairs))) (c.loop-i.invariant.fit ∙ next_unfit pairs i pair fault within is here))
+    let here : unfit i pair ≡ Some fault = fit_refuses (unfit i pair) (signer_of (text_of c.args.typ) pair) fault (c.in_err-new.ensures some) in
+    ap (λ (f : Option IssueFault). unless f (Ok (map (signer_of (text_of c.args.typ)) pairs))) (c.loop-i.invariant.fit ∙ next_unfit pairs i pair fault within is here))
 
 pub loop-i-preserved : goal.loop-i-preserved
 loop-i-preserved c =

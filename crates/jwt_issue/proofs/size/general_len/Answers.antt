@@ -15,8 +15,8 @@ returns-then-len-gt-MOST c =
     let within = shares_within payload signer_parts signers c.loop-signer.signer-index c.signer-item.result (omega arith) c.signer-item.is in
     let own = length_share payload (signer_parts c.signer-item.result) in
     elim c.then-len-gt-MOST.branch [
-      then-len-gt-MOST-via-then-len-gt-MOST w ↦ (λ few. omega (arith, whole, within, own, few, w.if-len-gt-MOST.true, c.loop-signer.invariant))
-    | then-len-gt-MOST-via-else-len-gt-MOST+then-len-gt-MOST-2 w ↦ (λ few. omega (arith, whole, within, own, few, w.if-len-gt-MOST-2.true, w.len.ensures))
+      | then-len-gt-MOST-via-then-len-gt-MOST w ↦ (λ few. omega (arith, whole, within, own, few, w.if-len-gt-MOST.true, c.loop-signer.invariant))
+      | then-len-gt-MOST-via-else-len-gt-MOST+then-len-gt-MOST-2 w ↦ (λ few. omega (arith, whole, within, own, few, w.if-len-gt-MOST-2.true, w.len.ensures))
     ]
 
 pub loop-signer-preserved : goal.loop-signer-preserved
