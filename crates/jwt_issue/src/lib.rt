@@ -12,6 +12,8 @@ mod general;
 mod header;
 mod signer;
 mod size;
+#[cfg(test)]
+mod tests;
 mod writing;
 
 pub use builder::Builder;
