@@ -1,7 +1,7 @@
 -- One more step of a loop over signers.
-use Rattle.std.proofs.Common.{◌≡◌, ◌≢◌, ℕ, suc, ◌+◌, ◌-◌, ◌<◌, ◌≤◌, List, [], ◌∷◌, ◌++◌, length, get_or, take, drop, map, Bool, true, false, cond, Option, Some, None, refl, sym, ap, ◌∙◌, arith, append_assoc, add-one, nat_lt, subst, Err, inl, inr}
+use Rattle.std.proofs.Common.{◌≡◌, ◌≢◌, ℕ, suc, ◌+◌, ◌-◌, ◌<◌, ◌≤◌, List, [], ◌∷◌, ◌++◌, length, get_or, take, drop, map, true, false, cond, Some, refl, sym, ap, ◌∙◌, arith, append_assoc, add-one, nat_lt, subst, Err, inl, inr}
 use Rattle.std.specs.List.{sum, join_with_byte}
-use Rattle.std.proofs.lemmas.List.{length-map, get_or-map, map_more, take_more, take-map, drop-map}
+use Rattle.std.proofs.lemmas.List.{length-map, get_or-map, map_more}
 use Rattle.std.proofs.lemmas.List.Sums.{sum_by_more}
 use Rattle.std.proofs.lemmas.Bool.Decides.{nat_tests}
 use Rattle.std.proofs.lemmas.Grind.{common_steps}

@@ -31,7 +31,7 @@ fn join(
     token.extend_from_slice(signature)
 }
 
-/// The token of this signer and payload text.
+/// The token in compact form of this signer and payload text: its room is got first, then the HMAC is paid.
 #[tactic(auto, unfolding(crate::specs::Issued::within))]
 fn compact_token<B: Budget>(
     alloc: Global,
@@ -52,7 +52,18 @@ fn compact_token<B: Budget>(
     Ok(token)
 }
 
-/// A signed token in compact form (RFC 7515, section 7.1).
+/// A signed token in compact form (RFC 7515, section 7.1): the protected text, the payload text and the signature text, joined by
+/// periods. The payload is the claims, octet by octet.
+///
+/// The protected header has `alg`, the key's `kid` where it has one, and `typ` where it is given, as compact JSON text with the
+/// names in ascending byte order; the signature is the HMAC of the key over the signing input (RFC 7518, section 3.2). The HMAC is
+/// paid from the budget, at its cost and with one call. The condition: at least 32 calls are left below `u32::MAX`.
+///
+/// # Errors
+/// The first that holds of `AlgNotHmac(0)` and `KeyUnfit(0)`, the pair may not sign; `TooLong`, the token would have more than
+/// 1,048,576 octets; `Spent(0)`, the HMAC costs more than the budget has left. `OutOfMemory` comes where a growth was refused, in
+/// place of any other answer. The budget is as before after each but `OutOfMemory`, and after that it is as before or has the
+/// HMAC paid.
 #[tactic(auto, unfolding(crate::specs::Issued::compact_of))]
 pub fn issue_compact<B: Budget>(
     alloc: Global,

@@ -97,7 +97,7 @@ fn add_elements<B: Budget>(
     Ok(())
 }
 
-/// The token of these signers and this payload text.
+/// The token in general form of these signers and this payload text: its room is got first, then the HMACs are paid in order.
 #[tactic(auto, unfolding(crate::specs::Issued::within))]
 fn general_token<B: Budget>(
     alloc: Global,
@@ -121,7 +121,20 @@ fn general_token<B: Budget>(
     Ok(token)
 }
 
-/// A signed token in general JSON form (RFC 7515, section 7.2.1).
+/// A signed token in general JSON form (RFC 7515, section 7.2.1): an object with the text `payload` and the list `signatures`,
+/// whose elements have the texts `protected` and `signature`, one for each pair and in their order, with no white space. The
+/// payload is the claims, octet by octet.
+///
+/// Each protected header has `alg`, its key's `kid` where it has one, and `typ` where it is given, as compact JSON text with the
+/// names in ascending byte order; each signature is the HMAC of its own key over its own signing input (RFC 7518, section 3.2).
+/// The HMACs are paid from the budget in order, each at its cost and with one call. The condition: at least 32 calls are left
+/// below `u32::MAX`.
+///
+/// # Errors
+/// The first that holds of `NoKey`, there is no pair; `TooManySignatures`, there are more than 32; for each pair i `AlgNotHmac(i)`
+/// and `KeyUnfit(i)`, it may not sign; `TooLong`, the token would have more than 1,048,576 octets; `Spent(i)`, the HMAC of pair i
+/// costs more than the budget has left after those before it. `OutOfMemory` comes where a growth was refused, in place of any
+/// other answer. After `Spent(i)` the first i HMACs are paid, after `OutOfMemory` some first ones, after any other refusal none.
 #[tactic(auto, unfolding(crate::specs::Issued::general_of))]
 pub fn issue_json<B: Budget>(
     alloc: Global,

@@ -127,7 +127,11 @@ fn pairs_that_may_not_sign(rt: HostRuntime) -> Result<(), Fail> {
     }
     let zeros = keys.key(0).ok_or("no key")?;
     let short = keys.key(2).ok_or("no key")?;
-    let unfit = [(Alg::HS256, zeros), (Alg::HS256, short), (Alg::RS256, zeros)];
+    let unfit = [
+        (Alg::HS256, zeros),
+        (Alg::HS256, short),
+        (Alg::RS256, zeros),
+    ];
     let many = [(Alg::RS256, zeros); 33];
     let rows = [
         ([].as_slice(), IssueFault::NoKey),
@@ -184,7 +188,12 @@ fn claims_are_gathered_by_name(rt: HostRuntime) -> Result<(), Fail> {
     let mut builder = Builder::new(alloc);
     builder.text("exp", "x")?;
     assert!(rt; matches!(builder.finish(), Err(ClaimFault::ClaimKind(Claim::Exp))));
-    assert!(rt; matches!(ClaimSet::from_octets(alloc, b"[]".to_vec(alloc)?), Err(ClaimFault::ClaimsShape)));
+    assert!(rt;
+        matches!(
+            ClaimSet::from_octets(alloc, b"[]".to_vec(alloc)?),
+            Err(ClaimFault::ClaimsShape)
+        )
+    );
     Ok(())
 }
 

@@ -1,8 +1,6 @@
-use Rattle.std.proofs.Common.{◌≡◌, ℕ, List, Result, ◌+◌, ◌-◌, ◌*◌, sym, ap, subst, ◌∙◌}
+use Rattle.std.proofs.Common.{◌≡◌, ℕ, ◌+◌, ◌-◌, ◌*◌, sym, ap, subst, ◌∙◌}
 use Rattle.jwt_text.specs.Base64url.{spelling}
-use Rattle.jwt_text.specs.Answers.{Answers}
 use Rattle.jwt_issue.specs.Issued.{flattened_of, flattened_token}
-use Rattle.jwt_issue.specs.declared.fault.IssueFault.TheVariants.{OutOfMemory}
 use Rattle.jwt_issue.specs.Paying.{PaysOnce}
 use Rattle.jwt_issue.specs.Views.{pair_of, text_of, signer_parts}
 use Rattle.jwt_issue.proofs.Fit.{same_cost, same_answer}

@@ -1,11 +1,10 @@
-use Rattle.std.proofs.Common.{◌≡◌, ◌≢◌, ℕ, ◌+◌, ◌-◌, ◌*◌, ◌≤◌, ◌<◌, List, ◌∷◌, [], ◌++◌, length, get_or, map, take, drop, cond, nat_lt, Some, sym, ap, ◌∙◌, append_assoc, arith}
+use Rattle.std.proofs.Common.{ℕ, ◌+◌, ◌<◌, List, ◌∷◌, [], ◌++◌, length, map, take, drop, cond, nat_lt, Some, sym, ap, ◌∙◌, append_assoc, arith}
 use Rattle.std.specs.Prelude.{⊤}
-use Rattle.std.specs.List.{sum, join_with_byte}
-use Rattle.std.proofs.lemmas.List.{length-map, map_more}
+use Rattle.std.specs.List.{join_with_byte}
+use Rattle.std.proofs.lemmas.List.{length-map}
 use Rattle.std.proofs.lemmas.Result.{err_from_is_err_and}
-use Rattle.jwt_issue.specs.Issued.{SignerParts, first_spent, signing_cost, element}
+use Rattle.jwt_issue.specs.Issued.{first_spent, signing_cost, element}
 use Rattle.jwt_issue.specs.Views.{signer_parts}
-use Rattle.jwt_issue.specs.declared.fault.IssueFault.TheVariants.{OutOfMemory}
 use Rattle.jwt_issue.proofs.Lengths.{mapped_at}
 use Rattle.jwt_issue.proofs.Steps.{sum_more, elements_more, stops_at, goes_on, paid_after}
 use Rattle.jwt_issue.proofs.general.add_elements.Goals as goal

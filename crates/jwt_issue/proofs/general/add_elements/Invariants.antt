@@ -1,4 +1,4 @@
-use Rattle.std.proofs.Common.{◌≡◌, ◌≤◌, ◌+◌, ◌-◌, ◌++◌, length, map, take, drop}
+use Rattle.std.proofs.Common.{◌≡◌, ◌+◌, ◌-◌, ◌++◌, map, take, drop}
 use Rattle.std.specs.List.{sum, join_with_byte}
 use Rattle.jwt_issue.specs.Issued.{first_spent, signing_cost, element}
 use Rattle.jwt_issue.specs.Views.{signer_parts}

@@ -1,4 +1,4 @@
-use Rattle.std.proofs.Common.{◌≡◌, ℕ, ◌<◌, ◌+◌, ◌*◌, ◌-◌, List, Bool, true, false, cond, nat_lt, ◌==◌, length, map, take, Option, Result, Vec, Ok, Err, sym, ap, subst, ◌∙◌, arith}
+use Rattle.std.proofs.Common.{◌≡◌, ℕ, ◌<◌, ◌+◌, ◌-◌, List, length, map, take, Result, Vec, sym, ap, subst, ◌∙◌, arith}
 use Rattle.std.specs.Global.{Global}
 use Rattle.std.specs.List.{sum}
 use Rattle.std.proofs.lemmas.Bool.Decides.{nat_tests}
@@ -7,7 +7,7 @@ use Rattle.std.proofs.lemmas.List.{length-map}
 use Rattle.std.proofs.lemmas.Result.{err_from_is_err_and}
 use Rattle.jwt_text.specs.Answers.{Answers}
 use Rattle.jwt_text.specs.Base64url.{spelling}
-use Rattle.jwt_issue.specs.Issued.{PairParts, SignerParts, first_unfit, general_of, general_token, signer_of, signing_cost, pair_costs}
+use Rattle.jwt_issue.specs.Issued.{PairParts, SignerParts, first_unfit, general_of, general_token, signer_of, pair_costs}
 use Rattle.jwt_issue.specs.declared.fault.IssueFault.{IssueFault}
 use Rattle.jwt_issue.specs.declared.fault.IssueFault.TheVariants.{OutOfMemory}
 use Rattle.jwt_issue.specs.declared.signer.Signer.{Signer}

@@ -1,7 +1,7 @@
-use Rattle.std.proofs.Common.{◌≡◌, ◌≢◌, ℕ, ◌+◌, ◌<◌, List, ◌∷◌, [], ◌++◌, Option, length, get_or, map, take, drop, Some, None, Ok, Err, sym, ap, ◌∙◌, arith}
+use Rattle.std.proofs.Common.{◌≡◌, ◌<◌, List, ◌∷◌, [], ◌++◌, Option, length, get_or, map, take, Some, Ok, sym, ap, ◌∙◌, arith}
 use Rattle.std.proofs.lemmas.List.{length-map, map_push}
 use Rattle.std.proofs.lemmas.Result.{err_from_is_err_and}
-use Rattle.jwt_issue.specs.Issued.{PairParts, SignerParts, unless, unfit, first_unfit, signer_of}
+use Rattle.jwt_issue.specs.Issued.{PairParts, SignerParts, unless, unfit, signer_of}
 use Rattle.jwt_issue.specs.Views.{pair_parts, text_of, signer_parts}
 use Rattle.jwt_issue.specs.declared.fault.IssueFault.{IssueFault}
 use Rattle.jwt_issue.specs.declared.signer.Signer.{Signer}

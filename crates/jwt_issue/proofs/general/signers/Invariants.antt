@@ -1,4 +1,4 @@
-use Rattle.std.proofs.Common.{◌≡◌, ◌≤◌, length, map, take, drop}
+use Rattle.std.proofs.Common.{◌≡◌, map, take, drop}
 use Rattle.jwt_issue.specs.Issued.{first_unfit, signer_of}
 use Rattle.jwt_issue.specs.Views.{pair_parts, text_of, signer_parts}
 use Rattle.jwt_issue.proofs.general.signers.Given as goal

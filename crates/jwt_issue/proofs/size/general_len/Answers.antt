@@ -1,9 +1,8 @@
-use Rattle.std.proofs.Common.{◌≡◌, ◌≤◌, ◌<◌, ◌+◌, ℕ, length, map, take, SomeIff, subst, sym, ◌∙◌, arith}
-use Rattle.std.specs.List.{sum_by}
+use Rattle.std.proofs.Common.{◌≡◌, ◌≤◌, ℕ, length, map, SomeIff, subst, sym, ◌∙◌, arith}
 use Rattle.std.proofs.lemmas.List.{take_all, length-map}
-use Rattle.jwt_issue.specs.Issued.{signature_text, general_token}
+use Rattle.jwt_issue.specs.Issued.{general_token}
 use Rattle.jwt_issue.specs.Views.{signer_parts}
-use Rattle.jwt_issue.proofs.Lengths.{share, length_share, length_general, shares_more, shares_within}
+use Rattle.jwt_issue.proofs.Lengths.{length_share, length_general, shares_more, shares_within}
 use Rattle.jwt_issue.proofs.size.general_len.Goals as goal
 use Rattle.jwt_issue.proofs.size.general_len.Goals.{then-len-gt-MOST-via-then-len-gt-MOST, then-len-gt-MOST-via-else-len-gt-MOST+then-len-gt-MOST-2}
 

@@ -1,4 +1,4 @@
-use Rattle.std.proofs.Common.{◌≡◌, ℕ, ◌+◌, length, map, take}
+use Rattle.std.proofs.Common.{◌≡◌, ◌+◌, length, map, take}
 use Rattle.std.specs.List.{sum_by}
 use Rattle.jwt_issue.specs.Views.{signer_parts}
 use Rattle.jwt_issue.proofs.Lengths.{share}

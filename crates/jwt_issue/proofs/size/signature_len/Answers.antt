@@ -1,4 +1,3 @@
-use Rattle.std.proofs.Common.{◌≡◌, sym, ◌∙◌, ap, ◌+◌, ◌*◌, ◌/◌, ℕ}
 use Rattle.jwt_issue.specs.Views.{signer_parts}
 use Rattle.jwt_issue.proofs.Lengths.{length_signature}
 use Rattle.jwt_issue.proofs.size.signature_len.Goals as goal
