@@ -90,13 +90,14 @@ pub law : (t v : List ℕ) → (octets_of t ≡ Some v) ↔ Spells t v
 unfolding octets_of
 law t v =
     let test = bytes_eq (spelling (candidate t)) t in
-    let tells = bytes_eq-Decides (spelling (candidate t)) t in
-    (λ e. let parts = chosen test (candidate t) v e in
-      let same : spelling (candidate t) ≡ t = tells.0 parts.0 in
-      (subst AreOctets parts.1 (octets-candidate t), sym same ∙ ap spelling parts.1),
-     λ s. let back : candidate t ≡ v = ap candidate s.1 ∙ candidate-spelling v s.0 in
-      let yes : test ≡ true = tells.1 (ap spelling back ∙ sym s.1) in
-      rw yes (ap Some back))
+    let tells = bytes_eq-Decides (spelling (candidate t)) t in (
+      λ e. let parts = chosen test (candidate t) v e in
+          let same : spelling (candidate t) ≡ t = tells.0 parts.0 in
+          (subst AreOctets parts.1 (octets-candidate t), sym same ∙ ap spelling parts.1),
+      λ s. let back : candidate t ≡ v = ap candidate s.1 ∙ candidate-spelling v s.0 in
+          let yes : test ≡ true = tells.1 (ap spelling back ∙ sym s.1) in
+          rw yes (ap Some back),
+    )
 
 -- a text that spells nothing
 pub none : (t : List ℕ) → ((v : List ℕ) → Spells t v → ⊥) → octets_of t ≡ None

@@ -34,15 +34,16 @@ reads P Q S (Err TooLong) limit n old new (Some xs) (Some ys) size keeps front k
     let within : length old ≤ length new = starts_with_length new old kept in
     let split : limit + 1 ≡ length old + (limit + 1 - length old) = omega arith in
     let rest : ys ≡ drop (limit + 1 - length old) xs =
-      sym (drop_at new ys (limit + 1) len) ∙ ap (drop (limit + 1)) same ∙ ap (λ n. drop n (old ++ xs)) split ∙ drop-append-add old xs (limit + 1 - length old) in
-    (sym (take_at new ys (limit + 1) len) ∙ ap (take (limit + 1)) same,
-     ap Some rest,
-     omega (arith, ap length same, length-append new ys))
+    sym (drop_at new ys (limit + 1) len) ∙ ap (drop (limit + 1)) same ∙ ap (λ n. drop n (old ++ xs)) split ∙ drop-append-add old xs (limit + 1 - length old) in (
+      sym (take_at new ys (limit + 1) len) ∙ ap (take (limit + 1)) same,
+      ap Some rest,
+      omega (arith, ap length same, length-append new ys),
+    )
 reads P Q S (Err OutOfMemory) limit n old new (Some xs) None size keeps front kept ok read long memory fault = absurd (keeps (λ e. cc e))
-reads P Q S (Err OutOfMemory) limit n old new (Some xs) (Some ys) size keeps front kept ok read long memory fault = 
+reads P Q S (Err OutOfMemory) limit n old new (Some xs) (Some ys) size keeps front kept ok read long memory fault =
     let bound = memory refl in
     (ys, refl, keeps (λ e. cc e), omega (arith, size, bound.1))
-reads P Q S (Err Read) limit n old new (Some xs) b size keeps front kept ok read long memory fault = 
+reads P Q S (Err Read) limit n old new (Some xs) b size keeps front kept ok read long memory fault =
     let bound = read refl in
     (front, omega (arith, size, bound.1))
 reads P Q S (Err Base64) limit n old new (Some xs) b size keeps front kept ok read long memory fault = absurd fault

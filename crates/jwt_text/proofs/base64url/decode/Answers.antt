@@ -21,6 +21,6 @@ returns-in-Err-DecodeError-clause-value c = λ _.
     let read = c.in-Err-DecodeError.ensures in
     let was : decode_of url_safe_no_pad c.args.text.now ≡ Err c.in-Err-DecodeError.field-0-0 = rw c.in-Err-DecodeError.field-0-is at read.err in
     let spells_none : octets_of c.args.text.now ≡ _ = none c.args.text.now (λ octets spells.
-      let again = (read.strict (refl, refl) octets spells.0).1 (spells.1 ∙ sym (encoded octets spells.0)) in
-      cc (again, was)) in
+    let again = (read.strict (refl, refl) octets spells.0).1 (spells.1 ∙ sym (encoded octets spells.0)) in
+    cc (again, was)) in
     ap (some_or Base64) spells_none
