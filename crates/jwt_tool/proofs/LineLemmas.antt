@@ -49,7 +49,7 @@ line_at_end limit (Some x) (Some m) (Some y) octets keeps consumes at_end none w
     let all : octets ++ [] ≡ x = ap (λ l. octets ++ l) (sym empty) ∙ keeps in
     let line : first_line x ≡ octets = ap first_line (sym all) ∙ first_line_more octets [] none ∙ append-nil octets in
     let after : after_line x ≡ [] = ap after_line (sym all) ∙ after_line_more octets [] none in
-    record { line = sym line; unread = ap Some (at_end ∙ sym after); within = subst (λ (l : List ℕ). length l ≤ limit) (sym line) within; }
+    record { line = sym line; unread = ap Some (at_end ∙ sym after); within = subst (λ (l : List ℕ). length l ≤ limit) (sym line) within }
 
 -- an octet 10 came
 pub line_at_feed : (limit : ℕ) (told mid rest : Option (List ℕ)) (octets : List ℕ) → Keeps told (prepend_known octets mid) → Consumes mid rest (10 ∷ [])
@@ -61,7 +61,7 @@ line_at_feed limit (Some x) (Some m) (Some y) octets keeps consumes none within 
     let all : octets ++ 10 ∷ y ≡ x = ap (λ l. octets ++ l) (sym consumes) ∙ keeps in
     let line : first_line x ≡ octets = ap first_line (sym all) ∙ first_line_more octets (10 ∷ y) none ∙ append-nil octets in
     let after : after_line x ≡ y = ap after_line (sym all) ∙ after_line_more octets (10 ∷ y) none in
-    record { line = sym line; unread = ap Some (sym after); within = subst (λ (l : List ℕ). length l ≤ limit) (sym line) within; }
+    record { line = sym line; unread = ap Some (sym after); within = subst (λ (l : List ℕ). length l ≤ limit) (sym line) within }
 
 -- a growth was refused
 pub line_without_memory : (limit : ℕ) (failed : Bool) (told mid rest : Option (List ℕ)) (octets : List ℕ) (c : ℕ) → Keeps told (prepend_known octets mid) → Consumes mid rest (c ∷ [])

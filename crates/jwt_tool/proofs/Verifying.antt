@@ -42,8 +42,8 @@ pub then_taken : (limit second most : ℕ) (x octets : List ℕ) (mid rest : Opt
     → TakesLine limit x octets mid → IfSome mid (λ y. (failed ≡ true) ⊎ TakesAtMost second y rest) → (failed ≡ true) ⊎ TakesAtMost most x rest
 then_taken limit second most x octets mid rest failed within h more =
     more_taken (limit + 1) second most x rest failed within (after_line x)
-      (subst (λ m. TakesAtMost (limit + 1) x m) h.unread (line_taken limit (limit + 1) x octets mid (omega arith) h))
-      (subst (λ m. IfSome m (λ y. (failed ≡ true) ⊎ TakesAtMost second y rest)) h.unread more)
+    (subst (λ m. TakesAtMost (limit + 1) x m) h.unread (line_taken limit (limit + 1) x octets mid (omega arith) h))
+    (subst (λ m. IfSome m (λ y. (failed ≡ true) ⊎ TakesAtMost second y rest)) h.unread more)
 
 pub front_taken : (limit most : ℕ) (x : List ℕ) (rest : Option (List ℕ)) (failed : Bool) (v : Verdict) → limit + 1 ≤ most
     → (v ≢ Refused (Text Read) → FrontAtMost (limit + 1) x rest) → (v ≡ Refused (Text Read) → failed ≡ true) → (failed ≡ true) ⊎ TakesAtMost most x rest

@@ -103,10 +103,7 @@ fn sig_fault_name(fault: SigFault) -> &'static str
 }
 
 /// Why claims are refused, with the claim.
-pub(crate) fn claim_fault_text(
-    alloc: Global,
-    fault: &ClaimFault<'_>,
-) -> Result<Vec<u8>, AllocError>
+pub(crate) fn claim_fault_text(alloc: Global, fault: &ClaimFault<'_>) -> Result<Vec<u8>, AllocError>
     ensures { IfOk result (λ v. v.items ≡ joined_parts (claim_fault_parts fault.now)) }
 {
     match fault {

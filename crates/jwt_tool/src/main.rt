@@ -26,7 +26,9 @@ fn main(rt: HostRuntime) -> ExitCode {
     let mut w = Writer::new(rt.stdout());
     match run_words(&rt, &mut r, &mut w) {
         Ok(status) => ExitCode::from(status),
-        Err(error) if error.kind() == io::ErrorKind::OutOfMemory => ExitCode::from(lack_memory(&mut w)),
+        Err(error) if error.kind() == io::ErrorKind::OutOfMemory => ExitCode::from(lack_memory(
+            &mut w,
+        )),
         // Arguments that are no UTF-8 are wrong words.
         Err(_) => ExitCode::from(2),
     }

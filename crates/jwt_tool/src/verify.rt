@@ -61,7 +61,9 @@ fn report_line(alloc: Global, report: &Report<'_>, work: u64) -> Result<Reply, A
     let tries = report.tries.len();
     match &report.verdict {
         Verdict::Accepted { signature, key, .. } => {
-            let text = format!(in alloc; "accepted sig={signature} key={key} tries={tries} work={work}\n")?;
+            let text = format!(in alloc;
+                "accepted sig={signature} key={key} tries={tries} work={work}\n"
+            )?;
             Ok(Reply {
                 text: text.into_bytes(),
                 status: 0,
@@ -94,7 +96,12 @@ fn on_token<R: Source>(
 }
 
 // The key set's line, and what is behind it.
-fn on_keys<R: Source>(alloc: Global, now: u64, policy: &Policy, r: &mut R) -> Result<Reply, AllocError>
+fn on_keys<R: Source>(
+    alloc: Global,
+    now: u64,
+    policy: &Policy,
+    r: &mut R,
+) -> Result<Reply, AllocError>
     requires { now ≤ 9223372036854775807 }
     ensures line { IfSome (R.remaining r.old) (λ x. IfOk result (λ a. reply_view a
         ≡ unless_failed (R.failed r.new) (keys_answer now policy.now x))) }

@@ -10,4 +10,5 @@ invariant-octets g l = record {
   unread : Keeps (g.R.Source.remaining l.fn.r) (prepend_known l.octets.items (g.R.Source.remaining l.r));
   count : length l.octets.items ≡ l.counter;
   works : 0 < l.counter → g.R.Source.failed l.r ≡ false;
-  no_feed : list_any (λ octet. octet == 10) l.octets.items ≡ false; }
+  no_feed : list_any (λ octet. octet == 10) l.octets.items ≡ false;
+}

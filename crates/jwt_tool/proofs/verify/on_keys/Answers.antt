@@ -9,7 +9,7 @@ pub returns-in-Err-TooLong-clause-line : goal.returns-in-Err-TooLong-clause-line
 returns-in-Err-TooLong-clause-line g c =
     IfSome_then (g.R.Source.remaining c.args.r.now) c.in-Err-TooLong.ensures.fails
     (λ x h. let long = rw c.in-Err-TooLong.field-0-is at h in
-      subst (λ (a : Answer). IfOk c.refused_keys.result (λ r. reply_view r ≡ a)) (keys_line_too_long c.args.now c.args.policy.now x _ long.2 long.0) c.refused_keys.ensures)
+    subst (λ (a : Answer). IfOk c.refused_keys.result (λ r. reply_view r ≡ a)) (keys_line_too_long c.args.now c.args.policy.now x _ long.2 long.0) c.refused_keys.ensures)
 
 pub returns-in-Err-TooLong-clause-taken : goal.returns-in-Err-TooLong-clause-taken
 returns-in-Err-TooLong-clause-taken g c =
@@ -28,5 +28,6 @@ returns-in-Err-OutOfMemory-read-clause-taken g c =
 
 pub returns : goal.returns
 returns g c = record {
-    line = search rules;
-    taken = IfSome_then (g.R.Source.remaining c.args.r.now) c.in-Ok.ensures.line (λ x h. inr (line_taken 4194304 5242882 x _ _ (omega arith) h)) }
+  line = search rules;
+  taken = IfSome_then (g.R.Source.remaining c.args.r.now) c.in-Ok.ensures.line (λ x h. inr (line_taken 4194304 5242882 x _ _ (omega arith) h));
+}
