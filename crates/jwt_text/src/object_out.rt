@@ -1,10 +1,12 @@
-ghost use Rattle.std.specs.Prelude.{◌≡◌, map, false, IfOk, OnOk, OnErr, IsErrOf, IsOkUnless};
+ghost use Rattle.std.specs.Prelude.{◌≡◌, ◌≤◌, Some, map, false, IfOk, OnOk, OnErr, IsErrOf, IsOkUnless};
 ghost use Rattle.json.specs.Print.{quoted as quoted_text};
-ghost use Rattle.serde_json.specs.Data.{string, number, boolean, object, no_members, put};
+ghost use Rattle.serde_json.specs.Data.{string, number, boolean, object, no_members, put, depth};
 ghost use Rattle.serde_json.specs.Find.{of_integer};
+ghost use Rattle.serde_json.specs.Read.{max_depth};
 ghost use Rattle.serde_json.specs.View.{view, items_view, members_view};
 ghost use Rattle.serde_json.specs.Written.{compact_text, members_have_float, has_float};
 ghost use Rattle.jwt_text.specs.Members.{names, AreInOrder};
+ghost use Rattle.jwt_text.specs.ObjectText.{reading};
 ghost use Rattle.jwt_text.specs.Writing.{list_of_texts, adding};
 
 use crate::TextFault;
@@ -121,6 +123,9 @@ impl ObjectOut {
     pub fn finish(self) -> Result<Vec<u8>, TextFault>
         ensures order { AreInOrder (names self) }
         ensures ok { IfOk result (λ v. v.items ≡ compact_text (object self)) }
+        // It is read back as this object.
+        ensures reads_back { IfOk result (λ v. depth (object self) ≤ max_depth
+            → reading v.items ≡ Some (object self)) }
         ensures err { IsOkUnless result TextFault.OutOfMemory }
     {
         let ObjectOut { alloc, members } = self;

@@ -1,14 +1,14 @@
 -- The tries are in order, eligible and within the bound.
-use Rattle.std.proofs.Common.{◌≡◌, ℕ, zero, suc, ◌+◌, ◌*◌, ◌<◌, ◌≤◌, Bool, true, false, cond, List, [], ◌∷◌, ◌++◌, map, length, get_or, refl, sym, ◌∙◌, ap, subst, arith, add-one, append_assoc, length-append, inl, inr, ◌⊎◌, Option, None}
-use Rattle.std.specs.Prelude.{◌&&◌, not}
-use Rattle.std.specs.List.{All, AllPairs, sum_by, filter, list_any}
+use Rattle.std.proofs.Common.{◌≡◌, ℕ, zero, suc, ◌+◌, ◌*◌, ◌<◌, ◌≤◌, Bool, true, false, cond, List, [], ◌∷◌, ◌++◌, length, refl, sym, arith, add-one, append_assoc, inl, inr, ◌⊎◌, Option, None}
+use Rattle.std.specs.Prelude.{◌&&◌}
+use Rattle.std.specs.List.{All, AllPairs, sum_by}
 use Rattle.std.proofs.lemmas.List.{append-nil}
-use Rattle.std.proofs.lemmas.List.Elements.{All-nil, All-head, All-tail, All-push, All-append, All-weaker, All-same, filter_passes}
+use Rattle.std.proofs.lemmas.List.Elements.{All-nil, All-head, All-tail, All-push, All-weaker, filter_passes}
 use Rattle.std.proofs.lemmas.List.Quantifiers.{all_pairs_push}
 use Rattle.std.proofs.lemmas.List.Sums.{sum_by-cons}
 use Rattle.std.proofs.Math.Nat.{mul-le-mul_right, suc-mul}
 use Rattle.jwt_verify.specs.declared.report.Try.{Try}
-use Rattle.jwt_verify.specs.Table.{Table, below, verifies, reached, tried, entry, pairs, tries, work, is_within, paid, stop}
+use Rattle.jwt_verify.specs.Table.{Table, reached, tried, entry, pairs, tries, work, is_within, stop}
 use Rattle.jwt_verify.specs.Walk.{is_tried, row, rows}
 use Rattle.jwt_verify.specs.Laws.{IsBefore, bound, TriesAreBounded}
 use Rattle.jwt_verify.proofs.Paying.{paid_all, within_less}
@@ -79,21 +79,23 @@ pub tries_eligible : (t : Table) → All (λ e. t.eligible e.signature e.key ≡
 unfolding tries
 tries_eligible t = All-weaker (λ e. is_tried t e ≡ true) (λ e. t.eligible e.signature e.key ≡ true) (λ e h. tried_eligible t e.signature e.key h) (tries t) (filter_passes (is_tried t) (pairs t))
 
-sum_bound : (t : Table) (common : ℕ) (extra : ℕ → ℕ → ℕ) → ((i j : ℕ) → t.cost i j ≤ common + extra i j) → (es : List Try) → All (HasCost t) es → sum_by (λ e. e.cost) es ≤ length es * common + sum_by (λ e. extra e.signature e.key) es
-sum_bound t common extra h [] all = omega arith
-sum_bound t common extra h (e ∷ es) all =
+sum_bound : (t : Table) (common : ℕ) (extra : ℕ → ℕ → ℕ) → ((i j : ℕ) → t.eligible i j ≡ true → t.cost i j ≤ common + extra i j) → (es : List Try) → All (HasCost t) es → All (λ e. t.eligible e.signature e.key ≡ true) es
+    → sum_by (λ e. e.cost) es ≤ length es * common + sum_by (λ e. extra e.signature e.key) es
+sum_bound t common extra h [] all eligible = omega arith
+sum_bound t common extra h (e ∷ es) all eligible =
     let here : e.cost ≡ t.cost e.signature e.key = All-head (HasCost t) e es all in
-    let rest = sum_bound t common extra h es (All-tail (HasCost t) e es all) in
-    omega (arith, here, rest, h e.signature e.key, sum_by-cons (λ (e : Try). e.cost) e es, sum_by-cons (λ (e : Try). extra e.signature e.key) e es, suc-mul (length es) common)
+    let rest = sum_bound t common extra h es (All-tail (HasCost t) e es all) (All-tail (λ e. t.eligible e.signature e.key ≡ true) e es eligible) in
+    let may : t.eligible e.signature e.key ≡ true = All-head (λ e. t.eligible e.signature e.key ≡ true) e es eligible in
+    omega (arith, here, rest, h e.signature e.key may, sum_by-cons (λ (e : Try). e.cost) e es, sum_by-cons (λ (e : Try). extra e.signature e.key) e es, suc-mul (length es) common)
 
 pub length-tries : (t : Table) → length (tries t) ≤ t.signatures * t.keys
 length-tries t = rw tries_are_rows (length-rows t t.signatures)
 
-pub work_bounded : (t : Table) (common : ℕ) (extra : ℕ → ℕ → ℕ) → ((i j : ℕ) → t.cost i j ≤ common + extra i j) → work (tries t) ≤ bound t common extra
+pub work_bounded : (t : Table) (common : ℕ) (extra : ℕ → ℕ → ℕ) → ((i j : ℕ) → t.eligible i j ≡ true → t.cost i j ≤ common + extra i j) → work (tries t) ≤ bound t common extra
 unfolding work
 work_bounded t common extra h =
     let costs : All (HasCost t) (tries t) = rw tries_are_rows (rows_ordered t t.signatures).costs in
-    omega (arith, sum_bound t common extra h (tries t) costs, mul-le-mul_right common (length-tries t))
+    omega (arith, sum_bound t common extra h (tries t) costs (tries_eligible t), mul-le-mul_right common (length-tries t))
 
 pub tries_bounded : TriesAreBounded
 tries_bounded t = (rw tries_are_rows (rows_ordered t t.signatures).ordered, tries_eligible t, length-tries t, work_bounded t)

@@ -1,25 +1,25 @@
 -- How the tries of a signature and of a run end.
-use Rattle.std.proofs.Common.{◌≡◌, ℕ, ◌+◌, ◌-◌, ◌*◌, ◌<◌, ◌≤◌, Bool, true, false, List, [], ◌∷◌, ◌++◌, map, length, refl, sym, ◌∙◌, ap, arith, add-one, length-append, Some, None, Option, eqb, ltb, inl, inr, ◌⊎◌}
-use Rattle.std.specs.Prelude.{not, ◌&&◌, replicate}
+use Rattle.std.proofs.Common.{◌≡◌, ℕ, ◌+◌, ◌-◌, ◌*◌, ◌<◌, ◌≤◌, Bool, true, false, List, [], ◌∷◌, ◌++◌, map, length, refl, sym, ◌∙◌, ap, arith, length-append, Some, None, Option, eqb, inl, inr, ◌⊎◌}
+use Rattle.std.specs.Prelude.{replicate}
 use Rattle.std.specs.List.{list_any, find}
 use Rattle.std.proofs.lemmas.List.{length-map, append-nil}
 use Rattle.jwt_verify.specs.declared.tries.End.{End}
 use Rattle.std.proofs.lemmas.Bool.{lt-ltb, le-ltb}
 use Rattle.std.proofs.Math.Bool.{and-false}
-use Rattle.std.proofs.Common.{append_assoc, add-zero, subst, ◌^◌, ⊎_elim}
+use Rattle.std.proofs.Common.{append_assoc, add-zero, subst, ◌^◌}
 use Rattle.jwt_policy.specs.declared.sig_fault.SigFault.{SigFault}
 use Rattle.jwt_verify.specs.declared.report.Try.{Try}
 use Rattle.jwt_verify.specs.declared.report.SigState.{SigState}
 use Rattle.jwt_verify.specs.declared.report.SigState.TheVariants.{NotReached, Stopped}
 use Rattle.jwt_verify.specs.declared.tries.RowEnd.TheVariants.{Through, Stop}
 use Rattle.jwt_verify.specs.declared.tries.End.TheVariants.{Done, WorkExceeded, CallsExceeded, VerifierMemory}
-use Rattle.jwt_verify.specs.Table.{Table, below, verifies, reached, entry, tries, work, is_within, outcome, settled, state_at, states_at}
+use Rattle.jwt_verify.specs.Table.{Table, below, verifies, reached, entry, work, is_within, outcome, settled, state_at, states_at}
 use Rattle.jwt_verify.specs.Walk.{IsAt, IsThrough, IsPending, IsFront, IsEnd, IsRowEnd, IsRecorded, goes_on, IsNextKey, NoneEligible}
 use Rattle.jwt_verify.proofs.Below.{length-below, map-below, map-agree, map-tail, list_any-gap}
-use Rattle.jwt_verify.specs.Table.{IsRun, paid, stop, ending}
+use Rattle.jwt_verify.specs.Table.{IsRun, paid}
 use Rattle.jwt_verify.specs.Walk.{IsCounted, stopped_at}
 use Rattle.jwt_verify.proofs.Paying.{paid_all, paid_stop, paid_front}
-use Rattle.jwt_verify.proofs.Walking.{at_skip, at_failed, at_end, at_verified, at_pending, at_room, at_front, through_front, through_next, through_last, at_last, found_at, found_none, seen_at, reached_up_to, unreached_from, reached-next}
+use Rattle.jwt_verify.proofs.Walking.{at_skip, at_failed, at_end, at_verified, at_pending, at_room, found_at, found_none, seen_at, reached_up_to, unreached_from, reached-next}
 
 pub stop_calls : {t : Table} {i j : ℕ} {es : List Try} (ceiling : ℕ) (calls : Option ℕ) → IsPending t i j es → i < t.signatures → is_within calls (length es + 1) ≡ false → IsRowEnd t i ceiling calls es (Stop (CallsExceeded i j))
 stop_calls {t} {i} {j} {es} ceiling calls p l f = ((at_pending t i j es p.at l p.within p.eligible, f), p.at.reached, (j, refl))

@@ -1,12 +1,12 @@
 -- The first number that has an answer.
-use Rattle.std.proofs.Common.{◌≡◌, ℕ, zero, suc, ◌+◌, ◌-◌, ◌<◌, ◌≤◌, List, [], ◌∷◌, ◌++◌, Option, Some, None, arith, add-one, refl, sym, ◌∙◌, ap, inl, inr}
+use Rattle.std.proofs.Common.{◌≡◌, ℕ, zero, suc, ◌+◌, ◌-◌, ◌<◌, List, [], ◌∷◌, ◌++◌, Option, Some, None, arith, add-one, refl, sym, ◌∙◌, ap, inl, inr}
 use Rattle.std.specs.Option.{option_map_or}
 use Rattle.std.proofs.lemmas.Bool.{cases_lt}
 use Rattle.jwt_verify.specs.Table.{below}
 use Rattle.jwt_verify.specs.Verdict.{first_in}
 use Rattle.jwt_verify.proofs.Below.{below-zero, below_more}
 
-abbrev or_else : {A : Type 0} → Option A → Option A → Option A
+abbrev pub or_else : {A : Type 0} → Option A → Option A → Option A
 or_else (Some a) o = Some a
 or_else None o = o
 
@@ -18,7 +18,7 @@ first-append {A} f (x ∷ xs) ys = go (f x) (first-append f xs ys)
     go (Some a) rest = refl
     go None rest = rest
 
-first-below : {A : Type 0} (f : ℕ → Option A) (n : ℕ) → first_in f (below (n + 1)) ≡ or_else (first_in f (below n)) (option_map_or (λ a. Some (n, a)) (f n) None)
+pub first-below : {A : Type 0} (f : ℕ → Option A) (n : ℕ) → first_in f (below (n + 1)) ≡ or_else (first_in f (below n)) (option_map_or (λ a. Some (n, a)) (f n) None)
 first-below f n = ap (first_in f) (below_more n) ∙ first-append f (below n) (n ∷ [])
 
 pub first_zero : {A : Type 0} (f : ℕ → Option A) → first_in f (below 0) ≡ None

@@ -1,9 +1,9 @@
 -- From a run to the verdict and what is reported of it.
-use Rattle.std.proofs.Common.{◌≡◌, ◌≢◌, ℕ, ℤ, zero, suc, ◌+◌, ◌*◌, ◌<◌, ◌≤◌, ◌^◌, Bool, true, false, List, [], ◌∷◌, ◌++◌, length, take, map, Option, Some, None, Result, Ok, Err, arith, refl, sym, ◌∙◌, ap, subst, inl, inr, ◌⊎◌}
-use Rattle.std.specs.Prelude.{◌&&◌, slice_get, is_none, nat_lt, if◌then◌else◌}
+use Rattle.std.proofs.Common.{◌≡◌, ◌≢◌, ℕ, ℤ, zero, suc, ◌+◌, ◌*◌, ◌<◌, ◌≤◌, ◌^◌, Bool, true, false, List, [], ◌++◌, length, take, Option, Some, None, Result, Ok, Err, arith, refl, sym, ◌∙◌, ap, subst, inl, inr, ◌⊎◌}
+use Rattle.std.specs.Prelude.{slice_get, nat_lt, if◌then◌else◌}
 use Rattle.std.specs.Option.{option_map_or, option_and_then}
 use Rattle.std.specs.List.{prefix_len, range_with_len}
-use Rattle.std.proofs.Math.Nat.{mul-le-mul_right, mul-le-mul_left}
+use Rattle.std.proofs.Math.Nat.{mul-le-mul_right}
 use Rattle.std.proofs.lemmas.Bool.{lt-ltb}
 use Rattle.std.proofs.lemmas.List.{length-map, length-take-le}
 use Rattle.serde_json.specs.Data.{Members}
@@ -16,7 +16,7 @@ use Rattle.jwt_policy.specs.declared.sig_fault.SigFault.{SigFault}
 use Rattle.jwt_policy.specs.declared.claim_fault.ClaimFault.{ClaimFault}
 use Rattle.jwt_policy.specs.Settings.{Settings}
 use Rattle.jwt_policy.specs.Bars.{bar_of}
-use Rattle.jwt_policy.specs.Eligible.{eligible_for, fits}
+use Rattle.jwt_policy.specs.Eligible.{eligible_for}
 use Rattle.jwt_policy.specs.ClaimKinds.{claims_of}
 use Rattle.jwt_policy.specs.Checks.{check_of}
 use Rattle.jwt_verify.specs.declared.tries.End.{End}
@@ -30,7 +30,7 @@ use Rattle.jwt_verify.specs.declared.report.Verdict.{Verdict}
 use Rattle.jwt_verify.specs.declared.report.Verdict.TheVariants.{Accepted, Refused}
 use Rattle.jwt_verify.specs.Table.{Table, below, entry, pairs, tries, affords, work, paid, stop, states_at, states, ending, is_within, IsRun}
 use Rattle.jwt_verify.specs.Trying.{at_pair, table_of}
-use Rattle.jwt_verify.specs.Verdict.{Terms, Signing, VerifiedBy, Unverified, checked, claimed, concluded, ended, token_verdict, signing_of, formed, token_of, no_token, table, decided, verdict_of, without_line_feed}
+use Rattle.jwt_verify.specs.Verdict.{Terms, Signing, VerifiedBy, Unverified, checked, claimed, concluded, ended, token_verdict, signing_of, formed, token_of, table, decided, verdict_of, without_line_feed}
 use Rattle.jwt_verify.specs.Reports.{FoundMemory, IsWhole, signing_by}
 use Rattle.jwt_verify.proofs.Below.{below-zero, length-below}
 use Rattle.jwt_verify.proofs.Paying.{work-nil}
@@ -48,32 +48,33 @@ eligible_unbarred : (p : Settings) (v : List Meaning) (s : SignatureParts) (k : 
 unfolding eligible_for
 eligible_unbarred p v s k h = go (bar_of p s v) refl
   where
-  go : (o : Option SigFault) → o ≡ bar_of p s v → bar_of p s v ≡ None
-  go None e = sym e
-  go (Some f) e = let q = rw (sym e) at h in cc
+    go : (o : Option SigFault) → o ≡ bar_of p s v → bar_of p s v ≡ None
+    go None e = sym e
+    go (Some f) e = let q = rw (sym e) at h in cc
 
 pub unbarred_by : (p : Settings) (v : List Meaning) (ks : List KeyParts) (t : Token) (i j : ℕ) → at_pair (λ s k. eligible_for p s k v) false t ks i j ≡ true → option_and_then (λ s. bar_of p s v) (slice_get t.signatures i) ≡ None
 unbarred_by p v ks t i j h = go (slice_get t.signatures i) (slice_get ks j) h
   where
-  go : (s : Option SignatureParts) (k : Option KeyParts) → option_map_or (λ s. option_map_or (λ k. eligible_for p s k v) k false) s false ≡ true → option_and_then (λ s. bar_of p s v) s ≡ None
-  go None k h = refl
-  go (Some s) None h = cc
-  go (Some s) (Some k) h = eligible_unbarred p v s k h
+    go : (s : Option SignatureParts) (k : Option KeyParts) → option_map_or (λ s. option_map_or (λ k. eligible_for p s k v) k false) s false ≡ true → option_and_then (λ s. bar_of p s v) s ≡ None
+    go None k h = refl
+    go (Some s) None h = cc
+    go (Some s) (Some k) h = eligible_unbarred p v s k h
 
 -- ---- the verdict
 
 found_not : (v : Verdict) → FoundMemory v → v ≢ Refused OutOfMemory
 found_not v h e = subst FoundMemory e h
 
-done_stop : (t : Table) (w : ℕ) (calls : Option ℕ) → end.Done ≡ ending t w calls → stop t w calls ≡ None
+pub done_stop : (t : Table) (w : ℕ) (calls : Option ℕ) → end.Done ≡ ending t w calls → stop t w calls ≡ None
 done_stop t w calls h = go (stop t w calls) h
   where
-  exceeded : (b : Bool) (e : Try) → end.Done ≡ (if b then end.WorkExceeded e.signature e.key else end.CallsExceeded e.signature e.key) → ⊥
-  exceeded true e h = cc
-  exceeded false e h = cc
-  go : (o : Option Try) → end.Done ≡ option_map_or (λ e. if is_within calls (length (paid t w calls) + 1) then end.WorkExceeded e.signature e.key else end.CallsExceeded e.signature e.key) o end.Done → o ≡ None
-  go None h = refl
-  go (Some e) h = absurd (exceeded (is_within calls (length (paid t w calls) + 1)) e h)
+    exceeded : (b : Bool) (e : Try) → end.Done ≡ (if b then end.WorkExceeded e.signature e.key else end.CallsExceeded e.signature e.key) → ⊥
+    exceeded true e h = cc
+    exceeded false e h = cc
+
+    go : (o : Option Try) → end.Done ≡ option_map_or (λ e. if is_within calls (length (paid t w calls) + 1) then end.WorkExceeded e.signature e.key else end.CallsExceeded e.signature e.key) o end.Done → o ≡ None
+    go None h = refl
+    go (Some e) h = absurd (exceeded (is_within calls (length (paid t w calls) + 1)) e h)
 
 pub run_says : (q : Terms) (w : ℕ) (t : Token) (es : List Try) (sts : List SigState) (r : End) (v : Verdict)
     → IsRun (table_of q.policy q.verifiers q.keys t) w q.policy.max_calls es sts r
@@ -154,7 +155,7 @@ module _ (t : Table) (w : ℕ) (calls : Option ℕ) (es : List Try) (sts : List 
   by_memory v h = elim (memory_or v) [
     | inl e ↦ rw e tt
     | inr n ↦ h n
-    ]
+  ]
 
   pub run_whole : (r : End) (p : Settings) (now : ℤ) (payload : List ℕ) (s : Signing) (v : Verdict) → IsRun t w calls es sts r
       → (v ≢ Refused OutOfMemory → v ≡ ended r (concluded p now payload s)) → IsWhole t w calls es sts v
@@ -200,7 +201,7 @@ no_paid : (t : Table) (w : ℕ) (calls : Option ℕ) → t.signatures ≡ 0 → 
 unfolding paid
 no_paid t w calls h = take_none (prefix_len (affords t w calls) (range_with_len 1 (length (tries t)))) (tries t) (no_tries t h)
 
-no_states : (t : Table) (o : Option Try) → t.signatures ≡ 0 → states_at t o ≡ []
+pub no_states : (t : Table) (o : Option Try) → t.signatures ≡ 0 → states_at t o ≡ []
 unfolding states_at
 no_states t o h = rw (h, below-zero) refl
 
@@ -213,12 +214,12 @@ token_not : (p : Settings) (x : List ℕ) (f : Fault) → token_of p x ≡ Err f
 unfolding token_of
 token_not p x f h n = go (nat_lt p.run.limit (length x)) h n
   where
-  go : (b : Bool) → (if b then Err (Text TooLong) else formed (form_of p.run.max_signatures (without_line_feed p.run.line_feed x))) ≡ Err f → (f ≡ VerifierMemory) ⊎ (f ≡ Text Read) → ⊥
-  go true h (inl n) = cc
-  go true h (inr n) = cc
-  go false h n = formed_not (form_of p.run.max_signatures (without_line_feed p.run.line_feed x)) f h n
+    go : (b : Bool) → (if b then Err (Text TooLong) else formed (form_of p.run.max_signatures (without_line_feed p.run.line_feed x))) ≡ Err f → (f ≡ VerifierMemory) ⊎ (f ≡ Text Read) → ⊥
+    go true h (inl n) = cc
+    go true h (inr n) = cc
+    go false h n = formed_not (form_of p.run.max_signatures (without_line_feed p.run.line_feed x)) f h n
 
-table_none : (q : Terms) (x : List ℕ) (f : Fault) → token_of q.policy x ≡ Err f → (table q x).signatures ≡ 0
+pub table_none : (q : Terms) (x : List ℕ) (f : Fault) → token_of q.policy x ≡ Err f → (table q x).signatures ≡ 0
 unfolding table
 table_none q x f h = rw h refl
 
@@ -243,8 +244,8 @@ pub refused_whole : (q : Terms) (x : List ℕ) (w : ℕ) (calls : Option ℕ) (f
 refused_whole q x w calls f h = elim (fault_or f) [
   | inl e ↦ rw e tt
   | inr n ↦ (let z = table_none q x f (h n) in
-    whole (table q x) w calls [] [] (Refused f) (λ e. token_not q.policy x f (h n) (inl (inside f VerifierMemory e))) (sym (no_paid (table q x) w calls z), sym (no_states (table q x) (stop (table q x) w calls) z)))
-  ]
+      whole (table q x) w calls [] [] (Refused f) (λ e. token_not q.policy x f (h n) (inl (inside f VerifierMemory e))) (sym (no_paid (table q x) w calls z), sym (no_states (table q x) (stop (table q x) w calls) z)))
+]
 
 pub refused_read : (q : Terms) (x : List ℕ) (f : Fault) → (f ≢ OutOfMemory → token_of q.policy x ≡ Err f) → Refused f ≢ Refused (Text Read)
 refused_read q x f h e = let s = inside f (Text Read) e in token_not q.policy x f (h (λ o. (let z = sym s ∙ o in cc))) (inr s)

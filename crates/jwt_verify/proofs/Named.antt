@@ -1,5 +1,5 @@
 -- The keys that fit a signature are among those that go by its name.
-use Rattle.std.proofs.Common.{inl, inr, ◌≡◌, ℕ, ◌≤◌, ◌<◌, ◌+◌, Bool, true, false, List, length, Option, Some, None, arith, refl, sym, ◌∙◌}
+use Rattle.std.proofs.Common.{inl, inr, ◌≡◌, ℕ, ◌≤◌, ◌<◌, ◌+◌, Bool, true, false, List, length, Option, Some, None, arith}
 use Rattle.std.specs.Prelude.{◌&&◌, slice_get, codes}
 use Rattle.std.specs.Option.{option_map_or}
 use Rattle.std.proofs.lemmas.Option.{slice_get_past}
@@ -9,7 +9,7 @@ use Rattle.jwt_keys.specs.Keys.{KeyParts, names, permits_of}
 use Rattle.jwt_keys.specs.Numbers.{PassesAt}
 use Rattle.jwt_policy.specs.Settings.{Settings}
 use Rattle.jwt_policy.specs.Bars.{alg}
-use Rattle.jwt_policy.specs.Eligible.{is_for, answers_to, fits}
+use Rattle.jwt_policy.specs.Eligible.{is_for, fits}
 use Rattle.jwt_policy.specs.Texts.{some_passes}
 
 and_right : (a b : Bool) → (a && b) ≡ true → b ≡ true

@@ -1,6 +1,6 @@
 -- What the table says of a pair, from the layers' words.
-use Rattle.std.proofs.Common.{inl, inr, ◌≡◌, ℕ, ◌≤◌, ◌<◌, ◌+◌, Bool, true, false, List, length, Option, Some, None, arith, refl, sym, ◌∙◌}
-use Rattle.std.specs.Prelude.{◌&&◌, slice_get, option_and_then, is_some, is_none, MatchOption, if◌then◌else◌, Result, Ok, Err, IfOk}
+use Rattle.std.proofs.Common.{◌≡◌, ℕ, Bool, true, false, List, length, Option, Some, None, refl, ◌∙◌}
+use Rattle.std.specs.Prelude.{◌&&◌, slice_get, option_and_then, is_some, is_none, MatchOption, Result, Ok, Err, IfOk}
 use Rattle.std.specs.Option.{option_map_or}
 use Rattle.jwt_mac.specs.declared.algorithm.Alg.{Alg}
 use Rattle.jwt_mac.specs.Verifying.{Meaning, AnswersBy}

@@ -1,9 +1,9 @@
 -- What the ceilings admit of the tries.
-use Rattle.std.proofs.Common.{◌≡◌, ℕ, zero, suc, ◌+◌, ◌-◌, ◌<◌, ◌≤◌, min, Bool, true, false, cond, List, [], ◌∷◌, ◌++◌, map, length, take, drop, get_or, refl, sym, ◌∙◌, ap, subst, arith, add-one, add-zero, add-suc, zero-add, append_assoc, length-append, Some, None, Option, ltb, leb, ◌⊎◌, inl, inr, ⊎_elim}
-use Rattle.std.specs.Prelude.{◌||◌, ◌&&◌, not, slice_get}
-use Rattle.std.specs.List.{range_with_len, prefix_len, sum_by}
-use Rattle.std.proofs.lemmas.List.{append-nil, take_at, take_all, take-append-le, take-append-drop, take-take, length-take-le}
-use Rattle.std.proofs.lemmas.List.Sums.{prefix_len_is, prefix_len_stops, prefix_len_passes, prefix_len-le-length, sum_by-append, sum_by-take-le, sum_by_push, sum_by-le}
+use Rattle.std.proofs.Common.{◌≡◌, ℕ, zero, suc, ◌+◌, ◌<◌, ◌≤◌, Bool, true, false, List, [], ◌∷◌, ◌++◌, length, take, drop, get_or, refl, sym, ◌∙◌, ap, arith, append_assoc, length-append, Some, None, Option, leb, ◌⊎◌, inl, inr}
+use Rattle.std.specs.Prelude.{◌&&◌, slice_get}
+use Rattle.std.specs.List.{range_with_len, prefix_len}
+use Rattle.std.proofs.lemmas.List.{append-nil, take_at, take-append-le, take-append-drop, take-take, length-take-le}
+use Rattle.std.proofs.lemmas.List.Sums.{prefix_len_is, prefix_len_stops, prefix_len_passes, prefix_len-le-length, sum_by-append, sum_by_push}
 use Rattle.std.proofs.lemmas.List.FromFn.{get_or-range_with_len, length-range_with_len}
 use Rattle.std.proofs.lemmas.Bool.{le-leb, lt-leb, leb-true, cases_lt, false≢true}
 use Rattle.std.proofs.lemmas.Option.{slice_get_past}

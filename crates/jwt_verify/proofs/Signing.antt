@@ -1,9 +1,8 @@
 -- What the states of a run come to is what the table says of the signatures.
-use Rattle.std.proofs.Common.{◌≡◌, ℕ, zero, suc, ◌+◌, ◌<◌, ◌≤◌, Bool, true, false, List, [], ◌∷◌, length, map, Option, Some, None, arith, add-one, zero-add, refl, sym, ◌∙◌, ap, inl, inr}
-use Rattle.std.specs.Prelude.{slice_get, not, if◌then◌else◌}
-use Rattle.std.specs.Option.{option_map_or, option_and_then}
+use Rattle.std.proofs.Common.{◌≡◌, ℕ, zero, suc, ◌<◌, ◌≤◌, Bool, true, false, List, [], ◌∷◌, length, Option, Some, None, arith, add-one, zero-add, refl, sym, ◌∙◌, ap, inl, inr}
+use Rattle.std.specs.Prelude.{slice_get, not}
 use Rattle.std.specs.List.{range_with_len, list_any, list_all, find}
-use Rattle.std.proofs.lemmas.Bool.{cases_Bool, cases_lt}
+use Rattle.std.proofs.lemmas.Bool.{cases_Bool}
 use Rattle.std.proofs.lemmas.List.{length-map}
 use Rattle.std.proofs.lemmas.List.FromFn.{get_or-range_with_len, length-range_with_len}
 use Rattle.std.proofs.lemmas.Option.{slice_get-map, slice_get-get_or}
@@ -11,7 +10,6 @@ use Rattle.jwt_policy.specs.declared.mode.Mode.{Mode}
 use Rattle.jwt_policy.specs.declared.mode.Mode.TheVariants.{Any, All}
 use Rattle.jwt_policy.specs.declared.sig_fault.SigFault.{SigFault}
 use Rattle.jwt_verify.specs.declared.report.SigState.{SigState}
-use Rattle.jwt_verify.specs.declared.report.SigState.TheVariants.{Barred, NoKey, BadSignature, Verified}
 use Rattle.jwt_verify.specs.Table.{Table, below, verifies, verified, reached_in, reached, settled, outcome, state_at, states_at}
 use Rattle.jwt_verify.specs.Verdict.{first_in, fault_of, key_at, fault_at, signing_in, signing_of}
 use Rattle.jwt_verify.specs.Reports.{key_of, key_in, fault_in, signing_by}
@@ -26,26 +24,26 @@ slice_below : (n i : ℕ) → i < n → slice_get (below n) i ≡ Some i
 unfolding below
 slice_below n i l = slice_get-get_or (range_with_len 0 n) i 0 (rw length-range_with_len l) ∙ ap Some (get_or-range_with_len 0 n i 0 l ∙ zero-add i)
 
-none_below : (p : ℕ → Bool) (n : ℕ) → ((k : ℕ) → k < n → p k ≡ false) → list_any p (below n) ≡ false
+pub none_below : (p : ℕ → Bool) (n : ℕ) → ((k : ℕ) → k < n → p k ≡ false) → list_any p (below n) ≡ false
 none_below p n h = ap (λ m. list_any p (below m)) (sym (zero-add n)) ∙ list_any-gap p 0 n (λ k lo hi. h k (omega (arith, hi))) ∙ rw below-zero refl
 
 all_below : (p : ℕ → Bool) (n : ℕ) → ((k : ℕ) → k < n → p k ≡ true) → list_all p (below n) ≡ true
 all_below p zero h = rw below-zero refl
 all_below p (suc n) h = rw (sym (add-one n)) (list_all-below p n ∙ rw (all_below p n (λ k l. h k (omega arith)), h n (omega arith)) refl)
 
-found_any : (p : ℕ → Bool) (xs : List ℕ) (j : ℕ) → find p xs ≡ Some j → list_any p xs ≡ true
+pub found_any : (p : ℕ → Bool) (xs : List ℕ) (j : ℕ) → find p xs ≡ Some j → list_any p xs ≡ true
 found_any p [] j h = cc
 found_any p (x ∷ xs) j h = elim (cases_Bool (p x)) [
   | inl y ↦ rw y refl
   | inr n ↦ (let k = rw n at h in rw n (found_any p xs j k))
-  ]
+]
 
-not_found : (p : ℕ → Bool) (xs : List ℕ) → find p xs ≡ None → list_any p xs ≡ false
+pub not_found : (p : ℕ → Bool) (xs : List ℕ) → find p xs ≡ None → list_any p xs ≡ false
 not_found p [] h = refl
 not_found p (x ∷ xs) h = elim (cases_Bool (p x)) [
   | inl y ↦ (let k = rw y at h in cc)
   | inr n ↦ (let k = rw n at h in rw n (not_found p xs k))
-  ]
+]
 
 -- ---- one signature
 
@@ -59,12 +57,12 @@ key_is : (t : Table) (i : ℕ) → ((j : ℕ) → t.eligible i j ≡ true → t.
 unfolding outcome
 key_is t i barred = go (t.bar i) refl
   where
-  go : (o : Option SigFault) → o ≡ t.bar i → key_of (settled o (list_any (t.eligible i) (below t.keys)) (find (verifies t i) (below t.keys))) ≡ find (verifies t i) (below t.keys)
-  go None e = settled_key (list_any (t.eligible i) (below t.keys)) (find (verifies t i) (below t.keys))
-  go (Some f) e = sym (find_none (verifies t i) (below t.keys) (none_below (verifies t i) t.keys
-    (λ j l. elim (cases_Bool (t.eligible i j)) [ inl y ↦ (let q = e ∙ barred j y in cc) | inr n ↦ verifies_ineligible t i j n ])))
+    go : (o : Option SigFault) → o ≡ t.bar i → key_of (settled o (list_any (t.eligible i) (below t.keys)) (find (verifies t i) (below t.keys))) ≡ find (verifies t i) (below t.keys)
+    go None e = settled_key (list_any (t.eligible i) (below t.keys)) (find (verifies t i) (below t.keys))
+    go (Some f) e = sym (find_none (verifies t i) (below t.keys) (none_below (verifies t i) t.keys
+        (λ j l. elim (cases_Bool (t.eligible i j)) [ inl y ↦ (let q = e ∙ barred j y in cc) | inr n ↦ verifies_ineligible t i j n ])))
 
-key_none : (t : Table) (i : ℕ) → key_at t i ≡ None → verified t i ≡ false
+pub key_none : (t : Table) (i : ℕ) → key_at t i ≡ None → verified t i ≡ false
 unfolding verified
 key_none t i h = not_found (verifies t i) (below t.keys) h
 
@@ -74,7 +72,7 @@ settled_fault None seen (Some j) h = (j, refl)
 settled_fault None true None h = cc
 settled_fault None false None h = cc
 
-fault_none : (t : Table) (i : ℕ) → fault_at t i ≡ None → verified t i ≡ true
+pub fault_none : (t : Table) (i : ℕ) → fault_at t i ≡ None → verified t i ≡ true
 unfolding outcome verified
 fault_none t i h = let q = settled_fault (t.bar i) (list_any (t.eligible i) (below t.keys)) (find (verifies t i) (below t.keys)) h in found_any (verifies t i) (below t.keys) q.0 q.1
 

@@ -1,7 +1,7 @@
 -- The steps of a run.
-use Rattle.std.proofs.Common.{◌≡◌, ℕ, zero, suc, ◌+◌, ◌-◌, ◌<◌, ◌≤◌, Bool, true, false, cond, List, [], ◌∷◌, ◌++◌, map, length, refl, sym, ◌∙◌, ap, subst, arith, add-one, add-zero, add-suc, zero-add, append_assoc, length-append, Some}
-use Rattle.std.specs.Prelude.{◌||◌, ◌&&◌, not, slice_get}
-use Rattle.std.specs.List.{range_with_len, list_any, list_all, filter, flat_map, find}
+use Rattle.std.proofs.Common.{◌≡◌, ℕ, zero, suc, ◌+◌, ◌-◌, ◌<◌, ◌≤◌, Bool, true, false, cond, List, [], ◌∷◌, ◌++◌, map, length, refl, sym, ◌∙◌, ap, arith, add-one, add-zero, append_assoc, length-append, Some}
+use Rattle.std.specs.Prelude.{◌||◌, ◌&&◌, not}
+use Rattle.std.specs.List.{list_any, find}
 use Rattle.std.proofs.lemmas.List.{append-nil, length-map}
 use Rattle.std.proofs.lemmas.List.Sums.{length-filter, count_by-le-length}
 use Rattle.std.proofs.lemmas.List.Folds.{find-append}
@@ -9,13 +9,12 @@ use Rattle.std.proofs.lemmas.Nat.{mul-add-lt}
 use Rattle.std.proofs.lemmas.Bool.{cases_Bool, false≢true}
 use Rattle.std.proofs.Common.{inl, inr}
 use Rattle.std.proofs.Math.Nat.{suc-mul}
-use Rattle.std.specs.Prelude.{Option, None, ◌*◌}
-use Rattle.jwt_policy.specs.declared.mode.Mode.{Mode}
+use Rattle.std.specs.Prelude.{None, ◌*◌}
 use Rattle.jwt_policy.specs.declared.mode.Mode.TheVariants.{Any, All}
 use Rattle.jwt_verify.specs.declared.report.Try.{Try}
 use Rattle.jwt_verify.specs.Table.{Table, below, verifies, verified, reached_in, reached, tried, entry, pairs, tries}
 use Rattle.jwt_verify.specs.Walk.{is_tried, row, rows, IsAt, IsThrough, IsFront, goes_on}
-use Rattle.jwt_verify.proofs.Below.{below-zero, below_more, length-below, stays, grows, list_any-below, list_all-below, filter-map-below, flat_map-below, filter-flat_map, list_any-gap, filter-gap, flat_map-gap}
+use Rattle.jwt_verify.proofs.Below.{below-zero, below_more, length-below, grows, list_any-below, list_all-below, filter-map-below, flat_map-below, filter-flat_map, list_any-gap, filter-gap, flat_map-gap}
 
 false_not_true : {A : Type 0} → (b : Bool) → b ≡ true → b ≡ false → A
 false_not_true b x y = cc

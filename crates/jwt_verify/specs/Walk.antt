@@ -1,5 +1,5 @@
 -- How far a run has come: what the private functions say of the tries that they have listed.
-use Rattle.std.specs.Prelude.{ℕ, ◌+◌, ◌<◌, ◌≤◌, ◌≡◌, ◌++◌, ◌∷◌, [], Bool, true, false, not, List, map, length, Option, None, Some, MatchOption, is_some}
+use Rattle.std.specs.Prelude.{ℕ, ◌+◌, ◌<◌, ◌≤◌, ◌≡◌, ◌++◌, ◌∷◌, [], Bool, true, false, not, List, map, length, Option, None, Some, is_some}
 use Rattle.std.specs.List.{list_any, filter, flat_map, find}
 use Rattle.jwt_mac.specs.declared.message.Answer.{Answer}
 use Rattle.jwt_mac.specs.declared.message.Answer.TheVariants.{Valid, Invalid, NoMemory}
@@ -12,7 +12,7 @@ use Rattle.jwt_verify.specs.declared.report.SigState.TheVariants.{NotReached}
 use Rattle.jwt_policy.specs.declared.mode.Mode.{Mode}
 use Rattle.jwt_policy.specs.declared.mode.Mode.TheVariants.{Any, All}
 use Rattle.jwt_verify.specs.declared.report.Try.{Try}
-use Rattle.jwt_verify.specs.Table.{Table, below, verifies, verified, reached, tried, entry, tries, work, is_within, outcome, state_at}
+use Rattle.jwt_verify.specs.Table.{Table, below, verifies, verified, reached, tried, entry, tries, work, is_within, state_at}
 
 abbrev pub is_tried : Table → Try → Bool
 is_tried t e = tried t e.signature e.key

@@ -127,7 +127,16 @@ fn judge_token<'p, B: Budget>(
 {
     let mut tries = Vec::new(alloc);
     let mut states = Vec::new(alloc);
-    let run = try_token(alloc, signed, keys, policy, verifiers, b, &mut tries, &mut states);
+    let run = try_token(
+        alloc,
+        signed,
+        keys,
+        policy,
+        verifiers,
+        b,
+        &mut tries,
+        &mut states,
+    );
     let verdict = match run {
         Ok(end) => verdict_after(alloc, end, states.as_slice(), signed.payload(), policy, now),
         Err(_) => Verdict::Refused(Fault::OutOfMemory),
@@ -152,7 +161,23 @@ fn refused<'p>(alloc: Global, fault: Fault<'p>) -> Report<'p>
     }
 }
 
-/// The verdict on octets in hand.
+/// The verdict on octets in hand, with what became of each signature and each try that was paid.
+///
+/// The octets, without one final octet 10 where the policy has `line_feed`, are read as a signed token (RFC 7515, section 7). The
+/// signatures are gone through in order, and for each the eligible keys in ascending order until one verifies it (RFC 7515,
+/// section 5.2). In mode `any` the run ends at the first verified signature, in mode `all` at the first that isn't. Once the
+/// signatures are verified, the claims are held against the policy at the moment `now`, in seconds since
+/// 1970-01-01T00:00:00Z (RFC 7519, section 7.2).
+///
+/// The condition: the budget is new. Each try is paid from it: a try by HMAC for the octets that are fed, a question to the first
+/// of `verifiers` that names the algorithm for one call and no octets. No pair is tried twice.
+///
+/// # Refused
+/// With the first that holds of `Text(TooLong)`, more octets than the policy's `limit`; `Form`; `CallsExceeded` or `WorkExceeded`,
+/// at the first pair that would pass the policy's `max_calls` or the budget's ceiling, calls before work, and that pair isn't
+/// tried; `Signature`; `Claim`. `VerifierMemory` comes where a verifier that was asked lacked memory, and ends the run.
+/// `OutOfMemory` comes where a growth was refused, in place of any other verdict. After each of them the budget agrees with the
+/// tries of the report.
 pub fn judge<'p, B: Budget>(
     alloc: Global,
     octets: &[u8],
@@ -164,13 +189,17 @@ pub fn judge<'p, B: Budget>(
 ) -> Report<'p>
     requires no_octets { B.octets b.old ≡ 0 }
     requires no_calls { B.calls b.old ≡ 0 }
+
+    // The verdict, unless memory was refused; the states and the tries; and the tries after every verdict.
     ensures verdict { FoundMemory result.verdict → result.verdict ≡ verdict_of (terms policy.now keys.now now (map meaning verifiers.now)) octets.now (B.ceiling b.old) }
     ensures tries { IsWhole (table (terms policy.now keys.now now (map meaning verifiers.now)) octets.now) (B.ceiling b.old) policy.now.max_calls result.tries.items result.states.items result.verdict }
     ensures front { (more : List Try) × (paid (table (terms policy.now keys.now now (map meaning verifiers.now)) octets.now) (B.ceiling b.old) policy.now.max_calls ≡ result.tries.items ++ more) }
+    ensures read { result.verdict ≢ Refused (Text Read) }
+
+    // The budget agrees with the tries.
     ensures octets { B.octets b.new ≡ work result.tries.items }
     ensures calls { B.calls b.new ≡ length result.tries.items }
     ensures ceiling { B.ceiling b.new ≡ B.ceiling b.old }
-    ensures read { result.verdict ≢ Refused (Text Read) }
 {
     match read_token(alloc, octets, policy) {
         Ok(signed) => judge_token(alloc, &signed, keys, policy, now, verifiers, b),
@@ -195,7 +224,31 @@ fn take_in<'p, R: Source>(alloc: Global, r: &mut R, limit: u32) -> Result<Intake
     }
 }
 
-/// The verdict on what a source gives.
+/// The verdict on what a source gives: as [`judge`] says of it, however the source cuts it.
+///
+/// At most one octet more than the policy's `limit` is taken, and nothing after that one.
+///
+/// ```rust
+/// use jwt_keys::KeySet;
+/// use jwt_mac::CountDown;
+/// use jwt_policy::Policy;
+/// use jwt_text::Reader;
+/// use jwt_verify::{Verdict, validate};
+///
+/// let policy = Policy::read(alloc, b"{\"algs\":[\"HS256\"]}")?;
+/// let keys = KeySet::read(alloc, document)?;
+/// let mut budget = CountDown::new(policy.work());
+/// let report = validate(alloc, &mut Reader::new(input), &keys, &policy, now, &[], &mut budget);
+/// if let Verdict::Accepted { claims, .. } = &report.verdict {
+///     println!(rt; "{}", claims.sub().unwrap_or("nobody"))?;
+/// }
+/// ```
+///
+/// The condition: the budget is new.
+///
+/// # Refused
+/// As [`judge`] refuses, and with `Text(Read)` exactly where the source has failed and no growth was refused. Then nothing was
+/// tried.
 pub fn validate<'p, R: Source, B: Budget>(
     alloc: Global,
     r: &mut R,

@@ -12,6 +12,8 @@ mod judging;
 pub mod laws;
 mod pair;
 mod report;
+#[cfg(test)]
+mod tests;
 mod trial;
 mod tries;
 

@@ -21,7 +21,8 @@ fn allows_call<B: Budget>(b: &B, max_calls: Option<u32>) -> bool
     }
 }
 
-/// Gets room for a try, pays it, and lists it.
+/// Gets room for a try, pays it, and lists it, with the cost that the budget counted. Where the cost exceeds what is left, or
+/// room is refused, nothing is paid and nothing is listed.
 fn charge<B: Budget>(
     asked: &Asked<'_, '_, '_, '_, '_>,
     verifiers: &[Box<dyn Verifier>],
@@ -59,7 +60,7 @@ fn charge<B: Budget>(
     }
 }
 
-/// Tries an eligible pair. `None` goes on with the next key.
+/// Tries an eligible pair, where a ceiling doesn't stop the run before it. `None` goes on with the next key.
 fn pay<B: Budget>(
     asked: &Asked<'_, '_, '_, '_, '_>,
     verifiers: &[Box<dyn Verifier>],
@@ -93,20 +94,26 @@ fn pay<B: Budget>(
 /// How the tries of one signature ended: the key that verifies it, if any, and whether a key is eligible; or the run's end.
 #[derive(Clone, Copy)]
 enum RowEnd {
+    /// Its keys are gone through.
     Through(Option<u32>, bool),
+    /// The run ends there.
     Stop(End),
 }
 
 /// How a run ended.
 #[derive(Clone, Copy)]
 pub(crate) enum End {
+    /// Each try was made.
     Done,
+    /// The cost of this pair, signature and key, exceeds what is left of the budget.
     WorkExceeded(u32, u32),
+    /// There were as many calls as the policy allows before this pair.
     CallsExceeded(u32, u32),
+    /// The verifier that was asked for this pair lacked memory.
     VerifierMemory(u32, u32),
 }
 
-/// The tries of one signature.
+/// The tries of one signature: its eligible keys in ascending order, until one verifies it or the run stops.
 fn try_signature<B: Budget>(
     asked: &Asked<'_, '_, '_, '_, '_>,
     verifiers: &[Box<dyn Verifier>],
@@ -158,7 +165,8 @@ fn runs_on(mode: Mode, verified: bool) -> bool
     }
 }
 
-/// The tries of all signatures, and the states of those that were reached.
+/// The tries of the signatures in order, as far as the mode goes on (RFC 7515, section 5.2), and the states of those that were
+/// reached.
 fn walk<B: Budget>(
     asked: &Asked<'_, '_, '_, '_, '_>,
     verifiers: &[Box<dyn Verifier>],

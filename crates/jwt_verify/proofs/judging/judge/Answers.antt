@@ -1,9 +1,9 @@
-use Rattle.std.proofs.Common.{◌≡◌, refl, sym, map, ◌∙◌, ap, w64}
+use Rattle.std.proofs.Common.{sym, map, ◌∙◌, ap, w64}
 use Rattle.std.proofs.lemmas.Int.{to_z-of_z}
 use Rattle.jwt_jws.specs.Views.{token}
 use Rattle.jwt_verify.specs.Table.{paid}
-use Rattle.jwt_verify.specs.Verdict.{table, token_verdict}
-use Rattle.jwt_verify.specs.Reports.{terms, IsWhole}
+use Rattle.jwt_verify.specs.Verdict.{table}
+use Rattle.jwt_verify.specs.Reports.{terms}
 use Rattle.jwt_verify.proofs.Judged.{says_of_token, table_of_token, refused_says, refused_whole, refused_read, front_none, octets_none}
 use Rattle.jwt_verify.proofs.judging.judge.Goals as goal
 

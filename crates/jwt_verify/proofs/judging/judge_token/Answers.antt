@@ -1,4 +1,4 @@
-use Rattle.std.proofs.Common.{◌≡◌, ◌≤◌, refl, sym, map, arith, length, ◌∙◌, ap, w64}
+use Rattle.std.proofs.Common.{map, w64}
 use Rattle.std.proofs.lemmas.Int.{to_z-of_z}
 use Rattle.std.proofs.lemmas.List.{length-map}
 use Rattle.jwt_jws.specs.Views.{token, parts}
@@ -22,7 +22,7 @@ returns-clause-verdict g c =
     let q = terms c.args.policy.now c.args.keys.now c.args.now v in
     elim c.match-run.branch [
       | in-Ok w ↦ run_says q (g.B.Budget.ceiling c.args.b.now) (token c.args.signed.now) c.try_token-run.new.tries.items c.try_token-run.new.states.items w.in-Ok.end c.match-run.verdict w.in-Ok.ensures.run
-        (rw (w.verdict-is, ← w.as_slice.ensures.value, ← w.payload.ensures) (rw (to_z-of_z w64 c.args.now c.ranges.now) at w.verdict_after-verdict.ensures))
+          (rw (w.verdict-is, ← w.as_slice.ensures.value, ← w.payload.ensures) (rw (to_z-of_z w64 c.args.now c.ranges.now) at w.verdict_after-verdict.ensures))
       | in-Err w ↦ (λ found. absurd (rw w.verdict-is at found))
     ]
 
@@ -32,8 +32,8 @@ returns-clause-tries g c =
     let t = table_of c.args.policy.now v (key_set c.args.keys.now).keys (token c.args.signed.now) in
     elim c.match-run.branch [
       | in-Ok w ↦ run_whole t (g.B.Budget.ceiling c.args.b.now) c.args.policy.now.max_calls c.try_token-run.new.tries.items c.try_token-run.new.states.items w.in-Ok.end c.args.policy.now c.args.now (token c.args.signed.now).payload
-        (signing_by c.args.policy.now.run.mode c.try_token-run.new.states.items) c.match-run.verdict w.in-Ok.ensures.run
-        (rw (w.verdict-is, ← w.as_slice.ensures.value, ← w.payload.ensures) (rw (to_z-of_z w64 c.args.now c.ranges.now) at w.verdict_after-verdict.ensures))
+          (signing_by c.args.policy.now.run.mode c.try_token-run.new.states.items) c.match-run.verdict w.in-Ok.ensures.run
+          (rw (w.verdict-is, ← w.as_slice.ensures.value, ← w.payload.ensures) (rw (to_z-of_z w64 c.args.now c.ranges.now) at w.verdict_after-verdict.ensures))
       | in-Err w ↦ whole_none t (g.B.Budget.ceiling c.args.b.now) c.args.policy.now.max_calls c.try_token-run.new.tries.items c.try_token-run.new.states.items c.match-run.verdict w.verdict-is
     ]
 
@@ -41,6 +41,6 @@ pub returns-clause-read : goal.returns-clause-read
 returns-clause-read g c =
     elim c.match-run.branch [
       | in-Ok w ↦ run_read w.in-Ok.end c.args.policy.now c.args.now (token c.args.signed.now).payload (signing_by c.args.policy.now.run.mode c.try_token-run.new.states.items) c.match-run.verdict
-        (rw (w.verdict-is, ← w.as_slice.ensures.value, ← w.payload.ensures) (rw (to_z-of_z w64 c.args.now c.ranges.now) at w.verdict_after-verdict.ensures))
+          (rw (w.verdict-is, ← w.as_slice.ensures.value, ← w.payload.ensures) (rw (to_z-of_z w64 c.args.now c.ranges.now) at w.verdict_after-verdict.ensures))
       | in-Err w ↦ read_none c.match-run.verdict w.verdict-is
     ]

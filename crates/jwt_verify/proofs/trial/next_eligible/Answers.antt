@@ -1,4 +1,4 @@
-use Rattle.std.proofs.Common.{◌≡◌, sym, ◌∙◌, map}
+use Rattle.std.proofs.Common.{sym, ◌∙◌, map}
 use Rattle.jwt_jws.specs.Views.{token, parts}
 use Rattle.jwt_keys.specs.KeySets.{key_set}
 use Rattle.jwt_verify.specs.AskedTable.{asked_table}

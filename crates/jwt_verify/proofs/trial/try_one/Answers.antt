@@ -1,7 +1,6 @@
-use Rattle.std.proofs.Common.{◌≡◌, sym, ◌∙◌, map}
+use Rattle.std.proofs.Common.{sym, ◌∙◌, map}
 use Rattle.jwt_jws.specs.Views.{parts}
 use Rattle.jwt_keys.specs.Views.{key_parts}
-use Rattle.jwt_policy.specs.Laws.{IsEligible}
 use Rattle.jwt_verify.proofs.Pairs.{eligible_alg, eligible_suits, eligible_named}
 use Rattle.jwt_verify.proofs.trial.try_one.Goals as goal
 

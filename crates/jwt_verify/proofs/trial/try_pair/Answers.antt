@@ -1,4 +1,4 @@
-use Rattle.std.proofs.Common.{◌≡◌, sym, ◌∙◌, map, false}
+use Rattle.std.proofs.Common.{sym, ◌∙◌, map, false}
 use Rattle.jwt_jws.specs.Token.{message_of}
 use Rattle.jwt_jws.specs.Views.{token, parts}
 use Rattle.jwt_keys.specs.KeySets.{key_set}

@@ -1,4 +1,4 @@
-use Rattle.std.proofs.Common.{◌≡◌, refl, arith, ap, sym, ◌∙◌, leb, add-one, ◌+◌}
+use Rattle.std.proofs.Common.{refl, add-one}
 use Rattle.jwt_verify.specs.Table.{is_within}
 use Rattle.jwt_verify.proofs.tries.allows_call.Goals as goal
 

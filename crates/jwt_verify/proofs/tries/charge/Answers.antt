@@ -1,6 +1,6 @@
 use Rattle.jwt_verify.specs.AskedTable.{asked_table}
-use Rattle.std.proofs.Common.{map, ◌≡◌, sym, arith, true, ◌∙◌, ◌≤◌, ◌+◌, ◌-◌}
-use Rattle.jwt_verify.specs.Table.{is_within, entry}
+use Rattle.std.proofs.Common.{map, ◌≡◌, arith, ◌≤◌, ◌-◌}
+use Rattle.jwt_verify.specs.Table.{entry}
 use Rattle.jwt_verify.proofs.Paying.{counted_push}
 use Rattle.jwt_verify.proofs.tries.charge.Goals as goal
 

@@ -1,4 +1,4 @@
-use Rattle.std.proofs.Common.{◌≡◌, sym, ◌∙◌}
+use Rattle.std.proofs.Common.{sym, ◌∙◌}
 use Rattle.jwt_verify.proofs.Ending.{stop_calls, stop_work, row_verified, row_failed, row_lacking, pending_room}
 use Rattle.jwt_verify.proofs.tries.pay.Goals as goal
 

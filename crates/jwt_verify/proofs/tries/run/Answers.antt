@@ -1,5 +1,5 @@
 use Rattle.jwt_verify.specs.AskedTable.{asked_table}
-use Rattle.std.proofs.Common.{map, ◌≡◌, sym, ◌∙◌, ap, ◌++◌, ◌-◌, length, replicate}
+use Rattle.std.proofs.Common.{map, ◌≡◌, ◌∙◌, ap, ◌++◌, ◌-◌, length, replicate}
 use Rattle.jwt_verify.specs.declared.report.SigState.TheVariants.{NotReached}
 use Rattle.jwt_verify.specs.Table.{states_at}
 use Rattle.jwt_verify.specs.Walk.{stopped_at}

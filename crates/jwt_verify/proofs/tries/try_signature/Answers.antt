@@ -1,4 +1,4 @@
-use Rattle.std.proofs.Common.{◌≡◌, sym, ◌∙◌, refl, arith, ◌≤◌, ◌+◌}
+use Rattle.std.proofs.Common.{◌∙◌, refl, arith}
 use Rattle.std.proofs.lemmas.Result.{err_from_is_err_and}
 use Rattle.jwt_verify.proofs.Below.{below-zero}
 use Rattle.jwt_verify.proofs.Walking.{at_front}

@@ -1,5 +1,5 @@
 use Rattle.jwt_verify.specs.AskedTable.{asked_table}
-use Rattle.std.proofs.Common.{◌≡◌, ◌≤◌, ◌-◌, map}
+use Rattle.std.proofs.Common.{◌≡◌, map}
 use Rattle.jwt_verify.specs.Table.{below, outcome}
 use Rattle.jwt_verify.specs.Walk.{IsAt, IsCounted}
 use Rattle.jwt_verify.proofs.tries.walk.Given as goal

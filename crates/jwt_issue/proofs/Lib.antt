@@ -1,0 +1,4 @@
+mod Fit
+mod Lengths
+mod SpentLaw
+mod Steps

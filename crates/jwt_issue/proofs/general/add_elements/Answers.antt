@@ -1,0 +1,66 @@
+use Rattle.std.proofs.Common.{ℕ, ◌+◌, ◌<◌, List, ◌∷◌, [], ◌++◌, length, map, take, drop, cond, nat_lt, Some, sym, ap, ◌∙◌, append_assoc, arith}
+use Rattle.std.specs.Prelude.{⊤}
+use Rattle.std.specs.List.{join_with_byte}
+use Rattle.std.proofs.lemmas.List.{length-map}
+use Rattle.std.proofs.lemmas.Result.{err_from_is_err_and}
+use Rattle.jwt_issue.specs.Issued.{first_spent, signing_cost, element}
+use Rattle.jwt_issue.specs.Views.{signer_parts}
+use Rattle.jwt_issue.proofs.Lengths.{mapped_at}
+use Rattle.jwt_issue.proofs.Steps.{sum_more, elements_more, stops_at, goes_on, paid_after}
+use Rattle.jwt_issue.proofs.general.add_elements.Goals as goal
+
+pub returns-in_err-add_signed-clause-fault : goal.returns-in_err-add_signed-clause-fault
+returns-in_err-add_signed-clause-fault g c =
+    let p = err_from_is_err_and c.from_residual.result c.from_residual.ensures.1 in
+    let ss = map signer_parts c.args.signers.now in
+    let s = signer_parts c.index-signers-i.result in
+    let i = c.loop-i.i in
+    let price = signing_cost c.args.payload.now in
+    let within : i < length ss = omega (arith, length-map c.args.signers.now signer_parts) in
+    let is = mapped_at signer_parts c.args.signers.now i c.index-signers-i.result c.loop-i-test.true c.index-signers-i.is in
+    rw (p.1, p.2) (λ some. c.loop-i.invariant.left
+    ∙ stops_at price ss i _ s within is (omega (arith, c.in_err-add_signed.ensures.spent some, g.met.B.Budget.within c.loop-i.b))
+    ∙ ap Some (sym (c.in_err-add_signed.ensures.fault some)))
+
+pub returns-in_err-add_signed-clause-paid : goal.returns-in_err-add_signed-clause-paid
+returns-in_err-add_signed-clause-paid g c =
+    let p = err_from_is_err_and c.from_residual.result c.from_residual.ensures.1 in
+    let ss = map signer_parts c.args.signers.now in
+    let s = signer_parts c.index-signers-i.result in
+    let i = c.loop-i.i in
+    let price = signing_cost c.args.payload.now in
+    let within : i < length ss = omega (arith, length-map c.args.signers.now signer_parts) in
+    let is = mapped_at signer_parts c.args.signers.now i c.index-signers-i.result c.loop-i-test.true c.index-signers-i.is in
+    let more = sum_more price ss i s within is in
+    let kept = c.loop-i.invariant in
+    rw (p.1, p.2) (paid_after ⊤ c.in_err-add_signed.field-0.0 i (length c.args.signers.now) _ _ c.loop-i-test.true c.in_err-add_signed.ensures.fault
+    (λ none. (omega (arith, none.0, kept.octets), omega (arith, none.1, kept.calls)))
+    (λ one. (omega (arith, one.0, kept.octets, more), omega (arith, one.1, kept.calls)))
+    c.in_err-add_signed.ensures.paid)
+
+pub loop-i-preserved : goal.loop-i-preserved
+loop-i-preserved g c =
+    let ss = map signer_parts c.args.signers.now in
+    let s = signer_parts c.index-signers-i.result in
+    let i = c.loop-i.i in
+    let payload = c.args.payload.now in
+    let within : i < length ss = omega (arith, length-map c.args.signers.now signer_parts) in
+    let is = mapped_at signer_parts c.args.signers.now i c.index-signers-i.result c.loop-i-test.true c.index-signers-i.is in
+    let kept = c.loop-i.invariant in
+    let paid = c.in_ok-add_signed.ensures.paid in
+    let afforded = c.in_ok-add_signed.ensures.afforded in
+    let more = sum_more (signing_cost payload) ss i s within is in
+    record {
+      text =
+          c.in_ok-add_signed.ensures.text
+          ∙ ap (λ (t : List ℕ). t ++ (cond (nat_lt 0 i) (44 ∷ []) [] ++ element payload s)) kept.text
+          ∙ append_assoc c.args.token.now.items (join_with_byte 44 (map (element payload) (take i ss))) (cond (nat_lt 0 i) (44 ∷ []) [] ++ element payload s)
+          ∙ ap (λ (t : List ℕ). c.args.token.now.items ++ t) (sym (elements_more (element payload) ss i s within is));
+      left =
+          kept.left
+          ∙ goes_on (signing_cost payload) ss i _ s within is (omega (arith, afforded))
+          ∙ ap (λ (left : ℕ). first_spent (i + 1) left (drop (i + 1) (map (signing_cost payload) ss))) (omega (arith, paid.0, c.in_ok-add_signed.ensures.ceiling));
+      octets = omega (arith, paid.0, kept.octets, more);
+      calls = omega (arith, paid.1, kept.calls);
+      ceiling = c.in_ok-add_signed.ensures.ceiling ∙ kept.ceiling;
+    }

@@ -1,0 +1,42 @@
+use Rattle.std.proofs.Common.{◌≡◌, ◌<◌, List, ◌∷◌, [], ◌++◌, Option, length, get_or, map, take, Some, Ok, sym, ap, ◌∙◌, arith}
+use Rattle.std.proofs.lemmas.List.{length-map, map_push}
+use Rattle.std.proofs.lemmas.Result.{err_from_is_err_and}
+use Rattle.jwt_issue.specs.Issued.{PairParts, SignerParts, unless, unfit, signer_of}
+use Rattle.jwt_issue.specs.Views.{pair_parts, text_of, signer_parts}
+use Rattle.jwt_issue.specs.declared.fault.IssueFault.{IssueFault}
+use Rattle.jwt_issue.specs.declared.signer.Signer.{Signer}
+use Rattle.jwt_issue.proofs.Fit.{fit_answer, fit_refuses, next_fits, next_unfit, signers_more}
+use Rattle.jwt_issue.proofs.Lengths.{mapped_at}
+use Rattle.jwt_issue.proofs.general.signers.Goals as goal
+
+pub returns-in_err-new : goal.returns-in_err-new
+returns-in_err-new c =
+    let p = err_from_is_err_and c.from_residual-in_err-new.result c.from_residual-in_err-new.ensures.1 in
+    let pairs = map pair_parts c.args.pairs.now in
+    let pair : PairParts = pair_parts c.index-pairs-i.result in
+    let i = c.loop-i.i in
+    let fault = c.in_err-new.field-0.0 in
+    let within : i < length pairs = omega (arith, length-map c.args.pairs.now pair_parts) in
+    let is : pair ≡ get_or pairs i pair = mapped_at pair_parts c.args.pairs.now i c.index-pairs-i.result c.loop-i-test.true c.index-pairs-i.is in
+    rw (p.1, p.2) (λ some.
+    let here : unfit i pair ≡ Some fault = fit_refuses (unfit i pair) (signer_of (text_of c.args.typ) pair) fault (c.in_err-new.ensures some) in
+    ap (λ (f : Option IssueFault). unless f (Ok (map (signer_of (text_of c.args.typ)) pairs))) (c.loop-i.invariant.fit ∙ next_unfit pairs i pair fault within is here))
+
+pub loop-i-preserved : goal.loop-i-preserved
+loop-i-preserved c =
+    let pairs = map pair_parts c.args.pairs.now in
+    let pair : PairParts = pair_parts c.index-pairs-i.result in
+    let i = c.loop-i.i in
+    let made : PairParts → SignerParts = signer_of (text_of c.args.typ) in
+    let within : i < length pairs = omega (arith, length-map c.args.pairs.now pair_parts) in
+    let is : pair ≡ get_or pairs i pair = mapped_at pair_parts c.args.pairs.now i c.index-pairs-i.result c.loop-i-test.true c.index-pairs-i.is in
+    let fit = fit_answer (unfit i pair) (made pair) (signer_parts c.in_ok-new.field-0) c.in_ok-new.ensures in
+    record {
+      fit = c.loop-i.invariant.fit ∙ next_fits pairs i pair within is fit.0;
+      made =
+          ap (λ (xs : List Signer). map signer_parts xs) c.in_ok-push.ensures.items
+          ∙ map_push signer_parts c.loop-i.signers.items c.in_ok-new.field-0
+          ∙ ap (λ (ss : List SignerParts). ss ++ signer_parts c.in_ok-new.field-0 ∷ []) c.loop-i.invariant.made
+          ∙ ap (λ (s : SignerParts). map made (take i pairs) ++ s ∷ []) (sym fit.1)
+          ∙ sym (signers_more made pairs i pair within is);
+    }

@@ -1,0 +1,4 @@
+pub mod ClaimSets
+pub mod Issued
+pub mod Paying
+pub mod Views

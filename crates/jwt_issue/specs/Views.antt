@@ -1,0 +1,21 @@
+-- What contracts see of this crate's values.
+use Rattle.std.specs.Prelude.{ℕ, List, Option, option_map}
+use Rattle.std.specs.Borrow.{Bor}
+use Rattle.jwt_keys.specs.Views.{key_parts}
+use Rattle.jwt_keys.specs.declared.key.Key.{Key}
+use Rattle.jwt_mac.specs.declared.algorithm.Alg.{Alg}
+use Rattle.jwt_issue.specs.Issued.{PairParts, SignerParts}
+use Rattle.jwt_issue.specs.declared.signer.Signer.{Signer}
+
+abbrev pub pair_of : Alg → Key → PairParts
+pair_of alg key = record { alg = alg; key = key_parts key }
+
+abbrev pub pair_parts : Alg × Bor Key → PairParts
+pair_parts pair = pair_of pair.0 pair.1.now
+
+-- a text that may be absent
+abbrev pub text_of : Option (Bor (List ℕ)) → Option (List ℕ)
+text_of text = option_map (λ s. s.now) text
+
+abbrev pub signer_parts : Signer → SignerParts
+signer_parts s = record { alg = s.alg; secret = s.secret.now; protected = s.protected.items }

@@ -1,0 +1,162 @@
+//! Tokens in general JSON form.
+ghost use Rattle.std.specs.Prelude.{◌≡◌, ◌≢◌, ◌+◌, ◌-◌, ◌*◌, ◌≤◌, ◌<◌, ◌^◌, ◌++◌, ◌∷◌, [], List, length, map, take, codes, nat_lt, None, Some, Ok, IfErr, OnOk, OnErr, if◌then◌else◌};
+ghost use Rattle.std.specs.List.{sum, join_with_byte};
+ghost use Rattle.jwt_text.specs.Answers.{Answers};
+ghost use Rattle.jwt_issue.specs.Issued.{general_of, general_token, within, pair_costs, first_unfit, first_spent, signer_of, signing_cost, text_members, element, unless};
+ghost use Rattle.jwt_issue.specs.Paying.{Pays, PaysOnce};
+ghost use Rattle.jwt_issue.specs.Views.{pair_parts, text_of, signer_parts};
+
+use crate::claim_set::ClaimSet;
+use crate::fault::IssueFault;
+use crate::header::spell;
+use crate::signer::Signer;
+use crate::size::general_len;
+use crate::writing::{add_signature, add_text};
+use jwt_keys::Key;
+use jwt_mac::{Alg, Budget};
+use std::alloc::{AllocError, Global};
+
+/// The most signatures of a token.
+const MOST_SIGNATURES: usize = 32;
+
+/// What the pairs sign with, or why the first that may not sign may not.
+fn signers<'a>(
+    alloc: Global,
+    pairs: &[(Alg, &'a Key)],
+    typ: Option<&str>,
+) -> Result<Vec<Signer<'a>>, IssueFault>
+    requires { length pairs.now ≤ 32 }
+    ensures { Answers IssueFault.OutOfMemory (λ v. map signer_parts v.items) result (unless (first_unfit 0 (map pair_parts pairs.now)) (Ok (map (signer_of (text_of typ.entry)) (map pair_parts pairs.now)))) }
+{
+    let mut signers = Vec::with_capacity(alloc, pairs.len())?;
+    for i in 0..pairs.len() {
+        let pair = &pairs[i];
+        signers.push(Signer::new(alloc, i as u32, pair.0, pair.1, typ)?)?;
+    }
+    Ok(signers)
+}
+
+/// Adds one element of `signatures`, after a comma where it isn't the first (RFC 7515, section 7.2.1).
+fn add_element(
+    token: &mut Vec<u8>,
+    later: bool,
+    protected: &[u8],
+    signature: &[u8],
+) -> Result<(), AllocError>
+    ensures { OnOk result (token.new.items ≡ token.old.items ++ ((if later then 44 ∷ [] else []) ++ (codes "{" ++ text_members protected.now signature.now))) }
+{
+    if later {
+        token.push(b',')?;
+    }
+    token.push(b'{')?;
+    add_signature(token, protected, signature)
+}
+
+/// Signs as number `i`, and adds the element.
+#[tactic(auto, unfolding(crate::specs::Issued::signature_text))]
+fn add_signed<B: Budget>(
+    alloc: Global,
+    b: &mut B,
+    i: u32,
+    signer: &Signer<'_>,
+    payload: &[u8],
+    token: &mut Vec<u8>,
+) -> Result<(), IssueFault>
+    requires { B.calls b.old + 1 < 2 ^ 32 }
+    ensures text { OnOk result (token.new.items ≡ token.old.items ++ ((if nat_lt 0 i then 44 ∷ [] else []) ++ element payload.now (signer_parts signer.now))) }
+    ensures fault { IfErr result (λ e. e ≢ IssueFault.OutOfMemory → e ≡ IssueFault.Spent i) }
+    ensures afforded { OnOk result (B.octets b.old + signing_cost payload.now (signer_parts signer.now) ≤ B.ceiling b.old) }
+    ensures spent { IfErr result (λ e. e ≢ IssueFault.OutOfMemory → B.ceiling b.old < B.octets b.old + signing_cost payload.now (signer_parts signer.now)) }
+    ensures paid { PaysOnce result (λ n. (B.octets b.new ≡ B.octets b.old + n * signing_cost payload.now (signer_parts signer.now)) × (B.calls b.new ≡ B.calls b.old + n)) }
+    ensures ceiling { B.ceiling b.new ≡ B.ceiling b.old }
+{
+    let signature = signer.sign(alloc, b, i, payload)?;
+    add_element(token, i > 0, &signer.protected, &signature)?;
+    Ok(())
+}
+
+/// Adds the elements of `signatures`, each signed when those before it are paid.
+fn add_elements<B: Budget>(
+    alloc: Global,
+    b: &mut B,
+    signers: &[Signer<'_>],
+    payload: &[u8],
+    token: &mut Vec<u8>,
+) -> Result<(), IssueFault>
+    requires few { length signers.now ≤ 32 }
+    requires room { B.calls b.old + 32 < 2 ^ 32 }
+    ensures text { OnOk result (token.new.items ≡ token.old.items ++ join_with_byte 44 (map (element payload.now) (map signer_parts signers.now))) }
+    ensures afforded { OnOk result (first_spent 0 (B.ceiling b.old - B.octets b.old) (map (signing_cost payload.now) (map signer_parts signers.now)) ≡ None) }
+    ensures fault { IfErr result (λ e. e ≢ IssueFault.OutOfMemory → first_spent 0 (B.ceiling b.old - B.octets b.old) (map (signing_cost payload.now) (map signer_parts signers.now)) ≡ Some e) }
+    ensures paid { Pays result (length signers.now) (λ n. (B.octets b.new ≡ B.octets b.old + sum (take n (map (signing_cost payload.now) (map signer_parts signers.now)))) × (B.calls b.new ≡ B.calls b.old + n)) }
+    ensures ceiling { B.ceiling b.new ≡ B.ceiling b.old }
+{
+    for i in 0..signers.len() {
+        add_signed(alloc, b, i as u32, &signers[i], payload, token)?;
+    }
+    Ok(())
+}
+
+/// The token in general form of these signers and this payload text: its room is got first, then the HMACs are paid in order.
+#[tactic(auto, unfolding(crate::specs::Issued::within))]
+fn general_token<B: Budget>(
+    alloc: Global,
+    b: &mut B,
+    signers: &[Signer<'_>],
+    payload: &[u8],
+) -> Result<Vec<u8>, IssueFault>
+    requires some { 0 < length signers.now }
+    requires few { length signers.now ≤ 32 }
+    requires room { B.calls b.old + 32 < 2 ^ 32 }
+    ensures answer { Answers IssueFault.OutOfMemory (λ v. v.items) result (within (B.ceiling b.old - B.octets b.old) (map (signing_cost payload.now) (map signer_parts signers.now)) (general_token payload.now (map signer_parts signers.now))) }
+    ensures paid { Pays result (length signers.now) (λ n. (B.octets b.new ≡ B.octets b.old + sum (take n (map (signing_cost payload.now) (map signer_parts signers.now)))) × (B.calls b.new ≡ B.calls b.old + n)) }
+    ensures ceiling { B.ceiling b.new ≡ B.ceiling b.old }
+{
+    let len = general_len(signers, payload).ok_or(IssueFault::TooLong)?;
+    let mut token = Vec::with_capacity(alloc, len)?;
+    add_text(&mut token, b"{\"payload\":\"", payload)?;
+    token.extend_from_slice(b"\",\"signatures\":[")?;
+    add_elements(alloc, b, signers, payload, &mut token)?;
+    token.extend_from_slice(b"]}")?;
+    Ok(token)
+}
+
+/// A signed token in general JSON form (RFC 7515, section 7.2.1): an object with the text `payload` and the list `signatures`,
+/// whose elements have the texts `protected` and `signature`, one for each pair and in their order, with no white space. The
+/// payload is the claims, octet by octet.
+///
+/// Each protected header has `alg`, its key's `kid` where it has one, and `typ` where it is given, as compact JSON text with the
+/// names in ascending byte order; each signature is the HMAC of its own key over its own signing input (RFC 7518, section 3.2).
+/// The HMACs are paid from the budget in order, each at its cost and with one call. The condition: at least 32 calls are left
+/// below `u32::MAX`.
+///
+/// # Errors
+/// The first that holds of `NoKey`, there is no pair; `TooManySignatures`, there are more than 32; for each pair i `AlgNotHmac(i)`
+/// and `KeyUnfit(i)`, it may not sign; `TooLong`, the token would have more than 1,048,576 octets; `Spent(i)`, the HMAC of pair i
+/// costs more than the budget has left after those before it. `OutOfMemory` comes where a growth was refused, in place of any
+/// other answer. After `Spent(i)` the first i HMACs are paid, after `OutOfMemory` some first ones, after any other refusal none.
+#[tactic(auto, unfolding(crate::specs::Issued::general_of))]
+pub fn issue_json<B: Budget>(
+    alloc: Global,
+    b: &mut B,
+    pairs: &[(Alg, &Key)],
+    typ: Option<&str>,
+    claims: &ClaimSet,
+) -> Result<Vec<u8>, IssueFault>
+    requires { B.calls b.old + 32 < 2 ^ 32 }
+    ensures answer { Answers IssueFault.OutOfMemory (λ v. v.items) result (general_of (B.ceiling b.old - B.octets b.old) (text_of typ.entry) claims.now (map pair_parts pairs.now)) }
+
+    // What the budget counts.
+    ensures paid { Pays result (length pairs.now) (λ n. (B.octets b.new ≡ B.octets b.old + sum (take n (pair_costs (text_of typ.entry) claims.now (map pair_parts pairs.now)))) × (B.calls b.new ≡ B.calls b.old + n)) }
+    ensures ceiling { B.ceiling b.new ≡ B.ceiling b.old }
+{
+    if pairs.is_empty() {
+        return Err(IssueFault::NoKey);
+    }
+    if pairs.len() > MOST_SIGNATURES {
+        return Err(IssueFault::TooManySignatures);
+    }
+    let signers = signers(alloc, pairs, typ)?;
+    let payload = spell(alloc, claims.octets())?;
+    general_token(alloc, b, &signers, &payload)
+}

@@ -1,0 +1,64 @@
+//! How many octets a token will have, before anything is signed.
+ghost use Rattle.std.specs.Prelude.{◌≡◌, ◌≤◌, ◌<◌, ℕ, List, SomeIff, length, map};
+ghost use Rattle.jwt_issue.specs.Issued.{signature_text, compact_token, flattened_token, general_token};
+ghost use Rattle.jwt_issue.specs.Views.{signer_parts};
+
+use crate::signer::Signer;
+use jwt_mac::laws::tags_are_digests;
+
+/// The most octets of a token.
+const MOST: usize = 1_048_576;
+
+/// The octets of a signature text, over any payload.
+fn signature_len(signer: &Signer<'_>) -> usize
+    ensures is { (payload : List ℕ) → length (signature_text payload (signer_parts signer.now)) ≡ result }
+    ensures few { result ≤ 86 }
+{
+    tags_are_digests();
+    (4 * signer.alg.digest() as usize + 2) / 3
+}
+
+/// The length of a token, if it isn't too long.
+fn at_most(len: usize) -> Option<usize>
+    ensures { SomeIff result (len ≤ 1048576) len }
+{
+    if len <= MOST { Some(len) } else { None }
+}
+
+/// The octets of the token in compact form, `None` where they are too many.
+pub(crate) fn compact_len(signer: &Signer<'_>, payload: &[u8]) -> Option<usize>
+    ensures { SomeIff result (length (compact_token payload.now (signer_parts signer.now)) ≤ 1048576) (length (compact_token payload.now (signer_parts signer.now))) }
+{
+    if signer.protected.len() > MOST || payload.len() > MOST {
+        return None;
+    }
+    at_most(signer.protected.len() + payload.len() + 2 + signature_len(signer))
+}
+
+/// The octets of the token in flattened JSON form, `None` where they are too many.
+pub(crate) fn flattened_len(signer: &Signer<'_>, payload: &[u8]) -> Option<usize>
+    ensures { SomeIff result (length (flattened_token payload.now (signer_parts signer.now)) ≤ 1048576) (length (flattened_token payload.now (signer_parts signer.now))) }
+{
+    if signer.protected.len() > MOST || payload.len() > MOST {
+        return None;
+    }
+    at_most(signer.protected.len() + payload.len() + 44 + signature_len(signer))
+}
+
+/// The octets of the token in general JSON form, `None` where they are too many.
+pub(crate) fn general_len(signers: &[Signer<'_>], payload: &[u8]) -> Option<usize>
+    requires { 0 < length signers.now }
+    ensures { SomeIff result (length (general_token payload.now (map signer_parts signers.now)) ≤ 1048576) (length (general_token payload.now (map signer_parts signers.now))) }
+{
+    if payload.len() > MOST {
+        return None;
+    }
+    let mut len = 29 + payload.len();
+    for signer in signers {
+        if len > MOST || signer.protected.len() > MOST {
+            return None;
+        }
+        len += 32 + signer.protected.len() + signature_len(signer);
+    }
+    at_most(len)
+}
