@@ -1,6 +1,6 @@
 -- Each refusal is for the first fault that holds.
-use Rattle.std.proofs.Common.{◌≡◌, ◌≢◌, ℕ, ℤ, zero, suc, ◌+◌, ◌-◌, ◌<◌, ◌≤◌, Bool, true, false, List, [], ◌∷◌, length, map, Option, Some, None, Result, Ok, Err, arith, refl, sym, ◌∙◌, ap, subst, inl, inr, ◌⊎◌}
-use Rattle.std.specs.Prelude.{◌↔◌, if◌then◌else◌}
+use Rattle.std.proofs.Common.{◌≡◌, ℕ, ◌+◌, ◌<◌, ◌≤◌, Bool, true, false, List, length, Option, Some, None, Result, Ok, Err, arith, refl, sym, ◌∙◌, ap, subst, inl, inr}
+use Rattle.std.specs.Prelude.{if◌then◌else◌}
 use Rattle.std.specs.Option.{option_map_or}
 use Rattle.std.specs.List.{AllZip}
 use Rattle.std.proofs.lemmas.Slice.Zip.{AllZip-long}
@@ -8,8 +8,8 @@ use Rattle.std.proofs.lemmas.Bool.{cases_Bool, cases_lt, lt-ltb, le-ltb, false�
 use Rattle.serde_json.specs.Data.{Members}
 use Rattle.jwt_jws.specs.declared.fault.FormFault.{FormFault}
 use Rattle.jwt_jws.specs.Token.{Token}
-use Rattle.jwt_jws.specs.Forms.{Spelled, SpelledToken, form_of}
-use Rattle.jwt_jws.specs.SignedToken.{IsSpelledToken, IsSignature, IsSignedToken, ReadsSignedTokens}
+use Rattle.jwt_jws.specs.Forms.{SpelledToken, form_of}
+use Rattle.jwt_jws.specs.SignedToken.{IsSpelledToken, IsSignature, ReadsSignedTokens}
 use Rattle.jwt_policy.specs.declared.mode.Mode.{Mode}
 use Rattle.jwt_policy.specs.declared.mode.Mode.TheVariants.{Any, All}
 use Rattle.jwt_policy.specs.declared.sig_fault.SigFault.{SigFault}
@@ -21,11 +21,11 @@ use Rattle.jwt_verify.specs.declared.report.Try.{Try}
 use Rattle.jwt_verify.specs.declared.report.InputFault.TheVariants.{TooLong}
 use Rattle.jwt_verify.specs.declared.report.Fault.{Fault}
 use Rattle.jwt_verify.specs.declared.report.Fault.TheVariants.{Text, Form, WorkExceeded, CallsExceeded, Signature, Claim}
-use Rattle.jwt_verify.specs.declared.report.Verdict.TheVariants.{Accepted, Refused}
-use Rattle.jwt_verify.specs.Table.{Table, below, verified, paid, stop, ending, is_within}
+use Rattle.jwt_verify.specs.declared.report.Verdict.TheVariants.{Refused}
+use Rattle.jwt_verify.specs.Table.{Table, below, verified, paid, stop, is_within}
 use Rattle.jwt_verify.specs.Trying.{table_of}
 use Rattle.jwt_verify.specs.Verdict.{Terms, Signing, VerifiedBy, Unverified, first_in, key_at, fault_at, unverified, verified_or, signing_in, signing_of, checked, claimed, concluded, ended, token_verdict, formed, token_of, decided, verdict_of, table, without_line_feed}
-use Rattle.jwt_verify.specs.Accepted.{IsVerifiedBy, IsToken, StopsAt, IsFirstUnverified, IsClaimFault, IsFault, RefusesExactly}
+use Rattle.jwt_verify.specs.Accepted.{IsVerifiedBy, IsFirstUnverified, IsClaimFault, IsFault, RefusesExactly}
 use Rattle.jwt_verify.proofs.First.{first_none_at}
 use Rattle.jwt_verify.proofs.Signing.{key_none, fault_none}
 use Rattle.jwt_verify.proofs.Judged.{unbarred_by, table_of_token}
@@ -46,7 +46,7 @@ unfolding token_of
 token_words q x w f h = elim (cases_lt q.policy.run.limit (length x)) [
   | inl l ↦ (let e = rw (lt-ltb q.policy.run.limit (length x) l) at h in let s : Text TooLong ≡ f = cc in subst (IsFault q x w) s l)
   | inr m ↦ form_words q x w f m (form_of q.policy.run.max_signatures (without_line_feed q.policy.run.line_feed x)) refl (rw (le-ltb q.policy.run.limit (length x) m) at h)
-  ]
+]
 
 -- ---- a token has a signature
 
@@ -58,7 +58,7 @@ spelled_some most z w (inl h) = rw h.1.4 (omega arith)
 spelled_some most z w (inr h) = elim h.1.3 [
   | inl g ↦ g.some
   | inr f ↦ rw f.signature.1 (omega arith)
-  ]
+]
 
 pub some_signature : ReadsSignedTokens → (most : ℕ) (z : List ℕ) (t : Token) → form_of most z ≡ Ok t → 0 < length t.signatures
 some_signature reads most z t h =
@@ -123,9 +123,9 @@ claim_words : (q : Terms) (payload : List ℕ) (i j : ℕ) (f : Fault) (r : Resu
 claim_words q payload i j f (Err g) e h = (g, refusal (Claim g) f h, inl (sym e))
 claim_words q payload i j f (Ok claims) e h = go (check_of q.policy claims q.now) refl h
   where
-  go : (o : Option ClaimFault) → o ≡ check_of q.policy claims q.now → checked i j claims o ≡ Refused f → (g : ClaimFault) × (Claim g ≡ f) × IsClaimFault q payload g
-  go None e2 h = cc
-  go (Some g) e2 h = (g, refusal (Claim g) f h, inr (claims, sym e, sym e2))
+    go : (o : Option ClaimFault) → o ≡ check_of q.policy claims q.now → checked i j claims o ≡ Refused f → (g : ClaimFault) × (Claim g ≡ f) × IsClaimFault q payload g
+    go None e2 h = cc
+    go (Some g) e2 h = (g, refusal (Claim g) f h, inr (claims, sym e, sym e2))
 
 module _ (q : Terms) (x : List ℕ) (w : ℕ) (f : Fault) (t : Token) (here : token_of q.policy x ≡ Ok t) (some : 0 < length t.signatures) where
   abbrev T : Table
@@ -168,9 +168,9 @@ pub refuses_exactly_holds : ReadsSignedTokens → RefusesExactly
 unfolding verdict_of token_verdict
 refuses_exactly_holds reads q x w f h = go (token_of q.policy x) refl h
   where
-  go : (r : Result Token Fault) → r ≡ token_of q.policy x → decided q w r ≡ Refused f → IsFault q x w f
-  go (Err g) e h = token_words q x w f (sym e ∙ ap Err (refusal g f h))
-  go (Ok t) e h =
-      let T = table_of q.policy q.verifiers q.keys t in
-      stop_words q x w f t (sym e) (some_signature reads q.policy.run.max_signatures (without_line_feed q.policy.run.line_feed x) t (token_is q x t (sym e)).1)
-      (stop T w q.policy.max_calls) refl (is_within q.policy.max_calls (length (paid T w q.policy.max_calls) + 1)) refl h
+    go : (r : Result Token Fault) → r ≡ token_of q.policy x → decided q w r ≡ Refused f → IsFault q x w f
+    go (Err g) e h = token_words q x w f (sym e ∙ ap Err (refusal g f h))
+    go (Ok t) e h =
+        let T = table_of q.policy q.verifiers q.keys t in
+        stop_words q x w f t (sym e) (some_signature reads q.policy.run.max_signatures (without_line_feed q.policy.run.line_feed x) t (token_is q x t (sym e)).1)
+        (stop T w q.policy.max_calls) refl (is_within q.policy.max_calls (length (paid T w q.policy.max_calls) + 1)) refl h
