@@ -68,7 +68,7 @@ numbered n a = Some (n, a)
 parts_of : {A : Type 0} (n i : ℕ) (b a : A) → numbered n b ≡ numbered i a → (n ≡ i) × (b ≡ a)
 parts_of n i b a h = (ap (λ o. option_map_or (λ p. p.0) o n) h, ap (λ o. option_map_or (λ p. p.1) o b) h)
 
-first_is : {A : Type 0} (f : ℕ → Option A) (n i : ℕ) (a : A) → first_in f (below n) ≡ Some (i, a) → (i < n) × (f i ≡ Some a) × ((k : ℕ) → k < i → f k ≡ None)
+pub first_is : {A : Type 0} (f : ℕ → Option A) (n i : ℕ) (a : A) → first_in f (below n) ≡ Some (i, a) → (i < n) × (f i ≡ Some a) × ((k : ℕ) → k < i → f k ≡ None)
 first_is f zero i a h = let z = sym (first_zero f) ∙ h in cc
 first_is {A} f (suc n) i a h =
     let e = rw (sym (add-one n)) at h in
@@ -100,7 +100,7 @@ pub verified_key : (t : Table) (i j : ℕ) → key_at t i ≡ Some j → verifie
 unfolding verified
 verified_key t i j h = found_any (verifies t i) (below t.keys) j h
 
-verified_none : (t : Table) (i : ℕ) → ((j : ℕ) → t.eligible i j ≡ true → t.bar i ≡ None) → verified t i ≡ true → fault_at t i ≡ None
+pub verified_none : (t : Table) (i : ℕ) → ((j : ℕ) → t.eligible i j ≡ true → t.bar i ≡ None) → verified t i ≡ true → fault_at t i ≡ None
 unfolding verified outcome verifies
 verified_none t i barred v =
     let l = least_found (verifies t i) t.keys v in

@@ -1,8 +1,9 @@
 //! Laws of the definitions: each function does nothing, and its contract holds of every table.
 
-ghost use Rattle.jwt_verify.specs.Accepted.{AcceptsExactly};
+ghost use Rattle.jwt_verify.specs.Accepted.{AcceptsExactly, RefusesExactly};
 ghost use Rattle.jwt_verify.specs.Laws.{TriesAreBounded, LeastTries, MoreKeys, SameKeys, WorkIsBounded, CeilingSuffices};
 
+use jwt_jws::laws::signed_tokens;
 use jwt_policy::laws::{bar_is_first_row, eligible_pairs};
 
 /// The tries stand in dictionary order, so no pair twice, and each is eligible; there are no more than pairs, and their costs
@@ -41,6 +42,14 @@ pub fn least_tries()
 pub fn accepts_exactly()
     ensures { AcceptsExactly }
 {}
+
+/// Each refusal is for a fault that holds, in words, where none before it does: it is too long; it is no signed token; a ceiling
+/// stopped the run at that pair; the signature is the first that isn't verified, in mode `any` where none is; the claims are refused.
+pub fn refuses_exactly()
+    ensures { RefusesExactly }
+{
+    signed_tokens();
+}
 
 /// More keys never refuse: what is accepted with some keys is accepted with more, with the same claims, where the ceilings leave
 /// room for all tries. So a key set may be rotated by adding first and removing later.

@@ -1,0 +1,176 @@
+-- Each refusal is for the first fault that holds.
+use Rattle.std.proofs.Common.{◌≡◌, ℕ, ◌+◌, ◌<◌, ◌≤◌, Bool, true, false, List, length, Option, Some, None, Result, Ok, Err, arith, refl, sym, ◌∙◌, ap, subst, inl, inr}
+use Rattle.std.specs.Prelude.{if◌then◌else◌}
+use Rattle.std.specs.Option.{option_map_or}
+use Rattle.std.specs.List.{AllZip}
+use Rattle.std.proofs.lemmas.Slice.Zip.{AllZip-long}
+use Rattle.std.proofs.lemmas.Bool.{cases_Bool, cases_lt, lt-ltb, le-ltb, false≢true}
+use Rattle.serde_json.specs.Data.{Members}
+use Rattle.jwt_jws.specs.declared.fault.FormFault.{FormFault}
+use Rattle.jwt_jws.specs.Token.{Token}
+use Rattle.jwt_jws.specs.Forms.{SpelledToken, form_of}
+use Rattle.jwt_jws.specs.SignedToken.{IsSpelledToken, IsSignature, ReadsSignedTokens}
+use Rattle.jwt_policy.specs.declared.mode.Mode.{Mode}
+use Rattle.jwt_policy.specs.declared.mode.Mode.TheVariants.{Any, All}
+use Rattle.jwt_policy.specs.declared.sig_fault.SigFault.{SigFault}
+use Rattle.jwt_policy.specs.declared.claim_fault.ClaimFault.{ClaimFault}
+use Rattle.jwt_policy.specs.ClaimKinds.{claims_of}
+use Rattle.jwt_policy.specs.Checks.{check_of}
+use Rattle.jwt_verify.specs.declared.tries.End.TheVariants as end
+use Rattle.jwt_verify.specs.declared.report.Try.{Try}
+use Rattle.jwt_verify.specs.declared.report.InputFault.TheVariants.{TooLong}
+use Rattle.jwt_verify.specs.declared.report.Fault.{Fault}
+use Rattle.jwt_verify.specs.declared.report.Fault.TheVariants.{Text, Form, WorkExceeded, CallsExceeded, Signature, Claim}
+use Rattle.jwt_verify.specs.declared.report.Verdict.TheVariants.{Refused}
+use Rattle.jwt_verify.specs.Table.{Table, below, verified, paid, stop, is_within}
+use Rattle.jwt_verify.specs.Trying.{table_of}
+use Rattle.jwt_verify.specs.Verdict.{Terms, Signing, VerifiedBy, Unverified, first_in, key_at, fault_at, unverified, verified_or, signing_in, signing_of, checked, claimed, concluded, ended, token_verdict, formed, token_of, decided, verdict_of, table, without_line_feed}
+use Rattle.jwt_verify.specs.Accepted.{IsVerifiedBy, IsFirstUnverified, IsClaimFault, IsFault, RefusesExactly}
+use Rattle.jwt_verify.proofs.First.{first_none_at}
+use Rattle.jwt_verify.proofs.Signing.{key_none, fault_none}
+use Rattle.jwt_verify.proofs.Judged.{unbarred_by, table_of_token}
+use Rattle.jwt_verify.proofs.Accepting.{first_is, verified_none, signing_by_words, token_is}
+
+refusal : (f g : Fault) → Refused f ≡ Refused g → f ≡ g
+refusal f g h = cc
+
+-- ---- what is no token
+
+form_words : (q : Terms) (x : List ℕ) (w : ℕ) (f : Fault) → length x ≤ q.policy.run.limit → (r : Result Token FormFault)
+    → r ≡ form_of q.policy.run.max_signatures (without_line_feed q.policy.run.line_feed x) → formed r ≡ Err f → IsFault q x w f
+form_words q x w f l (Ok t) e h = cc
+form_words q x w f l (Err g) e h = let s : Form g ≡ f = cc in subst (IsFault q x w) s (l, sym e)
+
+token_words : (q : Terms) (x : List ℕ) (w : ℕ) (f : Fault) → token_of q.policy x ≡ Err f → IsFault q x w f
+unfolding token_of
+token_words q x w f h = elim (cases_lt q.policy.run.limit (length x)) [
+  | inl l ↦ (let e = rw (lt-ltb q.policy.run.limit (length x) l) at h in let s : Text TooLong ≡ f = cc in subst (IsFault q x w) s l)
+  | inr m ↦ form_words q x w f m (form_of q.policy.run.max_signatures (without_line_feed q.policy.run.line_feed x)) refl (rw (le-ltb q.policy.run.limit (length x) m) at h)
+]
+
+-- ---- a token has a signature
+
+zip_some : {X Y : Type 0} (P : X → Y → Type 0) (xs : List X) (ys : List Y) → AllZip P xs ys → 0 < length xs → 0 < length ys
+zip_some P xs ys h l = omega (arith, AllZip-long P xs ys h, l)
+
+spelled_some : (most : ℕ) (z : List ℕ) (w : SpelledToken) → IsSpelledToken most z w → 0 < length w.signatures
+spelled_some most z w (inl h) = rw h.1.4 (omega arith)
+spelled_some most z w (inr h) = elim h.1.3 [
+  | inl g ↦ g.some
+  | inr f ↦ rw f.signature.1 (omega arith)
+]
+
+pub some_signature : ReadsSignedTokens → (most : ℕ) (z : List ℕ) (t : Token) → form_of most z ≡ Ok t → 0 < length t.signatures
+some_signature reads most z t h =
+    let s = (reads most z t).0 h in
+    zip_some (IsSignature s.texts.0.form) s.texts.0.signatures t.signatures s.texts.4 (spelled_some most z s.texts.0 s.texts.1)
+
+-- ---- the signatures
+
+any_unverified : (f : Option (ℕ × SigFault)) (v : Option (ℕ × ℕ)) (i : ℕ) (g : SigFault) → verified_or f v ≡ Unverified i g → (v ≡ None) × (unverified f ≡ Unverified i g)
+any_unverified f None i g h = (refl, h)
+any_unverified f (Some v) i g h = cc
+
+abbrev numbered : ℕ → SigFault → Option (ℕ × SigFault)
+numbered i g = Some (i, g)
+
+same_fault : (a i : ℕ) (b g : SigFault) → Unverified a b ≡ Unverified i g → numbered a b ≡ numbered i g
+same_fault a i b g h = let x : a ≡ i = cc in let y : b ≡ g = cc in rw (x, y) refl
+
+module _ (t : Table) (barred : (i j : ℕ) → t.eligible i j ≡ true → t.bar i ≡ None) (some : 0 < t.signatures) where
+  -- none has a key, or none has a fault, but not both
+  not_both : first_in (key_at t) (below t.signatures) ≡ None → first_in (fault_at t) (below t.signatures) ≡ None → ⊥
+  not_both v f = false≢true (sym (key_none t 0 (first_none_at (key_at t) t.signatures 0 some v)) ∙ fault_none t 0 (first_none_at (fault_at t) t.signatures 0 some f))
+
+  unverified_any : (i : ℕ) (g : SigFault) → first_in (key_at t) (below t.signatures) ≡ None → (f : Option (ℕ × SigFault)) → f ≡ first_in (fault_at t) (below t.signatures) → unverified f ≡ Unverified i g
+      → IsFirstUnverified Any t i × (fault_at t i ≡ Some g)
+  unverified_any i g none None e h = absurd (not_both none (sym e))
+  unverified_any i g none (Some p) e h =
+      let r = first_is (fault_at t) t.signatures i g (sym e ∙ same_fault p.0 i p.1 g h) in
+      let each : (k : ℕ) → k < t.signatures → verified t k ≡ false = λ k l. key_none t k (first_none_at (key_at t) t.signatures k l none) in
+      let first : i ≡ 0 = elim (cases_lt 0 i) [
+        | inl l ↦ absurd (false≢true (sym (each 0 some) ∙ fault_none t 0 (r.2 0 l)))
+        | inr l ↦ omega (arith, l)
+      ] in
+      ((first, each), r.1)
+
+  unverified_all : (i : ℕ) (g : SigFault) (f : Option (ℕ × SigFault)) → f ≡ first_in (fault_at t) (below t.signatures) → signing_in All (first_in (key_at t) (below t.signatures)) f ≡ Unverified i g
+      → IsFirstUnverified All t i × (fault_at t i ≡ Some g)
+  unverified_all i g None e h = let a = any_unverified None (first_in (key_at t) (below t.signatures)) i g h in absurd (not_both a.0 (sym e))
+  unverified_all i g (Some p) e h =
+      let r = first_is (fault_at t) t.signatures i g (sym e ∙ same_fault p.0 i p.1 g h) in
+      let not : verified t i ≡ false = elim (cases_Bool (verified t i)) [
+        | inl y ↦ (let z = sym (verified_none t i (barred i) y) ∙ r.1 in cc)
+        | inr n ↦ n
+      ] in
+      ((not, λ k l. fault_none t k (r.2 k l)), r.1)
+
+  unverified_mode : (m : Mode) (i : ℕ) (g : SigFault) → signing_in m (first_in (key_at t) (below t.signatures)) (first_in (fault_at t) (below t.signatures)) ≡ Unverified i g
+      → IsFirstUnverified m t i × (fault_at t i ≡ Some g)
+  unverified_mode Any i g h =
+      let a = any_unverified (first_in (fault_at t) (below t.signatures)) (first_in (key_at t) (below t.signatures)) i g h in
+      unverified_any i g a.0 (first_in (fault_at t) (below t.signatures)) refl a.1
+  unverified_mode All i g h = unverified_all i g (first_in (fault_at t) (below t.signatures)) refl h
+
+  unverified_words : (i : ℕ) (g : SigFault) → signing_of t ≡ Unverified i g → IsFirstUnverified t.mode t i × (fault_at t i ≡ Some g)
+  unfolding signing_of
+  unverified_words i g h = unverified_mode t.mode i g h
+
+-- ---- a token
+
+claim_words : (q : Terms) (payload : List ℕ) (i j : ℕ) (f : Fault) (r : Result Members ClaimFault) → r ≡ claims_of payload → claimed q.policy q.now i j r ≡ Refused f
+    → (g : ClaimFault) × (Claim g ≡ f) × IsClaimFault q payload g
+claim_words q payload i j f (Err g) e h = (g, refusal (Claim g) f h, inl (sym e))
+claim_words q payload i j f (Ok claims) e h = go (check_of q.policy claims q.now) refl h
+  where
+    go : (o : Option ClaimFault) → o ≡ check_of q.policy claims q.now → checked i j claims o ≡ Refused f → (g : ClaimFault) × (Claim g ≡ f) × IsClaimFault q payload g
+    go None e2 h = cc
+    go (Some g) e2 h = (g, refusal (Claim g) f h, inr (claims, sym e, sym e2))
+
+module _ (q : Terms) (x : List ℕ) (w : ℕ) (f : Fault) (t : Token) (here : token_of q.policy x ≡ Ok t) (some : 0 < length t.signatures) where
+  abbrev T : Table
+  T = table_of q.policy q.verifiers q.keys t
+
+  same : T ≡ table q x
+  same = table_of_token q x t here
+
+  signing_words : (s : Signing) → s ≡ signing_of T → stop T w q.policy.max_calls ≡ None → concluded q.policy q.now t.payload s ≡ Refused f → IsFault q x w f
+  signing_words (VerifiedBy i j) e none h =
+      let c = claim_words q t.payload i j f (claims_of t.payload) refl h in
+      let by : IsVerifiedBy T i j = (signing_by_words T (unbarred_by q.policy q.verifiers q.keys t) i j).0 (sym e) in
+      subst (IsFault q x w) c.1 (
+        t,
+        token_is q x t here,
+        subst (λ t. stop t w q.policy.max_calls ≡ None) same none,
+        (i, j, subst (λ t. IsVerifiedBy t i j) same by),
+        c.2,
+      )
+  signing_words (Unverified i g) e none h =
+      let u = unverified_words T (unbarred_by q.policy q.verifiers q.keys t) some i g (sym e) in
+      subst (IsFault q x w) (refusal (Signature i g) f h) (
+        t,
+        token_is q x t here,
+        subst (λ t. stop t w q.policy.max_calls ≡ None) same none,
+        subst (λ t. IsFirstUnverified q.policy.run.mode t i) same u.0,
+        subst (λ t. fault_at t i ≡ Some g) same u.1,
+      )
+
+  stop_words : (o : Option Try) → o ≡ stop T w q.policy.max_calls → (b : Bool) → b ≡ is_within q.policy.max_calls (length (paid T w q.policy.max_calls) + 1)
+      → ended (option_map_or (λ e. if b then end.WorkExceeded e.signature e.key else end.CallsExceeded e.signature e.key) o end.Done) (concluded q.policy q.now t.payload (signing_of T)) ≡ Refused f
+      → IsFault q x w f
+  stop_words None e b k h = signing_words (signing_of T) refl (sym e) h
+  stop_words (Some s) e true k h = subst (IsFault q x w) (refusal (WorkExceeded s.signature s.key) f h)
+      ((s, subst (λ t. stop t w q.policy.max_calls ≡ Some s) same (sym e), refl, refl), subst (λ t. is_within q.policy.max_calls (length (paid t w q.policy.max_calls) + 1) ≡ true) same (sym k))
+  stop_words (Some s) e false k h = subst (IsFault q x w) (refusal (CallsExceeded s.signature s.key) f h)
+      ((s, subst (λ t. stop t w q.policy.max_calls ≡ Some s) same (sym e), refl, refl), subst (λ t. is_within q.policy.max_calls (length (paid t w q.policy.max_calls) + 1) ≡ false) same (sym k))
+
+pub refuses_exactly_holds : ReadsSignedTokens → RefusesExactly
+unfolding verdict_of token_verdict
+refuses_exactly_holds reads q x w f h = go (token_of q.policy x) refl h
+  where
+    go : (r : Result Token Fault) → r ≡ token_of q.policy x → decided q w r ≡ Refused f → IsFault q x w f
+    go (Err g) e h = token_words q x w f (sym e ∙ ap Err (refusal g f h))
+    go (Ok t) e h =
+        let T = table_of q.policy q.verifiers q.keys t in
+        stop_words q x w f t (sym e) (some_signature reads q.policy.run.max_signatures (without_line_feed q.policy.run.line_feed x) t (token_is q x t (sym e)).1)
+        (stop T w q.policy.max_calls) refl (is_within q.policy.max_calls (length (paid T w q.policy.max_calls) + 1)) refl h
