@@ -1,4 +1,5 @@
 mod Fit
 mod Lengths
+mod Spelled
 mod SpentLaw
 mod Steps

@@ -1,7 +1,13 @@
 //! Laws over the definitions that the contracts cite. The functions do nothing: each is its contract.
-ghost use Rattle.std.specs.Prelude.{◌≡◌, ◌≤◌, ◌<◌, ◌+◌, ◌↔◌, ℕ, List, None, Some, length, take};
+ghost use Rattle.std.specs.Prelude.{◌≡◌, ◌≤◌, ◌<◌, ◌+◌, ◌↔◌, ℕ, List, Option, None, Some, length, take};
 ghost use Rattle.std.specs.List.{sum};
-ghost use Rattle.jwt_issue.specs.Issued.{first_spent};
+ghost use Rattle.serde_json.specs.Data.{object};
+ghost use Rattle.serde_json.specs.Written.{compact_text};
+ghost use Rattle.jwt_text.specs.Base64url.{AreOctets, spelling};
+ghost use Rattle.jwt_text.specs.ObjectText.{IsObjectText};
+ghost use Rattle.jwt_jws.specs.SignedToken.{IsSignedToken};
+ghost use Rattle.jwt_issue.specs.Issued.{PairParts, header, signer_of, compact_token, first_spent};
+ghost use Rattle.jwt_issue.specs.Signed.{tag_over, compact_signed};
 
 use crate::fault::IssueFault;
 
@@ -10,4 +16,14 @@ pub fn spent_is_the_first_beyond()
     ensures none { (left : ℕ) (costs : List ℕ) → (first_spent 0 left costs ≡ None) ↔ (sum costs ≤ left) }
     ensures some { (left : ℕ) (costs : List ℕ) (i : ℕ) → (first_spent 0 left costs ≡ Some (IssueFault.Spent i))
         ↔ ((i < length costs) × (sum (take i costs) ≤ left) × (left < sum (take (i + 1) costs))) }
+{}
+
+/// What is issued in compact form is a signed token (RFC 7515, section 7.1) with these claims as its payload and one signature,
+/// whose octets are the HMAC of the pair's own key and its own signing input; given that the text of the header is the text of
+/// that header.
+pub fn compact_tokens_are_signed()
+    ensures { (typ : Option (List ℕ)) (claims : List ℕ) (pair : PairParts)
+        → AreOctets (compact_text (object (header typ pair))) → IsObjectText (compact_text (object (header typ pair))) (header typ pair)
+        → AreOctets claims → AreOctets (tag_over typ claims pair)
+        → IsSignedToken 1 (compact_token (spelling claims) (signer_of typ pair)) (compact_signed typ claims pair) }
 {}
