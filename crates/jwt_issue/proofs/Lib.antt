@@ -1,4 +1,5 @@
 mod Fit
+mod HeaderTexts
 mod Lengths
 mod Spelled
 mod SpentLaw
