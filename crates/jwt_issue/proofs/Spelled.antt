@@ -1,16 +1,16 @@
 -- What characters a base64url text has, and what is issued in compact form.
-use Rattle.std.proofs.Common.{◌≡◌, ℕ, zero, suc, ◌+◌, ◌*◌, ◌/◌, ◌%◌, ◌<◌, ◌==◌, Bool, true, false, not, ◌&&◌, ◌||◌, List, [], ◌∷◌, ◌++◌, Option, Some, None, length, inl, inr, refl, sym, ap, ◌∙◌, arith, append_assoc}
-use Rattle.std.specs.Prelude.{All, slice_index}
+use Rattle.std.proofs.Common.{◌≡◌, ℕ, zero, suc, ◌+◌, ◌*◌, ◌/◌, ◌%◌, ◌<◌, ◌==◌, Bool, true, false, not, ◌&&◌, List, [], ◌∷◌, ◌++◌, Option, None, length, inl, refl, ◌∙◌, arith, append_assoc}
+use Rattle.std.specs.Prelude.{slice_index}
 use Rattle.std.specs.List.{list_all}
 use Rattle.std.proofs.lemmas.List.Folds.{list_all-append}
 use Rattle.std.proofs.lemmas.List.Sums.{AllPass-from_list_all}
 use Rattle.serde_json.specs.Data.{Members, object}
 use Rattle.serde_json.specs.Written.{compact_text}
-use Rattle.jwt_text.specs.Base64url.{AreOctets, Spells, alphabet, digits, spelling}
+use Rattle.jwt_text.specs.Base64url.{AreOctets, alphabet, digits, spelling}
 use Rattle.jwt_text.specs.ObjectText.{IsObjectText}
-use Rattle.jwt_jws.specs.Forms.{is_period, is_space, is_no_space, opens_object, compact_token as spelled_compact}
-use Rattle.jwt_jws.specs.CompactForm.{HasNoPeriod, IsCompact}
-use Rattle.jwt_jws.specs.SignedToken.{IsSignedToken, IsSignature}
+use Rattle.jwt_jws.specs.Forms.{is_period, is_no_space, opens_object, compact_token as spelled_compact}
+use Rattle.jwt_jws.specs.CompactForm.{HasNoPeriod}
+use Rattle.jwt_jws.specs.SignedToken.{IsSignedToken}
 use Rattle.jwt_jws.specs.declared.fault.Form.TheVariants.{Compact}
 use Rattle.jwt_issue.specs.Issued.{PairParts, header, protected_text, signer_of, compact_token, signature_text}
 use Rattle.jwt_issue.specs.Signed.{tag_over, compact_signed}
@@ -48,7 +48,7 @@ unfolding digits
 digits_plain zero n = refl
 digits_plain (suc k) n =
     joined_plain (digits k (n / 64)) (slice_index alphabet (n % 64) ∷ []) (digits_plain k (n / 64))
-        (and_true (plain (slice_index alphabet (n % 64))) true (at_each alphabet alphabet_plain (n % 64) (omega arith)) refl)
+    (and_true (plain (slice_index alphabet (n % 64))) true (at_each alphabet alphabet_plain (n % 64) (omega arith)) refl)
 
 spelling_plain : (v : List ℕ) → list_all plain (spelling v) ≡ true
 unfolding spelling
@@ -80,11 +80,11 @@ regroup h p g = simp append_assoc
 spelled_is_signed : (octets claims tag : List ℕ) (members : Members) → 0 < length (spelling octets)
     → AreOctets octets → IsObjectText octets members → AreOctets claims → AreOctets tag
     → IsSignedToken 1 (spelling octets ++ 46 ∷ [] ++ spelling claims ++ 46 ∷ [] ++ spelling tag) (record {
-        form = Compact;
-        payload_text = spelling claims;
-        payload = claims;
-        signatures = record { protected_text = spelling octets; protected = members; unprotected = None; octets = tag } ∷ [];
-      })
+      form = Compact;
+      payload_text = spelling claims;
+      payload = claims;
+      signatures = record { protected_text = spelling octets; protected = members; unprotected = None; octets = tag } ∷ [];
+    })
 spelled_is_signed octets claims tag members some bytes text payload signature =
     let h = spelling octets in
     let p = spelling claims in
@@ -93,8 +93,10 @@ spelled_is_signed octets claims tag members some bytes text payload signature =
       texts = (
         spelled_compact h p g,
         inl (opens_plain h (46 ∷ (p ++ 46 ∷ g)) (spelling_plain octets) some, (h, p, g, record { joined = refl; protected = no_period octets; payload = no_period claims; signature = no_period tag }, refl)),
-        refl, refl,
-        (record { protected_text = refl; protected = (octets, (bytes, refl), text); unprotected = refl; disjoint = refl; octets = (signature, refl) }, tt));
+        refl,
+        refl,
+        (record { protected_text = refl; protected = (octets, (bytes, refl), text); unprotected = refl; disjoint = refl; octets = (signature, refl) }, tt),
+      );
       payload = (payload, refl);
     })
 

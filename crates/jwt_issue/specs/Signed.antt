@@ -1,5 +1,5 @@
 -- The signed token that is issued (RFC 7515), as it is read.
-use Rattle.std.specs.Prelude.{◌≡◌, ℕ, List, [], ◌∷◌, Option, None}
+use Rattle.std.specs.Prelude.{ℕ, List, [], ◌∷◌, Option, None}
 use Rattle.jwt_mac.specs.Algorithm.{tag_of}
 use Rattle.jwt_jws.specs.Token.{SignatureParts, Token}
 use Rattle.jwt_jws.specs.declared.fault.Form.TheVariants.{Compact}
