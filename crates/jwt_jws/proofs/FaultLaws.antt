@@ -56,10 +56,14 @@ text_fault spells objects i text e is =
     (λ octets was later.
     let f = or_fault_err (fault.Header i) (object_of octets) e later in
     let read = or_fault_ok (fault.Base64 (place.Protected i)) (spelled text) octets was in
-    inr (f.0, (octets, (spells text octets).0 read), λ p h.
-      let again = (spells text h.0).1 h.1 in
-      let same : h.0 ≡ octets = cc (again, read) in
-      f.1 p ((objects octets p).1 (subst (λ (o : List ℕ). IsObjectText o p) same h.2))))
+    inr (
+      f.0,
+      (octets, (spells text octets).0 read),
+      λ p h.
+          let again = (spells text h.0).1 h.1 in
+          let same : h.0 ≡ octets = cc (again, read) in
+          f.1 p ((objects octets p).1 (subst (λ (o : List ℕ). IsObjectText o p) same h.2)),
+    ))
 
 protected_answer : SpellsLaw → ObjectLaw → (form : Form) (i : ℕ) (text : List ℕ) (e : FormFault) → protected_of form i text ≡ Err e → HeaderFault i text (IsProtected form text) e
 unfolding protected_of
@@ -104,6 +108,7 @@ signature_fault spells objects form i w e is =
   where
     made : Members → Option Members → List ℕ → SignatureParts
     made p u o = record { protected_text = w.protected; protected = p; unprotected = u; octets = o }
+
     told : (p : Members) (u : Option Members) → IsProtected form w.protected p → w.header ≡ option_map Some u
         → ((fault.NamesOverlap i ≡ e) × (overlap p u ≡ true)) ⊎ ((fault.Base64 (place.Signature i) ≡ e) × (overlap p u ≡ false) × SpellsNothing w.signature)
         → IsSignatureFault form i w e
@@ -143,9 +148,13 @@ each_first {A = A} {B = B} f n (a ∷ xs) e is =
 signatures_fault : SpellsLaw → ObjectLaw → (form : Form) (ws : List Spelled) (e : FormFault) → each (signature_of form) 0 ws ≡ Err e → IsFirstSignatureFault form ws e
 signatures_fault spells objects form ws e is =
     let h = each_first (signature_of form) 0 ws e is in
-    let at : 0 + h.0 ≡ h.0 = omega arith in
-    (h.0, h.1, h.2, signature_fault spells objects form h.0 h.1 e (subst (λ (k : ℕ). signature_of form k h.1 ≡ Err e) at h.3),
-     λ k v lt is_v. let s = h.4 k v lt is_v in (s.0, signature_read spells objects form (0 + k) v s.0 s.1))
+    let at : 0 + h.0 ≡ h.0 = omega arith in (
+      h.0,
+      h.1,
+      h.2,
+      signature_fault spells objects form h.0 h.1 e (subst (λ (k : ℕ). signature_of form k h.1 ≡ Err e) at h.3),
+      λ k v lt is_v. let s = h.4 k v lt is_v in (s.0, signature_read spells objects form (0 + k) v s.0 s.1),
+    )
 
 -- the faults that a signature has are answered of a token by the last line of `IsFormFault`
 abbrev SignedFault : ℕ → List ℕ → FormFault → Type 0
@@ -186,6 +195,7 @@ compact_fault most z e some closed is = told (segments_fault (slice_split is_per
   where
     count : length (slice_split is_period z) ≡ count_by is_period z + 1
     count = length-slice_split is_period z
+
     told : ((fault.Encrypted ≡ e) × (length (slice_split is_period z) ≡ 5)) ⊎ ((fault.Segments ≡ e) × (length (slice_split is_period z) ≢ 3) × (length (slice_split is_period z) ≢ 5)) → IsFormFault most z e
     told (inl f) = let counted = count in let four : count_by is_period z ≡ 4 = omega (arith, counted, f.1) in subst (IsFormFault most z) f.0 (inl (some, closed, four))
     told (inr f) =
@@ -267,13 +277,22 @@ general_fault most m e top is =
     told : (p : List ℕ) (ds : List Data) (es : List Spelled) → some_or fault.Members (text_at (codes "payload") m) ≡ Ok p → some_or fault.Members (list_at (codes "signatures") m) ≡ Ok ds
         → each spelled_element 0 ds ≡ Ok es → (fault.Members ≡ e) ⊎ ((fault.TooManySignatures ≡ e) × (0 < length es) × (most < length es)) → GeneralFault most m e
     told p ds es p_is ds_is es_is (inl f) = inl f
-    told p ds es p_is ds_is es_is (inr f) = inr (f.0, (length es, general_token p es, record {
-      form = refl;
-      one_at_the_top = top;
-      payload = some_or_ok fault.Members (text_at (codes "payload") m) p p_is;
-      listed = (ds, some_or_ok fault.Members (list_at (codes "signatures") m) ds ds_is, each_zip spelled_element IsElement element_read 0 ds es es_is);
-      some = f.1;
-      few = omega arith; }, f.2))
+    told p ds es p_is ds_is es_is (inr f) = inr (
+      f.0,
+      (
+        length es,
+        general_token p es,
+        record {
+          form = refl;
+          one_at_the_top = top;
+          payload = some_or_ok fault.Members (text_at (codes "payload") m) p p_is;
+          listed = (ds, some_or_ok fault.Members (list_at (codes "signatures") m) ds ds_is, each_zip spelled_element IsElement element_read 0 ds es es_is);
+          some = f.1;
+          few = omega arith;
+        },
+        f.2,
+      ),
+    )
 
 -- an object in general form has no other fault than too many signatures
 general_from : (most n : ℕ) (m : Members) (t : SpelledToken) → IsGeneral n m t → general most m ≡ (within most t.signatures >>= λ ws. Ok (general_token t.payload ws))
@@ -296,7 +315,7 @@ abbrev JsonFault : ℕ → Members → FormFault → Type 0
 JsonFault most m e =
     ((fault.Encrypted ≡ e) × (has (codes "ciphertext") m ≡ true))
     ⊎ ((has (codes "ciphertext") m ≡ false) × (((fault.Members ≡ e) × ((n : ℕ) (t : SpelledToken) → ¬ (IsGeneral n m t ⊎ IsFlattened m t)))
-      ⊎ ((fault.TooManySignatures ≡ e) × ((n : ℕ) × (t : SpelledToken) × IsGeneral n m t × (most < length t.signatures)))))
+    ⊎ ((fault.TooManySignatures ≡ e) × ((n : ℕ) × (t : SpelledToken) × IsGeneral n m t × (most < length t.signatures)))))
 
 json_fault : (most : ℕ) (m : Members) (e : FormFault) → json_of most m ≡ Err e → JsonFault most m e
 unfolding json_of
@@ -307,8 +326,10 @@ json_fault most m e is = by_members (has (codes "ciphertext") m) (has (codes "si
         → (n : ℕ) (t : SpelledToken) → (IsGeneral n m t ⊎ IsFlattened m t) → ⊥
     shape s ss s_is ss_is general_not flat_not n t (inl g) = general_not (sym s_is ∙ g.one_at_the_top) n t g
     shape s ss s_is ss_is general_not flat_not n t (inr f) = flat_not (sym ss_is ∙ f.alone) t f
+
     one_at_top : (t : SpelledToken) → IsFlattened m t → has (codes "signature") m ≡ true
     one_at_top t f = has_text (codes "signature") m f.signature.0.signature f.signature.2.signature
+
     by_members : (c s ss : Bool) → has (codes "ciphertext") m ≡ c → has (codes "signature") m ≡ s → has (codes "signatures") m ≡ ss
         → json_by c s ss (flattened m) (general most m) ≡ Err e → JsonFault most m e
     by_members true s ss c_is s_is ss_is is = inl (cc is, c_is)
@@ -332,9 +353,9 @@ ObjectFaultsLaw = (t : List ℕ) → (object_of t ≡ Err text.NameTwice) ↔ ((
 -- octets that are refused by another fault than a doubled name are read as no object
 not_read : ObjectLaw → ObjectFaultsLaw → (z : List ℕ) (d : TextFault) → object_of z ≡ Err d → d ≢ text.NameTwice → (m : Members) → reading z ≡ Some (object m) → ⊥
 not_read objects twice z d is other m read = elim (cases_eq (colons z) (members_entries m)) [
-      | inl same ↦ (let made = (objects z m).1 (read, same) in cc (made, is))
-      | inr differ ↦ (let made = (twice z).1 (m, read, differ) in other (cc (made, is)))
-    ]
+  | inl same ↦ (let made = (objects z m).1 (read, same) in cc (made, is))
+  | inr differ ↦ (let made = (twice z).1 (m, read, differ) in other (cc (made, is)))
+]
 
 read_as_err : (r : Result Members TextFault) (e : FormFault) → read_as r ≡ Err e
     → ((fault.NameTwice ≡ e) × (r ≡ Err text.NameTwice)) ⊎ ((fault.Json ≡ e) × ((d : TextFault) × (r ≡ Err d) × (d ≢ text.NameTwice)))

@@ -116,7 +116,8 @@ signature_read spells objects form i w s e =
       protected = protected_read spells objects form i w.protected P.0 P.1;
       unprotected = unprotected_read i w.header U.0 U.1;
       disjoint = read.0;
-      octets = read.1; })
+      octets = read.1;
+    })
   where
     made : Members → Option Members → List ℕ → SignatureParts
     made p u o = record { protected_text = w.protected; protected = p; unprotected = u; octets = o }
@@ -159,7 +160,8 @@ spelled_read m w e =
     subst (IsSpelledIn m) same (record {
       signature = some_or_ok WrongMembers (text_at (codes "signature") m) S.0 S.1;
       protected = protected_text_read m P.0 P.1;
-      header = refl; })
+      header = refl;
+    })
   where
     made : List ℕ → List ℕ → Spelled
     made h g = record { protected = h; header = option_map as_object (get_member (codes "header") m); signature = g }
@@ -209,7 +211,8 @@ general_read most m t top e =
       payload = some_or_ok WrongMembers (text_at (codes "payload") m) P.0 P.1;
       listed = (L.0, some_or_ok WrongMembers (list_at (codes "signatures") m) L.0 L.1, zipped);
       some = sized.1;
-      few = sized.2; })
+      few = sized.2;
+    })
   where
     made : List ℕ → List Spelled → SpelledToken
     made p ws = record { form = General; payload = p; signatures = ws }
@@ -229,7 +232,8 @@ flattened_read m t alone e =
       form = refl;
       alone = alone;
       payload = some_or_ok WrongMembers (text_at (codes "payload") m) P.0 P.1;
-      signature = (W.0, refl, spelled_read m W.0 W.1); })
+      signature = (W.0, refl, spelled_read m W.0 W.1);
+    })
   where
     made : List ℕ → Spelled → SpelledToken
     made p w = record { form = Flattened; payload = p; signatures = w ∷ [] }
@@ -324,7 +328,8 @@ token_read spells objects most z t e =
     let read = signed_read spells objects W.0 t W.2 in
     record {
       texts = (W.0, spelled_token_read objects most z W.0 W.1, read.0, read.1, read.2);
-      payload = read.3; }
+      payload = read.3;
+    }
 
 empty_is_none : (most : ℕ) (w : SpelledToken) → spelled_token most [] ≡ Ok w → ⊥
 unfolding spelled_token compact

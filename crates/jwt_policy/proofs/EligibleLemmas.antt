@@ -1,7 +1,7 @@
 -- An eligible pair, in words.
-use Rattle.std.proofs.Common.{◌≡◌, ℕ, List, [], ◌∷◌, Bool, true, false, not, ◌&&◌, ◌||◌, ◌⊎◌, inl, inr, ⊎_elim, codes, Option, Some, None, is_none, slice_get, refl, sym, ap, ◌∙◌, subst, Decides}
+use Rattle.std.proofs.Common.{◌≡◌, ℕ, List, Bool, true, false, not, ◌&&◌, ◌||◌, ◌⊎◌, inl, inr, codes, Option, Some, None, is_none, refl, sym, ap, ◌∙◌, subst}
 use Rattle.std.specs.Option.{option_map_or}
-use Rattle.std.specs.List.{list_any, Contains}
+use Rattle.std.specs.List.{Contains}
 use Rattle.std.specs.Str.{bytes_eq}
 use Rattle.std.proofs.lemmas.Bool.{and_parts, and_from}
 use Rattle.std.proofs.lemmas.Slice.Eq.{bytes_eq-Decides}
@@ -17,7 +17,7 @@ use Rattle.jwt_policy.specs.Settings.{Settings}
 use Rattle.jwt_policy.specs.Texts.{some_passes}
 use Rattle.jwt_policy.specs.Bars.{alg, can_verify, lacks_verifier, bar_rows, bar_of}
 use Rattle.jwt_policy.specs.Eligible.{suits, is_for, answers_to, fits, eligible_for}
-use Rattle.jwt_policy.specs.Laws.{AnswersTo, IsEligible}
+use Rattle.jwt_policy.specs.Laws.{IsEligible}
 use Rattle.jwt_policy.specs.declared.sig_fault.SigFault.TheVariants.{NoVerifier}
 
 -- ---- options

@@ -1,5 +1,5 @@
 -- The items of a list, place by place.
-use Rattle.std.proofs.Common.{◌≡◌, ℕ, zero, suc, ◌+◌, ◌<◌, List, [], ◌∷◌, length, drop, Bool, ◌&&◌, ◌||◌, is_some, slice_get, Option, option_and_then, refl, arith, add-one}
+use Rattle.std.proofs.Common.{◌≡◌, ℕ, zero, suc, ◌+◌, ◌<◌, List, [], ◌∷◌, length, drop, Bool, ◌||◌, slice_get, Option, option_and_then, refl, arith, add-one}
 use Rattle.serde_json.specs.Data.{Data}
 use Rattle.serde_json.specs.Find.{as_str}
 use Rattle.jwt_policy.specs.Texts.{some_passes, any_text}

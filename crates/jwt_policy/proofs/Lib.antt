@@ -1,6 +1,9 @@
 pub mod AllSome
+pub mod ClaimsLemmas
 pub mod EligibleLemmas
 pub mod ItemsLemmas
 pub mod MediaLemmas
 pub mod NamesLemmas
+pub mod PayloadLemmas
 pub mod RowsLemmas
+pub mod TestLemmas

@@ -1,5 +1,5 @@
 -- The names of an object, place by place.
-use Rattle.std.proofs.Common.{◌≡◌, ℕ, zero, suc, ◌+◌, ◌<◌, ◌≤◌, List, [], ◌∷◌, length, drop, slice_get, Bool, true, false, not, Option, Some, None, cond, ap, ◌∙◌, refl, arith, add-one}
+use Rattle.std.proofs.Common.{◌≡◌, ℕ, zero, suc, ◌+◌, ◌≤◌, List, [], ◌∷◌, length, drop, slice_get, Bool, true, false, not, Option, Some, None, cond, ap, ◌∙◌, refl, arith, add-one}
 use Rattle.serde_json.specs.Data.{Members, no_members, member}
 use Rattle.serde_json.specs.Events.{members_len}
 use Rattle.jwt_text.specs.Members.{names}

@@ -1,9 +1,8 @@
 -- The kinds of the registered claims (RFC 7519, section 4.1), and the claims of a payload.
 use Rattle.std.specs.Prelude.{ℕ, List, [], ◌∷◌, codes, Bool, not, ◌&&◌, is_none, Option, Some, None, Result, Ok, Err}
 use Rattle.serde_json.specs.Data.{Members}
-use Rattle.jwt_text.specs.declared.fault.TextFault.{TextFault}
 use Rattle.jwt_text.specs.Answers.{or_fault, ◌>>=◌}
-use Rattle.jwt_text.specs.Members.{has, text_at, list_at, is_number_at, whole_at, are_texts}
+use Rattle.jwt_text.specs.Members.{has, list_at, is_number_at, whole_at, are_texts}
 use Rattle.jwt_text.specs.ObjectText.{object_of}
 use Rattle.jwt_text.specs.Rows.{Row, ◌⇒◌, first_row}
 use Rattle.jwt_policy.specs.Texts.{some_passes, is_no_text}

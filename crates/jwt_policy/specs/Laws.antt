@@ -1,11 +1,11 @@
 -- What the tables come to, in words.
-use Rattle.std.specs.Prelude.{◌≡◌, ℕ, ℤ, pos, ◌+◌, ◌+ℤ◌, ◌<ℤ◌, ◌≤ℤ◌, ◌⊎◌, List, codes, true, Option, Some, None}
+use Rattle.std.specs.Prelude.{◌≡◌, ℕ, ℤ, pos, ◌+◌, ◌+ℤ◌, ◌<ℤ◌, ◌≤ℤ◌, ◌⊎◌, List, [], codes, true, Some, None}
 use Rattle.std.specs.List.{Contains}
-use Rattle.serde_json.specs.Data.{Members}
+use Rattle.serde_json.specs.Data.{Data, string, Members}
 use Rattle.jwt_mac.specs.declared.algorithm.Alg.{Alg}
 use Rattle.jwt_mac.specs.Algorithm.{name_of}
 use Rattle.jwt_mac.specs.Verifying.{Meaning}
-use Rattle.jwt_text.specs.Members.{has, whole_at}
+use Rattle.jwt_text.specs.Members.{has, text_at, list_at, whole_at}
 use Rattle.jwt_jws.specs.Token.{SignatureParts, kid}
 use Rattle.jwt_keys.specs.Keys.{KeyParts}
 use Rattle.jwt_policy.specs.Settings.{Settings}
@@ -39,3 +39,15 @@ pub record Dates (p : Settings) (ms : Members) (now : ℤ) : Type 0 where
   pub iat_is_there : (age : ℕ) → p.claims.max_age ≡ Some age → has (codes "iat") ms ≡ true
   pub iat_least : (age : ℕ) (iat : ℤ) → p.claims.max_age ≡ Some age → whole_at (codes "iat") ms ≡ Some iat → iat ≤ℤ (now +ℤ pos p.claims.leeway)
   pub iat_most : (age : ℕ) (iat : ℤ) → p.claims.max_age ≡ Some age → whole_at (codes "iat") ms ≡ Some iat → now ≤ℤ (iat +ℤ pos (age + p.claims.leeway))
+
+-- a text is an audience: it is `aud`, or stands in the list `aud` (RFC 7519, section 4.1.3)
+abbrev pub IsAudience : List ℕ → Members → Type 0
+IsAudience name ms = (text_at (codes "aud") ms ≡ Some name) ⊎ ((ds : List Data) × (list_at (codes "aud") ms ≡ Some ds) × Contains ds (string name))
+
+-- The required claims are there; where the policy names issuers, `iss` is one of them; where `aud` is there, one of its texts
+-- is among the policy's audiences; and the dates hold.
+pub record ClaimsHold (p : Settings) (ms : Members) (now : ℤ) : Type 0 where
+  pub required : (name : List ℕ) → Contains p.claims.required name → has name ms ≡ true
+  pub issuer : (p.claims.issuers ≡ []) ⊎ ((name : List ℕ) × (text_at (codes "iss") ms ≡ Some name) × Contains p.claims.issuers name)
+  pub audience : has (codes "aud") ms ≡ true → (name : List ℕ) × IsAudience name ms × Contains p.claims.audiences name
+  pub dates : Dates p ms now

@@ -9,8 +9,8 @@ use crate::policy::Policy;
 use jwt_jws::Signature;
 use jwt_mac::{Alg, Verifier, first_for};
 
-/// The algorithm, where it is known.
-pub(crate) fn known_alg(signature: &Signature<'_>) -> Option<Alg>
+/// The algorithm that the protected header names (RFC 7515, section 4.1.1), `None` where it names none that [`Alg`] knows. It takes no memory.
+pub fn known_alg(signature: &Signature<'_>) -> Option<Alg>
     ensures { result ≡ alg (parts signature.now) }
 {
     match signature.alg_text() {

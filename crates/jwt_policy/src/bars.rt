@@ -30,49 +30,36 @@ pub fn bar(
     ensures { result ≡ bar_of policy.now (parts signature.now) (map meaning verifiers.now) }
 {
     if lacks_alg(signature) {
-        return Some(SigFault::AlgMissing);
+        Some(SigFault::AlgMissing)
+    } else if is_alg_none(signature) {
+        Some(SigFault::AlgNone)
+    } else if is_alg_unknown(signature) {
+        Some(SigFault::AlgUnknown)
+    } else if is_alg_not_allowed(policy, signature) {
+        Some(SigFault::AlgNotAllowed)
+    } else if lacks_verifier(verifiers, signature) {
+        Some(SigFault::NoVerifier)
+    } else if has_key_url(signature) {
+        Some(SigFault::KeyUrl)
+    } else if has_enc(signature) {
+        Some(SigFault::EncHeader)
+    } else if is_unencoded(signature) {
+        Some(SigFault::Unencoded)
+    } else if is_crit_misshapen(signature) {
+        Some(SigFault::CritShape)
+    } else if is_crit_unknown(policy, signature) {
+        Some(SigFault::CritUnknown)
+    } else if is_typ_misshapen(signature) {
+        Some(SigFault::TypShape)
+    } else if is_typ_mismatched(policy, signature) {
+        Some(SigFault::TypMismatch)
+    } else if is_nested(signature) {
+        Some(SigFault::Nested)
+    } else if is_kid_misshapen(signature) {
+        Some(SigFault::KidShape)
+    } else if lacks_kid(policy, signature) {
+        Some(SigFault::KidMissing)
+    } else {
+        None
     }
-    if is_alg_none(signature) {
-        return Some(SigFault::AlgNone);
-    }
-    if is_alg_unknown(signature) {
-        return Some(SigFault::AlgUnknown);
-    }
-    if is_alg_not_allowed(policy, signature) {
-        return Some(SigFault::AlgNotAllowed);
-    }
-    if lacks_verifier(verifiers, signature) {
-        return Some(SigFault::NoVerifier);
-    }
-    if has_key_url(signature) {
-        return Some(SigFault::KeyUrl);
-    }
-    if has_enc(signature) {
-        return Some(SigFault::EncHeader);
-    }
-    if is_unencoded(signature) {
-        return Some(SigFault::Unencoded);
-    }
-    if is_crit_misshapen(signature) {
-        return Some(SigFault::CritShape);
-    }
-    if is_crit_unknown(policy, signature) {
-        return Some(SigFault::CritUnknown);
-    }
-    if is_typ_misshapen(signature) {
-        return Some(SigFault::TypShape);
-    }
-    if is_typ_mismatched(policy, signature) {
-        return Some(SigFault::TypMismatch);
-    }
-    if is_nested(signature) {
-        return Some(SigFault::Nested);
-    }
-    if is_kid_misshapen(signature) {
-        return Some(SigFault::KidShape);
-    }
-    if lacks_kid(policy, signature) {
-        return Some(SigFault::KidMissing);
-    }
-    None
 }

@@ -161,27 +161,22 @@ fn later_fault(policy: &Policy, claims: &ObjectRef<'_>, now: i64) -> Option<Clai
     ensures { result ≡ first_row (later_rows policy.now claims.now now) }
 {
     if lacks_iat(policy, claims) {
-        return Some(ClaimFault::ClaimMissing(ClaimName::new("iat")));
+        Some(ClaimFault::ClaimMissing(ClaimName::new("iat")))
+    } else if is_other_issuer(policy, claims) {
+        Some(ClaimFault::Issuer)
+    } else if is_other_audience(policy, claims) {
+        Some(ClaimFault::Audience)
+    } else if is_expired(policy, claims, now) {
+        Some(ClaimFault::Expired)
+    } else if is_not_yet(policy, claims, now) {
+        Some(ClaimFault::NotYet)
+    } else if is_issued_later(policy, claims, now) {
+        Some(ClaimFault::IssuedLater)
+    } else if is_too_old(policy, claims, now) {
+        Some(ClaimFault::TooOld)
+    } else {
+        None
     }
-    if is_other_issuer(policy, claims) {
-        return Some(ClaimFault::Issuer);
-    }
-    if is_other_audience(policy, claims) {
-        return Some(ClaimFault::Audience);
-    }
-    if is_expired(policy, claims, now) {
-        return Some(ClaimFault::Expired);
-    }
-    if is_not_yet(policy, claims, now) {
-        return Some(ClaimFault::NotYet);
-    }
-    if is_issued_later(policy, claims, now) {
-        return Some(ClaimFault::IssuedLater);
-    }
-    if is_too_old(policy, claims, now) {
-        return Some(ClaimFault::TooOld);
-    }
-    None
 }
 
 /// Why the claims are refused under the policy at this moment, which is in seconds since 1970-01-01T00:00:00Z: the first that

@@ -162,34 +162,26 @@ fn kind_fault(claims: &ObjectRef<'_>) -> Option<ClaimFault<'static>>
     ensures { result ≡ kind_fault claims.now }
 {
     if is_no_text(claims, "iss") {
-        return Some(ClaimFault::ClaimKind(Claim::Iss));
+        Some(ClaimFault::ClaimKind(Claim::Iss))
+    } else if is_no_text(claims, "sub") {
+        Some(ClaimFault::ClaimKind(Claim::Sub))
+    } else if is_no_audience(claims) {
+        Some(ClaimFault::ClaimKind(Claim::Aud))
+    } else if is_no_number(claims, "exp") {
+        Some(ClaimFault::ClaimKind(Claim::Exp))
+    } else if is_no_date(claims, "exp") {
+        Some(ClaimFault::ClaimDate(Claim::Exp))
+    } else if is_no_number(claims, "nbf") {
+        Some(ClaimFault::ClaimKind(Claim::Nbf))
+    } else if is_no_date(claims, "nbf") {
+        Some(ClaimFault::ClaimDate(Claim::Nbf))
+    } else if is_no_number(claims, "iat") {
+        Some(ClaimFault::ClaimKind(Claim::Iat))
+    } else if is_no_date(claims, "iat") {
+        Some(ClaimFault::ClaimDate(Claim::Iat))
+    } else if is_no_text(claims, "jti") {
+        Some(ClaimFault::ClaimKind(Claim::Jti))
+    } else {
+        None
     }
-    if is_no_text(claims, "sub") {
-        return Some(ClaimFault::ClaimKind(Claim::Sub));
-    }
-    if is_no_audience(claims) {
-        return Some(ClaimFault::ClaimKind(Claim::Aud));
-    }
-    if is_no_number(claims, "exp") {
-        return Some(ClaimFault::ClaimKind(Claim::Exp));
-    }
-    if is_no_date(claims, "exp") {
-        return Some(ClaimFault::ClaimDate(Claim::Exp));
-    }
-    if is_no_number(claims, "nbf") {
-        return Some(ClaimFault::ClaimKind(Claim::Nbf));
-    }
-    if is_no_date(claims, "nbf") {
-        return Some(ClaimFault::ClaimDate(Claim::Nbf));
-    }
-    if is_no_number(claims, "iat") {
-        return Some(ClaimFault::ClaimKind(Claim::Iat));
-    }
-    if is_no_date(claims, "iat") {
-        return Some(ClaimFault::ClaimDate(Claim::Iat));
-    }
-    if is_no_text(claims, "jti") {
-        return Some(ClaimFault::ClaimKind(Claim::Jti));
-    }
-    None
 }

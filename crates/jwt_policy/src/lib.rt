@@ -35,6 +35,7 @@ mod sig_fault;
 mod tests;
 mod texts;
 
+pub use algorithm::known_alg;
 pub use bars::bar;
 pub use checks::check;
 pub use claim_fault::{Claim, ClaimFault, ClaimName};

@@ -36,21 +36,36 @@ const HS256: &str = "{\"algs\":[\"HS256\"]}";
 const FULL: &str =
     "{\"version\":2,\"algs\":[\"EdDSA\",\"HS512\"],\"mode\":\"all\",\"limit\":1048576,\"work\":0,\"max_signatures\":32,\"line_feed\":true,\"typ\":\"JWT\",\"need_kid\":true,\"thumb_kid\":true,\"understood\":[\"x\"],\"issuers\":[\"ann\",\"bob\"],\"audiences\":[\"api\"],\"required\":[\"sub\"],\"leeway\":86400,\"max_age\":4294967295,\"max_calls\":32768}";
 
+/// The policy of a document that is read.
+fn policy_of(alloc: Global, document: &str) -> Result<Policy, Fail> {
+    match Policy::read(alloc, document.as_bytes()) {
+        Ok(policy) => Ok(policy),
+        Err(_fault) => Err("no policy".into()),
+    }
+}
+
 // ---- documents
+
+/// A fault with the member that it names.
+fn policy_fault(alloc: Global, fault: &PolicyFault) -> Result<String, Fail> {
+    let text = match fault {
+        PolicyFault::OutOfMemory => String::from_str(alloc, "OutOfMemory")?,
+        PolicyFault::Json => String::from_str(alloc, "Json")?,
+        PolicyFault::NameTwice => String::from_str(alloc, "NameTwice")?,
+        PolicyFault::Member(name) => format!(in alloc; "Member {}", name.text())?,
+        PolicyFault::Range(name) => format!(in alloc; "Range {}", name.text())?,
+        PolicyFault::NoAlgorithm => String::from_str(alloc, "NoAlgorithm")?,
+        PolicyFault::TooLong => String::from_str(alloc, "TooLong")?,
+    };
+    Ok(text)
+}
 
 /// The fault of a document with the member that it names, or `read`.
 fn refusal(alloc: Global, document: &[u8]) -> Result<String, Fail> {
-    let text = match Policy::read(alloc, document) {
-        Ok(_) => String::from_str(alloc, "read")?,
-        Err(PolicyFault::OutOfMemory) => String::from_str(alloc, "OutOfMemory")?,
-        Err(PolicyFault::Json) => String::from_str(alloc, "Json")?,
-        Err(PolicyFault::NameTwice) => String::from_str(alloc, "NameTwice")?,
-        Err(PolicyFault::Member(name)) => format!(in alloc; "Member {}", name.text())?,
-        Err(PolicyFault::Range(name)) => format!(in alloc; "Range {}", name.text())?,
-        Err(PolicyFault::NoAlgorithm) => String::from_str(alloc, "NoAlgorithm")?,
-        Err(PolicyFault::TooLong) => String::from_str(alloc, "TooLong")?,
-    };
-    Ok(text)
+    match Policy::read(alloc, document) {
+        Ok(_policy) => Ok(String::from_str(alloc, "read")?),
+        Err(fault) => policy_fault(alloc, &fault),
+    }
 }
 
 #[test]
@@ -142,53 +157,47 @@ fn a_document_has_at_most_65536_octets(rt: HostRuntime) -> Result<(), Fail> {
 }
 
 #[test]
-fn a_policy_says_what_its_document_says(rt: HostRuntime) -> Result<(), Fail> {
-    let Ok(plain) = Policy::read(rt.alloc(), HS256.as_bytes()) else {
-        return Err("refused".into());
-    };
-    assert_eq!(rt; plain.version(), 1);
-    assert_eq!(rt; plain.algs(), [Alg::HS256].as_slice());
-    assert_eq!(rt; plain.mode(), Mode::Any);
-    assert_eq!(rt;
-        (plain.limit(), plain.work(), plain.max_signatures()),
-        (8192, 1_048_576, 8)
+fn a_policy_has_its_defaults(rt: HostRuntime) -> Result<(), Fail> {
+    let policy = policy_of(rt.alloc(), HS256)?;
+    let numbers = (
+        policy.version(),
+        policy.limit(),
+        policy.work(),
+        policy.max_signatures(),
+        policy.leeway(),
     );
-    assert_eq!(rt;
-        (plain.line_feed(), plain.need_kid(), plain.thumb_kid()),
-        (false, false, false)
-    );
-    assert_eq!(rt; plain.typ(), None);
+    assert_eq!(rt; numbers, (1, 8192, 1_048_576, 8, 0));
+    assert_eq!(rt; policy.mode(), Mode::Any);
+    assert!(rt; !policy.line_feed() && !policy.need_kid() && !policy.thumb_kid());
     assert!(rt;
-        plain.understood().is_empty()
-            && plain.issuers().is_empty()
-            && plain.audiences().is_empty()
-            && plain.required().is_empty()
+        policy.typ().is_none() && policy.max_age().is_none() && policy.max_calls().is_none()
     );
+    assert!(rt; policy.understood().is_empty() && policy.issuers().is_empty());
+    assert!(rt; policy.audiences().is_empty() && policy.required().is_empty());
+    Ok(())
+}
+
+#[test]
+fn a_policy_says_what_its_document_says(rt: HostRuntime) -> Result<(), Fail> {
+    let policy = policy_of(rt.alloc(), FULL)?;
+    let numbers = (
+        policy.version(),
+        policy.limit(),
+        policy.work(),
+        policy.max_signatures(),
+        policy.leeway(),
+    );
+    assert_eq!(rt; numbers, (2, 1_048_576, 0, 32, 86_400));
+    assert_eq!(rt; policy.algs(), [Alg::EdDSA, Alg::HS512].as_slice());
+    assert_eq!(rt; policy.mode(), Mode::All);
+    assert!(rt; policy.line_feed() && policy.need_kid() && policy.thumb_kid());
+    assert_eq!(rt; policy.typ(), Some("JWT"));
     assert_eq!(rt;
-        (plain.leeway(), plain.max_age(), plain.max_calls()),
-        (0, None, None)
+        (policy.max_age(), policy.max_calls()),
+        (Some(4_294_967_295), Some(32_768))
     );
-    let Ok(full) = Policy::read(rt.alloc(), FULL.as_bytes()) else {
-        return Err("refused".into());
-    };
-    assert_eq!(rt; full.version(), 2);
-    assert_eq!(rt; full.algs(), [Alg::EdDSA, Alg::HS512].as_slice());
-    assert_eq!(rt; full.mode(), Mode::All);
-    assert_eq!(rt;
-        (full.limit(), full.work(), full.max_signatures()),
-        (1_048_576, 0, 32)
-    );
-    assert_eq!(rt;
-        (full.line_feed(), full.need_kid(), full.thumb_kid()),
-        (true, true, true)
-    );
-    assert_eq!(rt; full.typ(), Some("JWT"));
-    assert_eq!(rt; full.issuers().len(), 2);
-    assert_eq!(rt; full.required()[0].as_str(), "sub");
-    assert_eq!(rt;
-        (full.leeway(), full.max_age(), full.max_calls()),
-        (86_400, Some(4_294_967_295), Some(32_768))
-    );
+    assert_eq!(rt; (policy.issuers().len(), policy.understood().len()), (2, 1));
+    assert_eq!(rt; (policy.audiences().len(), policy.required().len()), (1, 1));
     Ok(())
 }
 
@@ -216,9 +225,7 @@ fn bar_of(
     protected: &str,
     unprotected: &str,
 ) -> Result<Option<SigFault>, Fail> {
-    let Ok(policy) = Policy::read(alloc, policy.as_bytes()) else {
-        return Err("no policy".into());
-    };
+    let policy = policy_of(alloc, policy)?;
     let token = flattened(alloc, protected, unprotected)?;
     let Ok(signed) = parse(alloc, token.as_bytes(), 1) else {
         return Err("no token".into());
@@ -424,9 +431,7 @@ fn is_eligible(
     unprotected: &str,
     key: &str,
 ) -> Result<bool, Fail> {
-    let Ok(policy) = Policy::read(alloc, policy.as_bytes()) else {
-        return Err("no policy".into());
-    };
+    let policy = policy_of(alloc, policy)?;
     let token = flattened(alloc, protected, unprotected)?;
     let Ok(signed) = parse(alloc, token.as_bytes(), 1) else {
         return Err("no token".into());
@@ -502,30 +507,33 @@ fn a_key_is_eligible_by_kind_members_and_kid(rt: HostRuntime) -> Result<(), Fail
 
 // ---- claims
 
-/// The fault of claims with the claim that it names, or `none`.
-fn fault_of(alloc: Global, policy: &str, payload: &str, now: i64) -> Result<String, Fail> {
-    let Ok(policy) = Policy::read(alloc, policy.as_bytes()) else {
-        return Err("no policy".into());
-    };
-    let found = match Claims::read(alloc, payload.as_bytes()) {
-        Ok(claims) => check(&policy, &claims, now),
-        Err(fault) => Some(fault),
-    };
-    let text = match found {
-        None => String::from_str(alloc, "none")?,
-        Some(ClaimFault::OutOfMemory) => String::from_str(alloc, "OutOfMemory")?,
-        Some(ClaimFault::ClaimsShape) => String::from_str(alloc, "ClaimsShape")?,
-        Some(ClaimFault::ClaimKind(claim)) => format!(in alloc; "ClaimKind {}", claim.name())?,
-        Some(ClaimFault::ClaimDate(claim)) => format!(in alloc; "ClaimDate {}", claim.name())?,
-        Some(ClaimFault::ClaimMissing(name)) => format!(in alloc; "ClaimMissing {}", name.text())?,
-        Some(ClaimFault::Issuer) => String::from_str(alloc, "Issuer")?,
-        Some(ClaimFault::Audience) => String::from_str(alloc, "Audience")?,
-        Some(ClaimFault::Expired) => String::from_str(alloc, "Expired")?,
-        Some(ClaimFault::NotYet) => String::from_str(alloc, "NotYet")?,
-        Some(ClaimFault::IssuedLater) => String::from_str(alloc, "IssuedLater")?,
-        Some(ClaimFault::TooOld) => String::from_str(alloc, "TooOld")?,
+/// A fault with the claim that it names.
+fn claim_fault(alloc: Global, fault: &ClaimFault<'_>) -> Result<String, Fail> {
+    let text = match fault {
+        ClaimFault::OutOfMemory => String::from_str(alloc, "OutOfMemory")?,
+        ClaimFault::ClaimsShape => String::from_str(alloc, "ClaimsShape")?,
+        ClaimFault::ClaimKind(claim) => format!(in alloc; "ClaimKind {}", claim.name())?,
+        ClaimFault::ClaimDate(claim) => format!(in alloc; "ClaimDate {}", claim.name())?,
+        ClaimFault::ClaimMissing(name) => format!(in alloc; "ClaimMissing {}", name.text())?,
+        ClaimFault::Issuer => String::from_str(alloc, "Issuer")?,
+        ClaimFault::Audience => String::from_str(alloc, "Audience")?,
+        ClaimFault::Expired => String::from_str(alloc, "Expired")?,
+        ClaimFault::NotYet => String::from_str(alloc, "NotYet")?,
+        ClaimFault::IssuedLater => String::from_str(alloc, "IssuedLater")?,
+        ClaimFault::TooOld => String::from_str(alloc, "TooOld")?,
     };
     Ok(text)
+}
+
+/// The fault of claims with the claim that it names, or `none`.
+fn fault_of(alloc: Global, policy: &Policy, payload: &str, now: i64) -> Result<String, Fail> {
+    match Claims::read(alloc, payload.as_bytes()) {
+        Ok(claims) => match check(policy, &claims, now) {
+            None => Ok(String::from_str(alloc, "none")?),
+            Some(fault) => claim_fault(alloc, &fault),
+        },
+        Err(fault) => claim_fault(alloc, &fault),
+    }
 }
 
 #[test]
@@ -581,7 +589,8 @@ fn claims_hold_or_are_refused_for_their_first_fault(rt: HostRuntime) -> Result<(
         (most, "{\"exp\":9223372036854775807}", i64::MAX, "none"),
         (HS256, "{\"exp\":-9223372036854775808}", i64::MIN, "Expired"),
     ] {
-        let found = fault_of(rt.alloc(), policy, payload, now)?;
+        let policy = policy_of(rt.alloc(), policy)?;
+        let found = fault_of(rt.alloc(), &policy, payload, now)?;
         assert_eq!(rt; found.as_str(), want, "at {payload} {now}");
     }
     Ok(())

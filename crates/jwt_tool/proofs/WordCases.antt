@@ -3,7 +3,7 @@ use Rattle.std.proofs.Common.{◌≡◌, List, [], ◌∷◌, None, Some, refl}
 use Rattle.std.specs.Prelude.{codes}
 use Rattle.clap.specs.Words.{Text}
 use Rattle.clap.proofs.OnLiterals.{clap_on_literals}
-use Rattle.jwt_tool.specs.Words.{Mac, order_of}
+use Rattle.jwt_tool.specs.Words.{Mac, Verify, order_of}
 
 pub key_alone : order_of (codes "jwt" ∷ codes "mac" ∷ codes "--k" ∷ codes "AA" ∷ []) ≡ Some (Mac (codes "AA") 8192)
 unfolding clap_on_literals
@@ -56,3 +56,11 @@ mac_help = refl
 pub empty_key : order_of (codes "jwt" ∷ codes "mac" ∷ codes "--k=" ∷ []) ≡ Some (Mac [] 8192)
 unfolding clap_on_literals
 empty_key = refl
+
+pub a_moment : order_of (codes "jwt" ∷ codes "verify" ∷ codes "--now" ∷ codes "1300819379" ∷ []) ≡ Some (Verify 1300819379)
+unfolding clap_on_literals
+a_moment = refl
+
+pub too_late : order_of (codes "jwt" ∷ codes "verify" ∷ codes "--now" ∷ codes "9223372036854775808" ∷ []) ≡ None
+unfolding clap_on_literals
+too_late = refl

@@ -1,6 +1,6 @@
 -- What some words ask for.
 use Rattle.std.specs.Prelude.{◌≡◌, [], ◌∷◌, None, Some, codes}
-use Rattle.jwt_tool.specs.Words.{Mac, order_of}
+use Rattle.jwt_tool.specs.Words.{Mac, Verify, order_of}
 
 pub record Examples : Type 0 where
   pub key_alone : order_of (codes "jwt" ∷ codes "mac" ∷ codes "--k" ∷ codes "AA" ∷ []) ≡ Some (Mac (codes "AA") 8192)
@@ -16,3 +16,5 @@ pub record Examples : Type 0 where
   pub help_word : order_of (codes "jwt" ∷ codes "help" ∷ codes "mac" ∷ []) ≡ None
   pub mac_help : order_of (codes "jwt" ∷ codes "mac" ∷ codes "-h" ∷ []) ≡ None
   pub empty_key : order_of (codes "jwt" ∷ codes "mac" ∷ codes "--k=" ∷ []) ≡ Some (Mac [] 8192)
+  pub a_moment : order_of (codes "jwt" ∷ codes "verify" ∷ codes "--now" ∷ codes "1300819379" ∷ []) ≡ Some (Verify 1300819379)
+  pub too_late : order_of (codes "jwt" ∷ codes "verify" ∷ codes "--now" ∷ codes "9223372036854775808" ∷ []) ≡ None

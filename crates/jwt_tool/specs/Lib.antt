@@ -1,6 +1,11 @@
 pub mod Examples
+pub mod Faults
+pub mod Input
 pub mod Mac
 pub mod Printed
 pub mod Seen
+pub mod Statuses
+pub mod TakenLines
+pub mod Verify
 pub mod Views
 pub mod Words

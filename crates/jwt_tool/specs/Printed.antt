@@ -1,5 +1,5 @@
 -- What a command prints, and its status.
-use Rattle.std.specs.Prelude.{◌≡◌, ◌≤◌, ◌⊎◌, ℕ, Bool, true, List, [], ◌∷◌, ◌++◌, Option, Some, take, drop, codes}
+use Rattle.std.specs.Prelude.{◌≡◌, ◌⊎◌, ℕ, Bool, true, List, [], ◌∷◌, ◌++◌, Option, take, codes}
 use Rattle.std.specs.Io.KnownBytes.{Appends}
 
 pub record Answer : Type 0 where
@@ -37,7 +37,3 @@ Gives a before after failed status = Prints a before after failed status ⊎ Pri
 abbrev pub GivesWrongWords : Option (List ℕ) → Option (List ℕ) → Bool → ℕ → Type 0
 GivesWrongWords before after failed status = ((text : List ℕ) × Prints (record { text = text; status = 2 }) before after failed status)
     ⊎ Prints out_of_memory before after failed status
-
--- at most so many octets of the input were taken
-abbrev pub TakesAtMost : ℕ → List ℕ → Option (List ℕ) → Type 0
-TakesAtMost most before after = (n : ℕ) × (n ≤ most) × (after ≡ Some (drop n before))

@@ -1,5 +1,4 @@
 -- What contracts see of this crate's own values.
-use Rattle.std.specs.String.{string_bytes}
 use Rattle.jwt_tool.specs.declared.mac.Digest.{Digest as CodeDigest}
 use Rattle.jwt_tool.specs.declared.reply.Reply.{Reply}
 use Rattle.jwt_tool.specs.Mac.{Digest}
@@ -9,4 +8,4 @@ abbrev pub digest_view : CodeDigest → Digest
 digest_view d = record { tag = d.tag; equal = d.equal }
 
 abbrev pub reply_view : Reply → Answer
-reply_view r = record { text = string_bytes r.text; status = r.status }
+reply_view r = record { text = r.text.items; status = r.status }

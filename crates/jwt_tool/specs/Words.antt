@@ -16,31 +16,60 @@ option name = record (new_rule name) { long = Some name; value_names = 1 }
 abbrev pub limit_range : ValueParser
 limit_range = vp.Unsigned 1 1048576
 
+abbrev pub now_range : ValueParser
+now_range = vp.Unsigned 0 9223372036854775807
+
 abbrev pub key_rule : Rule
 key_rule = record (option (codes "k")) { required = true }
 
 abbrev pub limit_rule : Rule
 limit_rule = record (option (codes "limit")) { parser = Some limit_range; defaults = codes "8192" ∷ [] }
 
+abbrev pub now_rule : Rule
+now_rule = record (option (codes "now")) { parser = Some now_range; required = true }
+
 -- ---- the command
 
 abbrev pub mac_app : App
 mac_app = with_rule (with_rule (new_app (codes "mac")) key_rule) limit_rule
 
+abbrev pub keys_app : App
+keys_app = new_app (codes "keys")
+
+abbrev pub show_app : App
+show_app = with_rule (new_app (codes "show")) limit_rule
+
+abbrev pub verify_app : App
+verify_app = with_rule (new_app (codes "verify")) now_rule
+
 abbrev pub top_app : App
 top_app = record (new_app (codes "jwt")) { top = record (new_app (codes "jwt")).top { subcommand_required = true } }
 
 abbrev pub jwt_app : App
-jwt_app = with_subcommand top_app mac_app.top
+jwt_app = with_subcommand (with_subcommand (with_subcommand (with_subcommand top_app mac_app.top) keys_app.top) show_app.top) verify_app.top
 
 -- ---- what the words ask for
 
 pub data Order : Type 0 where
   Mac : Text → ℕ → Order
+  Keys : Order
+  Show : ℕ → Order
+  Verify : ℕ → Order
 
 -- the numbers of an order are in their ranges
 abbrev pub HasLimits : Order → Type 0
 HasLimits (Mac key limit) = (1 ≤ limit) × (limit ≤ 1048576)
+HasLimits Keys = Unit {0}
+HasLimits (Show limit) = (1 ≤ limit) × (limit ≤ 1048576)
+HasLimits (Verify now) = now ≤ 9223372036854775807
+
+-- the most octets of an order's input; that of `verify` is a policy of 65,536 octets, a key set of 4,194,304 and a token of
+-- 1,048,576, with the two octets 10 between them
+abbrev pub input_limit : Order → ℕ
+input_limit (Mac key limit) = limit
+input_limit Keys = 4194304
+input_limit (Show limit) = limit
+input_limit (Verify now) = 5308418
 
 -- the number that an option has, where its parser takes it
 abbrev pub number_in : ValueParser → Option Text → Option ℕ
@@ -49,8 +78,19 @@ number_in range text = option_and_then (λ t. if accepts false range t then Some
 abbrev pub mac_order : List Row → Option Order
 mac_order rows = option_and_then (λ key. option_map (λ limit. Mac key limit) (number_in limit_range (one_of (codes "limit") rows))) (first_of (codes "k") rows)
 
+abbrev pub show_order : List Row → Option Order
+show_order rows = option_map (λ limit. Show limit) (number_in limit_range (one_of (codes "limit") rows))
+
+abbrev pub verify_order : List Row → Option Order
+verify_order rows = option_map (λ now. Verify now) (number_in now_range (one_of (codes "now") rows))
+
 abbrev pub order_in : Text → List Row → Option Order
-order_in name rows = if bytes_eq name (codes "mac") then mac_order rows else None
+order_in name rows =
+    if bytes_eq name (codes "mac") then mac_order rows
+    else if bytes_eq name (codes "keys") then Some Keys
+    else if bytes_eq name (codes "show") then show_order rows
+    else if bytes_eq name (codes "verify") then verify_order rows
+    else None
 
 -- what a subcommand with its matches asks for, where `clap` has no fault
 abbrev pub order_under : Kinds → Option (Text × List Row) → Option Order

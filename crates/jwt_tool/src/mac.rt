@@ -1,5 +1,5 @@
 //! The command `mac`: the tag of a token in compact form under a key, and whether its signature is that tag.
-ghost use Rattle.std.specs.Prelude.{◌≡◌, ◌≤◌, ◌+◌, ◌⊎◌, true, IfOk, IfSome, IsTrue, length, option_map};
+ghost use Rattle.std.specs.Prelude.{◌≡◌, ◌≤◌, ◌+◌, ◌⊎◌, true, None, IfOk, IfSome, IsTrue, length, option_map};
 ghost use Rattle.std.specs.Str.{bytes_eq};
 ghost use Rattle.jwt_text.specs.Answers.{Answers, or_fault};
 ghost use Rattle.jwt_text.specs.Base64url.{spelled};
@@ -7,13 +7,14 @@ ghost use Rattle.jwt_mac.specs.Algorithm.{is_hmac_alg};
 ghost use Rattle.jwt_jws.specs.Views.{texts_view};
 ghost use Rattle.jwt_tool.specs.declared.mac.MacFault.TheVariants.{Base64};
 ghost use Rattle.jwt_tool.specs.Mac.{algorithm_of, digest_by, digest_line, digest_of, fault_name, key_spelled, mac_answer, mac_line, texts_digest, without_line_feed};
-ghost use Rattle.jwt_tool.specs.Printed.{TakesAtMost};
+ghost use Rattle.jwt_tool.specs.Input.{TakesAtMost};
 ghost use Rattle.jwt_tool.specs.Views.{digest_view, reply_view};
 
+use crate::input::read_input;
 use crate::reply::Reply;
 use jwt_jws::{CompactTexts, compact_texts};
 use jwt_mac::{Alg, CountDown, Message, Tag, cost, hmac};
-use jwt_text::{Intake, Source, TextFault};
+use jwt_text::{Source, TextFault};
 use std::alloc::{AllocError, Global};
 
 /// Why a token has no tag.
@@ -144,10 +145,10 @@ fn digest_line(alloc: Global, digest: &Digest) -> Result<Reply, AllocError>
 {
     let tag = hex::encode(alloc, digest.tag.octets())?;
     if digest.equal {
-        let text = format!(in alloc; "mac {tag} equal\n")?;
+        let text = format!(in alloc; "mac {tag} equal\n")?.into_bytes();
         Ok(Reply { text, status: 0 })
     } else {
-        let text = format!(in alloc; "mac {tag} differ\n")?;
+        let text = format!(in alloc; "mac {tag} differ\n")?.into_bytes();
         Ok(Reply { text, status: 1 })
     }
 }
@@ -165,8 +166,8 @@ fn token_line(alloc: Global, key: &[u8], token: &[u8]) -> Result<Reply, AllocErr
     }
 }
 
-// The octets without one octet 10 at their end.
-fn without_line_feed(octets: &[u8]) -> &[u8]
+/// The octets without one octet 10 at their end.
+pub(crate) fn without_line_feed(octets: &[u8]) -> &[u8]
     ensures value { result.now ≡ without_line_feed octets.now }
     ensures short { length result.now ≤ length octets.now }
 {
@@ -191,20 +192,25 @@ fn key_octets(alloc: Global, text: &str) -> Result<Option<Vec<u8>>, AllocError>
 
 /// Runs `jwt mac` on an input: a token in compact form, and one octet 10 behind it or none. A key text that spells no 1 to
 /// 4,096 octets is refused before anything is read.
-pub(crate) fn mac<R: Source>(alloc: Global, key: &str, limit: u64, r: &mut R) -> Result<Reply, AllocError>
+pub(crate) fn mac<R: Source>(
+    alloc: Global,
+    key: &str,
+    limit: u64,
+    r: &mut R,
+) -> Result<Reply, AllocError>
     requires least { 1 ≤ limit }
     requires most { limit ≤ 1048576 }
     ensures line { IfSome (R.remaining r.old) (λ x. IfOk result (λ a. reply_view a ≡ mac_answer key.now limit (R.failed r.new) x)) }
     ensures taken { IfSome (R.remaining r.old) (λ x. (R.failed r.new ≡ true) ⊎ TakesAtMost (limit + 1) x (R.remaining r.new)) }
+    ensures unread { key_spelled key.now ≡ None → r.new ≡ r.old }
 {
     let Some(key) = key_octets(alloc, key)? else {
         return Reply::line(alloc, "refused Key", 2);
     };
-    let mut intake = Intake::new(alloc, limit as u32);
-    match intake.read_from(r) {
+    match read_input(alloc, limit as u32, r) {
         Err(TextFault::Read) => Reply::line(alloc, "failed Read", 3),
         Err(TextFault::TooLong) => Reply::refused(alloc, "TooLong"),
         Err(_) => Err(AllocError),
-        Ok(()) => token_line(alloc, key.as_slice(), without_line_feed(intake.octets())),
+        Ok(input) => token_line(alloc, key.as_slice(), without_line_feed(input.octets())),
     }
 }

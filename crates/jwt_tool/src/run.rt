@@ -1,12 +1,18 @@
 //! The command, over any source and sink.
 ghost use Rattle.std.specs.Prelude.{◌≡◌, ◌+◌, ◌⊎◌, ℕ, List, None, Some, map, true, IfOk, IfSome};
-ghost use Rattle.jwt_tool.specs.Mac.{mac_answer};
-ghost use Rattle.jwt_tool.specs.Printed.{Gives, GivesWrongWords, Prints, TakesAtMost};
+ghost use Rattle.jwt_tool.specs.Mac.{key_spelled, mac_answer};
+ghost use Rattle.jwt_tool.specs.Input.{TakesAtMost};
+ghost use Rattle.jwt_tool.specs.Printed.{Gives, GivesWrongWords, Prints, out_of_memory};
 ghost use Rattle.jwt_tool.specs.Views.{reply_view};
-ghost use Rattle.jwt_tool.specs.Words.{Mac, order_of};
+ghost use Rattle.jwt_tool.specs.Statuses.{HasStatus, keys_status, show_status};
+ghost use Rattle.jwt_tool.specs.Verify.{verify_answer};
+ghost use Rattle.jwt_tool.specs.Words.{Keys, Mac, Order as Asked, Show, Verify, input_limit, order_of};
 
+use crate::keys::keys;
 use crate::mac::mac;
 use crate::reply::Reply;
+use crate::show::show;
+use crate::verify::verify;
 use crate::words::{Order, WordsFault, read_words};
 use jwt_text::{Sink, Source, write_out};
 use std::alloc::{AllocError, Global};
@@ -20,8 +26,22 @@ pub fn run<R: Source, W: Sink>(alloc: Global, words: &[&str], r: &mut R, w: &mut
     // The line of `mac`, where the words ask for it.
     ensures mac { (key : List ℕ) (limit : ℕ) → order_of (map (λ word. word.now) words.now) ≡ Some (Mac key limit)
         → IfSome (R.remaining r.old) (λ x. Gives (mac_answer key limit (R.failed r.new) x) (W.contents w.old) (W.contents w.new) (W.failed w.new) result) }
-    ensures taken { (key : List ℕ) (limit : ℕ) → order_of (map (λ word. word.now) words.now) ≡ Some (Mac key limit)
-        → IfSome (R.remaining r.old) (λ x. (R.failed r.new ≡ true) ⊎ TakesAtMost (limit + 1) x (R.remaining r.new)) }
+    // The line of `verify`.
+    ensures verify { (now : ℕ) → order_of (map (λ word. word.now) words.now) ≡ Some (Verify now)
+        → IfSome (R.remaining r.old) (λ x. Gives (verify_answer now (R.failed r.new) x) (W.contents w.old) (W.contents w.new) (W.failed w.new) result) }
+    // The statuses of `keys` and `show`.
+    ensures keys { order_of (map (λ word. word.now) words.now) ≡ Some Keys
+        → IfSome (R.remaining r.old) (λ x. HasStatus (keys_status (R.failed r.new) x) (W.failed w.new) result) }
+    ensures show { (limit : ℕ) → order_of (map (λ word. word.now) words.now) ≡ Some (Show limit)
+        → IfSome (R.remaining r.old) (λ x. HasStatus (show_status limit (R.failed r.new) x) (W.failed w.new) result) }
+
+    // At most one octet past the limit is taken.
+    ensures taken { (order : Asked) → order_of (map (λ word. word.now) words.now) ≡ Some order
+        → IfSome (R.remaining r.old) (λ x. (R.failed r.new ≡ true) ⊎ TakesAtMost (input_limit order + 1) x (R.remaining r.new)) }
+
+    // Where the key is refused, nothing is read.
+    ensures unread_key { (key : List ℕ) (limit : ℕ) → order_of (map (λ word. word.now) words.now) ≡ Some (Mac key limit)
+        → key_spelled key ≡ None → r.new ≡ r.old }
 
     // Words that `clap` refuses, and help words.
     ensures wrong { order_of (map (λ word. word.now) words.now) ≡ None
@@ -29,9 +49,16 @@ pub fn run<R: Source, W: Sink>(alloc: Global, words: &[&str], r: &mut R, w: &mut
     ensures unread { order_of (map (λ word. word.now) words.now) ≡ None → r.new ≡ r.old }
 {
     match reply_to(alloc, words, r) {
-        Ok(reply) => send(w, reply.text.as_bytes(), reply.status),
-        Err(_) => send(w, b"failed OutOfMemory\n", 4),
+        Ok(reply) => send(w, reply.text.as_slice(), reply.status),
+        Err(_) => lack_memory(w),
     }
+}
+
+/// Prints that a growth was refused, and answers the status 4, or 3 where a write fails.
+pub fn lack_memory<W: Sink>(w: &mut W) -> u8
+    ensures { Prints out_of_memory (W.contents w.old) (W.contents w.new) (W.failed w.new) result }
+{
+    send(w, b"failed OutOfMemory\n", 4)
 }
 
 // Sends a whole answer.
@@ -48,14 +75,28 @@ fn send<W: Sink>(w: &mut W, text: &[u8], status: u8) -> u8
 fn reply_to<R: Source>(alloc: Global, words: &[&str], r: &mut R) -> Result<Reply, AllocError>
     ensures mac { (key : List ℕ) (limit : ℕ) → order_of (map (λ word. word.now) words.now) ≡ Some (Mac key limit)
         → IfSome (R.remaining r.old) (λ x. IfOk result (λ a. reply_view a ≡ mac_answer key limit (R.failed r.new) x)) }
-    ensures taken { (key : List ℕ) (limit : ℕ) → order_of (map (λ word. word.now) words.now) ≡ Some (Mac key limit)
-        → IfSome (R.remaining r.old) (λ x. (R.failed r.new ≡ true) ⊎ TakesAtMost (limit + 1) x (R.remaining r.new)) }
+    ensures verify { (now : ℕ) → order_of (map (λ word. word.now) words.now) ≡ Some (Verify now)
+        → IfSome (R.remaining r.old) (λ x. IfOk result (λ a. reply_view a ≡ verify_answer now (R.failed r.new) x)) }
+    ensures keys { order_of (map (λ word. word.now) words.now) ≡ Some Keys
+        → IfSome (R.remaining r.old) (λ x. IfOk result (λ a. a.status ≡ keys_status (R.failed r.new) x)) }
+    ensures show { (limit : ℕ) → order_of (map (λ word. word.now) words.now) ≡ Some (Show limit)
+        → IfSome (R.remaining r.old) (λ x. IfOk result (λ a. a.status ≡ show_status limit (R.failed r.new) x)) }
+    ensures taken { (order : Asked) → order_of (map (λ word. word.now) words.now) ≡ Some order
+        → IfSome (R.remaining r.old) (λ x. (R.failed r.new ≡ true) ⊎ TakesAtMost (input_limit order + 1) x (R.remaining r.new)) }
+    ensures unread_key { (key : List ℕ) (limit : ℕ) → order_of (map (λ word. word.now) words.now) ≡ Some (Mac key limit)
+        → key_spelled key ≡ None → r.new ≡ r.old }
     ensures wrong { order_of (map (λ word. word.now) words.now) ≡ None → IfOk result (λ a. a.status ≡ 2) }
     ensures unread { order_of (map (λ word. word.now) words.now) ≡ None → r.new ≡ r.old }
 {
     match read_words(alloc, words) {
         Ok(Order::Mac { key, limit }) => mac(alloc, key, limit, r),
-        Err(WordsFault::Wrong(text)) => Ok(Reply { text, status: 2 }),
+        Ok(Order::Keys) => keys(alloc, r),
+        Ok(Order::Show { limit }) => show(alloc, limit, r),
+        Ok(Order::Verify { now }) => verify(alloc, now, r),
+        Err(WordsFault::Wrong(text)) => Ok(Reply {
+            text: text.into_bytes(),
+            status: 2,
+        }),
         Err(WordsFault::OutOfMemory) => Err(AllocError),
     }
 }

@@ -3,7 +3,7 @@ ghost use Rattle.std.specs.Prelude.{◌≡◌, ◌≤◌, IfOk, IfErr, IfSome, N
 ghost use Rattle.clap.specs.Words.{app_of, found_of, one_of, rows_of, rule_of, subcommand_rows_of};
 ghost use Rattle.clap.specs.declared.builder.command.Command.TheViews.{out-Command as fields_of};
 ghost use Rattle.clap.specs.declared.builder.ValueParser.TheVariants.{Unsigned};
-ghost use Rattle.jwt_tool.specs.Words.{HasLimits, jwt_app, key_rule, limit_rule, mac_app, mac_order, number_in, order_in, order_of};
+ghost use Rattle.jwt_tool.specs.Words.{HasLimits, jwt_app, key_rule, keys_app, limit_rule, mac_app, mac_order, now_rule, number_in, order_in, order_of, show_app, show_order, verify_app, verify_order};
 ghost use Rattle.jwt_tool.specs.Examples.{Examples};
 ghost use Rattle.jwt_tool.specs.Seen.{IsWrong, seen};
 
@@ -16,6 +16,9 @@ use std::alloc::{AllocError, Global};
 #[derive(Clone, Copy, Debug)]
 pub enum Order<'a> {
     Mac { key: &'a str, limit: u64 },
+    Keys,
+    Show { limit: u64 },
+    Verify { now: u64 },
 }
 
 fn key_option<'a>(alloc: Global) -> Arg<'a>
@@ -41,6 +44,18 @@ fn limit_option<'a>(alloc: Global) -> Arg<'a>
         .help("The most octets of a token")
 }
 
+fn now_option<'a>(alloc: Global) -> Arg<'a>
+    ensures shape { rule_of result ≡ now_rule }
+    ensures local { result.global ≡ false }
+{
+    Arg::new(alloc, "now")
+        .long("now")
+        .value_name("N")
+        .value_parser(ValueParser::unsigned(0, 9_223_372_036_854_775_807))
+        .required(true)
+        .help("The moment, in seconds since 1970-01-01T00:00:00Z")
+}
+
 fn mac_command<'a>(alloc: Global) -> Result<Command<'a>, AllocError>
     ensures shape { IfOk result (λ c. app_of c ≡ mac_app) }
     ensures local { IfOk result (λ c. (fields_of c).has_globals ≡ false) }
@@ -51,6 +66,31 @@ fn mac_command<'a>(alloc: Global) -> Result<Command<'a>, AllocError>
         .arg(limit_option(alloc))
 }
 
+fn keys_command<'a>(alloc: Global) -> Command<'a>
+    ensures shape { app_of result ≡ keys_app }
+    ensures local { (fields_of result).has_globals ≡ false }
+{
+    Command::new(alloc, "keys").about("Lists the keys of a key set")
+}
+
+fn show_command<'a>(alloc: Global) -> Result<Command<'a>, AllocError>
+    ensures shape { IfOk result (λ c. app_of c ≡ show_app) }
+    ensures local { IfOk result (λ c. (fields_of c).has_globals ≡ false) }
+{
+    Command::new(alloc, "show")
+        .about("Shows a token without verifying it")
+        .arg(limit_option(alloc))
+}
+
+fn verify_command<'a>(alloc: Global) -> Result<Command<'a>, AllocError>
+    ensures shape { IfOk result (λ c. app_of c ≡ verify_app) }
+    ensures local { IfOk result (λ c. (fields_of c).has_globals ≡ false) }
+{
+    Command::new(alloc, "verify")
+        .about("Validates a token by a policy and a key set")
+        .arg(now_option(alloc))
+}
+
 /// The command line of the program.
 pub fn command<'a>(alloc: Global) -> Result<Command<'a>, AllocError>
     ensures { IfOk result (λ c. app_of c ≡ jwt_app) }
@@ -58,7 +98,10 @@ pub fn command<'a>(alloc: Global) -> Result<Command<'a>, AllocError>
     Command::new(alloc, "jwt")
         .about("Validates, issues and explains JSON Web Tokens")
         .subcommand_required(true)
-        .subcommand(mac_command(alloc)?)
+        .subcommand(mac_command(alloc)?)?
+        .subcommand(keys_command(alloc))?
+        .subcommand(show_command(alloc)?)?
+        .subcommand(verify_command(alloc)?)
 }
 
 /// Why the words ask for nothing.
@@ -105,6 +148,9 @@ fn chosen<'a>(matches: &ArgMatches<'a>) -> Option<Order<'a>>
     let (name, options) = matches.subcommand()?;
     match name {
         "mac" => chosen_mac(options),
+        "keys" => Some(Order::Keys),
+        "show" => chosen_show(options),
+        "verify" => chosen_verify(options),
         _ => None,
     }
 }
@@ -116,6 +162,22 @@ fn chosen_mac<'a>(options: &ArgMatches<'a>) -> Option<Order<'a>>
     let key = options.get_str("k")?;
     let limit = number(options, "limit", 1, 1_048_576)?;
     Some(Order::Mac { key, limit })
+}
+
+fn chosen_show<'a>(options: &ArgMatches<'a>) -> Option<Order<'a>>
+    ensures limits { IfSome result (λ o. HasLimits (seen o)) }
+    ensures order { option_map seen result ≡ show_order (rows_of (found_of options.now)) }
+{
+    let limit = number(options, "limit", 1, 1_048_576)?;
+    Some(Order::Show { limit })
+}
+
+fn chosen_verify<'a>(options: &ArgMatches<'a>) -> Option<Order<'a>>
+    ensures limits { IfSome result (λ o. HasLimits (seen o)) }
+    ensures order { option_map seen result ≡ verify_order (rows_of (found_of options.now)) }
+{
+    let now = number(options, "now", 0, 9_223_372_036_854_775_807)?;
+    Some(Order::Verify { now })
 }
 
 // `clap` has refused a number out of its range; its contract says so of the words and not of the

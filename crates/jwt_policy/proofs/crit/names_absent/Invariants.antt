@@ -1,8 +1,7 @@
-use Rattle.std.proofs.Common.{◌≡◌, drop, not, map, string_bytes}
+use Rattle.std.proofs.Common.{◌≡◌, drop, not}
 use Rattle.jwt_jws.specs.Views.{parts}
-use Rattle.jwt_policy.specs.Texts.{any_text, is_among}
+use Rattle.jwt_policy.specs.Texts.{any_text}
 use Rattle.jwt_jws.specs.Token.{in_header}
-use Rattle.jwt_policy.specs.Bars.{is_registered}
 use Rattle.jwt_policy.proofs.crit.names_absent.Given as goal
 
 abbrev pub invariant-loop-place : goal.invariant-loop-place

@@ -1,7 +1,5 @@
-use Rattle.std.proofs.Common.{◌≡◌, drop, not, map, string_bytes}
-use Rattle.jwt_jws.specs.Views.{parts}
-use Rattle.jwt_policy.specs.Texts.{any_text, is_among}
-use Rattle.jwt_jws.specs.Token.{in_header}
+use Rattle.std.proofs.Common.{◌≡◌, drop}
+use Rattle.jwt_policy.specs.Texts.{any_text}
 use Rattle.jwt_policy.specs.Bars.{is_registered}
 use Rattle.jwt_policy.proofs.crit.names_registered.Given as goal
 

@@ -1,5 +1,4 @@
-use Rattle.std.proofs.Common.{◌≡◌, Bool, true, false, Some, sym, ap, ◌∙◌, arith, slice_get}
-use Rattle.std.proofs.lemmas.Grind.{common_steps}
+use Rattle.std.proofs.Common.{◌≡◌, true, false, Some, sym, ap, ◌∙◌, arith, slice_get}
 use Rattle.jwt_text.specs.Members.{names}
 use Rattle.jwt_policy.specs.Document.{is_known, unknown_in}
 use Rattle.jwt_policy.proofs.NamesLemmas.{unknown_here, unknown_later}

@@ -1,17 +1,33 @@
 use Rattle.std.proofs.Common.{◌≡◌, ℕ, List, ap, inr}
 use Rattle.jwt_tool.specs.Mac.{mac_answer}
+use Rattle.jwt_tool.specs.Statuses.{show_status}
+use Rattle.jwt_tool.specs.Verify.{verify_answer}
 use Rattle.jwt_tool.specs.Views.{reply_view}
-use Rattle.jwt_tool.proofs.Printing.{gives_answer, gives_memory}
+use Rattle.jwt_tool.proofs.Printing.{gives_answer, gives_memory, has_status}
 use Rattle.jwt_tool.proofs.run.run.Goals as goal
 
 pub returns-in-Ok-clause-mac : goal.returns-in-Ok-clause-mac
 returns-in-Ok-clause-mac g c = λ key limit asked.
     gives_answer (g.R.Source.remaining c.args.r.now) (mac_answer key limit (g.R.Source.failed c.reply_to.new.r)) (reply_view c.in-Ok.reply) _ _ _ _
-    (c.in-Ok.ensures.mac key limit asked) (rw c.as_bytes.ensures.value at c.send.ensures)
+    (c.in-Ok.ensures.mac key limit asked) (rw c.as_slice.ensures.value at c.send.ensures)
 
 pub returns-in-Err-clause-mac : goal.returns-in-Err-clause-mac
 returns-in-Err-clause-mac g c = λ key limit asked.
-    gives_memory (g.R.Source.remaining c.args.r.now) (mac_answer key limit (g.R.Source.failed c.reply_to.new.r)) _ _ _ _ c.send-in-Err.ensures
+    gives_memory (g.R.Source.remaining c.args.r.now) (mac_answer key limit (g.R.Source.failed c.reply_to.new.r)) _ _ _ _ c.lack_memory.ensures
 
 pub returns-in-Err-clause-wrong : goal.returns-in-Err-clause-wrong
-returns-in-Err-clause-wrong g c = λ wrong. inr c.send-in-Err.ensures
+returns-in-Err-clause-wrong g c = λ wrong. inr c.lack_memory.ensures
+
+pub returns-in-Ok-clause-show : goal.returns-in-Ok-clause-show
+returns-in-Ok-clause-show g c = λ limit asked.
+    has_status (g.R.Source.remaining c.args.r.now) (show_status limit (g.R.Source.failed c.reply_to.new.r)) _ c.in-Ok.reply.status _ _ _ _
+    (c.in-Ok.ensures.show limit asked) c.send.ensures
+
+pub returns-in-Ok-clause-verify : goal.returns-in-Ok-clause-verify
+returns-in-Ok-clause-verify g c = λ now asked.
+    gives_answer (g.R.Source.remaining c.args.r.now) (verify_answer now (g.R.Source.failed c.reply_to.new.r)) (reply_view c.in-Ok.reply) _ _ _ _
+    (c.in-Ok.ensures.verify now asked) (rw c.as_slice.ensures.value at c.send.ensures)
+
+pub returns-in-Err-clause-verify : goal.returns-in-Err-clause-verify
+returns-in-Err-clause-verify g c = λ now asked.
+    gives_memory (g.R.Source.remaining c.args.r.now) (verify_answer now (g.R.Source.failed c.reply_to.new.r)) _ _ _ _ c.lack_memory.ensures

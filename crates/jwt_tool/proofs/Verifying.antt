@@ -1,0 +1,77 @@
+-- What `verify` takes, and its answer where a line is too long.
+use Rattle.std.proofs.Common.{◌≡◌, ◌≢◌, ◌≤◌, ◌<◌, ◌⊎◌, ⊎_elim, inl, inr, ℕ, ◌+◌, ◌-◌, ◌==◌, Bool, true, false, List, [], ◌∷◌, ◌++◌, length, drop, Option, None, Some, Err, refl, sym, ap, subst, ◌∙◌, drop_at, drop-drop, arith, nat_lt, true≢false, suc, IfSome, if◌then◌else◌}
+use Rattle.std.proofs.lemmas.Bool.Decides.{nat_tests}
+use Rattle.std.specs.Option.{option_map_or}
+use Rattle.jwt_keys.specs.KeySets.{key_set_of}
+use Rattle.jwt_keys.specs.declared.fault.KeysFault.TheVariants as keys
+use Rattle.jwt_policy.specs.Document.{policy_of}
+use Rattle.jwt_policy.specs.declared.policy_fault.PolicyFault.TheVariants as policy
+use Rattle.jwt_verify.specs.Reports.{TakesAtMost as FrontAtMost}
+use Rattle.jwt_verify.specs.declared.report.InputFault.TheVariants.{Read}
+use Rattle.jwt_verify.specs.declared.report.Fault.TheVariants.{Text}
+use Rattle.jwt_verify.specs.declared.report.Verdict.{Verdict}
+use Rattle.jwt_verify.specs.declared.report.Verdict.TheVariants.{Refused}
+use Rattle.jwt_policy.specs.Settings.{Settings}
+use Rattle.jwt_tool.specs.Input.{TakesAtMost}
+use Rattle.jwt_tool.specs.Verify.{keys_answer, keys_refused, policy_refused, under_keys, under_policy, unless_failed, verify_answer}
+use Rattle.jwt_tool.specs.TakenLines.{TakesLine, after_line, first_line}
+
+-- ---- what is taken
+
+after_drops : (x : List ℕ) → (n : ℕ) × (n ≤ length (first_line x) + 1) × (after_line x ≡ drop n x)
+after_drops [] = (0, omega arith, refl)
+after_drops (c ∷ cs) = go (c == 10) (after_drops cs)
+  where
+    go : (feed : Bool) → (n : ℕ) × (n ≤ length (first_line cs) + 1) × (after_line cs ≡ drop n cs)
+        → (n : ℕ) × (n ≤ length (if feed then [] else c ∷ first_line cs) + 1) × ((if feed then cs else after_line cs) ≡ drop n (c ∷ cs))
+    go true h = (1, omega arith, refl)
+    go false h = (suc h.0, omega (arith, h.1), h.2)
+
+pub line_taken : (limit most : ℕ) (x octets : List ℕ) (rest : Option (List ℕ)) → limit + 1 ≤ most → TakesLine limit x octets rest → TakesAtMost most x rest
+line_taken limit most x octets rest within h =
+    let d = after_drops x in
+    (d.0, omega (arith, d.1, h.within, within), h.unread ∙ ap Some d.2)
+
+pub more_taken : (first second most : ℕ) (x : List ℕ) (rest : Option (List ℕ)) (failed : Bool) → first + second ≤ most
+    → (y : List ℕ) → TakesAtMost first x (Some y) → (failed ≡ true) ⊎ TakesAtMost second y rest → (failed ≡ true) ⊎ TakesAtMost most x rest
+more_taken first second most x rest failed within y a (inl is) = inl is
+more_taken first second most x rest failed within y (n, n_within, is) (inr (m, m_within, rest_is)) = inr (n + m, omega (arith, n_within, m_within, within), rest_is ∙ ap Some (ap (drop m) (ap (λ o. option_map_or (λ l. l) o y) is) ∙ drop-drop m n x))
+
+-- what is taken by a line and behind it
+pub then_taken : (limit second most : ℕ) (x octets : List ℕ) (mid rest : Option (List ℕ)) (failed : Bool) → limit + 1 + second ≤ most
+    → TakesLine limit x octets mid → IfSome mid (λ y. (failed ≡ true) ⊎ TakesAtMost second y rest) → (failed ≡ true) ⊎ TakesAtMost most x rest
+then_taken limit second most x octets mid rest failed within h more =
+    more_taken (limit + 1) second most x rest failed within (after_line x)
+    (subst (λ m. TakesAtMost (limit + 1) x m) h.unread (line_taken limit (limit + 1) x octets mid (omega arith) h))
+    (subst (λ m. IfSome m (λ y. (failed ≡ true) ⊎ TakesAtMost second y rest)) h.unread more)
+
+pub front_taken : (limit most : ℕ) (x : List ℕ) (rest : Option (List ℕ)) (failed : Bool) (v : Verdict) → limit + 1 ≤ most
+    → (v ≢ Refused (Text Read) → FrontAtMost (limit + 1) x rest) → (v ≡ Refused (Text Read) → failed ≡ true) → (failed ≡ true) ⊎ TakesAtMost most x rest
+front_taken limit most x rest true v within taken read = inl refl
+front_taken limit most x rest false v within taken read = inr (drops (taken (λ is. never (read is))))
+  where
+    never : false ≡ true → ⊥
+    never is = true≢false (sym is)
+
+    drops : FrontAtMost (limit + 1) x rest → TakesAtMost most x rest
+    drops (front, back, is, unread, short) = (length front, omega (arith, short, within), unread ∙ ap Some (sym (drop_at front back (length front) refl)) ∙ ap (λ l. Some (drop (length front) l)) (sym is))
+
+-- ---- lines that are too long
+
+pub keys_too_long : (z : List ℕ) → 4194304 < length z → key_set_of z ≡ Err keys.TooLong
+unfolding key_set_of
+keys_too_long z long = let is : nat_lt 4194304 (length z) ≡ true = grind (arith, nat_tests, long) in rw is refl
+
+pub policy_too_long : (z : List ℕ) → 65536 < length z → policy_of z ≡ Err policy.TooLong
+unfolding policy_of
+policy_too_long z long = let is : nat_lt 65536 (length z) ≡ true = grind (arith, nat_tests, long) in rw is refl
+
+pub keys_line_too_long : (now : ℕ) (p : Settings) (x : List ℕ) (failed : Bool) → failed ≡ false → 4194304 < length (first_line x)
+    → keys_refused keys.TooLong ≡ unless_failed failed (keys_answer now p x)
+keys_line_too_long now p x failed works long =
+    sym (ap (λ f. unless_failed f (keys_answer now p x)) works ∙ ap (λ k. under_keys now p k (after_line x)) (keys_too_long (first_line x) long))
+
+pub policy_line_too_long : (now : ℕ) (x : List ℕ) (failed : Bool) → failed ≡ false → 65536 < length (first_line x)
+    → policy_refused policy.TooLong ≡ verify_answer now failed x
+policy_line_too_long now x failed works long =
+    sym (ap (λ f. verify_answer now f x) works ∙ ap (λ k. under_policy now k (after_line x)) (policy_too_long (first_line x) long))

@@ -1,0 +1,25 @@
+//! Reading a command's input.
+ghost use Rattle.std.specs.Prelude.{◌≡◌, ◌≤◌, ◌+◌, ◌⊎◌, true, length, IfOk, IfSome};
+ghost use Rattle.jwt_tool.specs.Input.{ReadsInput, TakesAtMost};
+
+use jwt_text::{GREATEST_LIMIT, Intake, Source, TextFault};
+use std::alloc::Global;
+
+/// Reads all of an input, of at most so many octets.
+pub(crate) fn read_input<R: Source>(
+    alloc: Global,
+    limit: u32,
+    r: &mut R,
+) -> Result<Intake, TextFault>
+    requires least { 1 ≤ limit }
+    requires greatest { limit ≤ GREATEST_LIMIT }
+    ensures input { IfSome (R.remaining r.old) (λ x. ReadsInput limit (R.failed r.new) x result) }
+    ensures short { IfOk result (λ held. length held.octets ≤ limit) }
+    ensures taken { IfSome (R.remaining r.old) (λ x. (R.failed r.new ≡ true) ⊎ TakesAtMost (limit + 1) x (R.remaining r.new)) }
+{
+    let mut intake = Intake::new(alloc, limit);
+    match intake.read_from(r) {
+        Ok(()) => Ok(intake),
+        Err(fault) => Err(fault),
+    }
+}

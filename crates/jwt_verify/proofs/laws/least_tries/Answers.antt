@@ -1,0 +1,5 @@
+use Rattle.jwt_verify.proofs.Least.{least_tries_hold}
+use Rattle.jwt_verify.proofs.laws.least_tries.Goals as goal
+
+pub returns : goal.returns
+returns c = least_tries_hold

@@ -1,0 +1,287 @@
+//! Judges a token in hand, or one that a source gives.
+
+ghost use Rattle.std.specs.Prelude.{◌≡◌, ◌≢◌, ◌≤◌, ◌+◌, ◌++◌, [], List, Some, true, false, map, length, drop, IfOk, OnOk, IfErr, IfSome};
+ghost use Rattle.jwt_text.specs.Answers.{Answers};
+ghost use Rattle.jwt_jws.specs.Views.{token};
+ghost use Rattle.jwt_keys.specs.KeySets.{key_set};
+ghost use Rattle.jwt_policy.specs.Bars.{bar_of};
+ghost use Rattle.jwt_verify.specs.Table.{work, paid, IsRun};
+ghost use Rattle.jwt_verify.specs.Trying.{table_of};
+ghost use Rattle.jwt_verify.specs.Verdict.{token_verdict, token_of, verdict_of, table, without_line_feed};
+ghost use Rattle.jwt_verify.specs.Reports.{FoundMemory, IsWhole, Failed, TakesAtMost, Holds, IsSourceFault, terms};
+ghost use Rattle.jwt_verify.specs.declared.report.InputFault.TheVariants.{Read};
+ghost use Rattle.jwt_verify.specs.declared.report.Fault.TheVariants.{OutOfMemory, Text};
+ghost use Rattle.jwt_verify.specs.declared.report.Verdict.TheVariants.{Refused};
+
+use crate::asked::Asked;
+use crate::conclusion::verdict_after;
+use crate::report::{Fault, InputFault, Report, SigState, Try, Verdict};
+use crate::tries::{End, run};
+use jwt_jws::{FormFault, Signed, parse};
+use jwt_keys::KeySet;
+use jwt_mac::{Budget, Verifier};
+use jwt_policy::{Policy, SigFault, bar};
+use jwt_text::{Intake, Source, TextFault};
+use std::alloc::{AllocError, Global};
+
+/// The bar of each signature.
+fn bars_of(
+    alloc: Global,
+    signed: &Signed<'_>,
+    policy: &Policy,
+    verifiers: &[Box<dyn Verifier>],
+) -> Result<Vec<Option<SigFault>>, AllocError>
+    ensures { IfOk result (λ v. v.items ≡ map (λ s. bar_of policy.now s (map meaning verifiers.now)) (token signed.now).signatures) }
+{
+    let mut bars = Vec::new(alloc);
+    'signatures: for i in 0..signed.count() {
+        if let Some(signature) = signed.signature(i) {
+            bars.push(bar(policy, signature, verifiers))?;
+        }
+    }
+    Ok(bars)
+}
+
+/// The octets without one octet 10 at their end, where that is to be dropped.
+fn without_line_feed(octets: &[u8], drops: bool) -> &[u8]
+    ensures { result.now ≡ without_line_feed drops octets.now }
+{
+    if drops && octets.len() > 0 && octets[octets.len() - 1] == 10 {
+        &octets[..octets.len() - 1]
+    } else {
+        octets
+    }
+}
+
+/// The signed token that the octets are (RFC 7515, section 7), or why they are none.
+#[tactic(auto, unfolding(crate::specs::Verdict::token_of))]
+fn read_token<'a, 'p>(
+    alloc: Global,
+    octets: &'a [u8],
+    policy: &'p Policy,
+) -> Result<Signed<'a>, Fault<'p>>
+    ensures { Answers Fault.OutOfMemory token result (token_of policy.now octets.now) }
+{
+    if octets.len() > policy.limit() as usize {
+        return Err(Fault::Text(InputFault::TooLong));
+    }
+    let token = without_line_feed(octets, policy.line_feed());
+    match parse(alloc, token, policy.max_signatures()) {
+        Ok(signed) => Ok(signed),
+        Err(FormFault::OutOfMemory) => Err(Fault::OutOfMemory),
+        Err(fault) => Err(Fault::Form(fault)),
+    }
+}
+
+/// Tries the pairs of the token and the keys.
+#[tactic(auto, unfolding(crate::specs::AskedTable::asked_table, crate::specs::AskedTable::HasBars))]
+fn try_token<B: Budget>(
+    alloc: Global,
+    signed: &Signed<'_>,
+    keys: &KeySet,
+    policy: &Policy,
+    verifiers: &[Box<dyn Verifier>],
+    b: &mut B,
+    tries: &mut Vec<Try>,
+    states: &mut Vec<SigState>,
+) -> Result<End, AllocError>
+    requires no_tries { tries.old.items ≡ [] }
+    requires no_states { states.old.items ≡ [] }
+    requires no_octets { B.octets b.old ≡ 0 }
+    requires no_calls { B.calls b.old ≡ 0 }
+    ensures ceiling { B.ceiling b.new ≡ B.ceiling b.old }
+    ensures octets { B.octets b.new ≡ work tries.new.items }
+    ensures calls { B.calls b.new ≡ length tries.new.items }
+    ensures front { (more : List Try) × (paid (table_of policy.now (map meaning verifiers.now) (key_set keys.now).keys (token signed.now)) (B.ceiling b.old) policy.now.max_calls ≡ tries.new.items ++ more) }
+    ensures run { IfOk result (IsRun (table_of policy.now (map meaning verifiers.now) (key_set keys.now).keys (token signed.now)) (B.ceiling b.old) policy.now.max_calls tries.new.items states.new.items) }
+{
+    let bars = bars_of(alloc, signed, policy, verifiers)?;
+    let asked = Asked {
+        signed,
+        keys,
+        policy,
+        bars: bars.as_slice(),
+    };
+    run(&asked, verifiers, policy.max_calls(), b, tries, states)
+}
+
+/// The verdict on a signed token.
+fn judge_token<'p, B: Budget>(
+    alloc: Global,
+    signed: &Signed<'_>,
+    keys: &KeySet,
+    policy: &'p Policy,
+    now: i64,
+    verifiers: &[Box<dyn Verifier>],
+    b: &mut B,
+) -> Report<'p>
+    requires no_octets { B.octets b.old ≡ 0 }
+    requires no_calls { B.calls b.old ≡ 0 }
+    ensures verdict { FoundMemory result.verdict → result.verdict ≡ token_verdict (terms policy.now keys.now now (map meaning verifiers.now)) (B.ceiling b.old) (token signed.now) }
+    ensures tries { IsWhole (table_of policy.now (map meaning verifiers.now) (key_set keys.now).keys (token signed.now)) (B.ceiling b.old) policy.now.max_calls result.tries.items result.states.items result.verdict }
+    ensures front { (more : List Try) × (paid (table_of policy.now (map meaning verifiers.now) (key_set keys.now).keys (token signed.now)) (B.ceiling b.old) policy.now.max_calls ≡ result.tries.items ++ more) }
+    ensures octets { B.octets b.new ≡ work result.tries.items }
+    ensures calls { B.calls b.new ≡ length result.tries.items }
+    ensures ceiling { B.ceiling b.new ≡ B.ceiling b.old }
+    ensures read { result.verdict ≢ Refused (Text Read) }
+{
+    let mut tries = Vec::new(alloc);
+    let mut states = Vec::new(alloc);
+    let run = try_token(
+        alloc,
+        signed,
+        keys,
+        policy,
+        verifiers,
+        b,
+        &mut tries,
+        &mut states,
+    );
+    let verdict = match run {
+        Ok(end) => verdict_after(alloc, end, states.as_slice(), signed.payload(), policy, now),
+        Err(_) => Verdict::Refused(Fault::OutOfMemory),
+    };
+    Report {
+        verdict,
+        states,
+        tries,
+    }
+}
+
+/// A refusal before anything was tried.
+fn refused<'p>(alloc: Global, fault: Fault<'p>) -> Report<'p>
+    ensures verdict { result.verdict ≡ Refused fault.entry }
+    ensures states { result.states.items ≡ [] }
+    ensures tries { result.tries.items ≡ [] }
+{
+    Report {
+        verdict: Verdict::Refused(fault),
+        states: Vec::new(alloc),
+        tries: Vec::new(alloc),
+    }
+}
+
+/// The verdict on octets in hand, with what became of each signature and each try that was paid.
+///
+/// The octets, without one final octet 10 where the policy has `line_feed`, are read as a signed token (RFC 7515, section 7). The
+/// signatures are gone through in order, and for each the eligible keys in ascending order until one verifies it (RFC 7515,
+/// section 5.2). In mode `any` the run ends at the first verified signature, in mode `all` at the first that isn't. Once the
+/// signatures are verified, the claims are held against the policy at the moment `now`, in seconds since
+/// 1970-01-01T00:00:00Z (RFC 7519, section 7.2).
+///
+/// The condition: the budget is new. Each try is paid from it: a try by HMAC for the octets that are fed, a question to the first
+/// of `verifiers` that names the algorithm for one call and no octets. No pair is tried twice.
+///
+/// # Refused
+/// With the first that holds of `Text(TooLong)`, more octets than the policy's `limit`; `Form`; `CallsExceeded` or `WorkExceeded`,
+/// at the first pair that would pass the policy's `max_calls` or the budget's ceiling, calls before work, and that pair isn't
+/// tried; `Signature`; `Claim`. `VerifierMemory` comes where a verifier that was asked lacked memory, and ends the run.
+/// `OutOfMemory` comes where a growth was refused, in place of any other verdict. After each of them the budget agrees with the
+/// tries of the report.
+pub fn judge<'p, B: Budget>(
+    alloc: Global,
+    octets: &[u8],
+    keys: &KeySet,
+    policy: &'p Policy,
+    now: i64,
+    verifiers: &[Box<dyn Verifier>],
+    b: &mut B,
+) -> Report<'p>
+    requires no_octets { B.octets b.old ≡ 0 }
+    requires no_calls { B.calls b.old ≡ 0 }
+
+    // The verdict, unless memory was refused; the states and the tries; and the tries after every verdict.
+    ensures verdict { FoundMemory result.verdict → result.verdict ≡ verdict_of (terms policy.now keys.now now (map meaning verifiers.now)) octets.now (B.ceiling b.old) }
+    ensures tries { IsWhole (table (terms policy.now keys.now now (map meaning verifiers.now)) octets.now) (B.ceiling b.old) policy.now.max_calls result.tries.items result.states.items result.verdict }
+    ensures front { (more : List Try) × (paid (table (terms policy.now keys.now now (map meaning verifiers.now)) octets.now) (B.ceiling b.old) policy.now.max_calls ≡ result.tries.items ++ more) }
+    ensures read { result.verdict ≢ Refused (Text Read) }
+
+    // The budget agrees with the tries.
+    ensures octets { B.octets b.new ≡ work result.tries.items }
+    ensures calls { B.calls b.new ≡ length result.tries.items }
+    ensures ceiling { B.ceiling b.new ≡ B.ceiling b.old }
+{
+    match read_token(alloc, octets, policy) {
+        Ok(signed) => judge_token(alloc, &signed, keys, policy, now, verifiers, b),
+        Err(fault) => refused(alloc, fault),
+    }
+}
+
+/// The octets of the source, as far as they are looked at: all, or one more than the limit.
+fn take_in<'p, R: Source>(alloc: Global, r: &mut R, limit: u32) -> Result<Intake, Fault<'p>>
+    requires least { 1 ≤ limit }
+    requires greatest { limit ≤ 1048576 }
+    ensures octets { IfSome (R.remaining r.old) (λ x. Holds result limit x (R.remaining r.new)) }
+    ensures ok { OnOk result (R.failed r.new ≡ false) }
+    ensures fault { IfErr result (IsSourceFault (R.failed r.new)) }
+{
+    let mut intake = Intake::new(alloc, limit);
+    match intake.read_from(r) {
+        Ok(()) => Ok(intake),
+        Err(TextFault::TooLong) => Ok(intake),
+        Err(TextFault::Read) => Err(Fault::Text(InputFault::Read)),
+        Err(_) => Err(Fault::OutOfMemory),
+    }
+}
+
+/// The verdict on what a source gives: as [`judge`] says of it, however the source cuts it.
+///
+/// At most one octet more than the policy's `limit` is taken, and nothing after that one.
+///
+/// ```rust
+/// use jwt_keys::KeySet;
+/// use jwt_mac::CountDown;
+/// use jwt_policy::Policy;
+/// use jwt_text::Reader;
+/// use jwt_verify::{Verdict, validate};
+///
+/// let policy = Policy::read(alloc, b"{\"algs\":[\"HS256\"]}")?;
+/// let keys = KeySet::read(alloc, document)?;
+/// let mut budget = CountDown::new(policy.work());
+/// let report = validate(alloc, &mut Reader::new(input), &keys, &policy, now, &[], &mut budget);
+/// if let Verdict::Accepted { claims, .. } = &report.verdict {
+///     println!(rt; "{}", claims.sub().unwrap_or("nobody"))?;
+/// }
+/// ```
+///
+/// The condition: the budget is new.
+///
+/// # Refused
+/// As [`judge`] refuses, and with `Text(Read)` exactly where the source has failed and no growth was refused. Then nothing was
+/// tried.
+pub fn validate<'p, R: Source, B: Budget>(
+    alloc: Global,
+    r: &mut R,
+    keys: &KeySet,
+    policy: &'p Policy,
+    now: i64,
+    verifiers: &[Box<dyn Verifier>],
+    b: &mut B,
+) -> Report<'p>
+    requires no_octets { B.octets b.old ≡ 0 }
+    requires no_calls { B.calls b.old ≡ 0 }
+
+    // Of a source that tells its octets and doesn't fail: what was taken, the verdict, the states and the tries.
+    ensures verdict { IfSome (R.remaining r.old) (λ x. result.verdict ≢ Refused (Text Read) → FoundMemory result.verdict
+        → result.verdict ≡ verdict_of (terms policy.now keys.now now (map meaning verifiers.now)) x (B.ceiling b.old)) }
+    ensures taken { IfSome (R.remaining r.old) (λ x. result.verdict ≢ Refused (Text Read) → result.verdict ≢ Refused OutOfMemory
+        → R.remaining r.new ≡ Some (drop (policy.now.run.limit + 1) x)) }
+    ensures most { IfSome (R.remaining r.old) (λ x. result.verdict ≢ Refused (Text Read)
+        → TakesAtMost (policy.now.run.limit + 1) x (R.remaining r.new)) }
+    ensures tries { IfSome (R.remaining r.old) (λ x. result.verdict ≢ Refused (Text Read)
+        → IsWhole (table (terms policy.now keys.now now (map meaning verifiers.now)) x) (B.ceiling b.old) policy.now.max_calls result.tries.items result.states.items result.verdict) }
+    ensures front { IfSome (R.remaining r.old) (λ x. (more : List Try)
+        × (paid (table (terms policy.now keys.now now (map meaning verifiers.now)) x) (B.ceiling b.old) policy.now.max_calls ≡ result.tries.items ++ more)) }
+
+    // Of every source: where it fails nothing is tried, and the budget agrees with the tries.
+    ensures failed { R.failed r.new ≡ true → Failed result.verdict result.tries.items }
+    ensures read { result.verdict ≡ Refused (Text Read) → R.failed r.new ≡ true }
+    ensures octets { B.octets b.new ≡ work result.tries.items }
+    ensures calls { B.calls b.new ≡ length result.tries.items }
+    ensures ceiling { B.ceiling b.new ≡ B.ceiling b.old }
+{
+    match take_in(alloc, r, policy.limit()) {
+        Ok(intake) => judge(alloc, intake.octets(), keys, policy, now, verifiers, b),
+        Err(fault) => refused(alloc, fault),
+    }
+}

@@ -1,0 +1,55 @@
+//! Laws of the definitions: each function does nothing, and its contract holds of every table.
+
+ghost use Rattle.jwt_verify.specs.Accepted.{AcceptsExactly};
+ghost use Rattle.jwt_verify.specs.Laws.{TriesAreBounded, LeastTries, MoreKeys, SameKeys, WorkIsBounded, CeilingSuffices};
+
+use jwt_policy::laws::{bar_is_first_row, eligible_pairs};
+
+/// The tries stand in dictionary order, so no pair twice, and each is eligible; there are no more than pairs, and their costs
+/// add up to no more than the bound.
+pub fn tries_are_bounded()
+    ensures { TriesAreBounded }
+{}
+
+/// The work of a run is at most the common cost for each pair of signature and key, and the length of each key that is longer than
+/// a block, once for each of its tries. The common cost is the length of the longest signing input, two blocks and a digest, these
+/// the greatest among the policy's algorithms (RFC 2104, section 2).
+pub fn work_is_bounded()
+    ensures { WorkIsBounded }
+{
+    eligible_pairs();
+    bar_is_first_row();
+}
+
+/// A ceiling of that bound is never exceeded, and how much greater it is changes neither the verdict nor the tries nor the states.
+pub fn ceiling_suffices()
+    ensures { CeilingSuffices }
+{
+    eligible_pairs();
+    bar_is_first_row();
+}
+
+/// No try can be spared: two tables that agree on the validity of the paid tries of one leave the same tries, the same states
+/// and the same end, and where one paid try alone has other validity, the states differ.
+pub fn least_tries()
+    ensures { LeastTries }
+{}
+
+/// The verdict is an acceptance exactly where the token is accepted in words: it isn't too long and is a signed token, no
+/// ceiling stops the run, in mode `any` some signature is verified and in mode `all` each one is, and the claims hold. It names
+/// the first verified signature, its least key and the payload's claims.
+pub fn accepts_exactly()
+    ensures { AcceptsExactly }
+{}
+
+/// More keys never refuse: what is accepted with some keys is accepted with more, with the same claims, where the ceilings leave
+/// room for all tries. So a key set may be rotated by adding first and removing later.
+pub fn more_keys()
+    ensures { MoreKeys }
+{}
+
+/// Key sets with the same keys, in any order and with repeats, give the same verdict and the same states but for the numbers of
+/// keys, where the ceilings leave room for all tries.
+pub fn same_keys()
+    ensures { SameKeys }
+{}

@@ -1,0 +1,21 @@
+//! Judges a signed JSON Web Token: the verdict, what became of each signature, and each try of a key that was paid.
+//!
+//! [`validate`] takes a token from a source and [`judge`] takes it in hand. Both try the eligible pairs of signature and key in
+//! order, each at most once, paid from the caller's [`Budget`](jwt_mac::Budget), and stop before a pair that would pass its
+//! ceiling or the policy's `max_calls` (RFC 7515, section 5.2; RFC 8725, section 3).
+#![tactic(auto)]
+
+mod asked;
+mod candidates;
+mod conclusion;
+mod judging;
+pub mod laws;
+mod pair;
+mod report;
+#[cfg(test)]
+mod tests;
+mod trial;
+mod tries;
+
+pub use judging::{judge, validate};
+pub use report::{Fault, InputFault, Report, SigState, Try, Verdict};

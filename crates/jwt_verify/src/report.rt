@@ -1,0 +1,93 @@
+//! What is said of a token.
+
+use jwt_jws::FormFault;
+use jwt_policy::{ClaimFault, Claims, SigFault};
+
+/// The try of one key on one signature, which was paid.
+#[derive(Clone, Copy, Debug, PartialEq, Eq)]
+pub struct Try {
+    /// The signature's number in the token, from 0.
+    pub signature: u32,
+    /// The key's number in the key set, from 0.
+    pub key: u32,
+    /// The octets that were fed to HMAC for it; 0 where a verifier was asked.
+    pub cost: u64,
+}
+
+/// What became of a signature.
+#[derive(Clone, Copy, Debug, PartialEq, Eq)]
+pub enum SigState {
+    /// No key was tried on it, for this reason.
+    Barred(SigFault),
+    /// No key is eligible.
+    NoKey,
+    /// Each eligible key was tried, and none verified it.
+    BadSignature,
+    /// The key of this number verified it, the least that is eligible and does.
+    Verified(u32),
+    /// The run ended before it.
+    NotReached,
+    /// The run stopped at one of its pairs: a ceiling was reached, or a verifier lacked memory.
+    Stopped,
+}
+
+/// Why an input isn't held.
+#[derive(Clone, Copy, Debug, PartialEq, Eq)]
+pub enum InputFault {
+    /// The source failed.
+    Read,
+    /// It has more octets than the policy's `limit`.
+    TooLong,
+}
+
+/// Why a token is refused. Where several causes hold, it is the first of `Text`, `Form`, then `CallsExceeded` or
+/// `WorkExceeded`, then `Signature`, then `Claim`. The name in a claim fault is lent by the policy.
+#[derive(Drop)]
+pub enum Fault<'p> {
+    /// A growth of memory was refused. It may stand in place of any other verdict.
+    OutOfMemory,
+    /// The input isn't held.
+    Text(InputFault),
+    /// The octets are no signed token (RFC 7515, section 7).
+    Form(FormFault),
+    /// The next pair of signature and key would have cost more than is left of the budget. It wasn't tried.
+    WorkExceeded(u32, u32),
+    /// The signature of this number isn't verified. In mode `any` none is, and this is the first; in mode `all` it is the first
+    /// that isn't.
+    Signature(u32, SigFault),
+    /// The payload's claims are refused (RFC 7519, section 4).
+    Claim(ClaimFault<'p>),
+    /// A handed-in verifier lacked memory.
+    VerifierMemory,
+    /// The budget had counted as many calls as the policy's `max_calls` before the next pair of signature and key. It wasn't
+    /// tried.
+    CallsExceeded(u32, u32),
+}
+
+/// The verdict on a token.
+#[derive(Drop)]
+pub enum Verdict<'p> {
+    /// The token is accepted.
+    Accepted {
+        /// The number of the verified signature; in mode `all` that of the first.
+        signature: u32,
+        /// The number of the key that verified it.
+        key: u32,
+        /// The payload's claims.
+        claims: Claims,
+    },
+    /// It is refused.
+    Refused(Fault<'p>),
+}
+
+/// A verdict with its evidence.
+#[derive(Drop)]
+pub struct Report<'p> {
+    /// The verdict.
+    pub verdict: Verdict<'p>,
+    /// What became of each signature, in the token's order; empty where the octets are no signed token. After `OutOfMemory`
+    /// nothing is said of it.
+    pub states: Vec<SigState>,
+    /// Each try that was paid, in the order in which they were made. It agrees with the budget after every verdict.
+    pub tries: Vec<Try>,
+}
