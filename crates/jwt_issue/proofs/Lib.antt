@@ -1,4 +1,6 @@
 mod Fit
+mod HeaderTexts
 mod Lengths
+mod Spelled
 mod SpentLaw
 mod Steps

@@ -1,9 +1,15 @@
 //! Laws over the definitions that the contracts cite. The functions do nothing: each is its contract.
-ghost use Rattle.std.specs.Prelude.{◌≡◌, ◌≤◌, ◌<◌, ◌+◌, ◌↔◌, ℕ, List, None, Some, length, take};
+ghost use Rattle.std.specs.Prelude.{◌≡◌, ◌≤◌, ◌<◌, ◌+◌, ◌↔◌, ℕ, List, Option, IsUtf8, None, Some, length, take};
 ghost use Rattle.std.specs.List.{sum};
-ghost use Rattle.jwt_issue.specs.Issued.{first_spent};
+ghost use Rattle.serde_json.specs.Data.{object};
+ghost use Rattle.serde_json.specs.Written.{compact_text};
+ghost use Rattle.jwt_text.specs.Base64url.{AreOctets, spelling};
+ghost use Rattle.jwt_jws.specs.SignedToken.{IsSignedToken};
+ghost use Rattle.jwt_issue.specs.Issued.{PairParts, header, signer_of, compact_token, first_spent};
+ghost use Rattle.jwt_issue.specs.Signed.{tag_over, compact_signed};
 
 use crate::fault::IssueFault;
+use jwt_text::laws::quoted_texts;
 
 /// A signature isn't made exactly where its cost and those before it exceed what is left, and it is the first such.
 pub fn spent_is_the_first_beyond()
@@ -11,3 +17,15 @@ pub fn spent_is_the_first_beyond()
     ensures some { (left : ℕ) (costs : List ℕ) (i : ℕ) → (first_spent 0 left costs ≡ Some (IssueFault.Spent i))
         ↔ ((i < length costs) × (sum (take i costs) ≤ left) × (left < sum (take (i + 1) costs))) }
 {}
+
+/// What is issued in compact form is a signed token (RFC 7515, section 7.1) with these claims as its payload and one signature,
+/// whose header is the pair's and whose octets are the HMAC of the pair's own key and its own signing input. It asks only that
+/// octets are octets and the header's text is UTF-8.
+pub fn compact_tokens_are_signed()
+    ensures { (typ : Option (List ℕ)) (claims : List ℕ) (pair : PairParts)
+        → AreOctets (compact_text (object (header typ pair))) → IsUtf8 (compact_text (object (header typ pair)))
+        → AreOctets claims → AreOctets (tag_over typ claims pair)
+        → IsSignedToken 1 (compact_token (spelling claims) (signer_of typ pair)) (compact_signed typ claims pair) }
+{
+    quoted_texts();
+}
