@@ -1,5 +1,6 @@
 -- What a clause sees of the crate's own types.
-use Rattle.jwt_tool.specs.Words.{Order, Mac, Keys, Show, Verify}
+use Rattle.std.specs.Prelude.{option_map}
+use Rattle.jwt_tool.specs.Words.{Issue, Keys, Mac, Order, Show, Verify}
 use Rattle.jwt_tool.specs.declared.words.Order.{Order as Asked}
 use Rattle.jwt_tool.specs.declared.words.Order.TheVariants as asked
 use Rattle.jwt_tool.specs.declared.words.WordsFault.{WordsFault}
@@ -10,6 +11,7 @@ seen (asked.Mac key limit) = Mac key.now limit
 seen asked.Keys = Keys
 seen (asked.Show limit) = Show limit
 seen (asked.Verify now) = Verify now
+seen (asked.Issue alg typ form) = Issue alg (option_map (λ t. t.now) typ) form
 
 -- the words are wrong, and memory was there
 abbrev pub IsWrong : WordsFault → Type 0

@@ -3,6 +3,10 @@ use Rattle.std.specs.Prelude.{◌≤◌, ℕ, true, false, List, [], ◌∷◌, 
 use Rattle.std.specs.Str.{bytes_eq}
 use Rattle.std.specs.Str.Parse.{digits_value, without_leading_plus}
 use Rattle.clap.specs.Words.{App, Kinds, Row, Rule, Text, fault_of, first_of, new_app, new_rule, one_of, subcommand_of, with_rule, with_subcommand}
+use Rattle.jwt_mac.specs.Algorithm.{alg_named}
+use Rattle.jwt_mac.specs.declared.algorithm.Alg.{Alg}
+use Rattle.jwt_jws.specs.declared.fault.Form.{Form}
+use Rattle.jwt_jws.specs.declared.fault.Form.TheVariants.{Compact, Flattened, General}
 use Rattle.clap.specs.ValueTests.{accepts}
 use Rattle.clap.specs.declared.builder.value_parser.ValueParser.{ValueParser}
 use Rattle.clap.specs.declared.builder.value_parser.ValueParser.TheVariants as vp
@@ -28,6 +32,15 @@ limit_rule = record (option (codes "limit")) { parser = Some limit_range; defaul
 abbrev pub now_rule : Rule
 now_rule = record (option (codes "now")) { parser = Some now_range; required = true }
 
+abbrev pub alg_rule : Rule
+alg_rule = record (option (codes "alg")) { required = true }
+
+abbrev pub typ_rule : Rule
+typ_rule = option (codes "typ")
+
+abbrev pub form_rule : Rule
+form_rule = record (option (codes "form")) { defaults = codes "compact" ∷ [] }
+
 -- ---- the command
 
 abbrev pub mac_app : App
@@ -42,11 +55,14 @@ show_app = with_rule (new_app (codes "show")) limit_rule
 abbrev pub verify_app : App
 verify_app = with_rule (new_app (codes "verify")) now_rule
 
+abbrev pub issue_app : App
+issue_app = with_rule (with_rule (with_rule (new_app (codes "issue")) alg_rule) typ_rule) form_rule
+
 abbrev pub top_app : App
 top_app = record (new_app (codes "jwt")) { top = record (new_app (codes "jwt")).top { subcommand_required = true } }
 
 abbrev pub jwt_app : App
-jwt_app = with_subcommand (with_subcommand (with_subcommand (with_subcommand top_app mac_app.top) keys_app.top) show_app.top) verify_app.top
+jwt_app = with_subcommand (with_subcommand (with_subcommand (with_subcommand (with_subcommand top_app mac_app.top) keys_app.top) show_app.top) verify_app.top) issue_app.top
 
 -- ---- what the words ask for
 
@@ -55,6 +71,7 @@ pub data Order : Type 0 where
   Keys : Order
   Show : ℕ → Order
   Verify : ℕ → Order
+  Issue : Alg → Option Text → Form → Order
 
 -- the numbers of an order are in their ranges
 abbrev pub HasLimits : Order → Type 0
@@ -62,14 +79,16 @@ HasLimits (Mac key limit) = (1 ≤ limit) × (limit ≤ 1048576)
 HasLimits Keys = Unit {0}
 HasLimits (Show limit) = (1 ≤ limit) × (limit ≤ 1048576)
 HasLimits (Verify now) = now ≤ 9223372036854775807
+HasLimits (Issue alg typ form) = Unit {0}
 
 -- the most octets of an order's input; that of `verify` is a policy of 65,536 octets, a key set of 4,194,304 and a token of
--- 1,048,576, with the two octets 10 between them
+-- 1,048,576, with the two octets 10 between them, and that of `issue` a key set and claims of 1,048,576
 abbrev pub input_limit : Order → ℕ
 input_limit (Mac key limit) = limit
 input_limit Keys = 4194304
 input_limit (Show limit) = limit
 input_limit (Verify now) = 5308418
+input_limit (Issue alg typ form) = 5242881
 
 -- the number that an option has, where its parser takes it
 abbrev pub number_in : ValueParser → Option Text → Option ℕ
@@ -84,12 +103,30 @@ show_order rows = option_map (λ limit. Show limit) (number_in limit_range (one_
 abbrev pub verify_order : List Row → Option Order
 verify_order rows = option_map (λ now. Verify now) (number_in now_range (one_of (codes "now") rows))
 
+-- the form of a token that a text names
+abbrev pub form_named : Text → Option Form
+form_named text =
+    if bytes_eq text (codes "compact") then Some Compact
+    else if bytes_eq text (codes "json") then Some General
+    else if bytes_eq text (codes "flattened") then Some Flattened
+    else None
+
+abbrev pub alg_in : List Row → Option Alg
+alg_in rows = option_and_then alg_named (first_of (codes "alg") rows)
+
+abbrev pub form_in : List Row → Option Form
+form_in rows = option_and_then form_named (first_of (codes "form") rows)
+
+abbrev pub issue_order : List Row → Option Order
+issue_order rows = option_and_then (λ alg. option_map (λ form. Issue alg (first_of (codes "typ") rows) form) (form_in rows)) (alg_in rows)
+
 abbrev pub order_in : Text → List Row → Option Order
 order_in name rows =
     if bytes_eq name (codes "mac") then mac_order rows
     else if bytes_eq name (codes "keys") then Some Keys
     else if bytes_eq name (codes "show") then show_order rows
     else if bytes_eq name (codes "verify") then verify_order rows
+    else if bytes_eq name (codes "issue") then issue_order rows
     else None
 
 -- what a subcommand with its matches asks for, where `clap` has no fault

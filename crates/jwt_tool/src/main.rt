@@ -3,6 +3,7 @@
 
 mod faults;
 mod input;
+mod issue;
 mod keys;
 mod mac;
 mod pieces;

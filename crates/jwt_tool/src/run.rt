@@ -5,9 +5,11 @@ ghost use Rattle.jwt_tool.specs.Input.{TakesAtMost};
 ghost use Rattle.jwt_tool.specs.Printed.{Gives, GivesWrongWords, Prints, out_of_memory};
 ghost use Rattle.jwt_tool.specs.Views.{reply_view};
 ghost use Rattle.jwt_tool.specs.Statuses.{HasStatus, keys_status, show_status};
+ghost use Rattle.jwt_tool.specs.Issue.{TokenAsked, issue_answer};
 ghost use Rattle.jwt_tool.specs.Verify.{verify_answer};
-ghost use Rattle.jwt_tool.specs.Words.{Keys, Mac, Order as Asked, Show, Verify, input_limit, order_of};
+ghost use Rattle.jwt_tool.specs.Words.{Issue, Keys, Mac, Order as Asked, Show, Verify, input_limit, order_of};
 
+use crate::issue::{Wanted, issue};
 use crate::keys::keys;
 use crate::mac::mac;
 use crate::reply::Reply;
@@ -29,6 +31,9 @@ pub fn run<R: Source, W: Sink>(alloc: Global, words: &[&str], r: &mut R, w: &mut
     // The line of `verify`.
     ensures verify { (now : ℕ) → order_of (map (λ word. word.now) words.now) ≡ Some (Verify now)
         → IfSome (R.remaining r.old) (λ x. Gives (verify_answer now (R.failed r.new) x) (W.contents w.old) (W.contents w.new) (W.failed w.new) result) }
+    // The token of `issue`.
+    ensures issue { (wanted : TokenAsked) → order_of (map (λ word. word.now) words.now) ≡ Some (Issue wanted.alg wanted.typ wanted.form)
+        → IfSome (R.remaining r.old) (λ x. Gives (issue_answer wanted (R.failed r.new) x) (W.contents w.old) (W.contents w.new) (W.failed w.new) result) }
     // The statuses of `keys` and `show`.
     ensures keys { order_of (map (λ word. word.now) words.now) ≡ Some Keys
         → IfSome (R.remaining r.old) (λ x. HasStatus (keys_status (R.failed r.new) x) (W.failed w.new) result) }
@@ -77,6 +82,8 @@ fn reply_to<R: Source>(alloc: Global, words: &[&str], r: &mut R) -> Result<Reply
         → IfSome (R.remaining r.old) (λ x. IfOk result (λ a. reply_view a ≡ mac_answer key limit (R.failed r.new) x)) }
     ensures verify { (now : ℕ) → order_of (map (λ word. word.now) words.now) ≡ Some (Verify now)
         → IfSome (R.remaining r.old) (λ x. IfOk result (λ a. reply_view a ≡ verify_answer now (R.failed r.new) x)) }
+    ensures issue { (wanted : TokenAsked) → order_of (map (λ word. word.now) words.now) ≡ Some (Issue wanted.alg wanted.typ wanted.form)
+        → IfSome (R.remaining r.old) (λ x. IfOk result (λ a. reply_view a ≡ issue_answer wanted (R.failed r.new) x)) }
     ensures keys { order_of (map (λ word. word.now) words.now) ≡ Some Keys
         → IfSome (R.remaining r.old) (λ x. IfOk result (λ a. a.status ≡ keys_status (R.failed r.new) x)) }
     ensures show { (limit : ℕ) → order_of (map (λ word. word.now) words.now) ≡ Some (Show limit)
@@ -93,6 +100,7 @@ fn reply_to<R: Source>(alloc: Global, words: &[&str], r: &mut R) -> Result<Reply
         Ok(Order::Keys) => keys(alloc, r),
         Ok(Order::Show { limit }) => show(alloc, limit, r),
         Ok(Order::Verify { now }) => verify(alloc, now, r),
+        Ok(Order::Issue { alg, typ, form }) => issue(alloc, Wanted { alg, typ, form }, r),
         Err(WordsFault::Wrong(text)) => Ok(Reply {
             text: text.into_bytes(),
             status: 2,

@@ -3,22 +3,36 @@ ghost use Rattle.std.specs.Prelude.{◌≡◌, ◌≤◌, IfOk, IfErr, IfSome, N
 ghost use Rattle.clap.specs.Words.{app_of, found_of, one_of, rows_of, rule_of, subcommand_rows_of};
 ghost use Rattle.clap.specs.declared.builder.command.Command.TheViews.{out-Command as fields_of};
 ghost use Rattle.clap.specs.declared.builder.ValueParser.TheVariants.{Unsigned};
-ghost use Rattle.jwt_tool.specs.Words.{HasLimits, jwt_app, key_rule, keys_app, limit_rule, mac_app, mac_order, now_rule, number_in, order_in, order_of, show_app, show_order, verify_app, verify_order};
+ghost use Rattle.jwt_tool.specs.Words.{HasLimits, alg_in, alg_rule, form_in, form_named, form_rule, issue_app, issue_order, jwt_app, key_rule, keys_app, limit_rule, mac_app, mac_order, now_rule, number_in, order_in, order_of, show_app, show_order, typ_rule, verify_app, verify_order};
 ghost use Rattle.jwt_tool.specs.Examples.{Examples};
 ghost use Rattle.jwt_tool.specs.Seen.{IsWrong, seen};
 
 use clap::builder::ValueParser;
 use clap::error::ErrorKind;
 use clap::{Arg, ArgMatches, Command, Error};
+use jwt_jws::Form;
+use jwt_mac::Alg;
 use std::alloc::{AllocError, Global};
 
 /// What the words ask for.
 #[derive(Clone, Copy, Debug)]
 pub enum Order<'a> {
-    Mac { key: &'a str, limit: u64 },
+    Mac {
+        key: &'a str,
+        limit: u64,
+    },
     Keys,
-    Show { limit: u64 },
-    Verify { now: u64 },
+    Show {
+        limit: u64,
+    },
+    Verify {
+        now: u64,
+    },
+    Issue {
+        alg: Alg,
+        typ: Option<&'a str>,
+        form: Form,
+    },
 }
 
 fn key_option<'a>(alloc: Global) -> Arg<'a>
@@ -56,6 +70,38 @@ fn now_option<'a>(alloc: Global) -> Arg<'a>
         .help("The moment, in seconds since 1970-01-01T00:00:00Z")
 }
 
+fn alg_option<'a>(alloc: Global) -> Arg<'a>
+    ensures shape { rule_of result ≡ alg_rule }
+    ensures local { result.global ≡ false }
+{
+    Arg::new(alloc, "alg")
+        .long("alg")
+        .value_name("A")
+        .required(true)
+        .help("The algorithm: HS256, HS384 or HS512")
+}
+
+fn typ_option<'a>(alloc: Global) -> Arg<'a>
+    ensures shape { rule_of result ≡ typ_rule }
+    ensures local { result.global ≡ false }
+{
+    Arg::new(alloc, "typ")
+        .long("typ")
+        .value_name("T")
+        .help("The media type of the token, as its header names it")
+}
+
+fn form_option<'a>(alloc: Global) -> Arg<'a>
+    ensures shape { rule_of result ≡ form_rule }
+    ensures local { result.global ≡ false }
+{
+    Arg::new(alloc, "form")
+        .long("form")
+        .value_name("F")
+        .default_value("compact")
+        .help("The form of the token: compact, json or flattened")
+}
+
 fn mac_command<'a>(alloc: Global) -> Result<Command<'a>, AllocError>
     ensures shape { IfOk result (λ c. app_of c ≡ mac_app) }
     ensures local { IfOk result (λ c. (fields_of c).has_globals ≡ false) }
@@ -91,6 +137,17 @@ fn verify_command<'a>(alloc: Global) -> Result<Command<'a>, AllocError>
         .arg(now_option(alloc))
 }
 
+fn issue_command<'a>(alloc: Global) -> Result<Command<'a>, AllocError>
+    ensures shape { IfOk result (λ c. app_of c ≡ issue_app) }
+    ensures local { IfOk result (λ c. (fields_of c).has_globals ≡ false) }
+{
+    Command::new(alloc, "issue")
+        .about("Issues a token of some claims by a key set")
+        .arg(alg_option(alloc))?
+        .arg(typ_option(alloc))?
+        .arg(form_option(alloc))
+}
+
 /// The command line of the program.
 pub fn command<'a>(alloc: Global) -> Result<Command<'a>, AllocError>
     ensures { IfOk result (λ c. app_of c ≡ jwt_app) }
@@ -101,8 +158,13 @@ pub fn command<'a>(alloc: Global) -> Result<Command<'a>, AllocError>
         .subcommand(mac_command(alloc)?)?
         .subcommand(keys_command(alloc))?
         .subcommand(show_command(alloc)?)?
-        .subcommand(verify_command(alloc)?)
+        .subcommand(verify_command(alloc)?)?
+        .subcommand(issue_command(alloc)?)
 }
+
+// What is said where `clap` accepts the words and they ask for nothing: of `--alg` and `--form` it takes any text.
+const UNKNOWN_NAME: &str =
+    "error: invalid value for '--alg <A>' or '--form <F>'\n\nFor more information, try '--help'.\n";
 
 /// Why the words ask for nothing.
 #[derive(Debug, Drop)]
@@ -131,7 +193,7 @@ pub fn read_words<'a>(alloc: Global, words: &'a [&'a str]) -> Result<Order<'a>, 
     match command(alloc)?.try_get_matches_from(words) {
         Ok(matches) => match chosen(&matches) {
             Some(order) => Ok(order),
-            None => Err(WordsFault::Wrong(String::new(alloc))),
+            None => Err(WordsFault::Wrong(String::from_str(alloc, UNKNOWN_NAME)?)),
         },
         Err(error) => match error.kind() {
             ErrorKind::OutOfMemory => Err(WordsFault::OutOfMemory),
@@ -151,6 +213,7 @@ fn chosen<'a>(matches: &ArgMatches<'a>) -> Option<Order<'a>>
         "keys" => Some(Order::Keys),
         "show" => chosen_show(options),
         "verify" => chosen_verify(options),
+        "issue" => chosen_issue(options),
         _ => None,
     }
 }
@@ -178,6 +241,41 @@ fn chosen_verify<'a>(options: &ArgMatches<'a>) -> Option<Order<'a>>
 {
     let now = number(options, "now", 0, 9_223_372_036_854_775_807)?;
     Some(Order::Verify { now })
+}
+
+// The algorithm of a token.
+fn chosen_alg(options: &ArgMatches<'_>) -> Option<Alg>
+    ensures { result ≡ alg_in (rows_of (found_of options.now)) }
+{
+    Alg::from_text(options.get_str("alg")?)
+}
+
+fn form_named(text: &str) -> Option<Form>
+    ensures { result ≡ form_named text.now }
+{
+    match text {
+        "compact" => Some(Form::Compact),
+        "json" => Some(Form::General),
+        "flattened" => Some(Form::Flattened),
+        _ => None,
+    }
+}
+
+// The form of a token.
+fn chosen_form(options: &ArgMatches<'_>) -> Option<Form>
+    ensures { result ≡ form_in (rows_of (found_of options.now)) }
+{
+    form_named(options.get_str("form")?)
+}
+
+fn chosen_issue<'a>(options: &ArgMatches<'a>) -> Option<Order<'a>>
+    ensures limits { IfSome result (λ o. HasLimits (seen o)) }
+    ensures order { option_map seen result ≡ issue_order (rows_of (found_of options.now)) }
+{
+    let alg = chosen_alg(options)?;
+    let form = chosen_form(options)?;
+    let typ = options.get_str("typ");
+    Some(Order::Issue { alg, typ, form })
 }
 
 // `clap` has refused a number out of its range; its contract says so of the words and not of the

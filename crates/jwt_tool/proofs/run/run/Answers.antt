@@ -1,6 +1,7 @@
 use Rattle.std.proofs.Common.{◌≡◌, ℕ, List, ap, inr}
 use Rattle.jwt_tool.specs.Mac.{mac_answer}
 use Rattle.jwt_tool.specs.Statuses.{show_status}
+use Rattle.jwt_tool.specs.Issue.{issue_answer}
 use Rattle.jwt_tool.specs.Verify.{verify_answer}
 use Rattle.jwt_tool.specs.Views.{reply_view}
 use Rattle.jwt_tool.proofs.Printing.{gives_answer, gives_memory, has_status}
@@ -31,3 +32,12 @@ returns-in-Ok-clause-verify g c = λ now asked.
 pub returns-in-Err-clause-verify : goal.returns-in-Err-clause-verify
 returns-in-Err-clause-verify g c = λ now asked.
     gives_memory (g.R.Source.remaining c.args.r.now) (verify_answer now (g.R.Source.failed c.reply_to.new.r)) _ _ _ _ c.lack_memory.ensures
+
+pub returns-in-Ok-clause-issue : goal.returns-in-Ok-clause-issue
+returns-in-Ok-clause-issue g c = λ asked is.
+    gives_answer (g.R.Source.remaining c.args.r.now) (issue_answer asked (g.R.Source.failed c.reply_to.new.r)) (reply_view c.in-Ok.reply) _ _ _ _
+    (c.in-Ok.ensures.issue asked is) (rw c.as_slice.ensures.value at c.send.ensures)
+
+pub returns-in-Err-clause-issue : goal.returns-in-Err-clause-issue
+returns-in-Err-clause-issue g c = λ asked is.
+    gives_memory (g.R.Source.remaining c.args.r.now) (issue_answer asked (g.R.Source.failed c.reply_to.new.r)) _ _ _ _ c.lack_memory.ensures

@@ -1,13 +1,19 @@
-use Rattle.std.proofs.Common.{rules, ◌≡◌, ◌∙◌, ap, ap₂, sym}
+use Rattle.std.proofs.Common.{rules, ◌≡◌, ◌∙◌, ap₂}
 use Rattle.std.proofs.lemmas.Result.{IfOk-weaker}
 use Rattle.clap.specs.Words.{App, app_of, with_subcommand}
-use Rattle.jwt_tool.specs.Words.{jwt_app, keys_app, mac_app, show_app, verify_app, top_app}
+use Rattle.jwt_tool.specs.Words.{jwt_app, keys_app, mac_app, issue_app, show_app, verify_app, top_app}
 use Rattle.jwt_tool.proofs.words.command.Goals as goal
+
+-- a command with one more subcommand
+abbrev more : App → App → App
+more a s = with_subcommand a s.top
 
 pub returns : goal.returns
 returns c =
     let top : app_of c.subcommand_required.result ≡ top_app = search rules in
-    let one : app_of c.in_ok-subcommand.field-0 ≡ with_subcommand top_app mac_app.top = search rules in
-    let two : app_of c.in_ok-subcommand-2.field-0 ≡ with_subcommand (with_subcommand top_app mac_app.top) keys_app.top = search rules in
-    let three : app_of c.in_ok-subcommand-3.field-0 ≡ with_subcommand (with_subcommand (with_subcommand top_app mac_app.top) keys_app.top) show_app.top = search rules in
-    IfOk-weaker c.subcommand-4.result _ (λ r. app_of r ≡ jwt_app) (λ r adds. adds.shape c.in_ok-verify_command.ensures.local ∙ ap₂ (λ a (s : App). with_subcommand a s.top) three c.in_ok-verify_command.ensures.shape) c.subcommand-4.ensures
+    let one = c.in_ok-subcommand.ensures.shape c.in_ok-mac_command.ensures.local ∙ ap₂ more top c.in_ok-mac_command.ensures.shape in
+    let two = c.in_ok-subcommand-2.ensures.shape c.keys_command.ensures.local ∙ ap₂ more one c.keys_command.ensures.shape in
+    let three = c.in_ok-subcommand-3.ensures.shape c.in_ok-show_command.ensures.local ∙ ap₂ more two c.in_ok-show_command.ensures.shape in
+    let four = c.in_ok-subcommand-4.ensures.shape c.in_ok-verify_command.ensures.local ∙ ap₂ more three c.in_ok-verify_command.ensures.shape in
+    IfOk-weaker c.subcommand-5.result _ (λ r. app_of r ≡ jwt_app)
+    (λ r adds. adds.shape c.in_ok-issue_command.ensures.local ∙ ap₂ more four c.in_ok-issue_command.ensures.shape) c.subcommand-5.ensures
