@@ -266,7 +266,7 @@ fn a_write_that_fails_ends_with_status_3(rt: HostRuntime) -> Result<(), Fail> {
 fn wrong_words_print_what_clap_says(rt: HostRuntime) -> Result<(), Fail> {
     let alloc = rt.alloc();
     let usage =
-        "error: 'jwt' requires a subcommand but one was not provided\n  [subcommands: mac, keys, show, verify, help]\n\nUsage: jwt <COMMAND>\n\nFor more information, try '--help'.\n";
+        "error: 'jwt' requires a subcommand but one was not provided\n  [subcommands: mac, keys, show, verify, issue, help]\n\nUsage: jwt <COMMAND>\n\nFor more information, try '--help'.\n";
     assert_eq!(rt;
         printed(alloc, &["jwt"], b"")?.0.as_slice(),
         usage.as_bytes()
@@ -592,6 +592,98 @@ fn verify_prints_the_verdict(rt: HostRuntime) -> Result<(), Fail> {
         let (out, code) = verified(alloc, now, policy, keys, token)?;
         assert_eq!(rt; out.as_slice(), line.as_bytes());
         assert_eq!(rt; code, status);
+    }
+    Ok(())
+}
+
+// What `issue` prints of words, a key set and claims, and its status.
+fn issued(alloc: Global, words: &[&str], keys: &str, claims: &str) -> Result<(Vec<u8>, u8), Fail> {
+    let mut input: Vec<u8> = Vec::new(alloc);
+    input.extend_from_slice(keys.as_bytes())?;
+    input.push(b'\n')?;
+    input.extend_from_slice(claims.as_bytes())?;
+    printed(alloc, words, input.as_slice())
+}
+
+const KEY_ZERO: &str =
+    "{\"keys\":[{\"kty\":\"oct\",\"k\":\"AAAAAAAAAAAAAAAAAAAAAAAAAAAAAAAAAAAAAAAAAAA\"}]}";
+
+#[test]
+fn issue_prints_the_token_or_the_first_refusal(rt: HostRuntime) -> Result<(), Fail> {
+    let alloc = rt.alloc();
+    let compact: &[&str] = &["jwt", "issue", "--alg", "HS256", "--typ", "JWT"];
+    let (token, status) = issued(alloc, compact, KEY_ZERO, "{}\n")?;
+    assert_eq!(rt; status, 0);
+    assert_eq!(rt; token.len(), 84);
+    assert!(rt;
+        token
+            .as_slice()
+            .starts_with(b"eyJhbGciOiJIUzI1NiIsInR5cCI6IkpXVCJ9.e30.")
+    );
+    let cases: [(&[&str], &str, &str, &str, u8); 8] = [
+        (compact, "{}", "{}", "refused Keys NotKeySet\n", 1),
+        (compact, "{\"keys\":[]}", "{}", "refused NoKey\n", 1),
+        (compact, "{\"keys\":[]}", "[]", "refused ClaimsShape\n", 1),
+        (
+            compact,
+            KEY_ZERO,
+            "{\"exp\":\"x\"}",
+            "refused ClaimKind claim=\"exp\"\n",
+            1,
+        ),
+        (
+            &["jwt", "issue", "--alg", "RS256"],
+            KEY_ZERO,
+            "{}",
+            "refused AlgNotHmac sig=0\n",
+            1,
+        ),
+        (
+            &["jwt", "issue", "--alg", "HS512", "--form", "json"],
+            KEYS_ZA,
+            "{}",
+            "refused KeyUnfit sig=0\n",
+            1,
+        ),
+        (
+            &["jwt", "issue", "--alg", "none"],
+            KEY_ZERO,
+            "{}",
+            "error: invalid value for '--alg <A>' or '--form <F>'\n\nFor more information, try '--help'.\n",
+            2,
+        ),
+        (
+            &["jwt", "issue", "--alg", "HS256", "--form", "general"],
+            KEY_ZERO,
+            "{}",
+            "error: invalid value for '--alg <A>' or '--form <F>'\n\nFor more information, try '--help'.\n",
+            2,
+        ),
+    ];
+    for (words, keys, claims, line, status) in cases {
+        let (out, code) = issued(alloc, words, keys, claims)?;
+        assert_eq!(rt; out.as_slice(), line.as_bytes());
+        assert_eq!(rt; code, status);
+    }
+    Ok(())
+}
+
+#[test]
+fn what_issue_prints_verify_accepts(rt: HostRuntime) -> Result<(), Fail> {
+    let alloc = rt.alloc();
+    let forms: [(&str, &str); 3] = [
+        ("compact", "accepted sig=0 key=0 tries=1 work=199\n"),
+        ("flattened", "accepted sig=0 key=0 tries=1 work=199\n"),
+        ("json", "accepted sig=0 key=0 tries=3 work=597\n"),
+    ];
+    for (form, line) in forms {
+        let words: &[&str] = &["jwt", "issue", "--alg", "HS256", "--form", form];
+        let (token, status) = issued(alloc, words, KEYS_ZA, "{\"sub\":\"ann\"}")?;
+        assert_eq!(rt; status, 0);
+        let policy = "{\"algs\":[\"HS256\"],\"mode\":\"all\"}";
+        let (out, code) = verified(alloc, MOMENT, policy, KEYS_ZA, token.as_slice())?;
+        assert_eq!(rt; out.as_slice(), line.as_bytes());
+        assert_eq!(rt; code, 0);
     }
     Ok(())
 }
