@@ -1,8 +1,7 @@
 -- A line that was taken octet by octet, against the first line of the input.
-use Rattle.std.proofs.Common.{◌≡◌, ◌≢◌, ◌<◌, ◌≤◌, ◌==◌, ◌||◌, ℕ, zero, suc, ◌+◌, Bool, true, false, cond, List, [], ◌∷◌, ◌++◌, length, take, drop, get_or, Option, None, Some, IfSome, refl, sym, ap, subst, ◌∙◌, append_assoc, append-nil, length-append, drop_at, arith}
+use Rattle.std.proofs.Common.{◌≡◌, ◌≤◌, ◌==◌, ◌||◌, ℕ, zero, suc, ◌+◌, Bool, true, false, List, [], ◌∷◌, ◌++◌, length, take, drop, get_or, Option, None, Some, IfSome, refl, sym, ap, subst, ◌∙◌, append_assoc, append-nil, length-append, drop_at, arith}
 use Rattle.std.specs.List.{list_any}
 use Rattle.std.specs.Io.KnownBytes.{Consumes, IsAtEnd, Keeps, prepend_known}
-use Rattle.jwt_tool.specs.Input.{TakesAtMost}
 use Rattle.jwt_tool.specs.TakenLines.{LineFails, TakesLine, after_line, first_line}
 use Rattle.jwt_tool.specs.declared.take_line.LineFault.TheVariants.{OutOfMemory, TooLong}
 

@@ -1,10 +1,10 @@
 -- What `clap`'s clauses say of the words' order.
-use Rattle.std.proofs.Common.{◌≡◌, ◌⊎◌, ap₂, ⊎_elim, List, [], ◌∷◌, Option, None, refl, true, sym}
+use Rattle.std.proofs.Common.{◌≡◌, ap₂, List, [], ◌∷◌, Option, None, refl, true, sym}
 use Rattle.std.specs.Prelude.{option_and_then}
-use Rattle.clap.specs.Words.{App, HasKind, IsAmong, Kinds, Row, Text, fault_of, is_simple, is_simple_and_free, kind_of, subcommand_of}
+use Rattle.clap.specs.Words.{IsAmong, Kinds, Row, Text, fault_of, is_simple, is_simple_and_free, subcommand_of}
 use Rattle.clap.specs.declared.error.ErrorKind.{ErrorKind}
 use Rattle.clap.proofs.OnLiterals.{clap_on_literals}
-use Rattle.jwt_tool.specs.Words.{Order, jwt_app, order_in, order_of, order_under}
+use Rattle.jwt_tool.specs.Words.{jwt_app, order_in, order_of, order_under}
 
 -- the command is one of which `clap` says exactly what it takes
 pub jwt_is_simple : is_simple jwt_app ≡ true

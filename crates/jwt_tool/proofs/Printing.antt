@@ -1,9 +1,5 @@
 -- From what the steps of a command say to what the command says, where the streams tell their octets.
-use Rattle.std.proofs.Common.{◌≡◌, ◌≤◌, ◌⊎◌, inl, inr, ℕ, ◌+◌, ◌-◌, Bool, true, List, [], ◌++◌, length, drop, Option, None, Some, Result, Err, IfSome, refl, sym, ap, subst, ◌∙◌, drop_at, arith}
-use Rattle.jwt_text.specs.Intake.{Bounded, Reads}
-use Rattle.jwt_text.specs.declared.fault.TextFault.{TextFault}
-use Rattle.jwt_text.specs.declared.fault.TextFault.TheVariants.{OutOfMemory, Read, TooLong, Base64, Json, NotObject, NameTwice}
-use Rattle.jwt_tool.specs.Input.{TakesAtMost, ReadsInput}
+use Rattle.std.proofs.Common.{◌≡◌, inl, inr, ℕ, Bool, List, Option, None, Some, IfSome, subst, ◌∙◌}
 use Rattle.jwt_tool.specs.Statuses.{HasStatus}
 use Rattle.jwt_tool.specs.Printed.{Answer, Gives, Prints, out_of_memory}
 

@@ -1,7 +1,6 @@
 -- What some words ask for.
-use Rattle.std.proofs.Common.{◌≡◌, List, [], ◌∷◌, None, Some, refl}
+use Rattle.std.proofs.Common.{◌≡◌, [], ◌∷◌, None, Some, refl}
 use Rattle.std.specs.Prelude.{codes}
-use Rattle.clap.specs.Words.{Text}
 use Rattle.clap.proofs.OnLiterals.{clap_on_literals}
 use Rattle.jwt_tool.specs.Words.{Mac, Verify, order_of}
 

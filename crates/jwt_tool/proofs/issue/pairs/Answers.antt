@@ -1,4 +1,4 @@
-use Rattle.std.proofs.Common.{◌<◌, ◌++◌, ◌∷◌, [], ◌∙◌, ap, map, sym, arith, length}
+use Rattle.std.proofs.Common.{◌<◌, ◌++◌, ◌∷◌, [], ◌∙◌, ap, sym, arith, length}
 use Rattle.std.proofs.lemmas.List.{map-append}
 use Rattle.jwt_issue.specs.Views.{pair_parts}
 use Rattle.jwt_keys.specs.KeySets.{key_set}

@@ -1,4 +1,4 @@
-use Rattle.std.proofs.Common.{◌≡◌, ℕ, List, ap, inr}
+use Rattle.std.proofs.Common.{inr}
 use Rattle.jwt_tool.specs.Mac.{mac_answer}
 use Rattle.jwt_tool.specs.Statuses.{show_status}
 use Rattle.jwt_tool.specs.Issue.{issue_answer}

@@ -1,4 +1,4 @@
-use Rattle.std.proofs.Common.{◌≡◌, ◌<◌, ◌≤◌, ◌∙◌, ap, length, take, subst, ◌∷◌, [], List, ℕ, get_or, arith}
+use Rattle.std.proofs.Common.{◌≡◌, ◌<◌, ◌∙◌, ap, length, take, subst, ◌∷◌, [], List, ℕ, get_or, arith}
 use Rattle.std.specs.Io.KnownBytes.{Consumes}
 use Rattle.std.proofs.lemmas.Result.{err_from_is_err_and}
 use Rattle.jwt_tool.proofs.LineLemmas.{line_at_end, line_at_feed, line_too_long, line_without_memory, one_octet}

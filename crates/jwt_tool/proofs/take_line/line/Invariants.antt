@@ -1,7 +1,6 @@
 use Rattle.std.proofs.Common.{◌≡◌, ◌<◌, ◌==◌, length, false}
 use Rattle.std.specs.List.{list_any}
 use Rattle.std.specs.Io.KnownBytes.{Keeps, prepend_known}
-use Rattle.std.proofs.Common.{vec_items}
 use Rattle.jwt_tool.proofs.take_line.line.Given as goal
 
 -- what was taken, and behind it what is still to come, stays the same; and no octet 10 was taken

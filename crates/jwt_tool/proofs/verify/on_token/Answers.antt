@@ -1,4 +1,4 @@
-use Rattle.std.proofs.Common.{◌≡◌, ◌≤◌, ◌+◌, arith}
+use Rattle.std.proofs.Common.{arith}
 use Rattle.std.proofs.lemmas.Option.{IfSome_then}
 use Rattle.jwt_tool.proofs.Verifying.{front_taken}
 use Rattle.jwt_tool.proofs.verify.on_token.Goals as goal

@@ -1,6 +1,6 @@
-use Rattle.std.proofs.Common.{rules, ◌≡◌, ◌∙◌, ap, ap₂, sym, option_map, Option, Some, ℕ, List}
+use Rattle.std.proofs.Common.{◌∙◌, ap, ap₂, option_map, Option, ℕ}
 use Rattle.std.specs.Prelude.{codes, option_and_then}
-use Rattle.clap.specs.Words.{Row, Text, found_of, one_of, rows_of}
+use Rattle.clap.specs.Words.{Text, found_of, one_of, rows_of}
 use Rattle.clap.proofs.WalkLemmas.{first_value-rows}
 use Rattle.jwt_tool.specs.Words.{Mac, Order, limit_range, number_in}
 use Rattle.jwt_tool.specs.Seen.{seen}

@@ -1,7 +1,7 @@
 use Rattle.std.proofs.Common.{rules, ◌≡◌, ◌∙◌, ap₂}
 use Rattle.std.proofs.lemmas.Result.{IfOk-weaker}
 use Rattle.clap.specs.Words.{App, app_of, with_subcommand}
-use Rattle.jwt_tool.specs.Words.{jwt_app, keys_app, mac_app, issue_app, show_app, verify_app, top_app}
+use Rattle.jwt_tool.specs.Words.{jwt_app, top_app}
 use Rattle.jwt_tool.proofs.words.command.Goals as goal
 
 -- a command with one more subcommand

@@ -1,8 +1,7 @@
-use Rattle.std.proofs.Common.{rules, ◌≡◌, ◌∙◌, ◌⊎◌, ap, sym, subst, ⊎_elim, map, List, ℕ, [], Option, option_map, Some, None}
+use Rattle.std.proofs.Common.{◌≡◌, ◌∙◌, ap, sym, subst, ⊎_elim, map, List, []}
 use Rattle.std.specs.Borrow.{Bor}
 use Rattle.clap.specs.Words.{App, HasKind, Text, app_of, fault_of, is_simple, is_simple_and_free, kind_of, subcommand_of, subcommand_rows_of}
-use Rattle.jwt_tool.specs.Words.{jwt_app, order_of}
-use Rattle.jwt_tool.specs.Seen.{seen}
+use Rattle.jwt_tool.specs.Words.{jwt_app}
 use Rattle.jwt_tool.proofs.Orders.{jwt_is_free, jwt_is_simple, order_accepted, order_refused}
 use Rattle.jwt_tool.proofs.words.read_words.Goals as goal
 
