@@ -1,11 +1,11 @@
 -- The reader of compact form against its form.
-use Rattle.std.proofs.Common.{◌≡◌, ℕ, Bool, true, false, cond, List, [], ◌∷◌, ◌++◌, Result, Ok, Err, refl, sym, ap, subst, ◌∙◌, arith}
+use Rattle.std.proofs.Common.{◌≡◌, ℕ, Bool, true, false, cond, List, [], ◌∷◌, ◌++◌, Ok, refl, sym, subst}
 use Rattle.std.specs.Prelude.{All}
 use Rattle.std.specs.List.{slice_split, onto_first, join_with_byte}
 use Rattle.std.proofs.lemmas.List.Splits.{slice_split_at, slice_split_none, join_with_byte-slice_split}
 use Rattle.std.proofs.lemmas.List.Elements.{All-nil, All-cons, All-head, All-tail}
 use Rattle.jwt_jws.specs.Forms.{SpelledToken, is_period, compact, compact_of, compact_token}
-use Rattle.jwt_jws.specs.CompactForm.{IsCompact, HasNoPeriod, ReadsCompact, IsReadCompact}
+use Rattle.jwt_jws.specs.CompactForm.{HasNoPeriod, ReadsCompact, IsReadCompact}
 
 pub reads_compact : ReadsCompact
 unfolding compact

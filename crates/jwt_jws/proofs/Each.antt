@@ -1,8 +1,7 @@
 -- The answers of a list's elements, in order.
-use Rattle.std.proofs.Common.{◌≡◌, ℕ, zero, suc, ◌+◌, ◌<◌, List, [], ◌∷◌, ◌++◌, length, take, drop, get_or, Result, Ok, Err, refl, sym, ap, subst, ◌∙◌, arith, add-one, length-append}
+use Rattle.std.proofs.Common.{◌≡◌, ℕ, ◌+◌, ◌<◌, List, [], ◌∷◌, ◌++◌, length, take, drop, get_or, Result, Ok, Err, refl, sym, ap, subst, ◌∙◌, arith}
 use Rattle.std.specs.Prelude.{map}
 use Rattle.std.proofs.lemmas.List.{length-take, take_more, drop_more, take-append-drop, map-append}
-use Rattle.std.proofs.lemmas.Grind.{common_steps}
 use Rattle.jwt_text.specs.Answers.{◌>>=◌, each, Refuses}
 use Rattle.jwt_jws.specs.declared.fault.FormFault.{FormFault}
 

@@ -1,7 +1,7 @@
 -- The fault that reading answers, against the first cause that holds.
-use Rattle.std.proofs.Common.{◌≡◌, ◌≢◌, ℕ, zero, suc, ◌+◌, ◌<◌, ◌≤◌, ◌⊎◌, inl, inr, ◌↔◌, Bool, true, false, cond, List, [], ◌∷◌, length, Option, Some, None, Result, Ok, Err, refl, sym, ap, subst, ◌∙◌, arith}
+use Rattle.std.proofs.Common.{◌≡◌, ◌≢◌, ℕ, zero, suc, ◌+◌, ◌<◌, ◌⊎◌, inl, inr, ◌↔◌, Bool, true, false, cond, List, [], ◌∷◌, length, Option, Some, None, Result, Ok, Err, refl, sym, subst, ◌∙◌, arith}
 use Rattle.std.specs.Prelude.{option_map, codes, nat_lt, slice_get}
-use Rattle.std.specs.List.{AllZip, count_by, slice_split}
+use Rattle.std.specs.List.{count_by, slice_split}
 use Rattle.std.proofs.lemmas.Bool.{cases_eq, ltb-true}
 use Rattle.std.proofs.lemmas.List.Splits.{length-slice_split}
 use Rattle.serde_json.specs.Data.{Data, Members, object}
@@ -14,15 +14,14 @@ use Rattle.jwt_text.specs.declared.fault.TextFault.{TextFault}
 use Rattle.jwt_text.specs.declared.fault.TextFault.TheVariants as text
 use Rattle.jwt_jws.specs.Token.{SignatureParts, Token}
 use Rattle.jwt_jws.specs.Forms.{Spelled, SpelledToken, is_period, compact_of, compact, protected_text, spelled_signature, spelled_element, flattened, general, within, json_of, read_as, protected_of, unprotected_of, overlap, signature_of, signed_of, spelled_token, form_of, opens_object}
-use Rattle.jwt_jws.specs.SignedToken.{IsElement, IsGeneral, IsFlattened, IsSpelledToken, IsProtectedText, IsProtected, IsSignature}
-use Rattle.jwt_jws.specs.FormFaults.{SpellsNothing, IsSignatureFault, IsFirstSignatureFault, IsJsonOf, HasPeriods, IsFormFault}
+use Rattle.jwt_jws.specs.SignedToken.{IsElement, IsGeneral, IsFlattened, IsSpelledToken, IsProtectedText, IsProtected}
+use Rattle.jwt_jws.specs.FormFaults.{SpellsNothing, IsSignatureFault, IsFirstSignatureFault, IsFormFault}
 use Rattle.jwt_jws.specs.declared.fault.Form.{Form}
 use Rattle.jwt_jws.specs.declared.fault.Form.TheVariants.{Compact, General, Flattened}
 use Rattle.jwt_jws.specs.declared.fault.FormFault.{FormFault}
 use Rattle.jwt_jws.specs.declared.fault.FormFault.TheVariants as fault
 use Rattle.jwt_jws.specs.declared.fault.Place.TheVariants as place
-use Rattle.jwt_jws.proofs.Each.{bind_ok}
-use Rattle.jwt_jws.proofs.SignedLaws.{SpellsLaw, ObjectLaw, or_fault_ok, some_or_ok, each_zip, zip_each, header_read, signed_octets, octets_read, protected_read, protected_made, unprotected_read, signature_read, has_text, element_read, element_made, within_made, general_made, flattened_made, read_as_ok, spelled_token_read, json_by, json_read}
+use Rattle.jwt_jws.proofs.SignedLaws.{SpellsLaw, ObjectLaw, or_fault_ok, some_or_ok, each_zip, zip_each, header_read, signed_octets, protected_read, unprotected_read, signature_read, has_text, element_read, element_made, flattened_made, read_as_ok, spelled_token_read, json_by}
 
 -- the fault of a step is its own, or that of what follows
 pub bind_err : {A B : Type 0} (P : Type 0) (r : Result A FormFault) (f : A → Result B FormFault) (e : FormFault) → (r >>= f) ≡ Err e
@@ -255,7 +254,7 @@ within_fault most (w ∷ ws) e is = by_size (nat_lt most (length (w ∷ ws))) re
     by_size true size is = inr (cc is, omega arith, ltb-true most (length (w ∷ ws)) size)
     by_size false size is = absurd cc
 
-abbrev general_token : List ℕ → List Spelled → SpelledToken
+abbrev pub general_token : List ℕ → List Spelled → SpelledToken
 general_token p ws = record { form = General; payload = p; signatures = ws }
 
 general_fault : (most : ℕ) (m : Members) (e : FormFault) → has (codes "signature") m ≡ false → general most m ≡ Err e → GeneralFault most m e
@@ -295,7 +294,7 @@ general_fault most m e top is =
     )
 
 -- an object in general form has no other fault than too many signatures
-general_from : (most n : ℕ) (m : Members) (t : SpelledToken) → IsGeneral n m t → general most m ≡ (within most t.signatures >>= λ ws. Ok (general_token t.payload ws))
+pub general_from : (most n : ℕ) (m : Members) (t : SpelledToken) → IsGeneral n m t → general most m ≡ (within most t.signatures >>= λ ws. Ok (general_token t.payload ws))
 unfolding general
 general_from most n m t h =
     rw (h.payload, h.listed.1, zip_each spelled_element IsElement element_made 0 h.listed.0 t.signatures h.listed.2) refl
@@ -311,13 +310,13 @@ within_some most p (w ∷ ws) some is = by_size (nat_lt most (length (w ∷ ws))
 no_general : (most : ℕ) (m : Members) → general most m ≡ Err fault.Members → (n : ℕ) (t : SpelledToken) → IsGeneral n m t → ⊥
 no_general most m is n t h = within_some most t.payload t.signatures h.some (sym (general_from most n m t h) ∙ is)
 
-abbrev JsonFault : ℕ → Members → FormFault → Type 0
+abbrev pub JsonFault : ℕ → Members → FormFault → Type 0
 JsonFault most m e =
     ((fault.Encrypted ≡ e) × (has (codes "ciphertext") m ≡ true))
     ⊎ ((has (codes "ciphertext") m ≡ false) × (((fault.Members ≡ e) × ((n : ℕ) (t : SpelledToken) → ¬ (IsGeneral n m t ⊎ IsFlattened m t)))
     ⊎ ((fault.TooManySignatures ≡ e) × ((n : ℕ) × (t : SpelledToken) × IsGeneral n m t × (most < length t.signatures)))))
 
-json_fault : (most : ℕ) (m : Members) (e : FormFault) → json_of most m ≡ Err e → JsonFault most m e
+pub json_fault : (most : ℕ) (m : Members) (e : FormFault) → json_of most m ≡ Err e → JsonFault most m e
 unfolding json_of
 json_fault most m e is = by_members (has (codes "ciphertext") m) (has (codes "signature") m) (has (codes "signatures") m) refl refl refl is
   where

@@ -1,3 +1,4 @@
+pub mod CauseLaws
 pub mod CompactLaws
 pub mod CritLemmas
 pub mod Each

@@ -1,23 +1,23 @@
 -- Reading a signed token, against what a signed token is.
-use Rattle.std.proofs.Common.{◌≡◌, ◌≢◌, ℕ, zero, suc, ◌+◌, ◌<◌, ◌≤◌, ◌⊎◌, inl, inr, ◌↔◌, Bool, true, false, cond, List, [], ◌∷◌, length, Option, Some, None, Result, Ok, Err, refl, sym, ap, subst, ◌∙◌, arith}
+use Rattle.std.proofs.Common.{◌≡◌, ℕ, ◌+◌, ◌<◌, ◌≤◌, ◌⊎◌, inl, inr, ◌↔◌, Bool, true, false, cond, List, [], ◌∷◌, length, Option, Some, None, Result, Ok, Err, refl, sym, ap, subst, ◌∙◌, arith}
 use Rattle.std.specs.Prelude.{option_map, option_and_then, is_some, codes, nat_lt, if◌then◌else◌}
 use Rattle.std.specs.List.{AllZip}
-use Rattle.std.proofs.lemmas.Bool.{cases_Bool, ltb-true, ltb-false, lt-ltb, le-ltb}
-use Rattle.serde_json.specs.Data.{Data, Members, no_members}
+use Rattle.std.proofs.lemmas.Bool.{ltb-false, le-ltb}
+use Rattle.serde_json.specs.Data.{Data, Members}
 use Rattle.serde_json.specs.Find.{get_member, as_object, as_str}
 use Rattle.jwt_text.specs.Answers.{◌>>=◌, or_fault, some_or, each}
 use Rattle.jwt_text.specs.Base64url.{Spells, spelled}
-use Rattle.jwt_text.specs.Members.{has, text_at, list_at, names}
+use Rattle.jwt_text.specs.Members.{has, text_at, list_at}
 use Rattle.jwt_text.specs.ObjectText.{IsObjectText, object_of}
 use Rattle.jwt_text.specs.declared.fault.TextFault.{TextFault}
 use Rattle.jwt_text.specs.declared.fault.TextFault.TheVariants as text
 use Rattle.jwt_jws.specs.Token.{SignatureParts, Token}
-use Rattle.jwt_jws.specs.Forms.{Spelled, SpelledToken, protected_text, spelled_signature, spelled_element, flattened, general, within, json_of, read_as, protected_of, unprotected_of, overlap, signature_of, signed_of, spelled_token, form_of, compact, compact_token, opens_object}
+use Rattle.jwt_jws.specs.Forms.{Spelled, SpelledToken, protected_text, spelled_signature, spelled_element, flattened, general, within, json_of, read_as, protected_of, unprotected_of, overlap, signature_of, signed_of, spelled_token, form_of, compact, opens_object}
 use Rattle.jwt_jws.specs.SignedToken.{IsSpelledIn, IsElement, IsGeneral, IsFlattened, IsSpelledToken, IsProtectedText, IsProtected, IsSignature, IsSignedToken}
 use Rattle.jwt_jws.specs.declared.fault.Form.{Form}
 use Rattle.jwt_jws.specs.declared.fault.Form.TheVariants.{Compact, General, Flattened}
 use Rattle.jwt_jws.specs.declared.fault.FormFault.{FormFault}
-use Rattle.jwt_jws.specs.declared.fault.FormFault.TheVariants.{Members as WrongMembers, TooManySignatures, Base64, Header, UnprotectedKind, NamesOverlap, Encrypted}
+use Rattle.jwt_jws.specs.declared.fault.FormFault.TheVariants.{Members as WrongMembers, TooManySignatures, Base64, Header, NamesOverlap, Encrypted}
 use Rattle.jwt_jws.specs.declared.fault.Place.TheVariants.{Payload, Protected, Signature}
 use Rattle.jwt_jws.proofs.CompactLaws.{reads_compact, is_read_compact}
 use Rattle.jwt_jws.proofs.Each.{bind_ok}
@@ -91,7 +91,7 @@ unprotected_read i None u e = let same : None ≡ u = cc in ap (option_map Some)
 unprotected_read i (Some None) u e = absurd cc
 unprotected_read i (Some (Some m)) u e = let same : Some m ≡ u = cc in ap (option_map Some) same
 
-unprotected_made : (i : ℕ) (header : Option (Option Members)) (u : Option Members) → header ≡ option_map Some u → unprotected_of i header ≡ Ok u
+pub unprotected_made : (i : ℕ) (header : Option (Option Members)) (u : Option Members) → header ≡ option_map Some u → unprotected_of i header ≡ Ok u
 unprotected_made i header None h = rw h refl
 unprotected_made i header (Some m) h = rw h refl
 
@@ -122,7 +122,7 @@ signature_read spells objects form i w s e =
     made : Members → Option Members → List ℕ → SignatureParts
     made p u o = record { protected_text = w.protected; protected = p; unprotected = u; octets = o }
 
-signature_made : SpellsLaw → ObjectLaw → (form : Form) (i : ℕ) (w : Spelled) (s : SignatureParts) → IsSignature form w s → signature_of form i w ≡ Ok s
+pub signature_made : SpellsLaw → ObjectLaw → (form : Form) (i : ℕ) (w : Spelled) (s : SignatureParts) → IsSignature form w s → signature_of form i w ≡ Ok s
 unfolding signature_of
 signature_made spells objects form i w s h =
     rw (protected_made spells objects form i w.protected s.protected h.protected, unprotected_made i w.header s.unprotected h.unprotected, h.disjoint, (spells w.signature s.octets).1 h.octets, ← h.protected_text) refl
@@ -271,7 +271,7 @@ json_read most m t e = by_members (has (codes "ciphertext") m) (has (codes "sign
     by_members false true false c_is s_is ss_is e = (c_is, inr (flattened_read m t ss_is e))
     by_members false false ss c_is s_is ss_is e = (c_is, inl (general_read most m t s_is e))
 
-json_made : (most : ℕ) (m : Members) (t : SpelledToken) → IsJson most m t → json_of most m ≡ Ok t
+pub json_made : (most : ℕ) (m : Members) (t : SpelledToken) → IsJson most m t → json_of most m ≡ Ok t
 unfolding json_of
 json_made most m t (clear, inl general_form) = rw (clear, general_form.one_at_the_top) (general_made most m t general_form)
 json_made most m t (clear, inr flat) =
@@ -289,7 +289,7 @@ spelled_token_read objects most z t e = by_brace (opens_object z) refl e
         inr (is, (M.0, (objects z M.0).0 (read_as_ok (object_of z) M.0 M.1), form.0, form.1))
     by_brace false is e = inl (is, is_read_compact z t e)
 
-spelled_token_made : ObjectLaw → (most : ℕ) (z : List ℕ) (t : SpelledToken) → IsSpelledToken most z t → spelled_token most z ≡ Ok t
+pub spelled_token_made : ObjectLaw → (most : ℕ) (z : List ℕ) (t : SpelledToken) → IsSpelledToken most z t → spelled_token most z ≡ Ok t
 unfolding spelled_token
 spelled_token_made objects most z t (inl c) = rw c.0 (reads_compact z c.1.0 c.1.1 c.1.2 c.1.3 ∙ ap Ok (sym c.1.4))
 spelled_token_made objects most z t (inr j) = rw (j.0, (objects z j.1.0).1 j.1.1) (json_made most j.1.0 t (j.1.2, j.1.3))
@@ -331,7 +331,7 @@ token_read spells objects most z t e =
       payload = read.3;
     }
 
-empty_is_none : (most : ℕ) (w : SpelledToken) → spelled_token most [] ≡ Ok w → ⊥
+pub empty_is_none : (most : ℕ) (w : SpelledToken) → spelled_token most [] ≡ Ok w → ⊥
 unfolding spelled_token compact
 empty_is_none most w e = cc e
 

@@ -54,6 +54,6 @@ IsFormFault most z TooManySignatures = (m : Members) × IsJsonOf z m × ((n : �
 IsFormFault most z (Base64 Payload) = (w : SpelledToken) × IsSpelledToken most z w × SpellsNothing w.payload
 IsFormFault most z fault = (w : SpelledToken) × IsSpelledToken most z w × ((octets : List ℕ) × Spells w.payload octets) × IsFirstSignatureFault w.form w.signatures fault
 
--- the answer of reading is the first cause that holds
+-- the answer of reading is a fault exactly where it is the first cause that holds
 abbrev pub TellsFormFaults : Type 0
-TellsFormFaults = (most : ℕ) (z : List ℕ) (fault : FormFault) → form_of most z ≡ Err fault → IsFormFault most z fault
+TellsFormFaults = (most : ℕ) (z : List ℕ) (fault : FormFault) → (form_of most z ≡ Err fault) ↔ IsFormFault most z fault

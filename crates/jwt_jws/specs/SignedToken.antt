@@ -1,5 +1,5 @@
 -- When octets are a signed token (RFC 7515, sections 5.2 and 7), and of which signatures.
-use Rattle.std.specs.Prelude.{◌≡◌, ℕ, true, false, List, [], ◌∷◌, ◌<◌, ◌≤◌, ◌⊎◌, ◌↔◌, Ok, length, Option, Some, option_map, codes}
+use Rattle.std.specs.Prelude.{◌≡◌, ℕ, true, false, List, [], ◌∷◌, ◌<◌, ◌≤◌, ◌⊎◌, ◌↔◌, Ok, length, Some, option_map, codes}
 use Rattle.std.specs.List.{AllZip}
 use Rattle.serde_json.specs.Data.{Data, Members, no_members}
 use Rattle.serde_json.specs.Find.{get_member, as_object}

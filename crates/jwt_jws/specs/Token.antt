@@ -1,5 +1,5 @@
 -- A signed token (RFC 7515), as the crates above see it.
-use Rattle.std.specs.Prelude.{ℕ, List, Bool, ◌||◌, false, Option, Some, None, codes, option_and_then, is_some}
+use Rattle.std.specs.Prelude.{ℕ, List, Bool, ◌||◌, false, Option, Some, None, codes, option_and_then}
 use Rattle.serde_json.specs.Data.{Data, Members}
 use Rattle.serde_json.specs.Find.{get_member, as_str}
 use Rattle.jwt_text.specs.Members.{has, text_at}

@@ -1,5 +1,5 @@
 -- What contracts see of this crate's values.
-use Rattle.std.specs.Prelude.{ℕ, List, Option, Some, None, map, [], ◌∷◌, All}
+use Rattle.std.specs.Prelude.{Option, Some, None, map, All}
 use Rattle.serde_json.specs.Data.{Members}
 use Rattle.jwt_text.specs.Parts.{part_octets, IsLent}
 use Rattle.jwt_jws.specs.Token.{SignatureParts, Token}

@@ -19,7 +19,8 @@ pub fn signed_tokens()
     object_texts();
 }
 
-/// The fault of octets that are no signed token is the first cause that holds, each a property of the octets.
+/// The fault of octets that are no signed token is the first cause that holds, each a property of the octets, and a cause that
+/// holds first is their fault.
 pub fn form_faults()
     ensures { TellsFormFaults }
 {

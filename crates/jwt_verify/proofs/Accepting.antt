@@ -55,7 +55,7 @@ least_find p n j h =
     let s : q.0 ≡ j = cc in
     subst (λ m. (m < n) × (p m ≡ true) × ((k : ℕ) → k < m → p k ≡ false)) s (q.1, q.2, λ k l. before k q.3 l)
 
-none_first : {A : Type 0} (f : ℕ → Option A) (n : ℕ) → ((k : ℕ) → k < n → f k ≡ None) → first_in f (below n) ≡ None
+pub none_first : {A : Type 0} (f : ℕ → Option A) (n : ℕ) → ((k : ℕ) → k < n → f k ≡ None) → first_in f (below n) ≡ None
 none_first f zero h = first_zero f
 none_first f (suc n) h = rw (sym (add-one n)) (first_more f n (h n (omega arith)) (none_first f n (λ k l. h k (omega arith))))
 

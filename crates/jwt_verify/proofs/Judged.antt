@@ -262,7 +262,7 @@ table_of_token q x t h = rw h refl
 
 -- ---- too many octets
 
-too_long : (p : Settings) (x : List ℕ) → p.run.limit < length x → token_of p x ≡ Err (Text TooLong)
+pub too_long : (p : Settings) (x : List ℕ) → p.run.limit < length x → token_of p x ≡ Err (Text TooLong)
 unfolding token_of
 too_long p x l = rw (lt-ltb p.run.limit (length x) l) refl
 

@@ -1,5 +1,5 @@
 -- Each refusal is for the first fault that holds.
-use Rattle.std.proofs.Common.{◌≡◌, ℕ, ◌+◌, ◌<◌, ◌≤◌, Bool, true, false, List, length, Option, Some, None, Result, Ok, Err, arith, refl, sym, ◌∙◌, ap, subst, inl, inr}
+use Rattle.std.proofs.Common.{◌≡◌, ℕ, ◌+◌, ◌<◌, ◌≤◌, Bool, true, false, List, [], length, Option, Some, None, Result, Ok, Err, arith, refl, sym, ◌∙◌, ap, subst, inl, inr}
 use Rattle.std.specs.Prelude.{if◌then◌else◌}
 use Rattle.std.specs.Option.{option_map_or}
 use Rattle.std.specs.List.{AllZip}
@@ -18,18 +18,19 @@ use Rattle.jwt_policy.specs.ClaimKinds.{claims_of}
 use Rattle.jwt_policy.specs.Checks.{check_of}
 use Rattle.jwt_verify.specs.declared.tries.End.TheVariants as end
 use Rattle.jwt_verify.specs.declared.report.Try.{Try}
-use Rattle.jwt_verify.specs.declared.report.InputFault.TheVariants.{TooLong}
+use Rattle.jwt_verify.specs.declared.report.InputFault.TheVariants.{Read, TooLong}
 use Rattle.jwt_verify.specs.declared.report.Fault.{Fault}
-use Rattle.jwt_verify.specs.declared.report.Fault.TheVariants.{Text, Form, WorkExceeded, CallsExceeded, Signature, Claim}
+use Rattle.jwt_verify.specs.declared.report.Fault.TheVariants.{OutOfMemory, Text, Form, WorkExceeded, CallsExceeded, VerifierMemory, Signature, Claim}
 use Rattle.jwt_verify.specs.declared.report.Verdict.TheVariants.{Refused}
-use Rattle.jwt_verify.specs.Table.{Table, below, verified, paid, stop, is_within}
+use Rattle.jwt_verify.specs.Table.{Table, below, verified, pairs, tries, paid, stop, ending, is_within}
 use Rattle.jwt_verify.specs.Trying.{table_of}
-use Rattle.jwt_verify.specs.Verdict.{Terms, Signing, VerifiedBy, Unverified, first_in, key_at, fault_at, unverified, verified_or, signing_in, signing_of, checked, claimed, concluded, ended, token_verdict, formed, token_of, decided, verdict_of, table, without_line_feed}
-use Rattle.jwt_verify.specs.Accepted.{IsVerifiedBy, IsFirstUnverified, IsClaimFault, IsFault, RefusesExactly}
-use Rattle.jwt_verify.proofs.First.{first_none_at}
+use Rattle.jwt_verify.specs.Verdict.{Terms, Signing, VerifiedBy, Unverified, first_in, key_at, fault_at, unverified, verified_or, signing_in, signing_of, checked, claimed, concluded, ended, token_verdict, formed, token_of, decided, verdict_of, table, token_or_none, without_line_feed}
+use Rattle.jwt_verify.specs.Accepted.{IsVerifiedBy, StopsAt, IsFirstUnverified, IsClaimFault, IsFault, RefusesExactly}
+use Rattle.jwt_verify.proofs.Below.{below-zero}
+use Rattle.jwt_verify.proofs.First.{first_here, first_none_at}
 use Rattle.jwt_verify.proofs.Signing.{key_none, fault_none}
-use Rattle.jwt_verify.proofs.Judged.{unbarred_by, table_of_token}
-use Rattle.jwt_verify.proofs.Accepting.{first_is, verified_none, signing_by_words, token_is}
+use Rattle.jwt_verify.proofs.Judged.{unbarred_by, table_of_token, too_long}
+use Rattle.jwt_verify.proofs.Accepting.{first_is, none_first, not_verified, verified_none, signing_by_words, stop_done, token_is, is_token}
 
 refusal : (f g : Fault) → Refused f ≡ Refused g → f ≡ g
 refusal f g h = cc
@@ -103,7 +104,7 @@ module _ (t : Table) (barred : (i j : ℕ) → t.eligible i j ≡ true → t.bar
         | inl y ↦ (let z = sym (verified_none t i (barred i) y) ∙ r.1 in cc)
         | inr n ↦ n
       ] in
-      ((not, λ k l. fault_none t k (r.2 k l)), r.1)
+      ((r.0, not, λ k l. fault_none t k (r.2 k l)), r.1)
 
   unverified_mode : (m : Mode) (i : ℕ) (g : SigFault) → signing_in m (first_in (key_at t) (below t.signatures)) (first_in (fault_at t) (below t.signatures)) ≡ Unverified i g
       → IsFirstUnverified m t i × (fault_at t i ≡ Some g)
@@ -164,9 +165,9 @@ module _ (q : Terms) (x : List ℕ) (w : ℕ) (f : Fault) (t : Token) (here : to
   stop_words (Some s) e false k h = subst (IsFault q x w) (refusal (CallsExceeded s.signature s.key) f h)
       ((s, subst (λ t. stop t w q.policy.max_calls ≡ Some s) same (sym e), refl, refl), subst (λ t. is_within q.policy.max_calls (length (paid t w q.policy.max_calls) + 1) ≡ false) same (sym k))
 
-pub refuses_exactly_holds : ReadsSignedTokens → RefusesExactly
+fault_words : ReadsSignedTokens → (q : Terms) (x : List ℕ) (w : ℕ) (f : Fault) → verdict_of q x w ≡ Refused f → IsFault q x w f
 unfolding verdict_of token_verdict
-refuses_exactly_holds reads q x w f h = go (token_of q.policy x) refl h
+fault_words reads q x w f h = go (token_of q.policy x) refl h
   where
     go : (r : Result Token Fault) → r ≡ token_of q.policy x → decided q w r ≡ Refused f → IsFault q x w f
     go (Err g) e h = token_words q x w f (sym e ∙ ap Err (refusal g f h))
@@ -174,3 +175,102 @@ refuses_exactly_holds reads q x w f h = go (token_of q.policy x) refl h
         let T = table_of q.policy q.verifiers q.keys t in
         stop_words q x w f t (sym e) (some_signature reads q.policy.run.max_signatures (without_line_feed q.policy.run.line_feed x) t (token_is q x t (sym e)).1)
         (stop T w q.policy.max_calls) refl (is_within q.policy.max_calls (length (paid T w q.policy.max_calls) + 1)) refl h
+
+-- ---- the other way: a fault that holds in words is the refusal
+
+no_tries : (t : Table) → t.signatures ≡ 0 → tries t ≡ []
+unfolding tries pairs
+no_tries t h = rw (h, below-zero) refl
+
+no_stop : (t : Table) (w : ℕ) (calls : Option ℕ) → t.signatures ≡ 0 → stop t w calls ≡ None
+unfolding stop
+no_stop t w calls h = rw (no_tries t h) refl
+
+-- a run that stops is that of a token
+stops_token : (q : Terms) (x : List ℕ) (w : ℕ) (e : Try) → stop (table q x) w q.policy.max_calls ≡ Some e → (t : Token) × (token_of q.policy x ≡ Ok t)
+unfolding table
+stops_token q x w e h = go (token_of q.policy x) refl
+  where
+    go : (r : Result Token Fault) → r ≡ token_of q.policy x → (t : Token) × (token_of q.policy x ≡ Ok t)
+    go (Ok t) is = (t, sym is)
+    go (Err f) is =
+        let none = no_stop (table q x) w q.policy.max_calls (ap (λ r. (table_of q.policy q.verifiers q.keys (token_or_none r)).signatures) (sym is)) in
+        let never = sym none ∙ h in
+        cc
+
+verdict_token : (q : Terms) (x : List ℕ) (w : ℕ) (t : Token) → token_of q.policy x ≡ Ok t
+    → verdict_of q x w ≡ ended (ending (table q x) w q.policy.max_calls) (concluded q.policy q.now t.payload (signing_of (table q x)))
+unfolding verdict_of token_verdict
+verdict_token q x w t here =
+    ap (decided q w) here ∙ ap (λ t2. ended (ending t2 w q.policy.max_calls) (concluded q.policy q.now t.payload (signing_of t2))) (table_of_token q x t here)
+
+verdict_unstopped : (q : Terms) (x : List ℕ) (w : ℕ) (t : Token) (s : Signing) → token_of q.policy x ≡ Ok t → stop (table q x) w q.policy.max_calls ≡ None
+    → signing_of (table q x) ≡ s → verdict_of q x w ≡ concluded q.policy q.now t.payload s
+verdict_unstopped q x w t s here none signing =
+    verdict_token q x w t here
+    ∙ ap (λ r. ended r (concluded q.policy q.now t.payload (signing_of (table q x)))) (stop_done (table q x) w q.policy.max_calls none)
+    ∙ ap (concluded q.policy q.now t.payload) signing
+
+ending_work : (t : Table) (w : ℕ) (calls : Option ℕ) (i j : ℕ) → StopsAt t w calls i j → is_within calls (length (paid t w calls) + 1) ≡ true → ending t w calls ≡ end.WorkExceeded i j
+ending_work t w calls i j s y = rw (s.1, y) (rw (s.2, s.3) refl)
+
+ending_calls : (t : Table) (w : ℕ) (calls : Option ℕ) (i j : ℕ) → StopsAt t w calls i j → is_within calls (length (paid t w calls) + 1) ≡ false → ending t w calls ≡ end.CallsExceeded i j
+ending_calls t w calls i j s n = rw (s.1, n) (rw (s.2, s.3) refl)
+
+module _ (t : Table) (barred : (i j : ℕ) → t.eligible i j ≡ true → t.bar i ≡ None) (some : 0 < t.signatures) where
+  unverified_by : (m : Mode) (i : ℕ) (g : SigFault) → IsFirstUnverified m t i → fault_at t i ≡ Some g
+      → signing_in m (first_in (key_at t) (below t.signatures)) (first_in (fault_at t) (below t.signatures)) ≡ Unverified i g
+  unverified_by Any i g h is = rw (
+    none_first (key_at t) t.signatures (λ k l. not_verified t k (h.1 k l)),
+    first_here (fault_at t) i t.signatures g is (none_first (fault_at t) i (λ k l. absurd (omega (arith, l, h.0)))) (omega (arith, h.0, some)),
+  ) refl
+  unverified_by All i g h is = rw (first_here (fault_at t) i t.signatures g is (none_first (fault_at t) i (λ k l. verified_none t k (barred k) (h.2 k l))) h.0) refl
+
+  unverified_is : (i : ℕ) (g : SigFault) → IsFirstUnverified t.mode t i → fault_at t i ≡ Some g → signing_of t ≡ Unverified i g
+  unfolding signing_of
+  unverified_is i g h is = unverified_by t.mode i g h is
+
+claim_fault_is : (q : Terms) (payload : List ℕ) (i j : ℕ) (f : ClaimFault) → IsClaimFault q payload f → claimed q.policy q.now i j (claims_of payload) ≡ Refused (Claim f)
+claim_fault_is q payload i j f (inl e) = ap (claimed q.policy q.now i j) e
+claim_fault_is q payload i j f (inr c) = ap (claimed q.policy q.now i j) c.1 ∙ ap (checked i j c.0) c.2
+
+form_is : (q : Terms) (x : List ℕ) (f : FormFault) → length x ≤ q.policy.run.limit → form_of q.policy.run.max_signatures (without_line_feed q.policy.run.line_feed x) ≡ Err f
+    → token_of q.policy x ≡ Err (Form f)
+unfolding token_of
+form_is q x f l e = rw (le-ltb q.policy.run.limit (length x) l, e) refl
+
+of_none : (q : Terms) (x : List ℕ) (w : ℕ) (f : Fault) → token_of q.policy x ≡ Err f → verdict_of q x w ≡ Refused f
+unfolding verdict_of
+of_none q x w f e = ap (decided q w) e
+
+words_fault : ReadsSignedTokens → (q : Terms) (x : List ℕ) (w : ℕ) (f : Fault) → IsFault q x w f → verdict_of q x w ≡ Refused f
+words_fault reads q x w (Text TooLong) l = of_none q x w (Text TooLong) (too_long q.policy x l)
+words_fault reads q x w (Text Read) h = absurd h
+words_fault reads q x w OutOfMemory h = absurd h
+words_fault reads q x w VerifierMemory h = absurd h
+words_fault reads q x w (Form f) h = of_none q x w (Form f) (form_is q x f h.0 h.1)
+words_fault reads q x w (WorkExceeded i j) (s, y) =
+    let t = stops_token q x w s.0 s.1 in
+    verdict_token q x w t.0 t.1 ∙ ap (λ r. ended r (concluded q.policy q.now t.0.payload (signing_of (table q x)))) (ending_work (table q x) w q.policy.max_calls i j s y)
+words_fault reads q x w (CallsExceeded i j) (s, n) =
+    let t = stops_token q x w s.0 s.1 in
+    verdict_token q x w t.0 t.1 ∙ ap (λ r. ended r (concluded q.policy q.now t.0.payload (signing_of (table q x)))) (ending_calls (table q x) w q.policy.max_calls i j s n)
+words_fault reads q x w (Signature i f) (t, is, none, first, fault) =
+    let here = is_token q x t is in
+    let same = table_of_token q x t here in
+    let some = some_signature reads q.policy.run.max_signatures (without_line_feed q.policy.run.line_feed x) t is.1 in
+    let by : signing_of (table q x) ≡ Unverified i f = subst (λ t2. signing_of t2 ≡ Unverified i f) same (
+    unverified_is (table_of q.policy q.verifiers q.keys t) (unbarred_by q.policy q.verifiers q.keys t) some i f
+    (subst (λ t2. IsFirstUnverified q.policy.run.mode t2 i) (sym same) first) (subst (λ t2. fault_at t2 i ≡ Some f) (sym same) fault)
+    ) in
+    verdict_unstopped q x w t (Unverified i f) here none by
+words_fault reads q x w (Claim f) (t, is, none, (i, j, verified_by), fault) =
+    let here = is_token q x t is in
+    let same = table_of_token q x t here in
+    let by : signing_of (table q x) ≡ VerifiedBy i j = subst (λ t2. signing_of t2 ≡ VerifiedBy i j) same (
+    (signing_by_words (table_of q.policy q.verifiers q.keys t) (unbarred_by q.policy q.verifiers q.keys t) i j).1 (subst (λ t2. IsVerifiedBy t2 i j) (sym same) verified_by)
+    ) in
+    verdict_unstopped q x w t (VerifiedBy i j) here none by ∙ claim_fault_is q t.payload i j f fault
+
+pub refuses_exactly_holds : ReadsSignedTokens → RefusesExactly
+refuses_exactly_holds reads q x w f = (fault_words reads q x w f, words_fault reads q x w f)

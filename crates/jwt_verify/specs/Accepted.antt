@@ -56,7 +56,7 @@ StopsAt t w calls i j = (e : Try) × (stop t w calls ≡ Some e) × (e.signature
 -- Signature i is the first that isn't verified; in mode Any none is, in mode All each one before it is.
 abbrev pub IsFirstUnverified : Mode → Table → ℕ → Type 0
 IsFirstUnverified Any t i = (i ≡ 0) × ((k : ℕ) → k < t.signatures → verified t k ≡ false)
-IsFirstUnverified All t i = (verified t i ≡ false) × ((k : ℕ) → k < i → verified t k ≡ true)
+IsFirstUnverified All t i = (i < t.signatures) × (verified t i ≡ false) × ((k : ℕ) → k < i → verified t k ≡ true)
 
 -- the claims of a payload are refused for this, as claims or by the policy
 abbrev pub IsClaimFault : Terms → List ℕ → ClaimFault → Type 0
@@ -72,6 +72,6 @@ IsFault q x w (Signature i f) = (t : Token) × IsToken q x t × (stop (table q x
 IsFault q x w (Claim f) = (t : Token) × IsToken q x t × (stop (table q x) w q.policy.max_calls ≡ None) × ((i : ℕ) × (j : ℕ) × IsVerifiedBy (table q x) i j) × IsClaimFault q t.payload f
 IsFault q x w _ = ⊥
 
--- whatever isn't accepted is refused for the first fault that holds
+-- the verdict is a refusal exactly where that fault is the first that holds
 abbrev pub RefusesExactly : Type 0
-RefusesExactly = (q : Terms) (x : List ℕ) (w : ℕ) (f : Fault) → verdict_of q x w ≡ Refused f → IsFault q x w f
+RefusesExactly = (q : Terms) (x : List ℕ) (w : ℕ) (f : Fault) → (verdict_of q x w ≡ Refused f) ↔ IsFault q x w f

@@ -43,8 +43,9 @@ pub fn accepts_exactly()
     ensures { AcceptsExactly }
 {}
 
-/// Each refusal is for a fault that holds, in words, where none before it does: it is too long; it is no signed token; a ceiling
-/// stopped the run at that pair; the signature is the first that isn't verified, in mode `any` where none is; the claims are refused.
+/// The verdict is a refusal for a fault exactly where that fault holds, in words, and none before it does: it is too long; it is
+/// no signed token; a ceiling stopped the run at that pair; the signature is the first that isn't verified, in mode `any` where
+/// none is; the claims are refused.
 pub fn refuses_exactly()
     ensures { RefusesExactly }
 {

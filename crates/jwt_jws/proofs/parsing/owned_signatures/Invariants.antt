@@ -1,4 +1,4 @@
-use Rattle.std.proofs.Common.{◌≡◌, ℕ, length, take, Ok}
+use Rattle.std.proofs.Common.{◌≡◌, length, take, Ok}
 use Rattle.std.specs.Prelude.{map}
 use Rattle.jwt_text.specs.Answers.{each}
 use Rattle.jwt_jws.specs.Forms.{signature_of}
