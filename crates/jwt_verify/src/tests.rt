@@ -200,6 +200,71 @@ fn verifiers_are_asked(rt: HostRuntime) -> Result<(), Fail> {
     Ok(())
 }
 
+/// What `judge` says of the case where a growth may be refused: that one was, as long as the budget counts the tries. `None`: one
+/// was refused to the test itself, or to its policy or keys.
+fn judged_lacking(alloc: Global, case: &Case, verifiers: &[Box<dyn Verifier>]) -> Option<String> {
+    let policy = Policy::read(alloc, case.policy.as_bytes()).ok()?;
+    let keys = KeySet::read(alloc, case.keys.as_bytes()).ok()?;
+    let mut b = CountUp::new(case.ceiling);
+    let token = case.token.as_bytes();
+    let report = judge(alloc, token, &keys, &policy, case.now, verifiers, &mut b);
+    let mut octets = 0u64;
+    for entry in &report.tries {
+        octets = octets.saturating_add(entry.cost);
+    }
+    let counted = b.octets() == octets && b.calls() as usize == report.tries.len();
+    match report.verdict {
+        Verdict::Refused(Fault::OutOfMemory) if counted => {
+            String::from_str(alloc, "OutOfMemory").ok()
+        }
+        _ => told(alloc, &report, b.octets(), b.calls()).ok(),
+    }
+}
+
+/// What a run counts for that says this: 1 where a growth was refused, and more than that where it reports otherwise.
+fn weight(said: Option<&str>, want: &str) -> usize {
+    match said {
+        None => 1,
+        Some(said) if said == want => 0,
+        Some(said) if said == "OutOfMemory" => 1,
+        Some(_) => 2,
+    }
+}
+
+/// What two runs of the case count for.
+fn two_runs(alloc: Global, case: &Case, kinds: &[Kind]) -> usize {
+    let mut all = 0usize;
+    for _ in 0..2 {
+        let said = match verifiers(alloc, kinds) {
+            Ok(all) => judged_lacking(alloc, case, &all),
+            Err(_) => None,
+        };
+        all = all.saturating_add(weight(said.as_deref(), case.gives));
+    }
+    all
+}
+
+// `refused-growths` refuses each growth of this test in turn.
+#[test]
+fn a_refused_growth_changes_no_report(rt: HostRuntime) -> Result<(), Fail> {
+    let mut refused = 0usize;
+    for cases in [
+        &FORMS[..1],
+        &FORMS[13..],
+        &HEADERS[1..3],
+        &CLAIMS_AND_MODES[2..3],
+    ] {
+        for case in cases {
+            refused = two_runs(rt.alloc(), case, &[]).saturating_add(refused);
+        }
+    }
+    for Asking { verifiers, case } in &ASKING[2..4] {
+        refused = two_runs(rt.alloc(), case, verifiers).saturating_add(refused);
+    }
+    assert!(rt; refused <= 1);
+    Ok(())
+}
+
 /// A source of one octet a pull, which fails at the pull after `left` more and counts the pulls.
 #[derive(Drop)]
 struct Drip<'a> {
