@@ -221,3 +221,54 @@ fn sees_a_name_that_stands_twice_in_crit(rt: HostRuntime) -> Result<(), Fail> {
     }
     Ok(())
 }
+
+#[test]
+fn names_are_looked_up_in_both_headers(rt: HostRuntime) -> Result<(), Fail> {
+    // The protected header {"alg":"HS256"}.
+    let token =
+        b"{\"payload\":\"e30\",\"protected\":\"eyJhbGciOiJIUzI1NiJ9\",\"header\":{\"kid\":\"k\",\"x\":1},\"signature\":\"\"}";
+    let signed = parse(rt.alloc(), token, 1).ok().ok_or("a token")?;
+    assert!(rt; !signed.is_compact());
+    let signature = signed.signature(0).ok_or("a signature")?;
+    for (name, in_header, in_unprotected) in [
+        ("alg", true, false),
+        ("kid", true, true),
+        ("x", true, true),
+        ("k", false, false),
+        ("", false, false),
+    ] {
+        assert_eq!(rt; signature.in_header(name), in_header, "{name}");
+        assert_eq!(rt; signature.in_unprotected(name), in_unprotected, "{name}");
+    }
+    assert_eq!(rt;
+        signature.unprotected().map(|header| header.member_count()),
+        Some(2)
+    );
+
+    let compact = parse(rt.alloc(), TOKEN_A, 1).ok().ok_or("compact")?;
+    assert!(rt; compact.is_compact());
+    let signature = compact.signature(0).ok_or("a signature")?;
+    assert!(rt; signature.unprotected().is_none());
+    assert!(rt; signature.in_header("alg") && !signature.in_unprotected("alg"));
+    Ok(())
+}
+
+// `refused-growths` refuses each growth of this test in turn.
+#[test]
+fn a_refused_growth_is_out_of_memory(rt: HostRuntime) -> Result<(), Fail> {
+    let general =
+        b"{\"payload\":\"e30\",\"signatures\":[{\"signature\":\"AQAB\"},{\"protected\":\"eyJhbGciOiJIUzI1NiJ9\",\"header\":{\"kid\":\"k\"},\"signature\":\"AQAB\"}]}";
+    for (octets, count) in [(TOKEN_A, 1), (general.as_slice(), 2)] {
+        match parse(rt.alloc(), octets, 2) {
+            Ok(signed) => assert_eq!(rt; signed.count(), count),
+            Err(fault) => assert!(rt; fault == FormFault::OutOfMemory, "{count}"),
+        }
+    }
+    assert!(rt;
+        matches!(
+            fault_of(rt.alloc(), b"{\"payload\":\"e30\"}", 2),
+            Some(FormFault::Members | FormFault::OutOfMemory)
+        )
+    );
+    Ok(())
+}

@@ -3,7 +3,7 @@ ghost use Rattle.std.specs.Prelude.{◌≡◌, ◌≤◌, ◌+◌, ◌⊎◌, tr
 ghost use Rattle.jwt_tool.specs.Input.{TakesAtMost};
 ghost use Rattle.jwt_tool.specs.Statuses.{show_status};
 
-use crate::faults::form_fault_text;
+use crate::faults::{claim_fault_text, form_fault_text};
 use crate::input::read_input;
 use crate::mac::without_line_feed;
 use crate::pieces::{number_or_dash, quoted_or_dash};
@@ -101,18 +101,11 @@ fn put_refused_claims(
     out: &mut Vec<u8>,
     fault: &ClaimFault<'_>,
 ) -> Result<(), AllocError> {
-    let line = match fault {
-        ClaimFault::ClaimKind(claim) => {
-            let name = claim.name();
-            format!(in alloc; "claims refused ClaimKind claim=\"{name}\"\n")?
-        }
-        ClaimFault::ClaimDate(claim) => {
-            let name = claim.name();
-            format!(in alloc; "claims refused ClaimDate claim=\"{name}\"\n")?
-        }
-        _ => String::from_str(alloc, "claims refused ClaimsShape\n")?,
-    };
-    out.extend_from_slice(line.as_bytes())
+    let name = claim_fault_text(alloc, fault)?;
+    out.extend_from_slice(b"claims refused ")?;
+    out.extend_from_slice(name.as_slice())?;
+    out.push(b'\n')?;
+    Ok(())
 }
 
 fn put_claims_line(alloc: Global, out: &mut Vec<u8>, payload: &[u8]) -> Result<(), AllocError> {
