@@ -1,0 +1,5 @@
+use Rattle.jwt_issue.proofs.FlattenedForm.{flattened_is_signed}
+use Rattle.jwt_issue.proofs.laws.flattened_tokens_are_signed.Goals as goal
+
+pub returns : goal.returns
+returns c = flattened_is_signed c.quoted_texts.ensures
