@@ -12,9 +12,12 @@ use Rattle.jwt_issue.proofs.compact.issue_compact.Goals as goal
 pub returns-in_err-signer-clause-paid : goal.returns-in_err-signer-clause-paid
 returns-in_err-signer-clause-paid g c =
     let p = err_from_is_err_and c.from_residual.result c.from_residual.ensures.1 in
+    let typ = text_of c.args.typ in
     let pair = pair_of c.args.alg c.args.key.now in
-    let unspent = λ (j : ℕ). signer_unspent pair (signer_of (text_of c.args.typ) pair) c.in_err-signer.field-0.0 j c.in_err-signer.ensures in
-    rw (p.1, p.2) (none_paid (Vec ℕ Global) c.in_err-signer.field-0.0 _ _ unspent (omega arith, omega arith))
+    let left = g.B.Budget.ceiling c.args.b.now - g.B.Budget.octets c.args.b.now in
+    let unspent = λ (j : ℕ). signer_unspent pair (signer_of typ pair) c.in_err-signer.field-0.0 j c.in_err-signer.ensures in
+    let Paid : ℕ → Type 0 = λ n. (g.B.Budget.octets c.args.b.now ≡ g.B.Budget.octets c.args.b.now + n * pair_cost typ c.args.claims.now pair) × (g.B.Budget.calls c.args.b.now ≡ g.B.Budget.calls c.args.b.now + n) in
+    rw (p.1, p.2) (none_paid (Vec ℕ Global) c.in_err-signer.field-0.0 (due 1 (compact_of left typ c.args.claims.now pair)) Paid unspent (omega arith, omega arith))
 
 pub returns-clause-paid : goal.returns-clause-paid
 unfolding compact_of
