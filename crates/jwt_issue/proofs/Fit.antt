@@ -95,6 +95,12 @@ first_unspent i j [] = λ e. cc e
 first_unspent i j (pair ∷ pairs) =
     either_unspent (unfit i pair) (first_unfit (i + 1) pairs) j (unfit_unspent i j pair) (first_unspent (i + 1) j pairs)
 
+pub signer_unspent : (pair : PairParts) (s : SignerParts) (fault : IssueFault) (j : ℕ)
+    → (fault ≢ OutOfMemory → unless (unfit 0 pair) (Ok s) ≡ Err fault) → fault ≢ Spent j
+signer_unspent pair s fault j answer e =
+    let some : fault ≢ OutOfMemory = λ memory. cc in
+    unfit_unspent 0 j pair (fit_refuses (unfit 0 pair) s fault (answer some) ∙ ap Some e)
+
 pub signers_unspent : (typ : Option (List ℕ)) (pairs : List PairParts) (ss : List SignerParts) (fault : IssueFault) (j : ℕ)
     → (fault ≢ OutOfMemory → unless (first_unfit 0 pairs) (Ok ss) ≡ Err fault) → fault ≢ Spent j
 signers_unspent typ pairs ss fault j answer e =

@@ -21,14 +21,15 @@ abbrev whole : Option (json.Json × List Token) → Option Data
 whole o = option_and_then of_json (option_and_then (λ p. json.if_last p.0 p.1) o)
 
 -- what is written of a value is read as the value
-reads : (d : Data) → ArePrintable (tree.json_tokens (outline d)) → of_json (outline d) ≡ Some d → tree.depth (outline d) ≤ 127
+pub reads : (d : Data) → ArePrintable (tree.json_tokens (outline d)) → of_json (outline d) ≡ Some d → tree.depth (outline d) ≤ 127
     → IsUtf8 (compact_text d) → reading (compact_text d) ≡ Some d
 reads d printable same shallow utf8 =
     let written = ap tokens (sym (print-outline d)) ∙ tokens-print (tree.json_tokens (outline d)) printable ∙ sym (append-nil (tree.json_tokens (outline d))) in
     rw (is_utf8-from_IsUtf8 (compact_text d) utf8)
     (ap whole (ap (json.value 127) written ∙ value-json_tokens (outline d) 127 [] shallow) ∙ same)
 
-one : ((text rest : List ℕ) → colons (quoted text ++ rest) ≡ colons rest) → (k s rest : List ℕ) → colons (quoted k ++ 58 ∷ (quoted s ++ rest)) ≡ suc (colons rest)
+-- one member of a text has one colon
+pub one : ((text rest : List ℕ) → colons (quoted text ++ rest) ≡ colons rest) → (k s rest : List ℕ) → colons (quoted k ++ 58 ∷ (quoted s ++ rest)) ≡ suc (colons rest)
 one law k s rest = law k (58 ∷ (quoted s ++ rest)) ∙ ap suc (law s rest)
 
 -- the header of these texts

@@ -1,4 +1,7 @@
+mod Characters
 mod Fit
+mod FlattenedForm
+mod GeneralForm
 mod HeaderTexts
 mod Lengths
 mod Spelled

@@ -1,112 +1,141 @@
--- What characters a base64url text has, and what is issued in compact form.
-use Rattle.std.proofs.Common.{◌≡◌, ℕ, zero, suc, ◌+◌, ◌*◌, ◌/◌, ◌%◌, ◌<◌, ◌==◌, Bool, true, false, not, ◌&&◌, List, [], ◌∷◌, ◌++◌, Option, None, length, inl, refl, ◌∙◌, arith, append_assoc}
-use Rattle.std.specs.Prelude.{slice_index}
+-- The signatures that are issued, and what is issued in compact form.
+use Rattle.std.proofs.Common.{◌≡◌, ℕ, ◌<◌, ◌==◌, true, false, not, List, [], ◌∷◌, ◌++◌, Option, None, codes, IsUtf8, length, inl, refl, sym, ap, ◌∙◌, arith, append_assoc}
 use Rattle.std.specs.List.{list_all}
-use Rattle.std.proofs.lemmas.List.Folds.{list_all-append}
+use Rattle.std.proofs.lemmas.Bool.{and_parts, not-true}
 use Rattle.std.proofs.lemmas.List.Sums.{AllPass-from_list_all}
+use Rattle.std.proofs.lemmas.Str.{IsUtf8-append}
+use Rattle.json.specs.Print.{escape, escape_byte, quoted}
+use Rattle.json.proofs.Printed.Utf8.{IsUtf8-are_ascii}
 use Rattle.serde_json.specs.Data.{Members, object}
 use Rattle.serde_json.specs.Written.{compact_text}
-use Rattle.jwt_text.specs.Base64url.{AreOctets, alphabet, digits, spelling}
+use Rattle.jwt_text.specs.Base64url.{AreOctets, spelling}
 use Rattle.jwt_text.specs.ObjectText.{IsObjectText}
-use Rattle.jwt_jws.specs.Forms.{is_period, is_no_space, opens_object, compact_token as spelled_compact}
+use Rattle.jwt_jws.specs.Forms.{Spelled, is_period, is_no_space, opens_object, compact_token as spelled_compact}
 use Rattle.jwt_jws.specs.CompactForm.{HasNoPeriod}
-use Rattle.jwt_jws.specs.SignedToken.{IsSignedToken}
-use Rattle.jwt_jws.specs.declared.fault.Form.TheVariants.{Compact}
-use Rattle.jwt_issue.specs.Issued.{PairParts, header, protected_text, signer_of, compact_token, signature_text}
-use Rattle.jwt_issue.specs.Signed.{tag_over, compact_signed}
+use Rattle.jwt_jws.specs.SignedToken.{IsProtectedText, IsProtected, IsSignature, IsSignedToken}
+use Rattle.jwt_jws.specs.declared.fault.Form.{Form}
+use Rattle.jwt_jws.specs.declared.fault.Form.TheVariants.{Compact, General, Flattened}
+use Rattle.jwt_issue.specs.Issued.{PairParts, header, protected_text, signer_of, compact_token, signature_text, text_members}
+use Rattle.jwt_issue.specs.Signed.{tag_over, signature_over, compact_signed}
 use Rattle.jwt_issue.proofs.Lengths.{length_spelling}
+use Rattle.jwt_issue.proofs.Characters.{spelling_passes, escape_spelling, utf8_spelling, utf8_octets}
 
--- no period, no white space and no brace
-plain : ℕ → Bool
-plain c = not (is_period c) && (is_no_space c && not (c == 123))
+-- ---- a signature
 
-both : (a b : Bool) → (a && b) ≡ true → (a ≡ true) × (b ≡ true)
-both true b e = (refl, e)
-both false b e = absurd (cc e)
+protected_in : (form : Form) (text : List ℕ) (ms : Members) → 0 < length text → IsProtectedText text ms → IsProtected form text ms
+protected_in Compact text ms some is = is
+protected_in General [] ms some is = absurd (omega arith)
+protected_in General (c ∷ cs) ms some is = is
+protected_in Flattened [] ms some is = absurd (omega arith)
+protected_in Flattened (c ∷ cs) ms some is = is
 
-no : (b : Bool) → not b ≡ true → b ≡ false
-no true e = absurd (cc e)
-no false e = refl
+-- the texts of a pair's signature
+abbrev pub texts_of : Option (List ℕ) → List ℕ → PairParts → Spelled
+texts_of typ claims pair = record { protected = protected_text typ pair; header = None; signature = signature_text (spelling claims) (signer_of typ pair) }
 
-and_true : (a b : Bool) → a ≡ true → b ≡ true → (a && b) ≡ true
-and_true a b p q = rw (p, q)
+-- JSON escapes no character of them, and they are UTF-8
+abbrev pub IsPlain : Spelled → Type 0
+IsPlain w = (escape w.protected ≡ w.protected) × (escape w.signature ≡ w.signature)
 
-at_each : (xs : List ℕ) → list_all plain xs ≡ true → (i : ℕ) → i < length xs → plain (slice_index xs i) ≡ true
-at_each [] all i low = absurd (omega arith)
-at_each (x ∷ xs) all zero low = (both (plain x) (list_all plain xs) all).0
-at_each (x ∷ xs) all (suc i) low = at_each xs (both (plain x) (list_all plain xs) all).1 i (omega arith)
+pub plain_texts : (typ : Option (List ℕ)) (claims : List ℕ) (pair : PairParts) → IsPlain (texts_of typ claims pair)
+unfolding protected_text signature_text
+plain_texts typ claims pair = (escape_spelling _, escape_spelling _)
 
-alphabet_plain : list_all plain alphabet ≡ true
-unfolding plain
-alphabet_plain = refl
+pub utf8_texts : (typ : Option (List ℕ)) (claims : List ℕ) (pair : PairParts) → IsUtf8 (texts_of typ claims pair).protected × IsUtf8 (texts_of typ claims pair).signature
+unfolding protected_text signature_text
+utf8_texts typ claims pair = (utf8_spelling _, utf8_spelling _)
 
-joined_plain : (xs ys : List ℕ) → list_all plain xs ≡ true → list_all plain ys ≡ true → list_all plain (xs ++ ys) ≡ true
-joined_plain xs ys p q = list_all-append plain xs ys ∙ and_true (list_all plain xs) (list_all plain ys) p q
+pub members_utf8 : (h g : List ℕ) → IsUtf8 h → IsUtf8 g → IsUtf8 (text_members h g)
+members_utf8 h g p q =
+    let first = IsUtf8-append (codes "\"protected\":\"") h (IsUtf8-are_ascii _ refl) p in
+    let between = IsUtf8-append (codes "\"protected\":\"" ++ h) (codes "\",\"signature\":\"") first (IsUtf8-are_ascii _ refl) in
+    let second = IsUtf8-append (codes "\"protected\":\"" ++ h ++ codes "\",\"signature\":\"") g between q in
+    IsUtf8-append (codes "\"protected\":\"" ++ h ++ codes "\",\"signature\":\"" ++ g) (codes "\"}") second (IsUtf8-are_ascii _ refl)
 
-digits_plain : (k n : ℕ) → list_all plain (digits k n) ≡ true
-unfolding digits
-digits_plain zero n = refl
-digits_plain (suc k) n =
-    joined_plain (digits k (n / 64)) (slice_index alphabet (n % 64) ∷ []) (digits_plain k (n / 64))
-    (and_true (plain (slice_index alphabet (n % 64))) true (at_each alphabet alphabet_plain (n % 64) (omega arith)) refl)
+pub quoted_plain : (s rest : List ℕ) → escape s ≡ s → quoted s ++ rest ≡ 34 ∷ (s ++ 34 ∷ rest)
+quoted_plain s rest plain = ap (λ (t : List ℕ). 34 ∷ t) (append_assoc (escape s) (34 ∷ []) rest ∙ ap (λ (t : List ℕ). t ++ 34 ∷ rest) plain)
 
-spelling_plain : (v : List ℕ) → list_all plain (spelling v) ≡ true
-unfolding spelling
-spelling_plain [] = refl
-spelling_plain (a ∷ []) = digits_plain 2 (16 * a)
-spelling_plain (a ∷ b ∷ []) = digits_plain 3 (4 * (256 * a + b))
-spelling_plain (a ∷ b ∷ c ∷ rest) = joined_plain (digits 4 (65536 * a + 256 * b + c)) (spelling rest) (digits_plain 4 (65536 * a + 256 * b + c)) (spelling_plain rest)
+-- so the members of a signature are written as JSON writes them
+pub members_plain : (w : Spelled) → IsPlain w
+    → text_members w.protected w.signature
+    ≡ quoted (codes "protected") ++ 58 ∷ (quoted w.protected ++ 44 ∷ (quoted (codes "signature") ++ 58 ∷ (quoted w.signature ++ 125 ∷ [])))
+unfolding escape_byte
+members_plain w plain =
+    let h = w.protected in
+    let g = w.signature in
+    let between = codes "\",\"signature\":\"" in
+    let grouped = append_assoc (h ++ between) g (codes "\"}") ∙ append_assoc h between (g ++ codes "\"}") in
+    let last = ap (λ (t : List ℕ). h ++ 34 ∷ 44 ∷ (codes "\"signature\":" ++ t)) (sym (quoted_plain g (125 ∷ []) plain.1)) in
+    let first = sym (quoted_plain h (44 ∷ (codes "\"signature\":" ++ (quoted g ++ 125 ∷ []))) plain.0) in
+    ap (λ (t : List ℕ). codes "\"protected\":" ++ t) (ap (λ (t : List ℕ). 34 ∷ t) (grouped ∙ last) ∙ first)
 
-period_apart : (c : ℕ) → plain c ≡ true → is_period c ≡ false
-unfolding plain
-period_apart c e = no (is_period c) (both (not (is_period c)) (is_no_space c && not (c == 123)) e).0
+some_text : (typ : Option (List ℕ)) (pair : PairParts) → 0 < length (protected_text typ pair)
+unfolding protected_text
+some_text typ pair = omega (arith, length_spelling (compact_text (object (header typ pair))))
+
+protected_spells : (typ : Option (List ℕ)) (pair : PairParts)
+    → IsUtf8 (compact_text (object (header typ pair))) → IsObjectText (compact_text (object (header typ pair))) (header typ pair)
+    → IsProtectedText (protected_text typ pair) (header typ pair)
+unfolding protected_text
+protected_spells typ pair utf8 text = (compact_text (object (header typ pair)), (utf8_octets _ utf8, refl), text)
+
+-- they stand for it in each form
+pub signature_is : (form : Form) (typ : Option (List ℕ)) (claims : List ℕ) (pair : PairParts)
+    → IsUtf8 (compact_text (object (header typ pair))) → IsObjectText (compact_text (object (header typ pair))) (header typ pair)
+    → AreOctets (tag_over typ claims pair)
+    → IsSignature form (texts_of typ claims pair) (signature_over typ claims pair)
+unfolding signature_text
+signature_is form typ claims pair utf8 text tag = record {
+  protected_text = refl;
+  protected = protected_in form (protected_text typ pair) (header typ pair) (some_text typ pair) (protected_spells typ pair utf8 text);
+  unprotected = refl;
+  disjoint = refl;
+  octets = (tag, refl);
+}
+
+-- ---- compact form
 
 no_period : (v : List ℕ) → HasNoPeriod (spelling v)
-no_period v = λ k d low. period_apart _ (AllPass-from_list_all plain (spelling v) (spelling_plain v) k d low)
+no_period v = λ k d low. not-true _ (AllPass-from_list_all (λ c. not (is_period c)) (spelling v) (spelling_passes (λ c. not (is_period c)) refl v) k d low)
 
-opens_plain : (t rest : List ℕ) → list_all plain t ≡ true → 0 < length t → opens_object (t ++ rest) ≡ false
-unfolding plain
-opens_plain [] rest all some = absurd (omega arith)
-opens_plain (c ∷ t) rest all some =
-    let here = (both (plain c) (list_all plain t) all).0 in
-    let later = (both (not (is_period c)) (is_no_space c && not (c == 123)) here).1 in
-    let shown = both (is_no_space c) (not (c == 123)) later in
-    rw shown.0 (no (c == 123) shown.1)
+opens_none : (t rest : List ℕ) → list_all is_no_space t ≡ true → list_all (λ c. not (c == 123)) t ≡ true → 0 < length t → opens_object (t ++ rest) ≡ false
+opens_none [] rest no_space no_brace some = absurd (omega arith)
+opens_none (c ∷ t) rest no_space no_brace some =
+    let spaceless = (and_parts (is_no_space c) (list_all is_no_space t) no_space).0 in
+    let braceless = (and_parts (not (c == 123)) (list_all (λ c. not (c == 123)) t) no_brace).0 in
+    rw spaceless (not-true (c == 123) braceless)
+
+opens_no_object : (typ : Option (List ℕ)) (pair : PairParts) (rest : List ℕ) → opens_object (protected_text typ pair ++ rest) ≡ false
+unfolding protected_text
+opens_no_object typ pair rest =
+    let octets = compact_text (object (header typ pair)) in
+    opens_none (spelling octets) rest (spelling_passes is_no_space refl octets) (spelling_passes (λ c. not (c == 123)) refl octets) (some_text typ pair)
 
 regroup : (h p g : List ℕ) → h ++ 46 ∷ [] ++ p ++ 46 ∷ [] ++ g ≡ h ++ 46 ∷ (p ++ 46 ∷ g)
 regroup h p g = simp append_assoc
 
--- three texts that spell octets, the first some, are a signed token
-spelled_is_signed : (octets claims tag : List ℕ) (members : Members) → 0 < length (spelling octets)
-    → AreOctets octets → IsObjectText octets members → AreOctets claims → AreOctets tag
-    → IsSignedToken 1 (spelling octets ++ 46 ∷ [] ++ spelling claims ++ 46 ∷ [] ++ spelling tag) (record {
-      form = Compact;
-      payload_text = spelling claims;
-      payload = claims;
-      signatures = record { protected_text = spelling octets; protected = members; unprotected = None; octets = tag } ∷ [];
-    })
-spelled_is_signed octets claims tag members some bytes text payload signature =
-    let h = spelling octets in
+three_texts : (typ : Option (List ℕ)) (claims : List ℕ) (pair : PairParts)
+    → HasNoPeriod (protected_text typ pair) × HasNoPeriod (spelling claims) × HasNoPeriod (signature_text (spelling claims) (signer_of typ pair))
+unfolding protected_text signature_text
+three_texts typ claims pair = (no_period _, no_period claims, no_period _)
+
+-- what is issued in compact form is a signed token with these claims
+pub compact_is_signed : (most : ℕ) (typ : Option (List ℕ)) (claims : List ℕ) (pair : PairParts)
+    → IsUtf8 (compact_text (object (header typ pair))) → IsObjectText (compact_text (object (header typ pair))) (header typ pair)
+    → AreOctets claims → AreOctets (tag_over typ claims pair)
+    → IsSignedToken most (compact_token (spelling claims) (signer_of typ pair)) (compact_signed typ claims pair)
+compact_is_signed most typ claims pair utf8 text payload tag =
+    let h = protected_text typ pair in
     let p = spelling claims in
-    let g = spelling tag in
+    let g = signature_text p (signer_of typ pair) in
+    let apart = three_texts typ claims pair in
     rw (regroup h p g) (record {
       texts = (
         spelled_compact h p g,
-        inl (opens_plain h (46 ∷ (p ++ 46 ∷ g)) (spelling_plain octets) some, (h, p, g, record { joined = refl; protected = no_period octets; payload = no_period claims; signature = no_period tag }, refl)),
+        inl (opens_no_object typ pair (46 ∷ (p ++ 46 ∷ g)), (h, p, g, record { joined = refl; protected = apart.0; payload = apart.1; signature = apart.2 }, refl)),
         refl,
         refl,
-        (record { protected_text = refl; protected = (octets, (bytes, refl), text); unprotected = refl; disjoint = refl; octets = (signature, refl) }, tt),
+        (signature_is Compact typ claims pair utf8 text tag, tt),
       );
       payload = (payload, refl);
     })
-
--- what is issued in compact form is a signed token with these claims
-pub compact_is_signed : (typ : Option (List ℕ)) (claims : List ℕ) (pair : PairParts)
-    → AreOctets (compact_text (object (header typ pair))) → IsObjectText (compact_text (object (header typ pair))) (header typ pair)
-    → AreOctets claims → AreOctets (tag_over typ claims pair)
-    → IsSignedToken 1 (compact_token (spelling claims) (signer_of typ pair)) (compact_signed typ claims pair)
-unfolding protected_text signature_text
-compact_is_signed typ claims pair bytes text payload tag =
-    let octets = compact_text (object (header typ pair)) in
-    let size = length_spelling octets in
-    spelled_is_signed octets claims (tag_over typ claims pair) (header typ pair) (omega (arith, size)) bytes text payload tag

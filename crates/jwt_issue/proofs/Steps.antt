@@ -1,15 +1,15 @@
 -- One more step of a loop over signers.
-use Rattle.std.proofs.Common.{◌≡◌, ◌≢◌, ℕ, suc, ◌+◌, ◌-◌, ◌<◌, ◌≤◌, List, [], ◌∷◌, ◌++◌, length, get_or, take, drop, map, true, false, cond, Some, refl, sym, ap, ◌∙◌, arith, append_assoc, add-one, nat_lt, subst, Err, inl, inr}
+use Rattle.std.proofs.Common.{◌≡◌, ◌≢◌, ℕ, zero, suc, Bool, ◌+◌, ◌-◌, ◌<◌, ◌≤◌, List, [], ◌∷◌, ◌++◌, length, get_or, take, drop, map, true, false, cond, Some, refl, sym, ap, ◌∙◌, arith, append_assoc, add-one, nat_lt, subst, Ok, Err, inl, inr}
 use Rattle.std.specs.List.{sum, join_with_byte}
 use Rattle.std.proofs.lemmas.List.{length-map, get_or-map, map_more}
 use Rattle.std.proofs.lemmas.List.Sums.{sum_by_more}
 use Rattle.std.proofs.lemmas.Bool.Decides.{nat_tests}
 use Rattle.std.proofs.lemmas.Grind.{common_steps}
 use Rattle.std.proofs.Math.Seq.{drop-cons}
-use Rattle.jwt_issue.specs.Issued.{first_spent}
+use Rattle.jwt_issue.specs.Issued.{first_spent, unless}
 use Rattle.jwt_issue.specs.declared.fault.IssueFault.{IssueFault}
 use Rattle.jwt_issue.specs.declared.fault.IssueFault.TheVariants.{OutOfMemory, NoKey, TooManySignatures, AlgNotHmac, KeyUnfit, TooLong, Spent}
-use Rattle.jwt_issue.specs.Paying.{Pays, PaysOnce}
+use Rattle.jwt_issue.specs.Paying.{Pays, PaysOnce, due}
 
 -- an element of a list, seen by f
 seen : {A B : Type 0} (f : A → B) (xs : List A) (i : ℕ) (x : A) → i < length xs → x ≡ get_or xs i x → get_or (map f xs) i (f x) ≡ f x
@@ -66,15 +66,41 @@ goes_on f xs i left x within e enough =
     let no : nat_lt left (f x) ≡ false = grind (arith, nat_tests) in
     rw no at here
 
+-- a signature that is come to is due, if it is paid
+pub come_to : {X : Type 0} (x : X) (i left : ℕ) (costs : List ℕ) → i ≤ due (i + length costs) (unless (first_spent i left costs) (Ok x))
+come_to x i left [] = omega arith
+come_to x i left (cost ∷ costs) = tested x i left cost costs (nat_lt left cost) (come_to x (i + 1) (left - cost) costs)
+  where
+    tested : {X : Type 0} (x : X) (i left cost : ℕ) (costs : List ℕ) (beyond : Bool)
+        → i + 1 ≤ due (i + 1 + length costs) (unless (first_spent (i + 1) (left - cost) costs) (Ok x))
+        → i ≤ due (i + length (cost ∷ costs)) (unless (cond beyond (Some (Spent i)) (first_spent (i + 1) (left - cost) costs)) (Ok x))
+    tested x i left cost costs true later = omega arith
+    tested x i left cost costs false later =
+        let size : i + 1 + length costs ≡ i + length (cost ∷ costs) = omega arith in
+        let bound = rw size at later in
+        omega (arith, bound)
+
+pub reached : {A X : Type 0} (x : X) (f : A → ℕ) (xs : List A) (all i first left : ℕ) → length xs ≡ all → i ≤ length xs
+    → first_spent 0 first (map f xs) ≡ first_spent i left (drop i (map f xs)) → i ≤ due all (unless (first_spent 0 first (map f xs)) (Ok x))
+reached x f xs all i first left whole within same =
+    let come = come_to x i left (drop i (map f xs)) in
+    let size : i + length (drop i (map f xs)) ≡ all = grind (arith, common_steps, length-map xs f) in
+    rw size at rw (← same) at come
+
+-- a signature whose number isn't past 0 is the first
+pub is_first : (i : ℕ) → ((j : ℕ) → i ≢ j + 1) → i ≡ 0
+is_first zero apart = refl
+is_first (suc i) apart = absurd (apart i (omega arith))
+
 -- what is paid after a step that stopped, by what was paid in it
-pub paid_after : (X : Type 0) (fault : IssueFault) (i all : ℕ) (P Q : ℕ → Type 0) → i < all
-    → (fault ≢ OutOfMemory → fault ≡ Spent i) → (P 0 → Q i) → (P 1 → Q (i + 1)) → PaysOnce {X = X} (Err fault) P → Pays {X = X} (Err fault) all Q
-paid_after X OutOfMemory i all P Q within named none one paid = elim paid [ inl p ↦ (i, omega arith, none p) | inr p ↦ (i + 1, omega arith, one p) ]
-paid_after X (Spent j) i all P Q within named none one paid =
+pub paid_after : (X : Type 0) (fault : IssueFault) (i most : ℕ) (P Q : ℕ → Type 0) → i ≤ most → (P 1 → i + 1 ≤ most)
+    → (fault ≢ OutOfMemory → fault ≡ Spent i) → (P 0 → Q i) → (P 1 → Q (i + 1)) → PaysOnce {X = X} (Err fault) P → Pays {X = X} (Err fault) most Q
+paid_after X OutOfMemory i most P Q zero_due one_due named none one paid = elim paid [ inl p ↦ (i, zero_due, none p) | inr p ↦ (i + 1, one_due p, one p) ]
+paid_after X (Spent j) i most P Q zero_due one_due named none one paid =
     let same : j ≡ i = cc (named (λ e. cc)) in
     subst Q (sym same) (none paid)
-paid_after X (AlgNotHmac j) i all P Q within named none one paid = absurd (cc (named (λ e. cc)))
-paid_after X (KeyUnfit j) i all P Q within named none one paid = absurd (cc (named (λ e. cc)))
-paid_after X NoKey i all P Q within named none one paid = absurd (cc (named (λ e. cc)))
-paid_after X TooManySignatures i all P Q within named none one paid = absurd (cc (named (λ e. cc)))
-paid_after X TooLong i all P Q within named none one paid = absurd (cc (named (λ e. cc)))
+paid_after X (AlgNotHmac j) i most P Q zero_due one_due named none one paid = absurd (cc (named (λ e. cc)))
+paid_after X (KeyUnfit j) i most P Q zero_due one_due named none one paid = absurd (cc (named (λ e. cc)))
+paid_after X NoKey i most P Q zero_due one_due named none one paid = absurd (cc (named (λ e. cc)))
+paid_after X TooManySignatures i most P Q zero_due one_due named none one paid = absurd (cc (named (λ e. cc)))
+paid_after X TooLong i most P Q zero_due one_due named none one paid = absurd (cc (named (λ e. cc)))

@@ -3,7 +3,7 @@ ghost use Rattle.std.specs.Prelude.{◌≡◌, ◌≢◌, ◌+◌, ◌-◌, ◌*
 ghost use Rattle.jwt_text.specs.Answers.{Answers};
 ghost use Rattle.jwt_mac.specs.Verifying.{signing_input};
 ghost use Rattle.jwt_issue.specs.Issued.{compact_of, compact_token, within, signing_cost, pair_cost};
-ghost use Rattle.jwt_issue.specs.Paying.{PaysOnce};
+ghost use Rattle.jwt_issue.specs.Paying.{Pays, due};
 ghost use Rattle.jwt_issue.specs.Views.{pair_of, text_of, signer_parts};
 
 use crate::claim_set::ClaimSet;
@@ -41,7 +41,7 @@ fn compact_token<B: Budget>(
 ) -> Result<Vec<u8>, IssueFault>
     requires { B.calls b.old + 1 < 2 ^ 32 }
     ensures answer { Answers IssueFault.OutOfMemory (λ v. v.items) result (within (B.ceiling b.old - B.octets b.old) (signing_cost payload.now (signer_parts signer.now) ∷ []) (compact_token payload.now (signer_parts signer.now))) }
-    ensures paid { PaysOnce result (λ n. (B.octets b.new ≡ B.octets b.old + n * signing_cost payload.now (signer_parts signer.now)) × (B.calls b.new ≡ B.calls b.old + n)) }
+    ensures paid { Pays result (due 1 (within (B.ceiling b.old - B.octets b.old) (signing_cost payload.now (signer_parts signer.now) ∷ []) (compact_token payload.now (signer_parts signer.now)))) (λ n. (B.octets b.new ≡ B.octets b.old + n * signing_cost payload.now (signer_parts signer.now)) × (B.calls b.new ≡ B.calls b.old + n)) }
     ensures ceiling { B.ceiling b.new ≡ B.ceiling b.old }
     ensures unchanged { IfErr result (λ e. e ≢ IssueFault.OutOfMemory → b.new ≡ b.old) }
 {
@@ -62,8 +62,8 @@ fn compact_token<B: Budget>(
 /// # Errors
 /// The first that holds of `AlgNotHmac(0)` and `KeyUnfit(0)`, the pair may not sign; `TooLong`, the token would have more than
 /// 1,048,576 octets; `Spent(0)`, the HMAC costs more than the budget has left. `OutOfMemory` comes where a growth was refused, in
-/// place of any other answer. The budget is as before after each but `OutOfMemory`, and after that it is as before or has the
-/// HMAC paid.
+/// place of any other answer. The budget is as before after each but `OutOfMemory`, and after that it is as before, or has the
+/// HMAC paid where a token was due.
 #[tactic(auto, unfolding(crate::specs::Issued::compact_of))]
 pub fn issue_compact<B: Budget>(
     alloc: Global,
@@ -77,7 +77,7 @@ pub fn issue_compact<B: Budget>(
     ensures answer { Answers IssueFault.OutOfMemory (λ v. v.items) result (compact_of (B.ceiling b.old - B.octets b.old) (text_of typ.entry) claims.now (pair_of alg key.now)) }
 
     // What the budget counts.
-    ensures paid { PaysOnce result (λ n. (B.octets b.new ≡ B.octets b.old + n * pair_cost (text_of typ.entry) claims.now (pair_of alg key.now)) × (B.calls b.new ≡ B.calls b.old + n)) }
+    ensures paid { Pays result (due 1 (compact_of (B.ceiling b.old - B.octets b.old) (text_of typ.entry) claims.now (pair_of alg key.now))) (λ n. (B.octets b.new ≡ B.octets b.old + n * pair_cost (text_of typ.entry) claims.now (pair_of alg key.now)) × (B.calls b.new ≡ B.calls b.old + n)) }
     ensures ceiling { B.ceiling b.new ≡ B.ceiling b.old }
     ensures unchanged { IfErr result (λ e. e ≢ IssueFault.OutOfMemory → b.new ≡ b.old) }
 {

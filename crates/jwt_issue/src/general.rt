@@ -1,9 +1,9 @@
 //! Tokens in general JSON form.
-ghost use Rattle.std.specs.Prelude.{◌≡◌, ◌≢◌, ◌+◌, ◌-◌, ◌*◌, ◌≤◌, ◌<◌, ◌^◌, ◌++◌, ◌∷◌, [], List, length, map, take, codes, nat_lt, None, Some, Ok, IfErr, OnOk, OnErr, if◌then◌else◌};
+ghost use Rattle.std.specs.Prelude.{◌≡◌, ◌≢◌, ◌+◌, ◌-◌, ◌*◌, ◌≤◌, ◌<◌, ◌^◌, ◌++◌, ◌∷◌, [], ℕ, List, length, map, take, codes, nat_lt, None, Some, Ok, IfErr, OnOk, OnErr, if◌then◌else◌};
 ghost use Rattle.std.specs.List.{sum, join_with_byte};
 ghost use Rattle.jwt_text.specs.Answers.{Answers};
 ghost use Rattle.jwt_issue.specs.Issued.{general_of, general_token, within, pair_costs, first_unfit, first_spent, signer_of, signing_cost, text_members, element, unless};
-ghost use Rattle.jwt_issue.specs.Paying.{Pays, PaysOnce};
+ghost use Rattle.jwt_issue.specs.Paying.{Pays, PaysOnce, due};
 ghost use Rattle.jwt_issue.specs.Views.{pair_parts, text_of, signer_parts};
 
 use crate::claim_set::ClaimSet;
@@ -67,6 +67,7 @@ fn add_signed<B: Budget>(
     ensures fault { IfErr result (λ e. e ≢ IssueFault.OutOfMemory → e ≡ IssueFault.Spent i) }
     ensures afforded { OnOk result (B.octets b.old + signing_cost payload.now (signer_parts signer.now) ≤ B.ceiling b.old) }
     ensures spent { IfErr result (λ e. e ≢ IssueFault.OutOfMemory → B.ceiling b.old < B.octets b.old + signing_cost payload.now (signer_parts signer.now)) }
+    ensures unchanged { IfErr result (λ e. e ≢ IssueFault.OutOfMemory → b.new ≡ b.old) }
     ensures paid { PaysOnce result (λ n. (B.octets b.new ≡ B.octets b.old + n * signing_cost payload.now (signer_parts signer.now)) × (B.calls b.new ≡ B.calls b.old + n)) }
     ensures ceiling { B.ceiling b.new ≡ B.ceiling b.old }
 {
@@ -88,7 +89,8 @@ fn add_elements<B: Budget>(
     ensures text { OnOk result (token.new.items ≡ token.old.items ++ join_with_byte 44 (map (element payload.now) (map signer_parts signers.now))) }
     ensures afforded { OnOk result (first_spent 0 (B.ceiling b.old - B.octets b.old) (map (signing_cost payload.now) (map signer_parts signers.now)) ≡ None) }
     ensures fault { IfErr result (λ e. e ≢ IssueFault.OutOfMemory → first_spent 0 (B.ceiling b.old - B.octets b.old) (map (signing_cost payload.now) (map signer_parts signers.now)) ≡ Some e) }
-    ensures paid { Pays result (length signers.now) (λ n. (B.octets b.new ≡ B.octets b.old + sum (take n (map (signing_cost payload.now) (map signer_parts signers.now)))) × (B.calls b.new ≡ B.calls b.old + n)) }
+    ensures paid { Pays result (due (length signers.now) (unless (first_spent 0 (B.ceiling b.old - B.octets b.old) (map (signing_cost payload.now) (map signer_parts signers.now))) (Ok payload.now))) (λ n. (B.octets b.new ≡ B.octets b.old + sum (take n (map (signing_cost payload.now) (map signer_parts signers.now)))) × (B.calls b.new ≡ B.calls b.old + n)) }
+    ensures unchanged { IfErr result (λ e. e ≢ IssueFault.OutOfMemory → ((i : ℕ) → e ≢ IssueFault.Spent (i + 1)) → b.new ≡ b.old) }
     ensures ceiling { B.ceiling b.new ≡ B.ceiling b.old }
 {
     for i in 0..signers.len() {
@@ -109,7 +111,8 @@ fn general_token<B: Budget>(
     requires few { length signers.now ≤ 32 }
     requires room { B.calls b.old + 32 < 2 ^ 32 }
     ensures answer { Answers IssueFault.OutOfMemory (λ v. v.items) result (within (B.ceiling b.old - B.octets b.old) (map (signing_cost payload.now) (map signer_parts signers.now)) (general_token payload.now (map signer_parts signers.now))) }
-    ensures paid { Pays result (length signers.now) (λ n. (B.octets b.new ≡ B.octets b.old + sum (take n (map (signing_cost payload.now) (map signer_parts signers.now)))) × (B.calls b.new ≡ B.calls b.old + n)) }
+    ensures paid { Pays result (due (length signers.now) (within (B.ceiling b.old - B.octets b.old) (map (signing_cost payload.now) (map signer_parts signers.now)) (general_token payload.now (map signer_parts signers.now)))) (λ n. (B.octets b.new ≡ B.octets b.old + sum (take n (map (signing_cost payload.now) (map signer_parts signers.now)))) × (B.calls b.new ≡ B.calls b.old + n)) }
+    ensures unchanged { IfErr result (λ e. e ≢ IssueFault.OutOfMemory → ((i : ℕ) → e ≢ IssueFault.Spent (i + 1)) → b.new ≡ b.old) }
     ensures ceiling { B.ceiling b.new ≡ B.ceiling b.old }
 {
     let len = general_len(signers, payload).ok_or(IssueFault::TooLong)?;
@@ -134,7 +137,8 @@ fn general_token<B: Budget>(
 /// The first that holds of `NoKey`, there is no pair; `TooManySignatures`, there are more than 32; for each pair i `AlgNotHmac(i)`
 /// and `KeyUnfit(i)`, it may not sign; `TooLong`, the token would have more than 1,048,576 octets; `Spent(i)`, the HMAC of pair i
 /// costs more than the budget has left after those before it. `OutOfMemory` comes where a growth was refused, in place of any
-/// other answer. After `Spent(i)` the first i HMACs are paid, after `OutOfMemory` some first ones, after any other refusal none.
+/// other answer. After `Spent(i)` the first i HMACs are paid, after `OutOfMemory` some first ones, and no more than without
+/// that want of memory; after any other refusal, and after `Spent(0)`, the budget is as before.
 #[tactic(auto, unfolding(crate::specs::Issued::general_of))]
 pub fn issue_json<B: Budget>(
     alloc: Global,
@@ -147,7 +151,8 @@ pub fn issue_json<B: Budget>(
     ensures answer { Answers IssueFault.OutOfMemory (λ v. v.items) result (general_of (B.ceiling b.old - B.octets b.old) (text_of typ.entry) claims.now (map pair_parts pairs.now)) }
 
     // What the budget counts.
-    ensures paid { Pays result (length pairs.now) (λ n. (B.octets b.new ≡ B.octets b.old + sum (take n (pair_costs (text_of typ.entry) claims.now (map pair_parts pairs.now)))) × (B.calls b.new ≡ B.calls b.old + n)) }
+    ensures paid { Pays result (due (length pairs.now) (general_of (B.ceiling b.old - B.octets b.old) (text_of typ.entry) claims.now (map pair_parts pairs.now))) (λ n. (B.octets b.new ≡ B.octets b.old + sum (take n (pair_costs (text_of typ.entry) claims.now (map pair_parts pairs.now)))) × (B.calls b.new ≡ B.calls b.old + n)) }
+    ensures unchanged { IfErr result (λ e. e ≢ IssueFault.OutOfMemory → ((i : ℕ) → e ≢ IssueFault.Spent (i + 1)) → b.new ≡ b.old) }
     ensures ceiling { B.ceiling b.new ≡ B.ceiling b.old }
 {
     if pairs.is_empty() {

@@ -1,12 +1,13 @@
-use Rattle.std.proofs.Common.{ℕ, ◌+◌, ◌<◌, List, ◌∷◌, [], ◌++◌, length, map, take, drop, cond, nat_lt, Some, sym, ap, ◌∙◌, append_assoc, arith}
+use Rattle.std.proofs.Common.{◌≡◌, ℕ, ◌+◌, ◌-◌, ◌*◌, ◌<◌, ◌≤◌, List, ◌∷◌, [], ◌++◌, length, map, take, drop, cond, nat_lt, Some, sym, ap, ◌∙◌, append_assoc, arith}
 use Rattle.std.specs.Prelude.{⊤}
 use Rattle.std.specs.List.{join_with_byte}
 use Rattle.std.proofs.lemmas.List.{length-map}
 use Rattle.std.proofs.lemmas.Result.{err_from_is_err_and}
 use Rattle.jwt_issue.specs.Issued.{first_spent, signing_cost, element}
 use Rattle.jwt_issue.specs.Views.{signer_parts}
+use Rattle.jwt_issue.specs.declared.fault.IssueFault.TheVariants.{Spent}
 use Rattle.jwt_issue.proofs.Lengths.{mapped_at}
-use Rattle.jwt_issue.proofs.Steps.{sum_more, elements_more, stops_at, goes_on, paid_after}
+use Rattle.jwt_issue.proofs.Steps.{sum_more, elements_more, stops_at, goes_on, reached, is_first, paid_after}
 use Rattle.jwt_issue.proofs.general.add_elements.Goals as goal
 
 pub returns-in_err-add_signed-clause-fault : goal.returns-in_err-add_signed-clause-fault
@@ -33,10 +34,24 @@ returns-in_err-add_signed-clause-paid g c =
     let is = mapped_at signer_parts c.args.signers.now i c.index-signers-i.result c.loop-i-test.true c.index-signers-i.is in
     let more = sum_more price ss i s within is in
     let kept = c.loop-i.invariant in
-    rw (p.1, p.2) (paid_after ⊤ c.in_err-add_signed.field-0.0 i (length c.args.signers.now) _ _ c.loop-i-test.true c.in_err-add_signed.ensures.fault
+    let size = length-map c.args.signers.now signer_parts in
+    let first = g.B.Budget.ceiling c.args.b.now - g.B.Budget.octets c.args.b.now in
+    let left = g.B.Budget.ceiling c.loop-i.b - g.B.Budget.octets c.loop-i.b in
+    let enough : g.B.Budget.octets c.add_signed.new.b ≡ g.B.Budget.octets c.loop-i.b + 1 * price s → price s ≤ left = λ one. omega (arith, one, g.met.B.Budget.within c.add_signed.new.b, c.in_err-add_signed.ensures.ceiling) in
+    rw (p.1, p.2) (paid_after ⊤ c.in_err-add_signed.field-0.0 i _ _ _
+    (reached c.args.payload.now price ss (length c.args.signers.now) i first left size (omega arith) kept.left)
+    (λ one. reached c.args.payload.now price ss (length c.args.signers.now) (i + 1) first (left - price s) size (omega arith) (kept.left ∙ goes_on price ss i left s within is (enough one.0)))
+    c.in_err-add_signed.ensures.fault
     (λ none. (omega (arith, none.0, kept.octets), omega (arith, none.1, kept.calls)))
     (λ one. (omega (arith, one.0, kept.octets, more), omega (arith, one.1, kept.calls)))
     c.in_err-add_signed.ensures.paid)
+
+pub returns-in_err-add_signed-clause-unchanged : goal.returns-in_err-add_signed-clause-unchanged
+returns-in_err-add_signed-clause-unchanged g c =
+    let p = err_from_is_err_and c.from_residual.result c.from_residual.ensures.1 in
+    rw (p.1, p.2) (λ some apart.
+    let zero = is_first c.loop-i.i (λ j same. apart j (c.in_err-add_signed.ensures.fault some ∙ ap Spent same)) in
+    c.in_err-add_signed.ensures.unchanged some ∙ c.loop-i.invariant.first zero)
 
 pub loop-i-preserved : goal.loop-i-preserved
 loop-i-preserved g c =
@@ -62,5 +77,6 @@ loop-i-preserved g c =
           ∙ ap (λ (left : ℕ). first_spent (i + 1) left (drop (i + 1) (map (signing_cost payload) ss))) (omega (arith, paid.0, c.in_ok-add_signed.ensures.ceiling));
       octets = omega (arith, paid.0, kept.octets, more);
       calls = omega (arith, paid.1, kept.calls);
+      first = λ e. absurd (omega (arith, e));
       ceiling = c.in_ok-add_signed.ensures.ceiling ∙ kept.ceiling;
     }

@@ -12,5 +12,6 @@ invariant-loop-i g l = record {
       ≡ first_spent l.i (g.B.Budget.ceiling l.b - g.B.Budget.octets l.b) (drop l.i (map (signing_cost l.payload) (map signer_parts l.signers)));
   octets : g.B.Budget.octets l.b ≡ g.B.Budget.octets l.initial.b + sum (take l.i (map (signing_cost l.payload) (map signer_parts l.signers)));
   calls : g.B.Budget.calls l.b ≡ g.B.Budget.calls l.initial.b + l.i;
+  first : l.i ≡ 0 → l.b ≡ l.initial.b;
   ceiling : g.B.Budget.ceiling l.b ≡ g.B.Budget.ceiling l.initial.b;
 }

@@ -1,4 +1,4 @@
-use Rattle.std.proofs.Common.{◌≡◌, ℕ, ◌<◌, ◌+◌, ◌-◌, List, length, map, take, Result, Vec, sym, ap, subst, ◌∙◌, arith}
+use Rattle.std.proofs.Common.{◌≡◌, ℕ, ◌<◌, ◌+◌, ◌-◌, List, length, map, take, Result, Vec, sym, ap, ap₂, subst, ◌∙◌, arith}
 use Rattle.std.specs.Global.{Global}
 use Rattle.std.specs.List.{sum}
 use Rattle.std.proofs.lemmas.Bool.Decides.{nat_tests}
@@ -7,11 +7,11 @@ use Rattle.std.proofs.lemmas.List.{length-map}
 use Rattle.std.proofs.lemmas.Result.{err_from_is_err_and}
 use Rattle.jwt_text.specs.Answers.{Answers}
 use Rattle.jwt_text.specs.Base64url.{spelling}
-use Rattle.jwt_issue.specs.Issued.{PairParts, SignerParts, first_unfit, general_of, general_token, signer_of, pair_costs}
+use Rattle.jwt_issue.specs.Issued.{PairParts, SignerParts, first_unfit, general_of, general_token, within, signing_cost, signer_of, pair_costs}
 use Rattle.jwt_issue.specs.declared.fault.IssueFault.{IssueFault}
 use Rattle.jwt_issue.specs.declared.fault.IssueFault.TheVariants.{OutOfMemory}
 use Rattle.jwt_issue.specs.declared.signer.Signer.{Signer}
-use Rattle.jwt_issue.specs.Paying.{Pays}
+use Rattle.jwt_issue.specs.Paying.{Pays, due}
 use Rattle.jwt_issue.specs.Views.{pair_parts, text_of, signer_parts}
 use Rattle.jwt_issue.proofs.Fit.{fit_answer, signers_costs, signers_answer, signers_unspent, none_paid, some_pairs}
 use Rattle.jwt_issue.proofs.general.issue_json.Goals as goal
@@ -21,7 +21,7 @@ returns-in_err-signers-clause-paid g c =
     let p = err_from_is_err_and c.from_residual.result c.from_residual.ensures.1 in
     let pairs = map pair_parts c.args.pairs.now in
     let unspent = λ (j : ℕ). signers_unspent (text_of c.args.typ) pairs (map (signer_of (text_of c.args.typ)) pairs) c.in_err-signers.field-0.0 j c.in_err-signers.ensures in
-    rw (p.1, p.2) (none_paid (Vec ℕ Global) c.in_err-signers.field-0.0 (length c.args.pairs.now) _ unspent (omega arith, omega arith))
+    rw (p.1, p.2) (none_paid (Vec ℕ Global) c.in_err-signers.field-0.0 _ _ unspent (omega arith, omega arith))
 
 pub returns-clause-answer : goal.returns-clause-answer
 unfolding general_of
@@ -41,6 +41,7 @@ returns-clause-answer g c =
     c.general_token.ensures.answer
 
 pub returns-clause-paid : goal.returns-clause-paid
+unfolding general_of
 returns-clause-paid g c =
     let pairs = map pair_parts c.args.pairs.now in
     let made : PairParts → SignerParts = signer_of (text_of c.args.typ) in
@@ -49,8 +50,13 @@ returns-clause-paid g c =
     let signers : map made pairs ≡ ss = fit.1 ∙ ap (λ (xs : List Signer). map signer_parts xs) (sym c.deref.ensures.value) in
     let payload : spelling c.args.claims.now ≡ c.deref-2.result.now = ap spelling (sym c.octets.ensures) ∙ sym c.in_ok-payload.ensures.ok ∙ sym c.deref-2.ensures.value in
     let costs = signers_costs (text_of c.args.typ) c.args.claims.now pairs c.deref-2.result.now ss signers payload in
+    let left = g.B.Budget.ceiling c.args.b.now - g.B.Budget.octets c.args.b.now in
+    let same = signers_answer general_token left (text_of c.args.typ) c.args.claims.now pairs c.deref-2.result.now ss fit.0 signers payload in
+    let count = length-map c.args.pairs.now pair_parts in
+    let some : 0 < length c.args.pairs.now = grind (arith, nat_tests, common_steps) in
+    let answer = same ∙ some_pairs pairs _ (omega (arith, some)) (omega arith) in
     let size : length c.deref.result.now ≡ length c.args.pairs.now =
     sym (length-map c.deref.result.now signer_parts) ∙ sym (ap (λ (xs : List SignerParts). length xs) signers) ∙ length-map pairs made ∙ length-map c.args.pairs.now pair_parts in
     let Paid : List ℕ → ℕ → Type 0 = λ prices n. (g.B.Budget.octets c.general_token.new.b ≡ g.B.Budget.octets c.args.b.now + sum (take n prices)) × (g.B.Budget.calls c.general_token.new.b ≡ g.B.Budget.calls c.args.b.now + n) in
-    subst (λ (all : ℕ). Pays c.general_token.result all (Paid (pair_costs (text_of c.args.typ) c.args.claims.now pairs))) size
-    (subst (λ (prices : List ℕ). Pays c.general_token.result (length c.deref.result.now) (Paid prices)) costs c.general_token.ensures.paid)
+    subst (λ (most : ℕ). Pays c.general_token.result most (Paid (pair_costs (text_of c.args.typ) c.args.claims.now pairs))) (ap₂ (λ (all : ℕ) (r : Result (List ℕ) IssueFault). due all r) size answer)
+    (subst (λ (prices : List ℕ). Pays c.general_token.result (due (length c.deref.result.now) (within left (map (signing_cost c.deref-2.result.now) ss) (general_token c.deref-2.result.now ss))) (Paid prices)) costs c.general_token.ensures.paid)
