@@ -1,6 +1,8 @@
 ghost use Rattle.std.specs.Prelude.{◌≡◌, ℕ, Some, None, List};
 
-use crate::{Intake, Reader, Sink, Source, TextFault, Writer, Written, decode, encode, write_out};
+use crate::{
+    Intake, Part, Reader, Sink, Source, TextFault, Writer, Written, decode, encode, write_out,
+};
 use std::io::Read;
 use std::test::Fail;
 
@@ -204,6 +206,14 @@ fn counts_what_went_out_before_a_failure(rt: HostRuntime) -> Result<(), Fail> {
         write_out(&mut Writer::new(&mut none[..]), b"abc"),
         Err(Written { count: 0 })
     );
+    Ok(())
+}
+
+#[test]
+fn a_part_lends_its_octets(rt: HostRuntime) -> Result<(), Fail> {
+    let octets = decode(rt.alloc(), b"Zm9v")?;
+    assert_eq!(rt; Part::Slice(b"foo").octets(), b"foo".as_slice());
+    assert_eq!(rt; Part::Owned(octets).octets(), b"foo".as_slice());
     Ok(())
 }
 
