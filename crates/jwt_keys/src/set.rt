@@ -1,6 +1,6 @@
 //! A key set: its readable keys in order, found by number and by name.
 
-ghost use Rattle.std.specs.Prelude.{◌≡◌, ◌≤◌, ◌&&◌, ◌↔◌, [], length, map, IfOk, IsTrue, slice_get, option_map};
+ghost use Rattle.std.specs.Prelude.{◌≡◌, ◌≤◌, ◌<◌, ◌&&◌, ◌↔◌, [], length, map, Err, IfOk, IsTrue, slice_get, option_map};
 ghost use Rattle.jwt_keys.specs.Keys.{has_thumbprint, names};
 ghost use Rattle.jwt_keys.specs.Numbers.{IsLeastFrom};
 ghost use Rattle.jwt_keys.specs.Views.{IsIndex, key_parts};
@@ -43,7 +43,8 @@ impl KeySet {
     /// `OutOfMemory` comes where a growth was refused, in place of any other answer but `TooLong`.
     #[tactic(auto, unfolding(crate::specs::KeySets::key_set_of))]
     pub fn read(alloc: Global, octets: &[u8]) -> Result<KeySet, KeysFault>
-        ensures { Answers KeysFault.OutOfMemory key_set result (key_set_of octets.now) }
+        ensures answer { Answers KeysFault.OutOfMemory key_set result (key_set_of octets.now) }
+        ensures too_long { 4194304 < length octets.now → result ≡ Err KeysFault.TooLong }
     {
         if octets.len() > MAX_OCTETS {
             return Err(KeysFault::TooLong);

@@ -256,6 +256,30 @@ fn the_index_and_the_plain_search_find_the_same_keys(rt: HostRuntime) -> Result<
 }
 
 #[test]
+fn a_key_answers_to_its_kid_or_else_to_its_thumbprint(rt: HostRuntime) -> Result<(), Fail> {
+    let alloc = rt.alloc();
+    let secret = "{\"kty\":\"oct\",\"k\":\"AA\"";
+    let entries = format!(in alloc; "{secret},\"kid\":\"a\"}},{secret},\"kid\":\"\"}},{secret}}}")?;
+    let keys = set_of(alloc, entries.as_str())?;
+    let rows = [
+        (0, "a", false, true),
+        (0, "a", true, true),
+        (0, "A", true, false),
+        (0, OCT_THUMBPRINT, true, false),
+        (1, "", false, true),
+        (1, OCT_THUMBPRINT, true, false),
+        (2, OCT_THUMBPRINT, true, true),
+        (2, OCT_THUMBPRINT, false, false),
+        (2, "", true, false),
+    ];
+    for (j, name, thumb, answer) in rows {
+        let key = keys.key(j).ok_or("no key")?;
+        assert_eq!(rt; key.is_named(name, thumb), answer, "key {j}, {name}");
+    }
+    Ok(())
+}
+
+#[test]
 fn permitted_operations(rt: HostRuntime) -> Result<(), Fail> {
     let alloc = rt.alloc();
     let rows = [

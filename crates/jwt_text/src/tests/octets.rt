@@ -1,6 +1,8 @@
 ghost use Rattle.std.specs.Prelude.{◌≡◌, ℕ, Some, None, List};
 
-use crate::{Intake, Reader, Sink, Source, TextFault, Writer, Written, decode, encode, write_out};
+use crate::{
+    Intake, Part, Reader, Sink, Source, TextFault, Writer, Written, decode, encode, write_out,
+};
 use std::io::Read;
 use std::test::Fail;
 
@@ -208,6 +210,14 @@ fn counts_what_went_out_before_a_failure(rt: HostRuntime) -> Result<(), Fail> {
 }
 
 #[test]
+fn a_part_lends_its_octets(rt: HostRuntime) -> Result<(), Fail> {
+    let octets = decode(rt.alloc(), b"Zm9v")?;
+    assert_eq!(rt; Part::Slice(b"foo").octets(), b"foo".as_slice());
+    assert_eq!(rt; Part::Owned(octets).octets(), b"foo".as_slice());
+    Ok(())
+}
+
+#[test]
 fn spells_octets_in_one_way(rt: HostRuntime) -> Result<(), Fail> {
     let alloc = rt.alloc();
     // RFC 4648, section 10, without padding.
@@ -240,5 +250,52 @@ fn spells_octets_in_one_way(rt: HostRuntime) -> Result<(), Fail> {
             "at {text}"
         );
     }
+    Ok(())
+}
+
+// `rt try --test --fail-alloc N` refuses the Nth growth: what came stays held, and the same call made again takes what is missing.
+#[test]
+fn a_refused_growth_loses_no_octets(rt: HostRuntime) -> Result<(), Fail> {
+    let mut all = [0u8; 9000];
+    for (place, octet) in all.iter_mut().enumerate() {
+        *octet = (place % 251) as u8;
+    }
+    let mut fed = Intake::new(rt.alloc(), 8998);
+    for (start, end, count) in [
+        (0, 1000, 1000),
+        (1000, 5000, 4000),
+        (5000, 9000, 3999),
+        (0, 9000, 0),
+    ] {
+        let piece = &all[start..end];
+        assert_eq!(rt; again!(fed.feed(piece))?, count, "from {start}");
+    }
+    assert!(rt; fed.octets() == &all[..8999]);
+
+    for (limit, pulls, want, held) in [
+        (9000, 9001, Ok(()), 9000),
+        (8998, 9001, Err(TextFault::TooLong), 8999),
+        (9000, 8500, Err(TextFault::Read), 8500),
+    ] {
+        let mut source = Drip::new(&all, pulls);
+        let mut read = Intake::new(rt.alloc(), limit);
+        assert_eq!(rt; again!(read.read_from(&mut source)), want);
+        assert!(rt; read.octets() == &all[..held], "with {limit}");
+        assert!(rt; source.rest == &all[held..], "with {limit}");
+    }
+    Ok(())
+}
+
+#[test]
+fn a_refused_growth_changes_no_spelling(rt: HostRuntime) -> Result<(), Fail> {
+    let alloc = rt.alloc();
+    let text = again!(encode(alloc, b"fooba"))?;
+    assert_eq!(rt; text.as_slice(), b"Zm9vYmE".as_slice());
+    let octets = again!(decode(alloc, &text))?;
+    assert_eq!(rt; octets.as_slice(), b"fooba".as_slice());
+    assert_eq!(rt;
+        again!(decode(alloc, b"Zm9vYmF")).err(),
+        Some(TextFault::Base64)
+    );
     Ok(())
 }
