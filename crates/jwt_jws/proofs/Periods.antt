@@ -1,5 +1,7 @@
 -- Cutting at the first period.
-use Rattle.std.proofs.Common.{◌≡◌, ℕ, ◌+◌, ◌<◌, ◌≤◌, Bool, true, false, cond, ltb, List, [], ◌∷◌, length, take, drop, Some, None, Err, refl, sym, ap, subst, arith}
+use Rattle.memchr.specs.Find.{IsFirstByte, is_byte}
+use Rattle.std.proofs.lemmas.Bool.Decides.{nat_tests}
+use Rattle.std.proofs.Common.{◌≡◌, ℕ, ◌+◌, ◌<◌, ◌≤◌, Bool, true, false, cond, ltb, List, [], ◌∷◌, length, take, drop, Option, Some, None, Err, refl, sym, ap, subst, ◌∙◌, arith, zero, suc, slice_index}
 use Rattle.std.specs.Prelude.{position}
 use Rattle.std.specs.List.{slice_split, onto_first, position_or_len}
 use Rattle.std.proofs.lemmas.Option.{cond_some}
@@ -9,6 +11,39 @@ use Rattle.std.proofs.lemmas.List.Sums.{fails_before_first}
 use Rattle.std.proofs.lemmas.List.Elements.{All-from_get_or}
 use Rattle.jwt_jws.specs.Forms.{is_period, compact_of}
 use Rattle.jwt_jws.specs.declared.fault.FormFault.TheVariants.{Segments}
+
+-- ---- what `memchr` finds is the position
+
+refused : (b : Bool) → ¬ (b ≡ true) → b ≡ false
+refused true h = absurd (h refl)
+refused false h = refl
+
+found_at : (z : List ℕ) (k : ℕ) → k < length z → is_period (slice_index z k) ≡ true → ((j : ℕ) → j < k → ¬ (is_period (slice_index z j) ≡ true)) → position_or_len is_period z ≡ k
+found_at [] k low here before = absurd (omega arith)
+found_at (c ∷ cs) zero low here before = rw here refl
+found_at (c ∷ cs) (suc k) low here before =
+    let off : is_period c ≡ false = refused (is_period c) (before zero (omega arith)) in
+    let more = found_at cs k (omega arith) here (λ j l. before (suc j) (omega arith)) in
+    rw off (ap (λ n. 1 + n) more ∙ omega arith)
+
+found_nowhere : (z : List ℕ) → ((j : ℕ) → j < length z → ¬ (is_period (slice_index z j) ≡ true)) → position_or_len is_period z ≡ length z
+found_nowhere [] none = refl
+found_nowhere (c ∷ cs) none =
+    let off : is_period c ≡ false = refused (is_period c) (none zero (omega arith)) in
+    let more = found_nowhere cs (λ j l. none (suc j) (omega arith)) in
+    rw off (ap (λ n. 1 + n) more ∙ omega arith)
+
+pub first_is_position : (z : List ℕ) (r : Option ℕ) → IsFirstByte (is_byte 46) z r → r ≡ position is_period z
+first_is_position z None h =
+    let at = found_nowhere z (λ j low. h j (omega arith) low) in
+    let past : ltb (length z) (length z) ≡ false = grind (arith, nat_tests) in
+    rw (at, past) refl
+first_is_position z (Some k) h =
+    let at = found_at z k h.0.high h.1 (λ j low. h.0.before j (omega arith) low) in
+    let inside : ltb k (length z) ≡ true = grind (arith, nat_tests, h.0.high) in
+    rw (at, inside) refl
+
+-- ---- cutting
 
 -- what a search found cuts the list there
 pub record CutAt (z : List ℕ) (i : ℕ) : Type 0 where

@@ -6,6 +6,7 @@ ghost use Rattle.jwt_jws.specs.Forms.{is_period, compact, compact_texts};
 ghost use Rattle.jwt_jws.specs.Views.{compact_view, texts_view};
 
 use crate::fault::FormFault;
+use memchr::memchr;
 
 /// The three texts of a token in compact form, lent.
 #[derive(Clone, Copy)]
@@ -23,7 +24,7 @@ pub struct CompactTexts<'a> {
 fn first_period(octets: &[u8]) -> Option<usize>
     ensures { result ≡ position is_period octets.now }
 {
-    octets.iter().position(|c| *c == b'.')
+    memchr(b'.', octets)
 }
 
 // The octets before the first period, and those after it.

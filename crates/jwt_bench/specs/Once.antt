@@ -1,0 +1,88 @@
+-- What one run of a workload comes to.
+use Rattle.std.specs.Prelude.{ℕ, Bool, true, false, ◌&&◌, List, [], length, pos, nat_le, None, Result, if◌then◌else◌}
+use Rattle.std.specs.Result.{is_ok}
+use Rattle.std.specs.Option.{option_map_or}
+use Rattle.std.specs.Str.{bytes_eq}
+use Rattle.jwt_text.specs.ObjectText.{object_of}
+use Rattle.jwt_mac.specs.Algorithm.{is_hmac_alg, tag_of, cost_of}
+use Rattle.jwt_mac.specs.declared.algorithm.Alg.{Alg}
+use Rattle.jwt_keys.specs.Keys.{KeyParts}
+use Rattle.jwt_keys.specs.KeySets.{key_set_of}
+use Rattle.jwt_jws.specs.Forms.{form_of}
+use Rattle.jwt_policy.specs.Document.{policy_of}
+use Rattle.jwt_policy.specs.Settings.{Settings}
+use Rattle.jwt_verify.specs.Table.{paid, work}
+use Rattle.jwt_verify.specs.Verdict.{Terms, table, verdict_of}
+use Rattle.jwt_verify.specs.declared.report.Try.{Try}
+use Rattle.jwt_verify.specs.declared.report.Verdict.{Verdict}
+use Rattle.jwt_verify.specs.declared.report.Verdict.TheVariants.{Accepted, Refused}
+use Rattle.jwt_issue.specs.Issued.{PairParts, compact_of, pair_cost, secret_in}
+use Rattle.jwt_bench.specs.Given.{GivenParts}
+use Rattle.jwt_bench.specs.declared.totals.Ran.{Ran}
+use Rattle.jwt_bench.specs.declared.workload.Workload.{Workload}
+use Rattle.jwt_bench.specs.declared.workload.Workload.TheVariants.{Judge, Validate, Parse, Object, Keys, Policy, Issue, Hmac}
+
+-- what is read once: the last key, and of the first signature its algorithm, its header, its signing input and its octets
+pub record ReadyParts : Type 0 where
+  pub given : GivenParts
+  pub policy : Settings
+  pub keys : List KeyParts
+  pub claims : List ℕ
+  pub key : KeyParts
+  pub alg : Alg
+  pub header : List ℕ
+  pub input : List ℕ
+  pub signature : List ℕ
+
+abbrev pub ran : Bool → (octets calls : ℕ) → Ran
+ran accepted octets calls = record { accepted = accepted; octets = octets; calls = calls }
+
+-- reading alone hashes nothing
+abbrev pub read_ran : {A F : Type 0} → Result A F → Ran
+read_ran answer = ran (is_ok answer) 0 0
+
+-- ---- the verdict
+
+abbrev pub is_accepted : Verdict → Bool
+is_accepted (Accepted i j claims) = true
+is_accepted (Refused fault) = false
+
+-- a second before the token of RFC 7515, appendix A.1, expires; without verifiers for public keys
+abbrev pub terms_of : ReadyParts → Terms
+terms_of b = record { policy = b.policy; keys = b.keys; now = pos 1300819379; verifiers = [] }
+
+abbrev pub paid_tries : ReadyParts → List Try
+paid_tries b = paid (table (terms_of b) b.given.token) b.policy.run.work b.policy.max_calls
+
+abbrev pub judged : ReadyParts → Ran
+judged b = ran (is_accepted (verdict_of (terms_of b) b.given.token b.policy.run.work)) (work (paid_tries b)) (length (paid_tries b))
+
+-- ---- issuing, and HMAC alone
+
+abbrev pub pair : ReadyParts → PairParts
+pair b = record { alg = b.alg; key = b.key }
+
+abbrev pub issued_by : ℕ → Bool → Ran
+issued_by cost true = ran true cost 1
+issued_by cost false = ran false 0 0
+
+abbrev pub issued : ReadyParts → Ran
+issued b = issued_by (pair_cost None b.claims (pair b)) (is_ok (compact_of b.policy.run.work None b.claims (pair b)))
+
+abbrev pub hashed : ReadyParts → List ℕ → Ran
+hashed b secret =
+    if is_hmac_alg b.alg && nat_le (cost_of b.alg secret b.input) b.policy.run.work
+    then ran (bytes_eq b.signature (tag_of b.alg secret b.input)) (cost_of b.alg secret b.input) 1
+    else ran false 0 0
+
+-- ---- each workload
+
+abbrev pub ran_of : Workload → ReadyParts → Ran
+ran_of Judge b = judged b
+ran_of Validate b = judged b
+ran_of Parse b = read_ran (form_of b.policy.run.max_signatures b.given.token)
+ran_of Object b = ran (is_ok (object_of b.header) && is_ok (object_of b.claims)) 0 0
+ran_of Keys b = read_ran (key_set_of b.given.keys)
+ran_of Policy b = read_ran (policy_of b.given.policy)
+ran_of Issue b = issued b
+ran_of Hmac b = option_map_or (hashed b) (secret_in b.key.octets) (ran false 0 0)

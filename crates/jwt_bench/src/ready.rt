@@ -1,0 +1,228 @@
+//! What is read once, and one run over it.
+ghost use Rattle.std.specs.Prelude.{◌≡◌, ◌≢◌, ◌≤◌, IfOk, is_ok};
+ghost use Rattle.jwt_text.specs.ObjectText.{object_of};
+ghost use Rattle.jwt_keys.specs.KeySets.{key_set_of};
+ghost use Rattle.jwt_jws.specs.Forms.{form_of};
+ghost use Rattle.jwt_policy.specs.Document.{policy_of};
+ghost use Rattle.jwt_verify.specs.Reports.{FoundMemory};
+ghost use Rattle.jwt_verify.specs.declared.report.InputFault.TheVariants.{Read};
+ghost use Rattle.jwt_verify.specs.declared.report.Fault.TheVariants.{Text};
+ghost use Rattle.jwt_verify.specs.declared.report.Verdict.TheVariants.{Refused};
+ghost use Rattle.jwt_bench.specs.Once.{hashed, is_accepted, issued, judged, ran, ran_of, read_ran};
+ghost use Rattle.jwt_bench.specs.declared.workload.Workload.TheVariants.{Object as ObjectRuns, Hmac as HmacRuns};
+
+use crate::fault::RunFault;
+use crate::given::Given;
+use crate::totals::Ran;
+use crate::workload::Workload;
+use jwt_issue::{ClaimSet, IssueFault, issue_compact};
+use jwt_jws::{FormFault, parse};
+use jwt_keys::{Key, KeySet, KeysFault};
+use jwt_mac::{Alg, Budget, CountDown, KeyView, Message, Verifier, hmac};
+use jwt_policy::{Policy, PolicyFault};
+use jwt_text::{Reader, TextFault, object};
+use jwt_verify::{Fault, InputFault, Verdict, judge, validate};
+use std::alloc::Global;
+
+// The moment, in seconds since 1970-01-01T00:00:00Z: a second before the token of RFC 7515, appendix A.1, expires.
+const NOW: i64 = 1_300_819_379;
+
+/// All that a run takes, read once.
+#[derive(Drop)]
+pub(crate) struct Ready<'a> {
+    pub(crate) given: Given<'a>,
+    pub(crate) policy: &'a Policy,
+    pub(crate) keys: &'a KeySet,
+    pub(crate) claims: &'a ClaimSet,
+
+    /// The last key.
+    pub(crate) key: &'a Key,
+
+    // Of the first signature: its algorithm, what its protected text spells, its signing input, its octets.
+    pub(crate) alg: Alg,
+    pub(crate) header: &'a [u8],
+    pub(crate) message: Message<'a>,
+    pub(crate) signature: &'a [u8],
+}
+
+// Whether a verdict accepts.
+fn is_accepted(verdict: &Verdict<'_>) -> Result<bool, RunFault>
+    ensures value { IfOk result (λ accepted. accepted ≡ is_accepted verdict.now) }
+    ensures memory { IfOk result (λ accepted. FoundMemory verdict.now) }
+    ensures read { IfOk result (λ accepted. verdict.now ≢ Refused (Text Read)) }
+{
+    match verdict {
+        Verdict::Accepted { .. } => Ok(true),
+        Verdict::Refused(Fault::OutOfMemory | Fault::VerifierMemory) => Err(RunFault::OutOfMemory),
+        Verdict::Refused(Fault::Text(InputFault::Read)) => Err(RunFault::Read),
+        Verdict::Refused(_) => Ok(false),
+    }
+}
+
+// What a run that hashes came to.
+fn ran(accepted: bool, budget: &CountDown) -> Ran
+    ensures value { result ≡ ran accepted (⟦<CountDown as Budget>⟧.octets budget.now) (⟦<CountDown as Budget>⟧.calls budget.now) }
+    ensures within { result.octets ≤ ⟦<CountDown as Budget>⟧.ceiling budget.now }
+{
+    Ran {
+        accepted,
+        octets: budget.octets(),
+        calls: budget.calls(),
+    }
+}
+
+// What a run that only reads came to.
+fn has_read(accepted: bool) -> Ran
+    ensures { result ≡ ran accepted 0 0 }
+{
+    Ran {
+        accepted,
+        octets: 0,
+        calls: 0,
+    }
+}
+
+// Whether the octets are an object text.
+fn is_object(alloc: Global, octets: &[u8]) -> Result<bool, RunFault>
+    ensures { IfOk result (λ is. is ≡ is_ok (object_of octets.now)) }
+{
+    match object(alloc, octets) {
+        Ok(_) => Ok(true),
+        Err(TextFault::OutOfMemory) => Err(RunFault::OutOfMemory),
+        Err(_) => Ok(false),
+    }
+}
+
+impl Ready<'_> {
+    ghost use Rattle.jwt_bench.specs.Views.{ready_view};
+
+    fn judge(&self, alloc: Global) -> Result<Ran, RunFault>
+        ensures value { IfOk result (λ ran. ran ≡ judged (ready_view self.now)) }
+        ensures within { IfOk result (λ ran. ran.octets ≤ 1000000000000) }
+    {
+        let verifiers: [Box<dyn Verifier>; 0] = [];
+        let mut budget = CountDown::new(self.policy.work());
+        let report = judge(
+            alloc,
+            self.given.token,
+            self.keys,
+            self.policy,
+            NOW,
+            &verifiers,
+            &mut budget,
+        );
+        let accepted = is_accepted(&report.verdict)?;
+        Ok(ran(accepted, &budget))
+    }
+
+    fn validate(&self, alloc: Global) -> Result<Ran, RunFault>
+        ensures value { IfOk result (λ ran. ran ≡ judged (ready_view self.now)) }
+        ensures within { IfOk result (λ ran. ran.octets ≤ 1000000000000) }
+    {
+        let verifiers: [Box<dyn Verifier>; 0] = [];
+        let mut budget = CountDown::new(self.policy.work());
+        let mut source = Reader::new(self.given.token);
+        let report = validate(
+            alloc,
+            &mut source,
+            self.keys,
+            self.policy,
+            NOW,
+            &verifiers,
+            &mut budget,
+        );
+        let accepted = is_accepted(&report.verdict)?;
+        Ok(ran(accepted, &budget))
+    }
+
+    fn parse(&self, alloc: Global) -> Result<Ran, RunFault>
+        ensures { IfOk result (λ ran. ran ≡ read_ran (form_of self.now.policy.now.run.max_signatures self.now.given.token.now)) }
+    {
+        match parse(alloc, self.given.token, self.policy.max_signatures()) {
+            Ok(_) => Ok(has_read(true)),
+            Err(FormFault::OutOfMemory) => Err(RunFault::OutOfMemory),
+            Err(_) => Ok(has_read(false)),
+        }
+    }
+
+    fn object(&self, alloc: Global) -> Result<Ran, RunFault>
+        ensures { IfOk result (λ ran. ran ≡ ran_of ObjectRuns (ready_view self.now)) }
+    {
+        let header = is_object(alloc, self.header)?;
+        let claims = is_object(alloc, self.claims.octets())?;
+        Ok(has_read(header && claims))
+    }
+
+    fn keys(&self, alloc: Global) -> Result<Ran, RunFault>
+        ensures { IfOk result (λ ran. ran ≡ read_ran (key_set_of self.now.given.keys.now)) }
+    {
+        match KeySet::read(alloc, self.given.keys) {
+            Ok(_) => Ok(has_read(true)),
+            Err(KeysFault::OutOfMemory) => Err(RunFault::OutOfMemory),
+            Err(_) => Ok(has_read(false)),
+        }
+    }
+
+    fn policy(&self, alloc: Global) -> Result<Ran, RunFault>
+        ensures { IfOk result (λ ran. ran ≡ read_ran (policy_of self.now.given.policy.now)) }
+    {
+        match Policy::read(alloc, self.given.policy) {
+            Ok(_) => Ok(has_read(true)),
+            Err(PolicyFault::OutOfMemory) => Err(RunFault::OutOfMemory),
+            Err(_) => Ok(has_read(false)),
+        }
+    }
+
+    fn issue(&self, alloc: Global) -> Result<Ran, RunFault>
+        ensures value { IfOk result (λ ran. ran ≡ issued (ready_view self.now)) }
+        ensures within { IfOk result (λ ran. ran.octets ≤ 1000000000000) }
+    {
+        let mut budget = CountDown::new(self.policy.work());
+        match issue_compact(alloc, &mut budget, self.alg, self.key, None, self.claims) {
+            Ok(_) => Ok(ran(true, &budget)),
+            Err(IssueFault::OutOfMemory) => Err(RunFault::OutOfMemory),
+            Err(_) => Ok(ran(false, &budget)),
+        }
+    }
+
+    fn hash(&self, secret: &[u8]) -> Ran
+        ensures value { result ≡ hashed (ready_view self.now) secret.now }
+        ensures within { result.octets ≤ 1000000000000 }
+    {
+        let mut budget = CountDown::new(self.policy.work());
+        if !self.alg.is_hmac() {
+            return ran(false, &budget);
+        }
+        match hmac(&mut budget, self.alg, secret, self.message.parts()) {
+            Ok(tag) => ran(tag.equals(self.signature), &budget),
+            Err(_) => ran(false, &budget),
+        }
+    }
+
+    fn hmac(&self) -> Ran
+        ensures value { result ≡ ran_of HmacRuns (ready_view self.now) }
+        ensures within { result.octets ≤ 1000000000000 }
+    {
+        match self.key.view() {
+            KeyView::Oct { k } => self.hash(k),
+            _ => has_read(false),
+        }
+    }
+
+    /// Runs the workload once.
+    pub(crate) fn once(&self, alloc: Global, workload: Workload) -> Result<Ran, RunFault>
+        ensures value { IfOk result (λ ran. ran ≡ ran_of workload (ready_view self.now)) }
+        ensures within { IfOk result (λ ran. ran.octets ≤ 1000000000000) }
+    {
+        match workload {
+            Workload::Judge => self.judge(alloc),
+            Workload::Validate => self.validate(alloc),
+            Workload::Parse => self.parse(alloc),
+            Workload::Object => self.object(alloc),
+            Workload::Keys => self.keys(alloc),
+            Workload::Policy => self.policy(alloc),
+            Workload::Issue => self.issue(alloc),
+            Workload::Hmac => Ok(self.hmac()),
+        }
+    }
+}

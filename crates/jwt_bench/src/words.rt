@@ -1,0 +1,37 @@
+//! The words of the command.
+ghost use Rattle.std.specs.Prelude.{map, IfSome};
+ghost use Rattle.jwt_bench.specs.Words.{Asks, IsCount};
+
+use crate::workload::Workload;
+
+/// The greatest count.
+const MOST_RUNS: u32 = 10_000_000;
+
+/// What the words ask for.
+#[derive(Clone, Copy, Debug)]
+pub(crate) struct Order {
+    pub(crate) workload: Workload,
+    pub(crate) count: u32,
+}
+
+// A count of at most `MOST_RUNS`, in digits.
+fn count_in(text: &str) -> Option<u32>
+    ensures { IfSome result (λ n. IsCount text.now n) }
+{
+    match text.parse::<u32>() {
+        Ok(count) if count <= MOST_RUNS => Some(count),
+        _ => None,
+    }
+}
+
+/// What the words ask for: after the program's name a workload and a count of at most 10,000,000, and no more.
+pub(crate) fn read_words(words: &[&str]) -> Option<Order>
+    ensures { IfSome result (λ o. Asks (map (λ w. w.now) words.now) o) }
+{
+    let [_, name, count] = words else {
+        return None;
+    };
+    let workload = Workload::named(name)?;
+    let count = count_in(count)?;
+    Some(Order { workload, count })
+}

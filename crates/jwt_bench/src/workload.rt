@@ -1,0 +1,51 @@
+//! What can be run.
+ghost use Rattle.std.specs.Prelude.{◌≡◌};
+
+/// A call of the library.
+#[derive(Clone, Copy, Debug, PartialEq, Eq)]
+pub(crate) enum Workload {
+    /// `judge` on the token, with a new budget.
+    Judge,
+
+    /// `validate` on the token as a source, with a new budget.
+    Validate,
+
+    /// `parse` of the token.
+    Parse,
+
+    /// `object` of the texts of the first protected header and of the payload, both decoded before.
+    Object,
+
+    /// `KeySet::read` of the key set's line.
+    Keys,
+
+    /// `Policy::read` of the policy's line.
+    Policy,
+
+    /// `issue_compact` of the token's claims with the last key, with a new budget.
+    Issue,
+
+    /// `hmac` alone over the first signing input with the last key, and the comparison of its tag, with a new budget.
+    Hmac,
+}
+
+impl Workload {
+    ghost use Rattle.jwt_bench.specs.Workloads.{workload_named};
+
+    /// The workload of this name.
+    pub(crate) fn named(name: &str) -> Option<Workload>
+        ensures { result ≡ workload_named name.now }
+    {
+        match name {
+            "judge" => Some(Workload::Judge),
+            "validate" => Some(Workload::Validate),
+            "parse" => Some(Workload::Parse),
+            "object" => Some(Workload::Object),
+            "keys" => Some(Workload::Keys),
+            "policy" => Some(Workload::Policy),
+            "issue" => Some(Workload::Issue),
+            "hmac" => Some(Workload::Hmac),
+            _ => None,
+        }
+    }
+}
