@@ -1,6 +1,7 @@
 ghost use Rattle.std.specs.Prelude.{None, Some};
 
-use crate::run::run;
+use crate::run::{lack_memory, run};
+use crate::take_line::{LineFault, line};
 use jwt_text::{Reader, Sink, Source, Writer};
 use std::alloc::Global;
 use std::io::Read;
@@ -685,5 +686,46 @@ fn what_issue_prints_verify_accepts(rt: HostRuntime) -> Result<(), Fail> {
         assert_eq!(rt; out.as_slice(), line.as_bytes());
         assert_eq!(rt; code, 0);
     }
+    Ok(())
+}
+
+#[test]
+fn a_line_is_taken_up_to_its_end_or_one_octet_past_its_limit(rt: HostRuntime) -> Result<(), Fail> {
+    let alloc = rt.alloc();
+    let cases: [(&'static [u8], u32, &[u8], usize); 4] = [
+        (b"ab\nc", 2, b"ab", 1),
+        (b"ab", 2, b"ab", 0),
+        (b"\n\n", 1, b"", 1),
+        (b"", 1, b"", 0),
+    ];
+    for (rest, limit, want, unread) in cases {
+        let mut source = Drip {
+            rest,
+            left: 10,
+            failed: false,
+        };
+        let taken = line(alloc, &mut source, limit).ok().ok_or("a line")?;
+        assert_eq!(rt; taken.as_slice(), want, "with {limit}");
+        assert_eq!(rt; source.rest.len(), unread, "with {limit}");
+    }
+    for (left, fault, unread) in [(10, LineFault::TooLong, 2), (1, LineFault::Read, 3)] {
+        let mut source = Drip {
+            rest: b"ab\nc",
+            left,
+            failed: false,
+        };
+        let found = line(alloc, &mut source, 1).err();
+        assert_eq!(rt; found, Some(fault));
+        assert_eq!(rt; source.rest.len(), unread);
+    }
+    Ok(())
+}
+
+#[test]
+fn want_of_memory_has_a_line_and_a_status(rt: HostRuntime) -> Result<(), Fail> {
+    let mut out: Vec<u8> = Vec::new(rt.alloc());
+    let status = lack_memory(&mut Writer::new(&mut out));
+    assert_eq!(rt; out.as_slice(), b"failed OutOfMemory\n".as_slice());
+    assert_eq!(rt; status, 4);
     Ok(())
 }
