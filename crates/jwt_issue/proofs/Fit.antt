@@ -1,9 +1,13 @@
 -- What pairs that may sign sign with, what that costs, and what is answered of it.
-use Rattle.std.proofs.Common.{◌≡◌, ◌≢◌, ℕ, ◌+◌, ◌<◌, ◌≤◌, Bool, true, false, not, cond, nat_lt, ◌==◌, List, [], ◌∷◌, ◌++◌, length, get_or, map, take, drop, Option, Some, None, Result, Ok, Err, refl, sym, ap, ap₂, ◌∙◌, arith}
+use Rattle.std.proofs.Common.{◌≡◌, ◌≢◌, ℕ, ◌+◌, ◌<◌, ◌≤◌, Bool, true, false, not, cond, nat_lt, ◌==◌, List, [], ◌∷◌, ◌++◌, length, get_or, map, take, drop, Option, Some, None, Result, Ok, Err, Vec, IfOk, IsUtf8, refl, sym, ap, ap₂, subst, ◌∙◌, arith}
 use Rattle.std.proofs.lemmas.List.{map_more, at_drop_more}
 use Rattle.std.proofs.lemmas.Bool.Decides.{nat_tests}
+use Rattle.std.specs.Global.{Global}
+use Rattle.serde_json.specs.Data.{object}
+use Rattle.serde_json.specs.Written.{compact_text}
+use Rattle.jwt_text.specs.Answers.{Answers}
 use Rattle.jwt_text.specs.Base64url.{spelling}
-use Rattle.jwt_issue.specs.Issued.{PairParts, SignerParts, unless, may_sign, or_else, unfit, first_unfit, within, signer_of, signing_cost, pair_cost, pair_costs}
+use Rattle.jwt_issue.specs.Issued.{PairParts, SignerParts, header, unless, may_sign, or_else, unfit, first_unfit, first_spent, within, signer_of, signing_cost, pair_cost, pair_costs}
 use Rattle.jwt_mac.specs.Algorithm.{is_hmac_alg}
 use Rattle.jwt_issue.specs.declared.fault.IssueFault.{IssueFault}
 use Rattle.jwt_issue.specs.declared.fault.IssueFault.TheVariants.{OutOfMemory, NoKey, TooManySignatures, AlgNotHmac, KeyUnfit, TooLong, Spent}
@@ -29,6 +33,23 @@ same_answer token left typ claims pair payload s e p =
     let answer : List ℕ → SignerParts → Result (List ℕ) IssueFault = λ q t. within left (signing_cost q t ∷ []) (token q t) in
     sym (ap (λ (f : Option IssueFault). unless f (answer (spelling claims) (signer_of typ pair))) fit.0 ∙ ap₂ answer p fit.1)
 
+-- ---- what is said of a token, of what is answered
+
+by_tests : (beyond : Bool) (spent : Option IssueFault) (token t : List ℕ) → cond beyond (Err TooLong) (unless spent (Ok token)) ≡ Ok t → token ≡ t
+by_tests true spent token t e = absurd (cc e)
+by_tests false None token t e = cc
+by_tests false (Some fault) token t e = absurd (cc e)
+
+token_of : (fault : Option IssueFault) (left : ℕ) (costs token t : List ℕ) → unless fault (within left costs token) ≡ Ok t → token ≡ t
+unfolding within
+token_of None left costs token t e = by_tests (nat_lt 1048576 (length token)) (first_spent 0 left costs) token t e
+token_of (Some fault) left costs token t e = absurd (cc e)
+
+pub answered : (P : List ℕ → Type 0) (r : Result (Vec ℕ Global) IssueFault) (fault : Option IssueFault) (left : ℕ) (costs token : List ℕ)
+    → Answers OutOfMemory (λ (v : Vec ℕ Global). v.items) r (unless fault (within left costs token)) → P token → IfOk r (λ (v : Vec ℕ Global). P v.items)
+answered P (Ok v) fault left costs token a p = subst P (token_of fault left costs token v.items a) p
+answered P (Err e) fault left costs token a p = tt
+
 -- ---- a list of pairs
 
 pub same_costs : (typ : Option (List ℕ)) (claims : List ℕ) (pairs : List PairParts)
@@ -51,6 +72,10 @@ signers_answer token left typ claims pairs payload ss fit e p =
     ∙ sym (ap (λ (f : Option IssueFault). unless f (answer (pair_costs typ claims pairs) (token (spelling claims) (map (signer_of typ) pairs)))) fit)
 
 -- ---- the loop that makes signers
+
+-- the text of a pair's header is UTF-8
+abbrev pub IsUtf8Header : Option (List ℕ) → PairParts → Type 0
+IsUtf8Header typ pair = IsUtf8 (compact_text (object (header typ pair)))
 
 pub unfit_at : (pairs : List PairParts) (i : ℕ) (pair : PairParts) → i < length pairs → pair ≡ get_or pairs i pair
     → first_unfit i (drop i pairs) ≡ first_unfit i (pair ∷ drop (i + 1) pairs)

@@ -95,12 +95,12 @@ is_first (suc i) apart = absurd (apart i (omega arith))
 -- what is paid after a step that stopped, by what was paid in it
 pub paid_after : (X : Type 0) (fault : IssueFault) (i most : ℕ) (P Q : ℕ → Type 0) → i ≤ most → (P 1 → i + 1 ≤ most)
     → (fault ≢ OutOfMemory → fault ≡ Spent i) → (P 0 → Q i) → (P 1 → Q (i + 1)) → PaysOnce {X = X} (Err fault) P → Pays {X = X} (Err fault) most Q
-paid_after X OutOfMemory i most P Q zero_due one_due named none one paid = elim paid [ inl p ↦ (i, zero_due, none p) | inr p ↦ (i + 1, one_due p, one p) ]
-paid_after X (Spent j) i most P Q zero_due one_due named none one paid =
+paid_after X OutOfMemory i most P Q none_due one_due named none one paid = elim paid [ inl p ↦ (i, none_due, none p) | inr p ↦ (i + 1, one_due p, one p) ]
+paid_after X (Spent j) i most P Q none_due one_due named none one paid =
     let same : j ≡ i = cc (named (λ e. cc)) in
     subst Q (sym same) (none paid)
-paid_after X (AlgNotHmac j) i most P Q zero_due one_due named none one paid = absurd (cc (named (λ e. cc)))
-paid_after X (KeyUnfit j) i most P Q zero_due one_due named none one paid = absurd (cc (named (λ e. cc)))
-paid_after X NoKey i most P Q zero_due one_due named none one paid = absurd (cc (named (λ e. cc)))
-paid_after X TooManySignatures i most P Q zero_due one_due named none one paid = absurd (cc (named (λ e. cc)))
-paid_after X TooLong i most P Q zero_due one_due named none one paid = absurd (cc (named (λ e. cc)))
+paid_after X (AlgNotHmac j) i most P Q none_due one_due named none one paid = absurd (cc (named (λ e. cc)))
+paid_after X (KeyUnfit j) i most P Q none_due one_due named none one paid = absurd (cc (named (λ e. cc)))
+paid_after X NoKey i most P Q none_due one_due named none one paid = absurd (cc (named (λ e. cc)))
+paid_after X TooManySignatures i most P Q none_due one_due named none one paid = absurd (cc (named (λ e. cc)))
+paid_after X TooLong i most P Q none_due one_due named none one paid = absurd (cc (named (λ e. cc)))

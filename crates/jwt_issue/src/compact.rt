@@ -1,14 +1,17 @@
 //! Tokens in compact form.
-ghost use Rattle.std.specs.Prelude.{◌≡◌, ◌≢◌, ◌+◌, ◌-◌, ◌*◌, ◌<◌, ◌^◌, ◌∷◌, ◌++◌, [], IfErr, OnOk};
+ghost use Rattle.std.specs.Prelude.{◌≡◌, ◌≢◌, ◌+◌, ◌-◌, ◌*◌, ◌<◌, ◌^◌, ◌∷◌, ◌++◌, [], ℕ, IfOk, IfErr, OnOk};
 ghost use Rattle.jwt_text.specs.Answers.{Answers};
+ghost use Rattle.jwt_jws.specs.SignedToken.{IsSignedToken};
 ghost use Rattle.jwt_mac.specs.Verifying.{signing_input};
 ghost use Rattle.jwt_issue.specs.Issued.{compact_of, compact_token, within, signing_cost, pair_cost};
 ghost use Rattle.jwt_issue.specs.Paying.{Pays, due};
+ghost use Rattle.jwt_issue.specs.Signed.{compact_signed};
 ghost use Rattle.jwt_issue.specs.Views.{pair_of, text_of, signer_parts};
 
 use crate::claim_set::ClaimSet;
 use crate::fault::IssueFault;
 use crate::header::spell;
+use crate::laws::compact_tokens_are_signed;
 use crate::signer::Signer;
 use crate::size::compact_len;
 use jwt_keys::Key;
@@ -57,7 +60,8 @@ fn compact_token<B: Budget>(
 ///
 /// The protected header has `alg`, the key's `kid` where it has one, and `typ` where it is given, as compact JSON text with the
 /// names in ascending byte order; the signature is the HMAC of the key over the signing input (RFC 7518, section 3.2). The HMAC is
-/// paid from the budget, at its cost and with one call. The condition: at least 32 calls are left below `u32::MAX`.
+/// paid from the budget, at its cost and with one call. What is issued is a signed token, of which `jwt_jws::parse` reads these
+/// claims, this header and this signature. The condition: at least 32 calls are left below `u32::MAX`.
 ///
 /// # Errors
 /// The first that holds of `AlgNotHmac(0)` and `KeyUnfit(0)`, the pair may not sign; `TooLong`, the token would have more than
@@ -75,12 +79,14 @@ pub fn issue_compact<B: Budget>(
 ) -> Result<Vec<u8>, IssueFault>
     requires { B.calls b.old + 32 < 2 ^ 32 }
     ensures answer { Answers IssueFault.OutOfMemory (λ v. v.items) result (compact_of (B.ceiling b.old - B.octets b.old) (text_of typ.entry) claims.now (pair_of alg key.now)) }
+    ensures signed { IfOk result (λ v. (most : ℕ) → IsSignedToken most v.items (compact_signed (text_of typ.entry) claims.now (pair_of alg key.now))) }
 
     // What the budget counts.
     ensures paid { Pays result (due 1 (compact_of (B.ceiling b.old - B.octets b.old) (text_of typ.entry) claims.now (pair_of alg key.now))) (λ n. (B.octets b.new ≡ B.octets b.old + n * pair_cost (text_of typ.entry) claims.now (pair_of alg key.now)) × (B.calls b.new ≡ B.calls b.old + n)) }
     ensures ceiling { B.ceiling b.new ≡ B.ceiling b.old }
     ensures unchanged { IfErr result (λ e. e ≢ IssueFault.OutOfMemory → b.new ≡ b.old) }
 {
+    compact_tokens_are_signed();
     let signer = Signer::new(alloc, 0, alg, key, typ)?;
     let payload = spell(alloc, claims.octets())?;
     compact_token(alloc, b, &signer, &payload)

@@ -1,14 +1,19 @@
 //! Tokens in general JSON form.
-ghost use Rattle.std.specs.Prelude.{◌≡◌, ◌≢◌, ◌+◌, ◌-◌, ◌*◌, ◌≤◌, ◌<◌, ◌^◌, ◌++◌, ◌∷◌, [], ℕ, List, length, map, take, codes, nat_lt, None, Some, Ok, IfErr, OnOk, OnErr, if◌then◌else◌};
+ghost use Rattle.std.specs.Prelude.{◌≡◌, ◌≢◌, ◌+◌, ◌-◌, ◌*◌, ◌≤◌, ◌<◌, ◌^◌, ◌++◌, ◌∷◌, [], ℕ, List, length, map, take, codes, nat_lt, None, Some, Ok, ℕ, All, IsUtf8, IfOk, IfErr, OnOk, OnErr, if◌then◌else◌};
 ghost use Rattle.std.specs.List.{sum, join_with_byte};
+ghost use Rattle.serde_json.specs.Data.{object};
+ghost use Rattle.serde_json.specs.Written.{compact_text};
 ghost use Rattle.jwt_text.specs.Answers.{Answers};
-ghost use Rattle.jwt_issue.specs.Issued.{general_of, general_token, within, pair_costs, first_unfit, first_spent, signer_of, signing_cost, text_members, element, unless};
+ghost use Rattle.jwt_jws.specs.SignedToken.{IsSignedToken};
+ghost use Rattle.jwt_issue.specs.Issued.{header, general_of, general_token, within, pair_costs, first_unfit, first_spent, signer_of, signing_cost, text_members, element, unless};
 ghost use Rattle.jwt_issue.specs.Paying.{Pays, PaysOnce, due};
+ghost use Rattle.jwt_issue.specs.Signed.{general_signed};
 ghost use Rattle.jwt_issue.specs.Views.{pair_parts, text_of, signer_parts};
 
 use crate::claim_set::ClaimSet;
 use crate::fault::IssueFault;
 use crate::header::spell;
+use crate::laws::general_tokens_are_signed;
 use crate::signer::Signer;
 use crate::size::general_len;
 use crate::writing::{add_signature, add_text};
@@ -26,7 +31,8 @@ fn signers<'a>(
     typ: Option<&str>,
 ) -> Result<Vec<Signer<'a>>, IssueFault>
     requires { length pairs.now ≤ 32 }
-    ensures { Answers IssueFault.OutOfMemory (λ v. map signer_parts v.items) result (unless (first_unfit 0 (map pair_parts pairs.now)) (Ok (map (signer_of (text_of typ.entry)) (map pair_parts pairs.now)))) }
+    ensures answer { Answers IssueFault.OutOfMemory (λ v. map signer_parts v.items) result (unless (first_unfit 0 (map pair_parts pairs.now)) (Ok (map (signer_of (text_of typ.entry)) (map pair_parts pairs.now)))) }
+    ensures utf8 { OnOk result (All (λ pair. IsUtf8 (compact_text (object (header (text_of typ.entry) pair)))) (map pair_parts pairs.now)) }
 {
     let mut signers = Vec::with_capacity(alloc, pairs.len())?;
     for i in 0..pairs.len() {
@@ -130,8 +136,9 @@ fn general_token<B: Budget>(
 ///
 /// Each protected header has `alg`, its key's `kid` where it has one, and `typ` where it is given, as compact JSON text with the
 /// names in ascending byte order; each signature is the HMAC of its own key over its own signing input (RFC 7518, section 3.2).
-/// The HMACs are paid from the budget in order, each at its cost and with one call. The condition: at least 32 calls are left
-/// below `u32::MAX`.
+/// The HMACs are paid from the budget in order, each at its cost and with one call. What is issued is a signed token, of which
+/// `jwt_jws::parse` reads these claims, these headers and these signatures where it takes so many. The condition: at least 32 calls
+/// are left below `u32::MAX`.
 ///
 /// # Errors
 /// The first that holds of `NoKey`, there is no pair; `TooManySignatures`, there are more than 32; for each pair i `AlgNotHmac(i)`
@@ -149,6 +156,8 @@ pub fn issue_json<B: Budget>(
 ) -> Result<Vec<u8>, IssueFault>
     requires { B.calls b.old + 32 < 2 ^ 32 }
     ensures answer { Answers IssueFault.OutOfMemory (λ v. v.items) result (general_of (B.ceiling b.old - B.octets b.old) (text_of typ.entry) claims.now (map pair_parts pairs.now)) }
+    ensures signed { IfOk result (λ v. (most : ℕ) → length pairs.now ≤ most
+        → IsSignedToken most v.items (general_signed (text_of typ.entry) claims.now (map pair_parts pairs.now))) }
 
     // What the budget counts.
     ensures paid { Pays result (due (length pairs.now) (general_of (B.ceiling b.old - B.octets b.old) (text_of typ.entry) claims.now (map pair_parts pairs.now))) (λ n. (B.octets b.new ≡ B.octets b.old + sum (take n (pair_costs (text_of typ.entry) claims.now (map pair_parts pairs.now)))) × (B.calls b.new ≡ B.calls b.old + n)) }
@@ -161,6 +170,7 @@ pub fn issue_json<B: Budget>(
     if pairs.len() > MOST_SIGNATURES {
         return Err(IssueFault::TooManySignatures);
     }
+    general_tokens_are_signed();
     let signers = signers(alloc, pairs, typ)?;
     let payload = spell(alloc, claims.octets())?;
     general_token(alloc, b, &signers, &payload)

@@ -1,8 +1,8 @@
 //! The protected header of what is issued, and base64url texts.
-ghost use Rattle.std.specs.Prelude.{◌≡◌, IfOk, IsOkUnless};
+ghost use Rattle.std.specs.Prelude.{◌≡◌, IfOk, OnOk, IsOkUnless, IsUtf8};
 ghost use Rattle.serde_json.specs.Data.{object};
 ghost use Rattle.serde_json.specs.Written.{compact_text};
-ghost use Rattle.jwt_text.specs.Base64url.{spelling};
+ghost use Rattle.jwt_text.specs.Base64url.{AreOctets, spelling};
 ghost use Rattle.jwt_issue.specs.Issued.{header, protected_text};
 ghost use Rattle.jwt_issue.specs.Views.{pair_of, text_of};
 
@@ -15,6 +15,7 @@ use std::alloc::Global;
 /// The compact text of the protected header.
 fn header_text(alloc: Global, alg: Alg, key: &Key, typ: Option<&str>) -> Result<Vec<u8>, IssueFault>
     ensures ok { IfOk result (λ v. v.items ≡ compact_text (object (header (text_of typ.entry) (pair_of alg key.now)))) }
+    ensures utf8 { IfOk result (λ v. IsUtf8 v.items) }
     ensures err { IsOkUnless result IssueFault.OutOfMemory }
 {
     let mut header = ObjectOut::new(alloc);
@@ -40,6 +41,7 @@ fn header_text(alloc: Global, alg: Alg, key: &Key, typ: Option<&str>) -> Result<
 /// The base64url text that spells the octets.
 pub(crate) fn spell(alloc: Global, octets: &[u8]) -> Result<Vec<u8>, IssueFault>
     ensures ok { IfOk result (λ v. v.items ≡ spelling octets.now) }
+    ensures octets { AreOctets octets.now }
     ensures err { IsOkUnless result IssueFault.OutOfMemory }
 {
     match encode(alloc, octets) {
@@ -57,6 +59,7 @@ pub(crate) fn protected_text(
     typ: Option<&str>,
 ) -> Result<Vec<u8>, IssueFault>
     ensures ok { IfOk result (λ v. v.items ≡ protected_text (text_of typ.entry) (pair_of alg key.now)) }
+    ensures utf8 { OnOk result (IsUtf8 (compact_text (object (header (text_of typ.entry) (pair_of alg key.now))))) }
     ensures err { IsOkUnless result IssueFault.OutOfMemory }
 {
     let text = header_text(alloc, alg, key, typ)?;

@@ -19,9 +19,11 @@ pub(crate) struct Signer<'a> {
 }
 
 impl<'a> Signer<'a> {
-    ghost use Rattle.std.specs.Prelude.{◌≡◌, ◌≢◌, ◌+◌, ◌*◌, ◌<◌, ◌≤◌, ◌^◌, IfOk, IfErr, OnOk, Ok};
+    ghost use Rattle.std.specs.Prelude.{◌≡◌, ◌≢◌, ◌+◌, ◌*◌, ◌<◌, ◌≤◌, ◌^◌, IfOk, IfErr, OnOk, Ok, IsUtf8};
+    ghost use Rattle.serde_json.specs.Data.{object};
+    ghost use Rattle.serde_json.specs.Written.{compact_text};
     ghost use Rattle.jwt_text.specs.Answers.{Answers, some_or};
-    ghost use Rattle.jwt_issue.specs.Issued.{unfit, signer_of, unless, signature_text, signing_cost};
+    ghost use Rattle.jwt_issue.specs.Issued.{unfit, header, signer_of, unless, signature_text, signing_cost};
     ghost use Rattle.jwt_issue.specs.Paying.{PaysOnce};
     ghost use Rattle.jwt_issue.specs.Views.{pair_of, text_of, signer_parts};
 
@@ -34,7 +36,8 @@ impl<'a> Signer<'a> {
         key: &'a Key,
         typ: Option<&str>,
     ) -> Result<Signer<'a>, IssueFault>
-        ensures { Answers IssueFault.OutOfMemory signer_parts result (unless (unfit i (pair_of alg key.entry.now)) (Ok (signer_of (text_of typ.entry) (pair_of alg key.entry.now)))) }
+        ensures answer { Answers IssueFault.OutOfMemory signer_parts result (unless (unfit i (pair_of alg key.entry.now)) (Ok (signer_of (text_of typ.entry) (pair_of alg key.entry.now)))) }
+        ensures utf8 { OnOk result (IsUtf8 (compact_text (object (header (text_of typ.entry) (pair_of alg key.entry.now))))) }
     {
         if let Some(fault) = unfit(i, alg, key) {
             return Err(fault);

@@ -1,12 +1,14 @@
 use Rattle.std.proofs.Common.{◌≡◌, ℕ, ◌+◌, ◌-◌, ◌*◌, List, [], ◌∷◌, Result, Vec, sym, ap, subst, ◌∙◌, arith}
 use Rattle.std.specs.Global.{Global}
 use Rattle.std.proofs.lemmas.Result.{err_from_is_err_and}
-use Rattle.jwt_text.specs.Base64url.{spelling}
-use Rattle.jwt_issue.specs.Issued.{compact_of, compact_token, within, pair_cost, signer_of, signing_cost}
+use Rattle.jwt_jws.specs.SignedToken.{IsSignedToken}
+use Rattle.jwt_text.specs.Base64url.{AreOctets, spelling}
+use Rattle.jwt_issue.specs.Issued.{compact_of, compact_token, unfit, within, pair_cost, signer_of, signing_cost}
 use Rattle.jwt_issue.specs.Paying.{Pays, due}
+use Rattle.jwt_issue.specs.Signed.{compact_signed}
 use Rattle.jwt_issue.specs.Views.{pair_of, text_of, signer_parts}
 use Rattle.jwt_issue.specs.declared.fault.IssueFault.{IssueFault}
-use Rattle.jwt_issue.proofs.Fit.{same_cost, same_answer, signer_unspent, none_paid}
+use Rattle.jwt_issue.proofs.Fit.{same_cost, same_answer, signer_unspent, none_paid, answered}
 use Rattle.jwt_issue.proofs.compact.issue_compact.Goals as goal
 
 pub returns-in_err-signer-clause-paid : goal.returns-in_err-signer-clause-paid
@@ -15,7 +17,7 @@ returns-in_err-signer-clause-paid g c =
     let typ = text_of c.args.typ in
     let pair = pair_of c.args.alg c.args.key.now in
     let left = g.B.Budget.ceiling c.args.b.now - g.B.Budget.octets c.args.b.now in
-    let unspent = λ (j : ℕ). signer_unspent pair (signer_of typ pair) c.in_err-signer.field-0.0 j c.in_err-signer.ensures in
+    let unspent = λ (j : ℕ). signer_unspent pair (signer_of typ pair) c.in_err-signer.field-0.0 j c.in_err-signer.ensures.answer in
     let Paid : ℕ → Type 0 = λ n. (g.B.Budget.octets c.args.b.now ≡ g.B.Budget.octets c.args.b.now + n * pair_cost typ c.args.claims.now pair) × (g.B.Budget.calls c.args.b.now ≡ g.B.Budget.calls c.args.b.now + n) in
     rw (p.1, p.2) (none_paid (Vec ℕ Global) c.in_err-signer.field-0.0 (due 1 (compact_of left typ c.args.claims.now pair)) Paid unspent (omega arith, omega arith))
 
@@ -28,8 +30,22 @@ returns-clause-paid g c =
     let pair = pair_of c.args.alg c.args.key.now in
     let s = signer_parts c.in_ok-signer.signer in
     let left = g.B.Budget.ceiling c.args.b.now - g.B.Budget.octets c.args.b.now in
-    let price = same_cost typ c.args.claims.now pair text s c.in_ok-signer.ensures payload in
-    let answer = same_answer compact_token left typ c.args.claims.now pair text s c.in_ok-signer.ensures payload in
+    let price = same_cost typ c.args.claims.now pair text s c.in_ok-signer.ensures.answer payload in
+    let answer = same_answer compact_token left typ c.args.claims.now pair text s c.in_ok-signer.ensures.answer payload in
     let Paid : ℕ → ℕ → Type 0 = λ price n. (g.B.Budget.octets c.compact_token.new.b ≡ g.B.Budget.octets c.args.b.now + n * price) × (g.B.Budget.calls c.compact_token.new.b ≡ g.B.Budget.calls c.args.b.now + n) in
     subst (λ (most : ℕ). Pays c.compact_token.result most (Paid (pair_cost typ c.args.claims.now pair))) (ap (λ (r : Result (List ℕ) IssueFault). due 1 r) answer)
     (subst (λ (price : ℕ). Pays c.compact_token.result (due 1 (within left (signing_cost text s ∷ []) (compact_token text s))) (Paid price)) price c.compact_token.ensures.paid)
+
+pub returns-clause-signed : goal.returns-clause-signed
+returns-clause-signed g c =
+    let payload : spelling c.args.claims.now ≡ c.deref.result.now = ap spelling (sym c.octets.ensures) ∙ sym c.in_ok-payload.ensures.ok ∙ sym c.deref.ensures.value in
+    let text = c.deref.result.now in
+    let typ = text_of c.args.typ in
+    let pair = pair_of c.args.alg c.args.key.now in
+    let s = signer_parts c.in_ok-signer.signer in
+    let left = g.B.Budget.ceiling c.args.b.now - g.B.Budget.octets c.args.b.now in
+    let answer = same_answer compact_token left typ c.args.claims.now pair text s c.in_ok-signer.ensures.answer payload in
+    let claims : AreOctets c.args.claims.now = subst AreOctets c.octets.ensures c.in_ok-payload.ensures.octets in
+    answered (λ (t : List ℕ). (most : ℕ) → IsSignedToken most t (compact_signed typ c.args.claims.now pair)) c.compact_token.result (unfit 0 pair) left (pair_cost typ c.args.claims.now pair ∷ []) (compact_token (spelling c.args.claims.now) (signer_of typ pair))
+    (rw answer at c.compact_token.ensures.answer)
+    (λ most. c.compact_tokens_are_signed.ensures most typ c.args.claims.now pair c.in_ok-signer.ensures.utf8 claims)

@@ -1,26 +1,28 @@
-use Rattle.std.proofs.Common.{◌≡◌, ℕ, ◌<◌, ◌+◌, ◌-◌, List, length, map, take, Result, Vec, sym, ap, ap₂, subst, ◌∙◌, arith}
+use Rattle.std.proofs.Common.{◌≡◌, ℕ, ◌<◌, ◌≤◌, ◌+◌, ◌-◌, List, length, map, take, Result, Vec, sym, ap, ap₂, subst, ◌∙◌, arith}
 use Rattle.std.specs.Global.{Global}
 use Rattle.std.specs.List.{sum}
 use Rattle.std.proofs.lemmas.Bool.Decides.{nat_tests}
 use Rattle.std.proofs.lemmas.Grind.{common_steps}
 use Rattle.std.proofs.lemmas.List.{length-map}
 use Rattle.std.proofs.lemmas.Result.{err_from_is_err_and}
+use Rattle.jwt_jws.specs.SignedToken.{IsSignedToken}
 use Rattle.jwt_text.specs.Answers.{Answers}
-use Rattle.jwt_text.specs.Base64url.{spelling}
+use Rattle.jwt_text.specs.Base64url.{AreOctets, spelling}
 use Rattle.jwt_issue.specs.Issued.{PairParts, SignerParts, first_unfit, general_of, general_token, within, signing_cost, signer_of, pair_costs}
 use Rattle.jwt_issue.specs.declared.fault.IssueFault.{IssueFault}
 use Rattle.jwt_issue.specs.declared.fault.IssueFault.TheVariants.{OutOfMemory}
 use Rattle.jwt_issue.specs.declared.signer.Signer.{Signer}
 use Rattle.jwt_issue.specs.Paying.{Pays, due}
+use Rattle.jwt_issue.specs.Signed.{general_signed}
 use Rattle.jwt_issue.specs.Views.{pair_parts, text_of, signer_parts}
-use Rattle.jwt_issue.proofs.Fit.{fit_answer, signers_costs, signers_answer, signers_unspent, none_paid, some_pairs}
+use Rattle.jwt_issue.proofs.Fit.{fit_answer, signers_costs, signers_answer, signers_unspent, none_paid, some_pairs, answered}
 use Rattle.jwt_issue.proofs.general.issue_json.Goals as goal
 
 pub returns-in_err-signers-clause-paid : goal.returns-in_err-signers-clause-paid
 returns-in_err-signers-clause-paid g c =
     let p = err_from_is_err_and c.from_residual.result c.from_residual.ensures.1 in
     let pairs = map pair_parts c.args.pairs.now in
-    let unspent = λ (j : ℕ). signers_unspent (text_of c.args.typ) pairs (map (signer_of (text_of c.args.typ)) pairs) c.in_err-signers.field-0.0 j c.in_err-signers.ensures in
+    let unspent = λ (j : ℕ). signers_unspent (text_of c.args.typ) pairs (map (signer_of (text_of c.args.typ)) pairs) c.in_err-signers.field-0.0 j c.in_err-signers.ensures.answer in
     rw (p.1, p.2) (none_paid (Vec ℕ Global) c.in_err-signers.field-0.0 _ _ unspent (omega arith, omega arith))
 
 pub returns-clause-answer : goal.returns-clause-answer
@@ -29,7 +31,7 @@ returns-clause-answer g c =
     let pairs = map pair_parts c.args.pairs.now in
     let made : PairParts → SignerParts = signer_of (text_of c.args.typ) in
     let ss = map signer_parts c.deref.result.now in
-    let fit = fit_answer (first_unfit 0 pairs) (map made pairs) (map signer_parts c.in_ok-signers.signers.items) c.in_ok-signers.ensures in
+    let fit = fit_answer (first_unfit 0 pairs) (map made pairs) (map signer_parts c.in_ok-signers.signers.items) c.in_ok-signers.ensures.answer in
     let signers : map made pairs ≡ ss = fit.1 ∙ ap (λ (xs : List Signer). map signer_parts xs) (sym c.deref.ensures.value) in
     let payload : spelling c.args.claims.now ≡ c.deref-2.result.now = ap spelling (sym c.octets.ensures) ∙ sym c.in_ok-payload.ensures.ok ∙ sym c.deref-2.ensures.value in
     let left = g.B.Budget.ceiling c.args.b.now - g.B.Budget.octets c.args.b.now in
@@ -46,7 +48,7 @@ returns-clause-paid g c =
     let pairs = map pair_parts c.args.pairs.now in
     let made : PairParts → SignerParts = signer_of (text_of c.args.typ) in
     let ss = map signer_parts c.deref.result.now in
-    let fit = fit_answer (first_unfit 0 pairs) (map made pairs) (map signer_parts c.in_ok-signers.signers.items) c.in_ok-signers.ensures in
+    let fit = fit_answer (first_unfit 0 pairs) (map made pairs) (map signer_parts c.in_ok-signers.signers.items) c.in_ok-signers.ensures.answer in
     let signers : map made pairs ≡ ss = fit.1 ∙ ap (λ (xs : List Signer). map signer_parts xs) (sym c.deref.ensures.value) in
     let payload : spelling c.args.claims.now ≡ c.deref-2.result.now = ap spelling (sym c.octets.ensures) ∙ sym c.in_ok-payload.ensures.ok ∙ sym c.deref-2.ensures.value in
     let costs = signers_costs (text_of c.args.typ) c.args.claims.now pairs c.deref-2.result.now ss signers payload in
@@ -60,3 +62,22 @@ returns-clause-paid g c =
     let Paid : List ℕ → ℕ → Type 0 = λ prices n. (g.B.Budget.octets c.general_token.new.b ≡ g.B.Budget.octets c.args.b.now + sum (take n prices)) × (g.B.Budget.calls c.general_token.new.b ≡ g.B.Budget.calls c.args.b.now + n) in
     subst (λ (most : ℕ). Pays c.general_token.result most (Paid (pair_costs (text_of c.args.typ) c.args.claims.now pairs))) (ap₂ (λ (all : ℕ) (r : Result (List ℕ) IssueFault). due all r) size answer)
     (subst (λ (prices : List ℕ). Pays c.general_token.result (due (length c.deref.result.now) (within left (map (signing_cost c.deref-2.result.now) ss) (general_token c.deref-2.result.now ss))) (Paid prices)) costs c.general_token.ensures.paid)
+
+pub returns-clause-signed : goal.returns-clause-signed
+returns-clause-signed g c =
+    let typ = text_of c.args.typ in
+    let pairs = map pair_parts c.args.pairs.now in
+    let made : PairParts → SignerParts = signer_of typ in
+    let ss = map signer_parts c.deref.result.now in
+    let fit = fit_answer (first_unfit 0 pairs) (map made pairs) (map signer_parts c.in_ok-signers.signers.items) c.in_ok-signers.ensures.answer in
+    let signers : map made pairs ≡ ss = fit.1 ∙ ap (λ (xs : List Signer). map signer_parts xs) (sym c.deref.ensures.value) in
+    let payload : spelling c.args.claims.now ≡ c.deref-2.result.now = ap spelling (sym c.octets.ensures) ∙ sym c.in_ok-payload.ensures.ok ∙ sym c.deref-2.ensures.value in
+    let left = g.B.Budget.ceiling c.args.b.now - g.B.Budget.octets c.args.b.now in
+    let same = signers_answer general_token left typ c.args.claims.now pairs c.deref-2.result.now ss fit.0 signers payload in
+    let count = length-map c.args.pairs.now pair_parts in
+    let some : 0 < length c.args.pairs.now = grind (arith, nat_tests, common_steps) in
+    let claims : AreOctets c.args.claims.now = subst AreOctets c.octets.ensures c.in_ok-payload.ensures.octets in
+    answered (λ (t : List ℕ). (most : ℕ) → length c.args.pairs.now ≤ most → IsSignedToken most t (general_signed typ c.args.claims.now pairs)) c.general_token.result
+    (first_unfit 0 pairs) left (pair_costs typ c.args.claims.now pairs) (general_token (spelling c.args.claims.now) (map made pairs))
+    (rw same at c.general_token.ensures.answer)
+    (λ most few. c.general_tokens_are_signed.ensures most typ c.args.claims.now pairs (omega (arith, some)) (omega arith) c.in_ok-signers.ensures.utf8 claims)
