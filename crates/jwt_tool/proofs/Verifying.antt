@@ -15,6 +15,7 @@ use Rattle.jwt_policy.specs.Settings.{Settings}
 use Rattle.jwt_tool.specs.Input.{TakesAtMost}
 use Rattle.jwt_tool.specs.Issue.{TokenAsked, issue_answer, issue_under}
 use Rattle.jwt_tool.specs.Verify.{keys_answer, keys_refused, policy_refused, under_keys, under_policy, unless_failed, verify_answer}
+use Rattle.jwt_tool.specs.Listed.{keys_answer as keys_answer_alone, listed}
 use Rattle.jwt_tool.specs.TakenLines.{TakesLine, after_line, first_line}
 
 -- ---- what is taken
@@ -76,6 +77,9 @@ pub policy_line_too_long : (now : ℕ) (x : List ℕ) (failed : Bool) → failed
     → policy_refused policy.TooLong ≡ verify_answer now failed x
 policy_line_too_long now x failed works long =
     sym (ap (λ f. verify_answer now f x) works ∙ ap (λ k. under_policy now k (after_line x)) (policy_too_long (first_line x) long))
+
+pub set_too_long : (x : List ℕ) (failed : Bool) → failed ≡ false → 4194304 < length x → keys_refused keys.TooLong ≡ keys_answer_alone failed x
+set_too_long x failed works long = sym (ap (λ f. keys_answer_alone f x) works ∙ ap listed (keys_too_long x long))
 
 pub issue_line_too_long : (asked : TokenAsked) (x : List ℕ) (failed : Bool) → failed ≡ false → 4194304 < length (first_line x)
     → keys_refused keys.TooLong ≡ issue_answer asked failed x

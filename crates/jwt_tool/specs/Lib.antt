@@ -2,6 +2,7 @@ pub mod Examples
 pub mod Faults
 pub mod Input
 pub mod Issue
+pub mod Listed
 pub mod Mac
 pub mod Printed
 pub mod Seen

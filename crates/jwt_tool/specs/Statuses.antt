@@ -1,7 +1,6 @@
--- The statuses of the commands whose lines are shown by tests.
+-- The status of the command whose lines are shown by tests.
 use Rattle.std.specs.Prelude.{◌≡◌, ◌⊎◌, ℕ, Bool, true, false, List, length, nat_lt, if◌then◌else◌}
 use Rattle.std.specs.Result.{is_ok}
-use Rattle.jwt_keys.specs.KeySets.{key_set_of}
 use Rattle.jwt_jws.specs.Forms.{form_of}
 use Rattle.jwt_tool.specs.Mac.{without_line_feed}
 
@@ -12,11 +11,6 @@ HasStatus status failed result = (result ≡ status) ⊎ (result ≡ 4) ⊎ ((fa
 abbrev pub status_of : Bool → ℕ
 status_of true = 0
 status_of false = 1
-
--- of a set of keys, by a reader that has failed or not
-abbrev pub keys_status : Bool → List ℕ → ℕ
-keys_status true input = 3
-keys_status false input = if nat_lt 4194304 (length input) then 1 else status_of (is_ok (key_set_of input))
 
 -- of a token
 abbrev pub show_status : ℕ → Bool → List ℕ → ℕ

@@ -1,5 +1,5 @@
 //! The pieces of a line, as octets.
-ghost use Rattle.std.specs.Prelude.{◌≡◌, IfOk, codes, option_map};
+ghost use Rattle.std.specs.Prelude.{◌≡◌, ◌++◌, IfOk, codes, option_map};
 ghost use Rattle.std.specs.Fmt.{signed_decimal};
 ghost use Rattle.std.specs.Option.{option_map_or};
 ghost use Rattle.json.specs.Print.{quoted as quoted_text};
@@ -27,4 +27,12 @@ pub(crate) fn number_or_dash(alloc: Global, number: Option<i64>) -> Result<Vec<u
         Some(number) => Ok(format!(in alloc; "{number}")?.into_bytes()),
         None => b"-".to_vec(alloc),
     }
+}
+
+/// Adds a label and the octets that it names.
+pub(crate) fn put_labelled(out: &mut Vec<u8>, label: &str, value: &[u8]) -> Result<(), AllocError>
+    ensures { IfOk result (λ _. out.new.items ≡ out.old.items ++ (label.now ++ value.now)) }
+{
+    out.extend_from_slice(label.as_bytes())?;
+    out.extend_from_slice(value)
 }

@@ -4,8 +4,9 @@ ghost use Rattle.jwt_tool.specs.Mac.{key_spelled, mac_answer};
 ghost use Rattle.jwt_tool.specs.Input.{TakesAtMost};
 ghost use Rattle.jwt_tool.specs.Printed.{Gives, GivesWrongWords, Prints, out_of_memory};
 ghost use Rattle.jwt_tool.specs.Views.{reply_view};
-ghost use Rattle.jwt_tool.specs.Statuses.{HasStatus, keys_status, show_status};
+ghost use Rattle.jwt_tool.specs.Statuses.{HasStatus, show_status};
 ghost use Rattle.jwt_tool.specs.Issue.{TokenAsked, issue_answer};
+ghost use Rattle.jwt_tool.specs.Listed.{keys_answer};
 ghost use Rattle.jwt_tool.specs.Verify.{verify_answer};
 ghost use Rattle.jwt_tool.specs.Words.{Issue, Keys, Mac, Order as Asked, Show, Verify, input_limit, order_of};
 
@@ -34,9 +35,10 @@ pub fn run<R: Source, W: Sink>(alloc: Global, words: &[&str], r: &mut R, w: &mut
     // The token of `issue`.
     ensures issue { (wanted : TokenAsked) → order_of (map (λ word. word.now) words.now) ≡ Some (Issue wanted.alg wanted.typ wanted.form)
         → IfSome (R.remaining r.old) (λ x. Gives (issue_answer wanted (R.failed r.new) x) (W.contents w.old) (W.contents w.new) (W.failed w.new) result) }
-    // The statuses of `keys` and `show`.
+    // The lines of `keys`.
     ensures keys { order_of (map (λ word. word.now) words.now) ≡ Some Keys
-        → IfSome (R.remaining r.old) (λ x. HasStatus (keys_status (R.failed r.new) x) (W.failed w.new) result) }
+        → IfSome (R.remaining r.old) (λ x. Gives (keys_answer (R.failed r.new) x) (W.contents w.old) (W.contents w.new) (W.failed w.new) result) }
+    // The status of `show`.
     ensures show { (limit : ℕ) → order_of (map (λ word. word.now) words.now) ≡ Some (Show limit)
         → IfSome (R.remaining r.old) (λ x. HasStatus (show_status limit (R.failed r.new) x) (W.failed w.new) result) }
 
@@ -85,7 +87,7 @@ fn reply_to<R: Source>(alloc: Global, words: &[&str], r: &mut R) -> Result<Reply
     ensures issue { (wanted : TokenAsked) → order_of (map (λ word. word.now) words.now) ≡ Some (Issue wanted.alg wanted.typ wanted.form)
         → IfSome (R.remaining r.old) (λ x. IfOk result (λ a. reply_view a ≡ issue_answer wanted (R.failed r.new) x)) }
     ensures keys { order_of (map (λ word. word.now) words.now) ≡ Some Keys
-        → IfSome (R.remaining r.old) (λ x. IfOk result (λ a. a.status ≡ keys_status (R.failed r.new) x)) }
+        → IfSome (R.remaining r.old) (λ x. IfOk result (λ a. reply_view a ≡ keys_answer (R.failed r.new) x)) }
     ensures show { (limit : ℕ) → order_of (map (λ word. word.now) words.now) ≡ Some (Show limit)
         → IfSome (R.remaining r.old) (λ x. IfOk result (λ a. a.status ≡ show_status limit (R.failed r.new) x)) }
     ensures taken { (order : Asked) → order_of (map (λ word. word.now) words.now) ≡ Some order

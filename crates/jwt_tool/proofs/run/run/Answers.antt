@@ -2,6 +2,7 @@ use Rattle.std.proofs.Common.{inr}
 use Rattle.jwt_tool.specs.Mac.{mac_answer}
 use Rattle.jwt_tool.specs.Statuses.{show_status}
 use Rattle.jwt_tool.specs.Issue.{issue_answer}
+use Rattle.jwt_tool.specs.Listed.{keys_answer}
 use Rattle.jwt_tool.specs.Verify.{verify_answer}
 use Rattle.jwt_tool.specs.Views.{reply_view}
 use Rattle.jwt_tool.proofs.Printing.{gives_answer, gives_memory, has_status}
@@ -41,3 +42,12 @@ returns-in-Ok-clause-issue g c = λ asked is.
 pub returns-in-Err-clause-issue : goal.returns-in-Err-clause-issue
 returns-in-Err-clause-issue g c = λ asked is.
     gives_memory (g.R.Source.remaining c.args.r.now) (issue_answer asked (g.R.Source.failed c.reply_to.new.r)) _ _ _ _ c.lack_memory.ensures
+
+pub returns-in-Ok-clause-keys : goal.returns-in-Ok-clause-keys
+returns-in-Ok-clause-keys g c = λ asked.
+    gives_answer (g.R.Source.remaining c.args.r.now) (keys_answer (g.R.Source.failed c.reply_to.new.r)) (reply_view c.in-Ok.reply) _ _ _ _
+    (c.in-Ok.ensures.keys asked) (rw c.as_slice.ensures.value at c.send.ensures)
+
+pub returns-in-Err-clause-keys : goal.returns-in-Err-clause-keys
+returns-in-Err-clause-keys g c = λ asked.
+    gives_memory (g.R.Source.remaining c.args.r.now) (keys_answer (g.R.Source.failed c.reply_to.new.r)) _ _ _ _ c.lack_memory.ensures
