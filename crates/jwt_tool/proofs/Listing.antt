@@ -1,5 +1,5 @@
 -- The lines of a key set, piece by piece.
-use Rattle.std.proofs.Common.{◌≡◌, ◌≤◌, ℕ, zero, suc, ◌+◌, List, [], ◌∷◌, ◌++◌, length, take, drop, Bool, true, false, Some, refl, sym, ap, ◌∙◌, arith, add-one, append_assoc}
+use Rattle.std.proofs.Common.{◌≡◌, ◌≤◌, ℕ, suc, ◌+◌, List, [], ◌∷◌, ◌++◌, length, take, drop, Bool, true, false, Some, sym, ap, ◌∙◌, arith, add-one, append_assoc}
 use Rattle.std.proofs.lemmas.List.{drop_more}
 use Rattle.std.proofs.lemmas.Option.{slice_get_within, get_or_from_slice_get}
 use Rattle.std.specs.Prelude.{codes, nat_le, slice_get, if◌then◌else◌}
@@ -31,7 +31,7 @@ line_is o a b d p q s t l number place kty kid alg size thumb first second third
     rw (third, second, first, p_is, q_is, s_is, t_is, l_is)
     (regroup_line o (codes "key=") number (codes " place=") place (codes " kty=") kty (codes " kid=") kid (codes " alg=") alg (codes " size=") size (codes " thumbprint=") thumb (10 ∷ []))
 
-rest_at : {X : Type 0} (xs : List X) (i : ℕ) (x : X) → slice_get xs i ≡ Some x → drop i xs ≡ x ∷ drop (i + 1) xs
+pub rest_at : {X : Type 0} (xs : List X) (i : ℕ) (x : X) → slice_get xs i ≡ Some x → drop i xs ≡ x ∷ drop (i + 1) xs
 rest_at xs i x h = drop_more xs i x (slice_get_within xs i x h) ∙ ap (λ y. y ∷ drop (i + 1) xs) (get_or_from_slice_get xs i x x h)
 
 regroup : (o s k rest : List ℕ) → ((o ++ s) ++ k) ++ rest ≡ o ++ (s ++ (k ++ rest))
@@ -45,8 +45,8 @@ pub lines_more : (o a b whole : List ℕ) (keys : List KeyParts) (i : ℕ) (k : 
 lines_more o a b whole keys i k skips front back place n at so_far place_is n_is front_is back_is skipped listed =
     let at_place : n ≡ before k.place skips = n_is ∙ ap (λ p. before p skips) place_is in
     rw (listed, skipped, front_is, back_is, at_place) (
-      regroup o (flat_map skip_line (take (before k.place skips) skips)) (key_line i k) (set_lines (i + 1) (drop (i + 1) keys) (drop (before k.place skips) skips))
-      ∙ ap (λ m. o ++ (flat_map skip_line (take (before k.place skips) skips) ++ (key_line i k ++ set_lines m (drop (i + 1) keys) (drop (before k.place skips) skips)))) (add-one i)
-      ∙ ap (λ ks. o ++ set_lines i ks skips) (sym (rest_at keys i k at))
-      ∙ so_far
+    regroup o (flat_map skip_line (take (before k.place skips) skips)) (key_line i k) (set_lines (i + 1) (drop (i + 1) keys) (drop (before k.place skips) skips))
+    ∙ ap (λ m. o ++ (flat_map skip_line (take (before k.place skips) skips) ++ (key_line i k ++ set_lines m (drop (i + 1) keys) (drop (before k.place skips) skips)))) (add-one i)
+    ∙ ap (λ ks. o ++ set_lines i ks skips) (sym (rest_at keys i k at))
+    ∙ so_far
     )

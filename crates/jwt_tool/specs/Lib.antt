@@ -6,7 +6,7 @@ pub mod Listed
 pub mod Mac
 pub mod Printed
 pub mod Seen
-pub mod Statuses
+pub mod Shown
 pub mod TakenLines
 pub mod Verify
 pub mod Views

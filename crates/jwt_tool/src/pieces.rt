@@ -1,14 +1,13 @@
 //! The pieces of a line, as octets.
-ghost use Rattle.std.specs.Prelude.{◌≡◌, ◌++◌, IfOk, codes, option_map};
-ghost use Rattle.std.specs.Fmt.{signed_decimal};
-ghost use Rattle.std.specs.Option.{option_map_or};
-ghost use Rattle.json.specs.Print.{quoted as quoted_text};
+ghost use Rattle.std.specs.Prelude.{◌≡◌, ◌++◌, IfOk, option_map};
+ghost use Rattle.jwt_tool.specs.Listed.{quoted_or_dash};
+ghost use Rattle.jwt_tool.specs.Shown.{number_or_dash};
 
 use std::alloc::{AllocError, Global};
 
 /// The compact JSON text of a text, and `-` for none.
 pub(crate) fn quoted_or_dash(alloc: Global, text: Option<&str>) -> Result<Vec<u8>, AllocError>
-    ensures { IfOk result (λ v. v.items ≡ option_map_or quoted_text (option_map (λ t. t.now) text.entry) (codes "-")) }
+    ensures { IfOk result (λ v. v.items ≡ quoted_or_dash (option_map (λ t. t.now) text.entry)) }
 {
     match text {
         Some(text) => match jwt_text::quoted(alloc, text) {
@@ -21,7 +20,7 @@ pub(crate) fn quoted_or_dash(alloc: Global, text: Option<&str>) -> Result<Vec<u8
 
 /// A whole number, and `-` for none.
 pub(crate) fn number_or_dash(alloc: Global, number: Option<i64>) -> Result<Vec<u8>, AllocError>
-    ensures { IfOk result (λ v. v.items ≡ option_map_or signed_decimal number (codes "-")) }
+    ensures { IfOk result (λ v. v.items ≡ number_or_dash number) }
 {
     match number {
         Some(number) => Ok(format!(in alloc; "{number}")?.into_bytes()),

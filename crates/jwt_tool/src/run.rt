@@ -4,9 +4,9 @@ ghost use Rattle.jwt_tool.specs.Mac.{key_spelled, mac_answer};
 ghost use Rattle.jwt_tool.specs.Input.{TakesAtMost};
 ghost use Rattle.jwt_tool.specs.Printed.{Gives, GivesWrongWords, Prints, out_of_memory};
 ghost use Rattle.jwt_tool.specs.Views.{reply_view};
-ghost use Rattle.jwt_tool.specs.Statuses.{HasStatus, show_status};
 ghost use Rattle.jwt_tool.specs.Issue.{TokenAsked, issue_answer};
 ghost use Rattle.jwt_tool.specs.Listed.{keys_answer};
+ghost use Rattle.jwt_tool.specs.Shown.{show_answer};
 ghost use Rattle.jwt_tool.specs.Verify.{verify_answer};
 ghost use Rattle.jwt_tool.specs.Words.{Issue, Keys, Mac, Order as Asked, Show, Verify, input_limit, order_of};
 
@@ -38,9 +38,9 @@ pub fn run<R: Source, W: Sink>(alloc: Global, words: &[&str], r: &mut R, w: &mut
     // The lines of `keys`.
     ensures keys { order_of (map (λ word. word.now) words.now) ≡ Some Keys
         → IfSome (R.remaining r.old) (λ x. Gives (keys_answer (R.failed r.new) x) (W.contents w.old) (W.contents w.new) (W.failed w.new) result) }
-    // The status of `show`.
+    // The lines of `show`.
     ensures show { (limit : ℕ) → order_of (map (λ word. word.now) words.now) ≡ Some (Show limit)
-        → IfSome (R.remaining r.old) (λ x. HasStatus (show_status limit (R.failed r.new) x) (W.failed w.new) result) }
+        → IfSome (R.remaining r.old) (λ x. Gives (show_answer limit (R.failed r.new) x) (W.contents w.old) (W.contents w.new) (W.failed w.new) result) }
 
     // At most one octet past the limit is taken.
     ensures taken { (order : Asked) → order_of (map (λ word. word.now) words.now) ≡ Some order
@@ -89,7 +89,7 @@ fn reply_to<R: Source>(alloc: Global, words: &[&str], r: &mut R) -> Result<Reply
     ensures keys { order_of (map (λ word. word.now) words.now) ≡ Some Keys
         → IfSome (R.remaining r.old) (λ x. IfOk result (λ a. reply_view a ≡ keys_answer (R.failed r.new) x)) }
     ensures show { (limit : ℕ) → order_of (map (λ word. word.now) words.now) ≡ Some (Show limit)
-        → IfSome (R.remaining r.old) (λ x. IfOk result (λ a. a.status ≡ show_status limit (R.failed r.new) x)) }
+        → IfSome (R.remaining r.old) (λ x. IfOk result (λ a. reply_view a ≡ show_answer limit (R.failed r.new) x)) }
     ensures taken { (order : Asked) → order_of (map (λ word. word.now) words.now) ≡ Some order
         → IfSome (R.remaining r.old) (λ x. (R.failed r.new ≡ true) ⊎ TakesAtMost (input_limit order + 1) x (R.remaining r.new)) }
     ensures unread_key { (key : List ℕ) (limit : ℕ) → order_of (map (λ word. word.now) words.now) ≡ Some (Mac key limit)

@@ -1,19 +1,24 @@
 //! The command `show`: what stands in a token, with nothing of it verified.
-ghost use Rattle.std.specs.Prelude.{◌≡◌, ◌≤◌, ◌+◌, ◌⊎◌, true, IfOk, IfSome};
+ghost use Rattle.std.specs.Prelude.{◌≡◌, ◌≤◌, ◌+◌, ◌++◌, ◌⊎◌, true, length, option_map, IfOk, IfSome, Ok, Err, string_bytes};
+ghost use Rattle.jwt_jws.specs.Views.{parts, token};
+ghost use Rattle.jwt_policy.specs.ClaimKinds.{claims_of};
 ghost use Rattle.jwt_tool.specs.Input.{TakesAtMost};
-ghost use Rattle.jwt_tool.specs.Statuses.{show_status};
+ghost use Rattle.jwt_tool.specs.Shown.{audience, claims_line, form_name, header_text, member_count, show_answer, signature_line, signature_sizes, spelled_len, token_lines};
+ghost use Rattle.jwt_tool.specs.Views.{reply_view};
 
 use crate::faults::{claim_fault_text, form_fault_text};
 use crate::input::read_input;
 use crate::mac::without_line_feed;
-use crate::pieces::{number_or_dash, quoted_or_dash};
+use crate::pieces::{number_or_dash, put_labelled, quoted_or_dash};
 use crate::reply::Reply;
 use jwt_jws::{Form, FormFault, Signature, Signed, parse};
 use jwt_policy::{ClaimFault, Claims};
 use jwt_text::{Source, TextFault};
 use std::alloc::{AllocError, Global};
 
-fn form_name(form: Form) -> &'static str {
+fn form_name(form: Form) -> &'static str
+    ensures { result.now ≡ form_name form }
+{
     match form {
         Form::Compact => "compact",
         Form::General => "json",
@@ -22,59 +27,74 @@ fn form_name(form: Form) -> &'static str {
 }
 
 // A text of the header: `-` where it is absent, `?` where it is of another kind.
-fn header_text(alloc: Global, there: bool, text: Option<&str>) -> Result<Vec<u8>, AllocError> {
+fn header_text(alloc: Global, there: bool, text: Option<&str>) -> Result<Vec<u8>, AllocError>
+    ensures { IfOk result (λ v. v.items ≡ header_text there (option_map (λ t. t.now) text.entry)) }
+{
     if there && text.is_none() {
         return b"?".to_vec(alloc);
     }
     quoted_or_dash(alloc, text)
 }
 
-fn unprotected_count(signature: &Signature<'_>) -> usize {
+fn unprotected_count(signature: &Signature<'_>) -> usize
+    ensures { result ≡ member_count (parts signature.now).unprotected }
+{
     match signature.unprotected() {
         Some(header) => header.member_count(),
         None => 0,
     }
 }
 
-// The line of signature `i`. The protected octets are as many as their text spells; the signing input has one period.
+// How many octets a base64url text of so many characters spells.
+fn spelled_len(chars: usize) -> usize
+    ensures { result ≡ spelled_len chars }
+{
+    chars / 4 * 3 + chars % 4 * 3 / 4
+}
+
+// The sizes of a signature. The signing input has one period between its two texts.
+fn signature_sizes(
+    alloc: Global,
+    signature: &Signature<'_>,
+    payload: usize,
+) -> Result<String, AllocError>
+    ensures { IfOk result (λ s. string_bytes s ≡ signature_sizes payload (parts signature.now)) }
+{
+    let chars = signature.protected_text().len();
+    let protected = spelled_len(chars);
+    let unprotected = unprotected_count(signature);
+    let octets = signature.octets().len();
+    let input = chars as u128 + 1 + payload as u128;
+    format!(in alloc;
+        " protected={protected} unprotected={unprotected} signature={octets} input={input}\n"
+    )
+}
+
+// The line of signature `i`.
 fn put_signature(
     alloc: Global,
     out: &mut Vec<u8>,
     i: u32,
     signature: &Signature<'_>,
-    payload_len: u64,
-) -> Result<(), AllocError> {
-    let text_len = signature.protected_text().len() as u64;
+    payload: usize,
+) -> Result<(), AllocError>
+    ensures { IfOk result (λ _. out.new.items ≡ out.old.items ++ signature_line payload i (parts signature.now)) }
+{
     let start = format!(in alloc; "sig={i} alg=")?;
-    let alg = header_text(
-        alloc,
-        signature.protected().has("alg"),
-        signature.alg_text(),
-    )?;
+    let has_alg = signature.protected().has("alg");
+    let alg = header_text(alloc, has_alg, signature.alg_text())?;
     let kid = header_text(alloc, signature.in_header("kid"), signature.kid())?;
-    let protected = text_len / 4 * 3 + text_len % 4 * 3 / 4;
-    let unprotected = unprotected_count(signature);
-    let octets = signature.octets().len();
-    let input = text_len.saturating_add(1).saturating_add(payload_len);
-    let sizes = format!(in alloc;
-        " protected={protected} unprotected={unprotected} signature={octets} input={input}\n"
-    )?;
-    out.extend_from_slice(start.as_bytes())?;
-    out.extend_from_slice(alg.as_slice())?;
-    out.extend_from_slice(b" kid=")?;
-    out.extend_from_slice(kid.as_slice())?;
-    out.extend_from_slice(sizes.as_bytes())
-}
-
-fn put_member(out: &mut Vec<u8>, name: &str, value: &[u8]) -> Result<(), AllocError> {
-    out.push(b' ')?;
-    out.extend_from_slice(name.as_bytes())?;
-    out.push(b'=')?;
-    out.extend_from_slice(value)
+    let sizes = signature_sizes(alloc, signature, payload)?;
+    put_labelled(out, start.as_str(), alg.as_slice())?;
+    put_labelled(out, " kid=", kid.as_slice())?;
+    out.extend_from_slice(sizes.as_bytes())?;
+    Ok(())
 }
 
 // The compact text of `aud`, and `-` for none.
-fn audience(alloc: Global, claims: &Claims) -> Result<Vec<u8>, AllocError> {
+fn audience(alloc: Global, claims: &Claims) -> Result<Vec<u8>, AllocError>
+    ensures { IfOk result (λ v. v.items ≡ audience claims.now) }
+{
     match claims.object().compact(alloc, "aud") {
         Ok(Some(text)) => Ok(text),
         Ok(None) => b"-".to_vec(alloc),
@@ -82,15 +102,23 @@ fn audience(alloc: Global, claims: &Claims) -> Result<Vec<u8>, AllocError> {
     }
 }
 
-fn put_claims(alloc: Global, out: &mut Vec<u8>, claims: &Claims) -> Result<(), AllocError> {
-    out.extend_from_slice(b"claims")?;
-    put_member(out, "aud", audience(alloc, claims)?.as_slice())?;
-    put_member(out, "exp", number_or_dash(alloc, claims.exp())?.as_slice())?;
-    put_member(out, "iat", number_or_dash(alloc, claims.iat())?.as_slice())?;
-    put_member(out, "iss", quoted_or_dash(alloc, claims.iss())?.as_slice())?;
-    put_member(out, "jti", quoted_or_dash(alloc, claims.jti())?.as_slice())?;
-    put_member(out, "nbf", number_or_dash(alloc, claims.nbf())?.as_slice())?;
-    put_member(out, "sub", quoted_or_dash(alloc, claims.sub())?.as_slice())?;
+fn put_claims(alloc: Global, out: &mut Vec<u8>, claims: &Claims) -> Result<(), AllocError>
+    ensures { IfOk result (λ _. out.new.items ≡ out.old.items ++ claims_line (Ok claims.now)) }
+{
+    let aud = audience(alloc, claims)?;
+    let exp = number_or_dash(alloc, claims.exp())?;
+    let iat = number_or_dash(alloc, claims.iat())?;
+    let iss = quoted_or_dash(alloc, claims.iss())?;
+    let jti = quoted_or_dash(alloc, claims.jti())?;
+    let nbf = number_or_dash(alloc, claims.nbf())?;
+    let sub = quoted_or_dash(alloc, claims.sub())?;
+    put_labelled(out, "claims aud=", aud.as_slice())?;
+    put_labelled(out, " exp=", exp.as_slice())?;
+    put_labelled(out, " iat=", iat.as_slice())?;
+    put_labelled(out, " iss=", iss.as_slice())?;
+    put_labelled(out, " jti=", jti.as_slice())?;
+    put_labelled(out, " nbf=", nbf.as_slice())?;
+    put_labelled(out, " sub=", sub.as_slice())?;
     out.push(b'\n')?;
     Ok(())
 }
@@ -100,15 +128,18 @@ fn put_refused_claims(
     alloc: Global,
     out: &mut Vec<u8>,
     fault: &ClaimFault<'_>,
-) -> Result<(), AllocError> {
+) -> Result<(), AllocError>
+    ensures { IfOk result (λ _. out.new.items ≡ out.old.items ++ claims_line (Err fault.now)) }
+{
     let name = claim_fault_text(alloc, fault)?;
-    out.extend_from_slice(b"claims refused ")?;
-    out.extend_from_slice(name.as_slice())?;
+    put_labelled(out, "claims refused ", name.as_slice())?;
     out.push(b'\n')?;
     Ok(())
 }
 
-fn put_claims_line(alloc: Global, out: &mut Vec<u8>, payload: &[u8]) -> Result<(), AllocError> {
+fn put_claims_line(alloc: Global, out: &mut Vec<u8>, payload: &[u8]) -> Result<(), AllocError>
+    ensures { IfOk result (λ _. out.new.items ≡ out.old.items ++ claims_line (claims_of payload.now)) }
+{
     match Claims::read(alloc, payload) {
         Ok(claims) => put_claims(alloc, out, &claims),
         Err(ClaimFault::OutOfMemory) => Err(AllocError),
@@ -116,21 +147,18 @@ fn put_claims_line(alloc: Global, out: &mut Vec<u8>, payload: &[u8]) -> Result<(
     }
 }
 
-fn token_lines(alloc: Global, signed: &Signed<'_>) -> Result<Vec<u8>, AllocError> {
+fn token_lines(alloc: Global, signed: &Signed<'_>) -> Result<Vec<u8>, AllocError>
+    ensures { IfOk result (λ v. v.items ≡ token_lines (token signed.now)) }
+{
     let mut out = Vec::new(alloc);
     let form = form_name(signed.form());
     let octets = signed.payload().len();
+    let payload = signed.payload_text().len();
     let start = format!(in alloc; "unverified {form}\npayload octets={octets}\n")?;
     out.extend_from_slice(start.as_bytes())?;
     for i in 0..signed.count() {
         if let Some(signature) = signed.signature(i) {
-            put_signature(
-                alloc,
-                &mut out,
-                i,
-                signature,
-                signed.payload_text().len() as u64,
-            )?;
+            put_signature(alloc, &mut out, i, signature, payload)?;
         }
     }
     put_claims_line(alloc, &mut out, signed.payload())?;
@@ -141,7 +169,7 @@ fn token_lines(alloc: Global, signed: &Signed<'_>) -> Result<Vec<u8>, AllocError
 pub(crate) fn show<R: Source>(alloc: Global, limit: u64, r: &mut R) -> Result<Reply, AllocError>
     requires least { 1 ≤ limit }
     requires most { limit ≤ 1048576 }
-    ensures status { IfSome (R.remaining r.old) (λ x. IfOk result (λ a. a.status ≡ show_status limit (R.failed r.new) x)) }
+    ensures line { IfSome (R.remaining r.old) (λ x. IfOk result (λ a. reply_view a ≡ show_answer limit (R.failed r.new) x)) }
     ensures taken { IfSome (R.remaining r.old) (λ x. (R.failed r.new ≡ true) ⊎ TakesAtMost (limit + 1) x (R.remaining r.new)) }
 {
     let input = match read_input(alloc, limit as u32, r) {

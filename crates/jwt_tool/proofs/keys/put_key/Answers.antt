@@ -1,6 +1,5 @@
-use Rattle.std.proofs.Common.{rules, ◌≡◌, ◌∙◌, length}
+use Rattle.std.proofs.Common.{rules, ◌∙◌, length}
 use Rattle.std.specs.Fmt.{decimal}
-use Rattle.jwt_mac.specs.Verifying.{key_octets}
 use Rattle.jwt_keys.specs.Views.{key_parts}
 use Rattle.jwt_tool.specs.Listed.{kty_of, sized_by}
 use Rattle.jwt_tool.proofs.Listing.{line_is}

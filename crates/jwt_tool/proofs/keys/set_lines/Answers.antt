@@ -1,4 +1,4 @@
-use Rattle.std.proofs.Common.{◌≡◌, ◌<◌, arith, sym, length}
+use Rattle.std.proofs.Common.{◌<◌, arith, sym, length}
 use Rattle.jwt_keys.specs.KeySets.{key_set}
 use Rattle.jwt_keys.specs.Views.{key_parts}
 use Rattle.jwt_tool.proofs.Listing.{lines_more}

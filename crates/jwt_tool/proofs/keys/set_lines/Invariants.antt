@@ -1,4 +1,4 @@
-use Rattle.std.proofs.Common.{◌≡◌, ◌++◌, drop, map}
+use Rattle.std.proofs.Common.{◌≡◌, ◌++◌, drop}
 use Rattle.jwt_keys.specs.KeySets.{key_set}
 use Rattle.jwt_tool.specs.Listed.{set_lines}
 use Rattle.jwt_tool.proofs.keys.set_lines.Given as goal

@@ -1,11 +1,11 @@
 use Rattle.std.proofs.Common.{inr}
 use Rattle.jwt_tool.specs.Mac.{mac_answer}
-use Rattle.jwt_tool.specs.Statuses.{show_status}
+use Rattle.jwt_tool.specs.Shown.{show_answer}
 use Rattle.jwt_tool.specs.Issue.{issue_answer}
 use Rattle.jwt_tool.specs.Listed.{keys_answer}
 use Rattle.jwt_tool.specs.Verify.{verify_answer}
 use Rattle.jwt_tool.specs.Views.{reply_view}
-use Rattle.jwt_tool.proofs.Printing.{gives_answer, gives_memory, has_status}
+use Rattle.jwt_tool.proofs.Printing.{gives_answer, gives_memory}
 use Rattle.jwt_tool.proofs.run.run.Goals as goal
 
 pub returns-in-Ok-clause-mac : goal.returns-in-Ok-clause-mac
@@ -22,8 +22,12 @@ returns-in-Err-clause-wrong g c = λ wrong. inr c.lack_memory.ensures
 
 pub returns-in-Ok-clause-show : goal.returns-in-Ok-clause-show
 returns-in-Ok-clause-show g c = λ limit asked.
-    has_status (g.R.Source.remaining c.args.r.now) (show_status limit (g.R.Source.failed c.reply_to.new.r)) _ c.in-Ok.reply.status _ _ _ _
-    (c.in-Ok.ensures.show limit asked) c.send.ensures
+    gives_answer (g.R.Source.remaining c.args.r.now) (show_answer limit (g.R.Source.failed c.reply_to.new.r)) (reply_view c.in-Ok.reply) _ _ _ _
+    (c.in-Ok.ensures.show limit asked) (rw c.as_slice.ensures.value at c.send.ensures)
+
+pub returns-in-Err-clause-show : goal.returns-in-Err-clause-show
+returns-in-Err-clause-show g c = λ limit asked.
+    gives_memory (g.R.Source.remaining c.args.r.now) (show_answer limit (g.R.Source.failed c.reply_to.new.r)) _ _ _ _ c.lack_memory.ensures
 
 pub returns-in-Ok-clause-verify : goal.returns-in-Ok-clause-verify
 returns-in-Ok-clause-verify g c = λ now asked.
