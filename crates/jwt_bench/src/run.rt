@@ -1,5 +1,5 @@
 //! The command, over any source and sink.
-ghost use Rattle.std.specs.Prelude.{◌≡◌, ◌≤◌, Ok, IfSome, map};
+ghost use Rattle.std.specs.Prelude.{◌≡◌, ◌≢◌, ◌≤◌, Ok, IfOk, IfSome, map};
 ghost use Rattle.jwt_bench.specs.Printed.{PrintsRuns};
 ghost use Rattle.jwt_bench.specs.Words.{Asks};
 ghost use Rattle.jwt_bench.specs.declared.words.Order.{Order as Asked};
@@ -18,7 +18,8 @@ fn run_order<R: Source, W: Sink>(
     w: &mut W,
 ) -> Result<u8, RunFault>
     requires { order.count ≤ 10000000 }
-    ensures { IfSome (R.remaining r.old) (λ x. result ≡ Ok 0 → PrintsRuns order x (W.contents w.old) (W.contents w.new)) }
+    ensures done { IfSome (R.remaining r.old) (λ x. result ≡ Ok 0 → PrintsRuns order x (W.contents w.old) (W.contents w.new)) }
+    ensures not_wrong { IfOk result (λ status. status ≢ 2) }
 {
     let line = totals(alloc, order, r)?.line(alloc)?;
     match write_out(w, line.as_bytes()) {
@@ -36,7 +37,8 @@ pub(crate) fn run<R: Source, W: Sink>(alloc: Global, words: &[&str], r: &mut R, 
     ensures done { IfSome (R.remaining r.old) (λ x. result ≡ 0
         → (order : Asked) × Asks (map (λ word. word.now) words.now) order × PrintsRuns order x (W.contents w.old) (W.contents w.new)) }
 
-    // Wrong words.
+    // Wrong words, and no others.
+    ensures asked { (order : Asked) → Asks (map (λ word. word.now) words.now) order → result ≢ 2 }
     ensures wrong { ((order : Asked) → ¬ Asks (map (λ word. word.now) words.now) order) → result ≡ 2 }
     ensures unread { ((order : Asked) → ¬ Asks (map (λ word. word.now) words.now) order) → (r.new ≡ r.old) × (w.new ≡ w.old) }
 {

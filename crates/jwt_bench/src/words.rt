@@ -1,6 +1,7 @@
 //! The words of the command.
-ghost use Rattle.std.specs.Prelude.{map, IfSome};
+ghost use Rattle.std.specs.Prelude.{ℕ, map, MatchOption};
 ghost use Rattle.jwt_bench.specs.Words.{Asks, IsCount};
+ghost use Rattle.jwt_bench.specs.declared.words.Order.{Order as Asked};
 
 use crate::workload::Workload;
 
@@ -16,7 +17,7 @@ pub(crate) struct Order {
 
 // A count of at most `MOST_RUNS`, in digits.
 fn count_in(text: &str) -> Option<u32>
-    ensures { IfSome result (λ n. IsCount text.now n) }
+    ensures { MatchOption result ((n : ℕ) → ¬ IsCount text.now n) (λ n. IsCount text.now n) }
 {
     match text.parse::<u32>() {
         Ok(count) if count <= MOST_RUNS => Some(count),
@@ -26,12 +27,16 @@ fn count_in(text: &str) -> Option<u32>
 
 /// What the words ask for: after the program's name a workload and a count of at most 10,000,000, and no more.
 pub(crate) fn read_words(words: &[&str]) -> Option<Order>
-    ensures { IfSome result (λ o. Asks (map (λ w. w.now) words.now) o) }
+    ensures { MatchOption result ((o : Asked) → ¬ Asks (map (λ w. w.now) words.now) o) (λ o. Asks (map (λ w. w.now) words.now) o) }
 {
     let [_, name, count] = words else {
         return None;
     };
-    let workload = Workload::named(name)?;
-    let count = count_in(count)?;
-    Some(Order { workload, count })
+    let Some(workload) = Workload::named(name) else {
+        return None;
+    };
+    match count_in(count) {
+        Some(count) => Some(Order { workload, count }),
+        None => None,
+    }
 }
