@@ -1,10 +1,11 @@
--- The ranges of a policy's numbers.
-use Rattle.std.specs.Prelude.{◌≤◌, IfSome}
+-- The ranges of a policy's numbers, and that it allows an algorithm.
+use Rattle.std.specs.Prelude.{◌≤◌, length, IfSome}
 use Rattle.jwt_policy.specs.Settings.{RunSettings, ClaimSettings}
 
 pub record IsRunInRange (run : RunSettings) : Type 0 where
   pub version_least : 1 ≤ run.version
   pub version_most : run.version ≤ 2
+  pub algs_least : 1 ≤ length run.algs
   pub limit_least : 1 ≤ run.limit
   pub limit_most : run.limit ≤ 1048576
   pub work_most : run.work ≤ 1000000000000

@@ -1,7 +1,7 @@
 //! Members of a policy document by kind and range. Each function answers the value, or its default where the member is absent;
 //! `Member` where its kind is another, `Range` where its value is out of range, and `OutOfMemory` where a growth was refused.
 
-ghost use Rattle.std.specs.Prelude.{◌≡◌, ◌≤◌, ◌<◌, ◌^◌, IsErrOf, IfOk, IfSome, map, option_map, string_bytes, ◌||◌};
+ghost use Rattle.std.specs.Prelude.{◌≡◌, ◌≤◌, ◌<◌, ◌^◌, IsErrOf, IfOk, IfSome, length, map, option_map, string_bytes, ◌||◌};
 ghost use Rattle.std.specs.List.{list_any};
 ghost use Rattle.jwt_text.specs.Answers.{Answers};
 ghost use Rattle.jwt_policy.specs.MemberKinds.{whole_of, whole_in, between, optional, flag_in, mode_named, mode_in, typ_in, texts_of, texts_in, all_some, is_reserved, understood_in, algs_named, algs_in};
@@ -219,7 +219,8 @@ pub(crate) fn understood(
 /// The algorithms of these names. `NoAlgorithm` where there is none.
 #[tactic(auto, using(crate::proofs::AllSome::joined_first, crate::proofs::AllSome::joined_start, std::proofs::lemmas::List::at_drop_more, std::proofs::lemmas::List::at_drop_all, crate::proofs::AllSome::joined_none))]
 fn algs_named(alloc: Global, name: &str, texts: &[String]) -> Result<Vec<Alg>, PolicyFault>
-    ensures { Answers PolicyFault.OutOfMemory (λ v. v.items) result (algs_named name.now (map string_bytes texts.now)) }
+    ensures value { Answers PolicyFault.OutOfMemory (λ v. v.items) result (algs_named name.now (map string_bytes texts.now)) }
+    ensures some { IfOk result (λ v. 1 ≤ length v.items) }
 {
     if texts.is_empty() {
         return Err(PolicyFault::NoAlgorithm);
@@ -240,7 +241,8 @@ pub(crate) fn algs(
     members: &ObjectRef<'_>,
     name: &str,
 ) -> Result<Vec<Alg>, PolicyFault>
-    ensures { Answers PolicyFault.OutOfMemory (λ v. v.items) result (algs_in name.now members.now) }
+    ensures value { Answers PolicyFault.OutOfMemory (λ v. v.items) result (algs_in name.now members.now) }
+    ensures some { IfOk result (λ v. 1 ≤ length v.items) }
 {
     if !members.has(name) {
         return Err(PolicyFault::NoAlgorithm);

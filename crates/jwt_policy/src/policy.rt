@@ -1,6 +1,6 @@
 //! A policy: what a service asks of the tokens that it takes.
 
-ghost use Rattle.std.specs.Prelude.{◌≡◌, ◌≤◌, IfSome, map, option_map, string_bytes};
+ghost use Rattle.std.specs.Prelude.{◌≡◌, ◌≤◌, IfSome, length, map, option_map, string_bytes};
 
 use crate::mode::Mode;
 use jwt_mac::Alg;
@@ -106,10 +106,11 @@ impl Policy {
         run.version
     }
 
-    /// The algorithms that signatures may use (RFC 8725, section 3.1). There is no default. A key can be for several of them: a
-    /// key that says no `alg` of its own is tried by each that its kind suits, so name no more than are in use.
+    /// The algorithms that signatures may use (RFC 8725, section 3.1), at least one. There is no default. A key can be for several
+    /// of them: a key that says no `alg` of its own is tried by each that its kind suits, so name no more than are in use.
     pub fn algs(&self) -> &[Alg]
-        ensures { result.now ≡ self.now.run.algs }
+        ensures value { result.now ≡ self.now.run.algs }
+        ensures some { 1 ≤ length self.now.run.algs }
     {
         let run = &self.run;
         run.algs.as_slice()

@@ -1,9 +1,11 @@
 -- A line that was taken octet by octet, against the first line of the input.
-use Rattle.std.proofs.Common.{◌≡◌, ◌≤◌, ◌==◌, ◌||◌, ℕ, zero, suc, ◌+◌, Bool, true, false, List, [], ◌∷◌, ◌++◌, length, take, drop, get_or, Option, None, Some, IfSome, refl, sym, ap, subst, ◌∙◌, append_assoc, append-nil, length-append, drop_at, arith}
+use Rattle.std.proofs.Common.{◌≡◌, ◌≤◌, ◌==◌, ◌||◌, ℕ, zero, suc, ◌+◌, Bool, true, false, List, [], ◌∷◌, ◌++◌, length, take, drop, get_or, Option, None, Some, IfSome, refl, sym, ap, subst, if◌then◌else◌, ◌∙◌, append_assoc, append-nil, length-append, drop_at, arith}
 use Rattle.std.specs.List.{list_any}
 use Rattle.std.specs.Io.KnownBytes.{Consumes, IsAtEnd, Keeps, prepend_known}
-use Rattle.jwt_tool.specs.TakenLines.{LineFails, TakesLine, after_line, first_line}
-use Rattle.jwt_tool.specs.declared.take_line.LineFault.TheVariants.{OutOfMemory, TooLong}
+use Rattle.std.proofs.Math.Nat.{le-min}
+use Rattle.jwt_tool.specs.Input.{TakesAtMost}
+use Rattle.jwt_tool.specs.TakenLines.{LineFails, TakesLine, after_line, first_line, line_most}
+use Rattle.jwt_tool.specs.declared.take_line.LineFault.TheVariants.{TooLong}
 
 abbrev HasNoFeed : List ℕ → Type 0
 HasNoFeed octets = list_any (λ octet. octet == 10) octets ≡ false
@@ -63,17 +65,18 @@ line_at_feed limit (Some x) (Some m) (Some y) octets keeps consumes none within 
     record { line = sym line; unread = ap Some (sym after); within = subst (λ (l : List ℕ). length l ≤ limit) (sym line) within }
 
 -- a growth was refused
-pub line_without_memory : (limit : ℕ) (failed : Bool) (told mid rest : Option (List ℕ)) (octets : List ℕ) (c : ℕ) → Keeps told (prepend_known octets mid) → Consumes mid rest (c ∷ [])
-    → length octets ≤ limit → IfSome told (λ x. LineFails limit failed x rest OutOfMemory)
-line_without_memory limit failed None mid rest octets c keeps consumes within = tt
-line_without_memory limit failed (Some x) None rest octets c keeps consumes within = absurd keeps
-line_without_memory limit failed (Some x) (Some m) None octets c keeps consumes within = absurd consumes
-line_without_memory limit failed (Some x) (Some m) (Some y) octets c keeps consumes within =
+pub line_without_memory : (limit : ℕ) (told mid rest : Option (List ℕ)) (octets : List ℕ) (c : ℕ) → Keeps told (prepend_known octets mid) → Consumes mid rest (c ∷ [])
+    → HasNoFeed octets → length octets ≤ limit → IfSome told (λ x. TakesAtMost (line_most limit x) x rest)
+line_without_memory limit None mid rest octets c keeps consumes none within = tt
+line_without_memory limit (Some x) None rest octets c keeps consumes none within = absurd keeps
+line_without_memory limit (Some x) (Some m) None octets c keeps consumes none within = absurd consumes
+line_without_memory limit (Some x) (Some m) (Some y) octets c keeps consumes none within =
     let all : octets ++ c ∷ y ≡ x = ap (λ l. octets ++ l) (sym consumes) ∙ keeps in
+    let line : first_line x ≡ octets ++ first_line (c ∷ y) = ap first_line (sym all) ∙ first_line_more octets (c ∷ y) none in
     let front : (octets ++ c ∷ []) ++ y ≡ x = append_assoc octets (c ∷ []) y ∙ all in
     let count : length (octets ++ c ∷ []) ≡ length octets + 1 = length-append octets (c ∷ []) in
     let dropped : drop (length octets + 1) x ≡ y = ap (drop (length octets + 1)) (sym front) ∙ drop_at (octets ++ c ∷ []) y (length octets + 1) count in
-    (length octets + 1, omega arith, ap Some (sym dropped))
+    (length octets + 1, le-min (omega arith) (omega (arith, ap length line, length-append octets (first_line (c ∷ y)))), ap Some (sym dropped))
 
 -- one octet past the limit came
 pub line_too_long : (limit : ℕ) (failed : Bool) (told mid : Option (List ℕ)) (octets : List ℕ) → Keeps told (prepend_known octets mid) → HasNoFeed octets
@@ -84,3 +87,22 @@ line_too_long limit failed (Some x) (Some m) octets keeps none sized works =
     let line : first_line x ≡ octets ++ first_line m = ap first_line (sym keeps) ∙ first_line_more octets m none in
     let dropped : drop (limit + 1) x ≡ m = ap (drop (limit + 1)) (sym keeps) ∙ drop_at octets m (limit + 1) sized in
     (omega (arith, ap length line, length-append octets (first_line m), sized), ap Some (sym dropped), works)
+
+-- ---- what is taken
+
+after_drops : (x : List ℕ) → (n : ℕ) × (n ≤ length (first_line x) + 1) × (after_line x ≡ drop n x)
+after_drops [] = (0, omega arith, refl)
+after_drops (c ∷ cs) = go (c == 10) (after_drops cs)
+  where
+    go : (feed : Bool) → (n : ℕ) × (n ≤ length (first_line cs) + 1) × (after_line cs ≡ drop n cs)
+        → (n : ℕ) × (n ≤ length (if feed then [] else c ∷ first_line cs) + 1) × ((if feed then cs else after_line cs) ≡ drop n (c ∷ cs))
+    go true h = (1, omega arith, refl)
+    go false h = (suc h.0, omega (arith, h.1), h.2)
+
+pub line_taken : (limit : ℕ) (x octets : List ℕ) (rest : Option (List ℕ)) → TakesLine limit x octets rest → TakesAtMost (line_most limit x) x rest
+line_taken limit x octets rest h =
+    let d = after_drops x in
+    (d.0, le-min (omega (arith, d.1, h.within)) d.1, h.unread ∙ ap Some d.2)
+
+pub too_long_taken : (limit : ℕ) (failed : Bool) (x : List ℕ) (rest : Option (List ℕ)) → LineFails limit failed x rest TooLong → TakesAtMost (line_most limit x) x rest
+too_long_taken limit failed x rest h = (limit + 1, le-min (omega arith) (omega (arith, h.0)), h.1)

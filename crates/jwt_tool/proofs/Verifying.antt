@@ -1,5 +1,5 @@
 -- What `verify` takes, and its answer where a line is too long.
-use Rattle.std.proofs.Common.{◌≡◌, ◌≢◌, ◌≤◌, ◌<◌, ◌⊎◌, inl, inr, ℕ, ◌+◌, ◌==◌, Bool, true, false, List, [], ◌∷◌, length, drop, Option, Some, Err, refl, sym, ap, subst, ◌∙◌, drop_at, drop-drop, arith, nat_lt, true≢false, suc, IfSome, if◌then◌else◌}
+use Rattle.std.proofs.Common.{◌≡◌, ◌≢◌, ◌≤◌, ◌<◌, ◌⊎◌, inl, inr, ℕ, ◌+◌, Bool, true, false, List, length, drop, Option, Some, Ok, Err, refl, sym, ap, subst, ◌∙◌, drop_at, drop-drop, arith, nat_lt, true≢false, IfSome}
 use Rattle.std.proofs.lemmas.Bool.Decides.{nat_tests}
 use Rattle.std.specs.Option.{option_map_or}
 use Rattle.jwt_keys.specs.KeySets.{key_set_of}
@@ -16,23 +16,12 @@ use Rattle.jwt_tool.specs.Input.{TakesAtMost}
 use Rattle.jwt_tool.specs.Issue.{TokenAsked, issue_answer, issue_under}
 use Rattle.jwt_tool.specs.Verify.{keys_answer, keys_refused, policy_refused, under_keys, under_policy, unless_failed, verify_answer}
 use Rattle.jwt_tool.specs.Listed.{keys_answer as keys_answer_alone, listed}
-use Rattle.jwt_tool.specs.TakenLines.{TakesLine, after_line, first_line}
+use Rattle.jwt_tool.specs.Stops.{behind_policy, keys_most, verify_most}
+use Rattle.jwt_tool.specs.TakenLines.{TakesLine, after_line, first_line, line_most}
+use Rattle.jwt_tool.proofs.LineLemmas.{line_taken}
+use Rattle.std.proofs.Math.Nat.{min-le_left}
 
 -- ---- what is taken
-
-after_drops : (x : List ℕ) → (n : ℕ) × (n ≤ length (first_line x) + 1) × (after_line x ≡ drop n x)
-after_drops [] = (0, omega arith, refl)
-after_drops (c ∷ cs) = go (c == 10) (after_drops cs)
-  where
-    go : (feed : Bool) → (n : ℕ) × (n ≤ length (first_line cs) + 1) × (after_line cs ≡ drop n cs)
-        → (n : ℕ) × (n ≤ length (if feed then [] else c ∷ first_line cs) + 1) × ((if feed then cs else after_line cs) ≡ drop n (c ∷ cs))
-    go true h = (1, omega arith, refl)
-    go false h = (suc h.0, omega (arith, h.1), h.2)
-
-pub line_taken : (limit most : ℕ) (x octets : List ℕ) (rest : Option (List ℕ)) → limit + 1 ≤ most → TakesLine limit x octets rest → TakesAtMost most x rest
-line_taken limit most x octets rest within h =
-    let d = after_drops x in
-    (d.0, omega (arith, d.1, h.within, within), h.unread ∙ ap Some d.2)
 
 pub more_taken : (first second most : ℕ) (x : List ℕ) (rest : Option (List ℕ)) (failed : Bool) → first + second ≤ most
     → (y : List ℕ) → TakesAtMost first x (Some y) → (failed ≡ true) ⊎ TakesAtMost second y rest → (failed ≡ true) ⊎ TakesAtMost most x rest
@@ -40,12 +29,36 @@ more_taken first second most x rest failed within y a (inl is) = inl is
 more_taken first second most x rest failed within y (n, n_within, is) (inr (m, m_within, rest_is)) = inr (n + m, omega (arith, n_within, m_within, within), rest_is ∙ ap Some (ap (drop m) (ap (λ o. option_map_or (λ l. l) o y) is) ∙ drop-drop m n x))
 
 -- what is taken by a line and behind it
-pub then_taken : (limit second most : ℕ) (x octets : List ℕ) (mid rest : Option (List ℕ)) (failed : Bool) → limit + 1 + second ≤ most
+pub then_stops : (limit : ℕ) (more : List ℕ → ℕ) (x octets : List ℕ) (mid rest : Option (List ℕ)) (failed : Bool)
+    → TakesLine limit x octets mid → IfSome mid (λ y. (failed ≡ true) ⊎ TakesAtMost (more y) y rest) → (failed ≡ true) ⊎ TakesAtMost (line_most limit x + more (after_line x)) x rest
+then_stops limit more x octets mid rest failed h behind =
+    more_taken (line_most limit x) (more (after_line x)) (line_most limit x + more (after_line x)) x rest failed (omega arith) (after_line x)
+    (subst (λ m. TakesAtMost (line_most limit x) x m) h.unread (line_taken limit x octets mid h))
+    (subst (λ m. IfSome m (λ y. (failed ≡ true) ⊎ TakesAtMost (more y) y rest)) h.unread behind)
+
+pub under_policy_taken : (x : List ℕ) (p : Settings) (rest : Option (List ℕ)) (failed : Bool) → policy_of (first_line x) ≡ Ok p
+    → (failed ≡ true) ⊎ TakesAtMost (line_most 65536 x + keys_most (p.run.limit + 1) (after_line x)) x rest → (failed ≡ true) ⊎ TakesAtMost (verify_most x) x rest
+under_policy_taken x p rest failed is h = subst (λ r. (failed ≡ true) ⊎ TakesAtMost (line_most 65536 x + behind_policy r (after_line x)) x rest) (sym is) h
+
+pub most_is : (n most : ℕ) (x : List ℕ) (rest : Option (List ℕ)) (failed : Bool) → n ≤ most → (failed ≡ true) ⊎ TakesAtMost n x rest → (failed ≡ true) ⊎ TakesAtMost most x rest
+most_is n most x rest failed within (inl is) = inl is
+most_is n most x rest failed within (inr (m, m_within, is)) = inr (m, omega (arith, m_within, within), is)
+
+-- no more of a line than its limit and one octet
+pub line_within : (limit : ℕ) (x : List ℕ) → line_most limit x ≤ limit + 1
+line_within limit x = min-le_left (limit + 1) (length (first_line x) + 1)
+
+-- of a line, and of what is behind it
+pub line_bounded : (limit most : ℕ) → limit + 1 ≤ most → (x : List ℕ) (rest : Option (List ℕ)) (failed : Bool) → (failed ≡ true) ⊎ TakesAtMost (line_most limit x) x rest → (failed ≡ true) ⊎ TakesAtMost most x rest
+line_bounded limit most within x rest failed h = most_is (line_most limit x) most x rest failed (omega (arith, line_within limit x, within)) h
+
+pub line_stops : (limit more : ℕ) (x : List ℕ) (rest : Option (List ℕ)) (failed : Bool) → (failed ≡ true) ⊎ TakesAtMost (line_most limit x) x rest → (failed ≡ true) ⊎ TakesAtMost (line_most limit x + more) x rest
+line_stops limit more x rest failed h = most_is (line_most limit x) (line_most limit x + more) x rest failed (omega arith) h
+
+pub then_bounded : (limit second most : ℕ) → limit + 1 + second ≤ most → (x octets : List ℕ) (mid rest : Option (List ℕ)) (failed : Bool)
     → TakesLine limit x octets mid → IfSome mid (λ y. (failed ≡ true) ⊎ TakesAtMost second y rest) → (failed ≡ true) ⊎ TakesAtMost most x rest
-then_taken limit second most x octets mid rest failed within h more =
-    more_taken (limit + 1) second most x rest failed within (after_line x)
-    (subst (λ m. TakesAtMost (limit + 1) x m) h.unread (line_taken limit (limit + 1) x octets mid (omega arith) h))
-    (subst (λ m. IfSome m (λ y. (failed ≡ true) ⊎ TakesAtMost second y rest)) h.unread more)
+then_bounded limit second most within x octets mid rest failed h more =
+    most_is (line_most limit x + second) most x rest failed (omega (arith, line_within limit x, within)) (then_stops limit (λ y. second) x octets mid rest failed h more)
 
 pub front_taken : (limit most : ℕ) (x : List ℕ) (rest : Option (List ℕ)) (failed : Bool) (v : Verdict) → limit + 1 ≤ most
     → (v ≢ Refused (Text Read) → FrontAtMost (limit + 1) x rest) → (v ≡ Refused (Text Read) → failed ≡ true) → (failed ≡ true) ⊎ TakesAtMost most x rest

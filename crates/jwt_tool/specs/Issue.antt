@@ -14,7 +14,7 @@ use Rattle.jwt_issue.specs.Issued.{PairParts, compact_of, flattened_of, general_
 use Rattle.jwt_issue.specs.declared.fault.IssueFault.{IssueFault}
 use Rattle.jwt_issue.specs.declared.fault.IssueFault.TheVariants as issue
 use Rattle.jwt_tool.specs.Faults.{claim_fault_parts, joined_parts}
-use Rattle.jwt_tool.specs.Mac.{without_line_feed}
+use Rattle.jwt_tool.specs.Input.{without_line_feed}
 use Rattle.jwt_tool.specs.Printed.{Answer, refused}
 use Rattle.jwt_tool.specs.TakenLines.{after_line, first_line}
 use Rattle.jwt_tool.specs.Verify.{keys_refused, unless_failed}

@@ -7,6 +7,7 @@ pub mod Mac
 pub mod Printed
 pub mod Seen
 pub mod Shown
+pub mod Stops
 pub mod TakenLines
 pub mod Verify
 pub mod Views

@@ -1,6 +1,5 @@
 -- What `jwt mac` finds of a token, and its line.
-use Rattle.std.specs.Prelude.{ℕ, Bool, true, false, ◌&&◌, ◌-◌, ◌==◌, List, [], ◌∷◌, length, take, slice_get, Option, Some, None, Result, Ok, Err, codes, nat_lt, nat_le, if◌then◌else◌, option_and_then}
-use Rattle.std.specs.Option.{option_map_or}
+use Rattle.std.specs.Prelude.{ℕ, Bool, true, false, ◌&&◌, List, [], ◌∷◌, length, Option, Some, None, Result, Ok, Err, codes, nat_lt, nat_le, if◌then◌else◌, option_and_then}
 use Rattle.std.specs.Str.{bytes_eq}
 use Rattle.hex.specs.Hex.{encode_lower}
 use Rattle.jwt_text.specs.Answers.{◌>>=◌, or_fault, some_or}
@@ -13,11 +12,8 @@ use Rattle.jwt_mac.specs.Verifying.{MessageOctets, signing_input}
 use Rattle.jwt_jws.specs.Forms.{CompactTexts, compact_texts}
 use Rattle.jwt_tool.specs.declared.mac.MacFault.{MacFault}
 use Rattle.jwt_tool.specs.declared.mac.MacFault.TheVariants.{OutOfMemory, Segments, Base64, Header, AlgMissing, AlgNotAllowed}
+use Rattle.jwt_tool.specs.Input.{without_line_feed}
 use Rattle.jwt_tool.specs.Printed.{Answer, line, read_failed, refused}
-
--- the octets without one octet 10 at their end
-abbrev pub without_line_feed : List ℕ → List ℕ
-without_line_feed x = if option_map_or (λ octet. octet == 10) (slice_get x (length x - 1)) false then take (length x - 1) x else x
 
 -- ---- the key: 1 to 4,096 octets in base64url
 

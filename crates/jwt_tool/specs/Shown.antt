@@ -15,7 +15,7 @@ use Rattle.jwt_policy.specs.ClaimKinds.{claims_of}
 use Rattle.jwt_policy.specs.declared.claim_fault.ClaimFault.{ClaimFault}
 use Rattle.jwt_tool.specs.Faults.{claim_fault_parts, form_fault_parts, joined_parts}
 use Rattle.jwt_tool.specs.Listed.{quoted_or_dash}
-use Rattle.jwt_tool.specs.Mac.{without_line_feed}
+use Rattle.jwt_tool.specs.Input.{without_line_feed}
 use Rattle.jwt_tool.specs.Printed.{Answer, joined, refused}
 use Rattle.jwt_tool.specs.Verify.{unless_failed}
 

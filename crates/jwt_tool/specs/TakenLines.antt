@@ -1,6 +1,5 @@
 -- One line of an input.
-use Rattle.std.specs.Prelude.{◌≡◌, ◌<◌, ◌≤◌, ◌+◌, ◌==◌, ℕ, Bool, true, false, List, [], ◌∷◌, length, drop, Option, Some, if◌then◌else◌}
-use Rattle.jwt_tool.specs.Input.{TakesAtMost}
+use Rattle.std.specs.Prelude.{◌≡◌, ◌<◌, ◌≤◌, ◌+◌, ◌==◌, ℕ, Bool, true, false, List, [], ◌∷◌, length, drop, min, Option, Some, if◌then◌else◌}
 use Rattle.jwt_tool.specs.declared.take_line.LineFault.{LineFault}
 use Rattle.jwt_tool.specs.declared.take_line.LineFault.TheVariants.{OutOfMemory, Read, TooLong}
 
@@ -20,8 +19,12 @@ pub record TakesLine (limit : ℕ) (x octets : List ℕ) (rest : Option (List �
   pub unread : rest ≡ Some (after_line x)
   pub within : length (first_line x) ≤ limit
 
+-- how many octets of a line are taken at most: as far as its octet 10, or one past the limit
+abbrev pub line_most : ℕ → List ℕ → ℕ
+line_most limit x = min (limit + 1) (length (first_line x) + 1)
+
 -- one octet past the limit was taken; or a read failed; or a growth was refused
 abbrev pub LineFails : ℕ → Bool → List ℕ → Option (List ℕ) → LineFault → Type 0
 LineFails limit failed x rest TooLong = (limit < length (first_line x)) × (rest ≡ Some (drop (limit + 1) x)) × (failed ≡ false)
 LineFails limit failed x rest Read = failed ≡ true
-LineFails limit failed x rest OutOfMemory = TakesAtMost (limit + 1) x rest
+LineFails limit failed x rest OutOfMemory = Unit {0}

@@ -1,6 +1,6 @@
-//! Reading a command's input.
+//! A command's input.
 ghost use Rattle.std.specs.Prelude.{◌≡◌, ◌≤◌, ◌+◌, ◌⊎◌, true, length, IfOk, IfSome};
-ghost use Rattle.jwt_tool.specs.Input.{ReadsInput, TakesAtMost};
+ghost use Rattle.jwt_tool.specs.Input.{ReadsInput, TakesAtMost, without_line_feed};
 
 use jwt_text::{GREATEST_LIMIT, Intake, Source, TextFault};
 use std::alloc::Global;
@@ -21,5 +21,17 @@ pub(crate) fn read_input<R: Source>(
     match intake.read_from(r) {
         Ok(()) => Ok(intake),
         Err(fault) => Err(fault),
+    }
+}
+
+/// The octets without one octet 10 at their end.
+pub(crate) fn without_line_feed(octets: &[u8]) -> &[u8]
+    ensures value { result.now ≡ without_line_feed octets.now }
+    ensures short { length result.now ≤ length octets.now }
+{
+    if octets.len() > 0 && octets[octets.len() - 1] == b'\n' {
+        &octets[..octets.len() - 1]
+    } else {
+        octets
     }
 }

@@ -4,6 +4,7 @@ ghost use Rattle.jwt_text.specs.Answers.{Answers};
 ghost use Rattle.jwt_keys.specs.KeySets.{key_set};
 ghost use Rattle.jwt_issue.specs.Views.{pair_parts, text_of};
 ghost use Rattle.jwt_tool.specs.Input.{TakesAtMost};
+ghost use Rattle.jwt_tool.specs.Stops.{keys_most};
 ghost use Rattle.jwt_tool.specs.Issue.{claims_answer, issue_answer, issue_fault_parts, issued, of_claims, pair, token_answer};
 ghost use Rattle.jwt_tool.specs.Faults.{claim_fault_parts, joined_parts};
 ghost use Rattle.jwt_issue.specs.ClaimSets.{claim_set_of};
@@ -12,8 +13,7 @@ ghost use Rattle.jwt_tool.specs.Verify.{unless_failed};
 ghost use Rattle.jwt_tool.specs.Views.{reply_view, wanted_view};
 
 use crate::faults::{claim_fault_text, keys_fault_name};
-use crate::input::read_input;
-use crate::mac::without_line_feed;
+use crate::input::{read_input, without_line_feed};
 use crate::reply::Reply;
 use crate::take_line::{LineFault, line};
 use jwt_issue::{ClaimSet, IssueFault, issue_compact, issue_flat, issue_json};
@@ -161,6 +161,7 @@ pub(crate) fn issue<R: Source>(
 ) -> Result<Reply, AllocError>
     ensures line { IfSome (R.remaining r.old) (λ x. IfOk result (λ a. reply_view a ≡ issue_answer (wanted_view wanted.entry) (R.failed r.new) x)) }
     ensures taken { IfSome (R.remaining r.old) (λ x. (R.failed r.new ≡ true) ⊎ TakesAtMost 5242882 x (R.remaining r.new)) }
+    ensures stops { IfSome (R.remaining r.old) (λ x. (R.failed r.new ≡ true) ⊎ TakesAtMost (keys_most 1048577 x) x (R.remaining r.new)) }
 {
     let text = match line(alloc, r, 4_194_304) {
         Ok(text) => text,

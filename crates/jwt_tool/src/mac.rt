@@ -6,11 +6,11 @@ ghost use Rattle.jwt_text.specs.Base64url.{spelled};
 ghost use Rattle.jwt_mac.specs.Algorithm.{is_hmac_alg};
 ghost use Rattle.jwt_jws.specs.Views.{texts_view};
 ghost use Rattle.jwt_tool.specs.declared.mac.MacFault.TheVariants.{Base64};
-ghost use Rattle.jwt_tool.specs.Mac.{algorithm_of, digest_by, digest_line, digest_of, fault_name, key_spelled, mac_answer, mac_line, texts_digest, without_line_feed};
+ghost use Rattle.jwt_tool.specs.Mac.{algorithm_of, digest_by, digest_line, digest_of, fault_name, key_spelled, mac_answer, mac_line, texts_digest};
 ghost use Rattle.jwt_tool.specs.Input.{TakesAtMost};
 ghost use Rattle.jwt_tool.specs.Views.{digest_view, reply_view};
 
-use crate::input::read_input;
+use crate::input::{read_input, without_line_feed};
 use crate::reply::Reply;
 use jwt_jws::{CompactTexts, compact_texts};
 use jwt_mac::{Alg, CountDown, Message, Tag, cost, hmac};
@@ -163,18 +163,6 @@ fn token_line(alloc: Global, key: &[u8], token: &[u8]) -> Result<Reply, AllocErr
         Ok(digest) => digest_line(alloc, &digest),
         Err(MacFault::OutOfMemory) => Err(AllocError),
         Err(fault) => Reply::refused(alloc, fault_name(fault)),
-    }
-}
-
-/// The octets without one octet 10 at their end.
-pub(crate) fn without_line_feed(octets: &[u8]) -> &[u8]
-    ensures value { result.now ≡ without_line_feed octets.now }
-    ensures short { length result.now ≤ length octets.now }
-{
-    if octets.len() > 0 && octets[octets.len() - 1] == b'\n' {
-        &octets[..octets.len() - 1]
-    } else {
-        octets
     }
 }
 

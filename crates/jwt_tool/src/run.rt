@@ -7,6 +7,7 @@ ghost use Rattle.jwt_tool.specs.Views.{reply_view};
 ghost use Rattle.jwt_tool.specs.Issue.{TokenAsked, issue_answer};
 ghost use Rattle.jwt_tool.specs.Listed.{keys_answer};
 ghost use Rattle.jwt_tool.specs.Shown.{show_answer};
+ghost use Rattle.jwt_tool.specs.Stops.{most_taken};
 ghost use Rattle.jwt_tool.specs.Verify.{verify_answer};
 ghost use Rattle.jwt_tool.specs.Words.{Issue, Keys, Mac, Order as Asked, Show, Verify, input_limit, order_of};
 
@@ -45,6 +46,10 @@ pub fn run<R: Source, W: Sink>(alloc: Global, words: &[&str], r: &mut R, w: &mut
     // At most one octet past the limit is taken.
     ensures taken { (order : Asked) → order_of (map (λ word. word.now) words.now) ≡ Some order
         → IfSome (R.remaining r.old) (λ x. (R.failed r.new ≡ true) ⊎ TakesAtMost (input_limit order + 1) x (R.remaining r.new)) }
+
+    // Nothing behind a line that is refused.
+    ensures stops { (order : Asked) → order_of (map (λ word. word.now) words.now) ≡ Some order
+        → IfSome (R.remaining r.old) (λ x. (R.failed r.new ≡ true) ⊎ TakesAtMost (most_taken order x) x (R.remaining r.new)) }
 
     // Where the key is refused, nothing is read.
     ensures unread_key { (key : List ℕ) (limit : ℕ) → order_of (map (λ word. word.now) words.now) ≡ Some (Mac key limit)
@@ -92,6 +97,8 @@ fn reply_to<R: Source>(alloc: Global, words: &[&str], r: &mut R) -> Result<Reply
         → IfSome (R.remaining r.old) (λ x. IfOk result (λ a. reply_view a ≡ show_answer limit (R.failed r.new) x)) }
     ensures taken { (order : Asked) → order_of (map (λ word. word.now) words.now) ≡ Some order
         → IfSome (R.remaining r.old) (λ x. (R.failed r.new ≡ true) ⊎ TakesAtMost (input_limit order + 1) x (R.remaining r.new)) }
+    ensures stops { (order : Asked) → order_of (map (λ word. word.now) words.now) ≡ Some order
+        → IfSome (R.remaining r.old) (λ x. (R.failed r.new ≡ true) ⊎ TakesAtMost (most_taken order x) x (R.remaining r.new)) }
     ensures unread_key { (key : List ℕ) (limit : ℕ) → order_of (map (λ word. word.now) words.now) ≡ Some (Mac key limit)
         → key_spelled key ≡ None → r.new ≡ r.old }
     ensures wrong { order_of (map (λ word. word.now) words.now) ≡ None → IfOk result (λ a. a.status ≡ 2) }

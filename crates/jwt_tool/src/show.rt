@@ -7,8 +7,7 @@ ghost use Rattle.jwt_tool.specs.Shown.{audience, claims_line, form_name, header_
 ghost use Rattle.jwt_tool.specs.Views.{reply_view};
 
 use crate::faults::{claim_fault_text, form_fault_text};
-use crate::input::read_input;
-use crate::mac::without_line_feed;
+use crate::input::{read_input, without_line_feed};
 use crate::pieces::{number_or_dash, put_labelled, quoted_or_dash};
 use crate::reply::Reply;
 use jwt_jws::{Form, FormFault, Signature, Signed, parse};

@@ -1,6 +1,7 @@
 //! Taking one line of an input.
-ghost use Rattle.std.specs.Prelude.{◌≡◌, ◌≤◌, false, IfErr, IfOk, IfSome, OnOk};
-ghost use Rattle.jwt_tool.specs.TakenLines.{LineFails, TakesLine};
+ghost use Rattle.std.specs.Prelude.{◌≡◌, ◌≤◌, ◌⊎◌, false, true, IfErr, IfOk, IfSome, OnOk};
+ghost use Rattle.jwt_tool.specs.Input.{TakesAtMost};
+ghost use Rattle.jwt_tool.specs.TakenLines.{LineFails, TakesLine, line_most};
 
 use jwt_text::{GREATEST_LIMIT, Source};
 use std::alloc::{AllocFailed, Global};
@@ -8,7 +9,7 @@ use std::alloc::{AllocFailed, Global};
 /// Why a line wasn't taken.
 #[derive(Clone, Copy, Debug, PartialEq, Eq)]
 pub(crate) enum LineFault {
-    /// A growth was refused. At most one octet past the limit was taken.
+    /// A growth was refused.
     OutOfMemory,
 
     /// The source failed.
@@ -36,6 +37,7 @@ pub(crate) fn line<R: Source>(alloc: Global, r: &mut R, limit: u32) -> Result<Ve
     ensures line { IfSome (R.remaining r.old) (λ x. IfOk result (λ v. TakesLine limit x v.items (R.remaining r.new))) }
     ensures works { OnOk result (R.failed r.new ≡ false) }
     ensures fails { IfSome (R.remaining r.old) (λ x. IfErr result (LineFails limit (R.failed r.new) x (R.remaining r.new))) }
+    ensures taken { IfSome (R.remaining r.old) (λ x. (R.failed r.new ≡ true) ⊎ TakesAtMost (line_most limit x) x (R.remaining r.new)) }
 {
     let mut octets = Vec::new(alloc);
     'octets: for _ in 0..limit + 1 {

@@ -722,6 +722,41 @@ fn a_line_is_taken_up_to_its_end_or_one_octet_past_its_limit(rt: HostRuntime) ->
 }
 
 #[test]
+fn what_follows_a_refused_line_is_unread(rt: HostRuntime) -> Result<(), Fail> {
+    let alloc = rt.alloc();
+    let verify = ["jwt", "verify", "--now", "0"];
+    let issue = ["jwt", "issue", "--alg", "HS256"];
+    let cases: [(&[&str], &'static [u8], &str, usize); 3] = [
+        (
+            &verify,
+            b"{\"algs\":[]}\n{}\nabc",
+            "refused Policy NoAlgorithm\n",
+            6,
+        ),
+        (
+            &verify,
+            b"{\"algs\":[\"HS256\"]}\n{}\nabc",
+            "refused Keys NotKeySet\n",
+            3,
+        ),
+        (&issue, b"{}\n{}", "refused Keys NotKeySet\n", 2),
+    ];
+    for (words, rest, line, unread) in cases {
+        let mut source = Drip {
+            rest,
+            left: 1000,
+            failed: false,
+        };
+        let mut out: Vec<u8> = Vec::new(alloc);
+        let status = run(alloc, words, &mut source, &mut Writer::new(&mut out));
+        assert_eq!(rt; out.as_slice(), line.as_bytes());
+        assert_eq!(rt; status, 1);
+        assert_eq!(rt; source.rest.len(), unread);
+    }
+    Ok(())
+}
+
+#[test]
 fn want_of_memory_has_a_line_and_a_status(rt: HostRuntime) -> Result<(), Fail> {
     let mut out: Vec<u8> = Vec::new(rt.alloc());
     let status = lack_memory(&mut Writer::new(&mut out));

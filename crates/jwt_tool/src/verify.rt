@@ -1,9 +1,10 @@
 //! The command `verify`: the verdict on a token by a policy and a key set.
-ghost use Rattle.std.specs.Prelude.{◌≡◌, ◌≤◌, ◌⊎◌, true, length, IfOk, IfSome};
+ghost use Rattle.std.specs.Prelude.{◌≡◌, ◌≤◌, ◌+◌, ◌⊎◌, true, length, IfOk, IfSome};
 ghost use Rattle.jwt_keys.specs.KeySets.{key_set};
 ghost use Rattle.jwt_verify.specs.Reports.{FoundMemory};
 ghost use Rattle.jwt_verify.specs.declared.report.Verdict.TheVariants.{Refused};
 ghost use Rattle.jwt_tool.specs.Input.{TakesAtMost};
+ghost use Rattle.jwt_tool.specs.Stops.{keys_most, verify_most};
 ghost use Rattle.jwt_tool.specs.Verify.{fault_line, keys_answer, named_line, policy_refused, terms, token_answer, unless_failed, verify_answer, verify_line};
 ghost use Rattle.jwt_tool.specs.Views.{reply_view};
 
@@ -85,6 +86,7 @@ fn on_token<R: Source>(
     ensures line { IfSome (R.remaining r.old) (λ x. IfOk result (λ a. reply_view a
         ≡ unless_failed (R.failed r.new) (token_answer (terms now policy.now (key_set keys.now)) x))) }
     ensures taken { IfSome (R.remaining r.old) (λ x. (R.failed r.new ≡ true) ⊎ TakesAtMost 1048577 x (R.remaining r.new)) }
+    ensures stops { IfSome (R.remaining r.old) (λ x. (R.failed r.new ≡ true) ⊎ TakesAtMost (policy.now.run.limit + 1) x (R.remaining r.new)) }
 {
     let verifiers: [Box<dyn Verifier>; 0] = [];
     // No policy allows a token of more.
@@ -106,6 +108,7 @@ fn on_keys<R: Source>(
     ensures line { IfSome (R.remaining r.old) (λ x. IfOk result (λ a. reply_view a
         ≡ unless_failed (R.failed r.new) (keys_answer now policy.now x))) }
     ensures taken { IfSome (R.remaining r.old) (λ x. (R.failed r.new ≡ true) ⊎ TakesAtMost 5242882 x (R.remaining r.new)) }
+    ensures stops { IfSome (R.remaining r.old) (λ x. (R.failed r.new ≡ true) ⊎ TakesAtMost (keys_most (policy.now.run.limit + 1) x) x (R.remaining r.new)) }
 {
     let text = match line(alloc, r, 4_194_304) {
         Ok(text) => text,
@@ -134,6 +137,7 @@ pub(crate) fn verify<R: Source>(alloc: Global, now: u64, r: &mut R) -> Result<Re
     requires { now ≤ 9223372036854775807 }
     ensures line { IfSome (R.remaining r.old) (λ x. IfOk result (λ a. reply_view a ≡ verify_answer now (R.failed r.new) x)) }
     ensures taken { IfSome (R.remaining r.old) (λ x. (R.failed r.new ≡ true) ⊎ TakesAtMost 5308419 x (R.remaining r.new)) }
+    ensures stops { IfSome (R.remaining r.old) (λ x. (R.failed r.new ≡ true) ⊎ TakesAtMost (verify_most x) x (R.remaining r.new)) }
 {
     let text = match line(alloc, r, 65_536) {
         Ok(text) => text,
