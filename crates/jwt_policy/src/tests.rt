@@ -2,7 +2,7 @@ use crate::{
     Audience, ClaimFault, Claims, Mode, Policy, PolicyFault, SigFault, bar, check, eligible, fits,
 };
 use jwt_jws::parse;
-use jwt_keys::KeySet;
+use jwt_keys::{Key, KeySet};
 use jwt_mac::{Alg, Answer, KeyView, Message, Verifier};
 use jwt_text::encode_text;
 use std::alloc::Global;
@@ -38,10 +38,11 @@ const FULL: &str =
 
 /// The policy of a document that is read.
 fn policy_of(alloc: Global, document: &str) -> Result<Policy, Fail> {
-    match Policy::read(alloc, document.as_bytes()) {
-        Ok(policy) => Ok(policy),
-        Err(_fault) => Err("no policy".into()),
-    }
+    Ok(
+        Policy::read(alloc, document.as_bytes())
+            .ok()
+            .ok_or("no policy")?,
+    )
 }
 
 // ---- documents
@@ -62,9 +63,9 @@ fn policy_fault(alloc: Global, fault: &PolicyFault) -> Result<String, Fail> {
 
 /// The fault of a document with the member that it names, or `read`.
 fn refusal(alloc: Global, document: &[u8]) -> Result<String, Fail> {
-    match Policy::read(alloc, document) {
+    match &Policy::read(alloc, document) {
         Ok(_policy) => Ok(String::from_str(alloc, "read")?),
-        Err(fault) => policy_fault(alloc, &fault),
+        Err(fault) => policy_fault(alloc, fault),
     }
 }
 
@@ -218,6 +219,14 @@ fn flattened(alloc: Global, protected: &str, unprotected: &str) -> Result<String
     Ok(token)
 }
 
+/// The bar of the first signature of a token, without verifiers.
+fn bar_in(alloc: Global, policy: &Policy, token: &str) -> Result<Option<SigFault>, Fail> {
+    let signed = parse(alloc, token.as_bytes(), 1).ok().ok_or("no token")?;
+    let signature = signed.signature(0).ok_or("no signature")?;
+    let verifiers: [Box<dyn Verifier>; 0] = [];
+    Ok(bar(policy, signature, &verifiers))
+}
+
 /// The bar of a signature with these headers.
 fn bar_of(
     alloc: Global,
@@ -227,12 +236,7 @@ fn bar_of(
 ) -> Result<Option<SigFault>, Fail> {
     let policy = policy_of(alloc, policy)?;
     let token = flattened(alloc, protected, unprotected)?;
-    let Ok(signed) = parse(alloc, token.as_bytes(), 1) else {
-        return Err("no token".into());
-    };
-    let signature = signed.signature(0).ok_or("no signature")?;
-    let verifiers: [Box<dyn Verifier>; 0] = [];
-    Ok(bar(&policy, signature, &verifiers))
+    bar_in(alloc, &policy, &token)
 }
 
 #[test]
@@ -423,6 +427,18 @@ const SECRET: &str =
 const RSA: &str =
     "{\"kty\":\"RSA\",\"n\":\"0vx7agoebGcQSuuPiLJXZptN9nndrQmbXEps2aiAFbWhM78LhWx4cbbfAAtVT86zwu1RK7aPFFxuhDR1L6tSoc_BJECPebWKRXjBZCiFV4n3oknjhMstn64tZ_2W-5JsGY4Hc5n9yBXArwl93lqt7_RN5w6Cf0h4QyQ5v-65YGjQR0_FDW2QvzqY368QQMicAtaSqzs8KJZgnYb9c7d0zgdAZHzu6qMQvRL5hajrn1n91CbOpbISD08qNLyrdkt-bFTWhAI4vMQFh6WeZu0fM4lFd2NcRwr3XPksINHaQ-G_xBniIqbw0Ls1jF44-csFCur-kEgU8awapJzKnqDKgw\",\"e\":\"AQAB\",\"alg\":\"RS256\"";
 
+/// Whether a key is eligible for the first signature of a token; what is eligible fits.
+fn is_eligible_in(alloc: Global, policy: &Policy, token: &str, key: &Key) -> Result<bool, Fail> {
+    let signed = parse(alloc, token.as_bytes(), 1).ok().ok_or("no token")?;
+    let signature = signed.signature(0).ok_or("no signature")?;
+    let same: Box<dyn Verifier> = Box::new(alloc, Same)?;
+    let found = eligible(policy, signature, key, &[same]);
+    if found && !fits(policy, signature, key) {
+        return Err("eligible and unfit".into());
+    }
+    Ok(found)
+}
+
 /// Whether a key is eligible for a signature with these headers, with a verifier of RS256.
 fn is_eligible(
     alloc: Global,
@@ -433,19 +449,10 @@ fn is_eligible(
 ) -> Result<bool, Fail> {
     let policy = policy_of(alloc, policy)?;
     let token = flattened(alloc, protected, unprotected)?;
-    let Ok(signed) = parse(alloc, token.as_bytes(), 1) else {
-        return Err("no token".into());
-    };
-    let signature = signed.signature(0).ok_or("no signature")?;
     let document = format!(in alloc; "{{\"keys\":[{key}}}]}}")?;
     let keys = KeySet::read(alloc, document.as_bytes())?;
     let key = keys.key(0).ok_or("no key")?;
-    let same: Box<dyn Verifier> = Box::new(alloc, Same)?;
-    let found = eligible(&policy, signature, key, &[same]);
-    if found && !fits(&policy, signature, key) {
-        return Err("eligible and unfit".into());
-    }
-    Ok(found)
+    is_eligible_in(alloc, &policy, &token, key)
 }
 
 #[test]
@@ -525,14 +532,19 @@ fn claim_fault(alloc: Global, fault: &ClaimFault<'_>) -> Result<String, Fail> {
     Ok(text)
 }
 
+/// What `check` says of claims, or `none`.
+fn check_fault(alloc: Global, policy: &Policy, claims: &Claims, now: i64) -> Result<String, Fail> {
+    match &check(policy, claims, now) {
+        None => Ok(String::from_str(alloc, "none")?),
+        Some(fault) => claim_fault(alloc, fault),
+    }
+}
+
 /// The fault of claims with the claim that it names, or `none`.
 fn fault_of(alloc: Global, policy: &Policy, payload: &str, now: i64) -> Result<String, Fail> {
-    match Claims::read(alloc, payload.as_bytes()) {
-        Ok(claims) => match check(policy, &claims, now) {
-            None => Ok(String::from_str(alloc, "none")?),
-            Some(fault) => claim_fault(alloc, &fault),
-        },
-        Err(fault) => claim_fault(alloc, &fault),
+    match &Claims::read(alloc, payload.as_bytes()) {
+        Ok(claims) => check_fault(alloc, policy, claims, now),
+        Err(fault) => claim_fault(alloc, fault),
     }
 }
 
@@ -600,9 +612,7 @@ fn claims_hold_or_are_refused_for_their_first_fault(rt: HostRuntime) -> Result<(
 fn claims_say_what_their_payload_says(rt: HostRuntime) -> Result<(), Fail> {
     let payload =
         b"{\"iss\":\"joe\",\"sub\":\"\",\"aud\":[\"a\",\"b\"],\"exp\":1300819380,\"nbf\":-1,\"jti\":\"x\",\"z\":true}";
-    let Ok(claims) = Claims::read(rt.alloc(), payload) else {
-        return Err("refused".into());
-    };
+    let claims = Claims::read(rt.alloc(), payload).ok().ok_or("refused")?;
     assert_eq!(rt;
         (claims.iss(), claims.sub(), claims.jti()),
         (Some("joe"), Some(""), Some("x"))
@@ -620,16 +630,16 @@ fn claims_say_what_their_payload_says(rt: HostRuntime) -> Result<(), Fail> {
 #[test]
 fn a_refused_growth_is_out_of_memory(rt: HostRuntime) -> Result<(), Fail> {
     let alloc = rt.alloc();
-    match Policy::read(alloc, FULL.as_bytes()) {
+    match &Policy::read(alloc, FULL.as_bytes()) {
         Ok(policy) => assert_eq!(rt; policy.max_calls(), Some(32_768)),
         Err(fault) => assert!(rt; matches!(fault, PolicyFault::OutOfMemory)),
     }
-    match Policy::read(alloc, b"{\"algs\":[\"none\"]}") {
+    match &Policy::read(alloc, b"{\"algs\":[\"none\"]}") {
         Ok(_) => return Err("read".into()),
         Err(PolicyFault::Range(name)) => assert_eq!(rt; name.text(), "algs"),
         Err(fault) => assert!(rt; matches!(fault, PolicyFault::OutOfMemory)),
     }
-    match Claims::read(alloc, b"{\"aud\":[\"a\"],\"exp\":5}") {
+    match &Claims::read(alloc, b"{\"aud\":[\"a\"],\"exp\":5}") {
         Ok(claims) => assert_eq!(rt; claims.exp(), Some(5)),
         Err(fault) => assert!(rt; matches!(fault, ClaimFault::OutOfMemory)),
     }

@@ -1,4 +1,4 @@
-use Rattle.std.proofs.Common.{◌∙◌, ◌≤◌, ap, sym, ⊎_elim, arith, ⊎_elim}
+use Rattle.std.proofs.Common.{◌∙◌, ◌≤◌, ap, sym, ⊎_elim, arith}
 use Rattle.clap.specs.Words.{found_of, one_text}
 use Rattle.clap.specs.declared.builder.ValueParser.TheVariants.{Unsigned}
 use Rattle.clap.proofs.WalkLemmas.{one_text-rows}
