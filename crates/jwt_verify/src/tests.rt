@@ -57,26 +57,38 @@ fn verifiers(alloc: Global, kinds: &[Kind]) -> Result<Vec<Box<dyn Verifier>>, Al
     Ok(all)
 }
 
+/// A fault in words.
+fn told_fault(alloc: Global, fault: &Fault<'_>) -> Result<String, AllocError> {
+    match fault {
+        Fault::OutOfMemory => format!(in alloc; "OutOfMemory"),
+        Fault::Text(fault) => format!(in alloc; "{fault:?}"),
+        Fault::Form(fault) => format!(in alloc; "{fault:?}"),
+        Fault::WorkExceeded(i, j) => format!(in alloc; "WorkExceeded {i} {j}"),
+        Fault::Signature(i, fault) => format!(in alloc; "{fault:?} {i}"),
+        Fault::Claim(fault) => told_claim_fault(alloc, fault),
+        Fault::VerifierMemory => format!(in alloc; "VerifierMemory"),
+        Fault::CallsExceeded(i, j) => format!(in alloc; "CallsExceeded {i} {j}"),
+    }
+}
+
+/// A claims fault in words, where a case needs them.
+fn told_claim_fault(alloc: Global, fault: &ClaimFault<'_>) -> Result<String, AllocError> {
+    match fault {
+        ClaimFault::Expired => format!(in alloc; "Expired"),
+        ClaimFault::Issuer => format!(in alloc; "Issuer"),
+        ClaimFault::ClaimMissing(name) => {
+            let name = name.text();
+            format!(in alloc; "ClaimMissing({name})")
+        }
+        _ => format!(in alloc; "Claim"),
+    }
+}
+
 /// A verdict in words.
 fn told_verdict(alloc: Global, verdict: &Verdict<'_>) -> Result<String, AllocError> {
     match verdict {
         Verdict::Accepted { signature, key, .. } => format!(in alloc; "accepted {signature} {key}"),
-        Verdict::Refused(fault) => match fault {
-            Fault::OutOfMemory => format!(in alloc; "OutOfMemory"),
-            Fault::Text(fault) => format!(in alloc; "{fault:?}"),
-            Fault::Form(fault) => format!(in alloc; "{fault:?}"),
-            Fault::WorkExceeded(i, j) => format!(in alloc; "WorkExceeded {i} {j}"),
-            Fault::Signature(i, fault) => format!(in alloc; "{fault:?} {i}"),
-            Fault::Claim(ClaimFault::Expired) => format!(in alloc; "Expired"),
-            Fault::Claim(ClaimFault::Issuer) => format!(in alloc; "Issuer"),
-            Fault::Claim(ClaimFault::ClaimMissing(name)) => {
-                let name = name.text();
-                format!(in alloc; "ClaimMissing({name})")
-            }
-            Fault::Claim(_) => format!(in alloc; "Claim"),
-            Fault::VerifierMemory => format!(in alloc; "VerifierMemory"),
-            Fault::CallsExceeded(i, j) => format!(in alloc; "CallsExceeded {i} {j}"),
-        },
+        Verdict::Refused(fault) => told_fault(alloc, fault),
     }
 }
 
@@ -98,42 +110,38 @@ fn told(alloc: Global, report: &Report<'_>, octets: u64, calls: u32) -> Result<S
     Ok(line)
 }
 
-/// What `judge` says of the case.
+/// What `judge` says of the case, where its policy and keys are read.
 fn judged<B: Budget>(
     alloc: Global,
     case: &Case,
     verifiers: &[Box<dyn Verifier>],
     b: &mut B,
-) -> Result<String, Fail>
+) -> Option<String>
     requires octets { B.octets b.old ≡ 0 }
     requires calls { B.calls b.old ≡ 0 }
 {
-    let Ok(policy) = Policy::read(alloc, case.policy.as_bytes()) else {
-        return Err("the policy is refused")?;
-    };
-    let keys = KeySet::read(alloc, case.keys.as_bytes())?;
+    let policy = Policy::read(alloc, case.policy.as_bytes()).ok()?;
+    let keys = KeySet::read(alloc, case.keys.as_bytes()).ok()?;
     let token = case.token.as_bytes();
     let report = judge(alloc, token, &keys, &policy, case.now, verifiers, b);
-    Ok(told(alloc, &report, b.octets(), b.calls())?)
+    told(alloc, &report, b.octets(), b.calls()).ok()
 }
 
-/// What `validate` says of the case, over this source.
+/// What `validate` says of the case, over this source, where its policy and keys are read.
 fn validated<R: Source, B: Budget>(
     alloc: Global,
     r: &mut R,
     case: &Case,
     verifiers: &[Box<dyn Verifier>],
     b: &mut B,
-) -> Result<String, Fail>
+) -> Option<String>
     requires octets { B.octets b.old ≡ 0 }
     requires calls { B.calls b.old ≡ 0 }
 {
-    let Ok(policy) = Policy::read(alloc, case.policy.as_bytes()) else {
-        return Err("the policy is refused")?;
-    };
-    let keys = KeySet::read(alloc, case.keys.as_bytes())?;
+    let policy = Policy::read(alloc, case.policy.as_bytes()).ok()?;
+    let keys = KeySet::read(alloc, case.keys.as_bytes()).ok()?;
     let report = validate(alloc, r, &keys, &policy, case.now, verifiers, b);
-    Ok(told(alloc, &report, b.octets(), b.calls())?)
+    told(alloc, &report, b.octets(), b.calls()).ok()
 }
 
 /// The first of these cases that `judge` or `validate` reports otherwise, with what it says.
@@ -141,10 +149,10 @@ fn first_difference(alloc: Global, cases: &[Case]) -> Result<Option<String>, Fai
     let none = verifiers(alloc, &[])?;
     for case in cases {
         let mut up = CountUp::new(case.ceiling);
-        let said = judged(alloc, case, &none, &mut up)?;
+        let said = judged(alloc, case, &none, &mut up).ok_or("no report")?;
         let mut down = CountDown::new(case.ceiling);
         let mut source = Drip::new(case.token.as_bytes(), 1 << 20);
-        let read = validated(alloc, &mut source, case, &none, &mut down)?;
+        let read = validated(alloc, &mut source, case, &none, &mut down).ok_or("no report")?;
         if said.as_str() != case.gives || read.as_str() != case.gives {
             let shows = case.shows;
             return Ok(Some(format!(in alloc; "{shows}: {said}, {read}")?));
@@ -190,11 +198,11 @@ fn verifiers_are_asked(rt: HostRuntime) -> Result<(), Fail> {
     } in &ASKING {
         let all = verifiers(alloc, kinds)?;
         let mut up = CountUp::new(case.ceiling);
-        let said = judged(alloc, case, &all, &mut up)?;
+        let said = judged(alloc, case, &all, &mut up).ok_or("no report")?;
         assert_eq!(rt; said.as_str(), case.gives, "{}", case.shows);
         let mut down = CountDown::new(case.ceiling);
         let mut source = Reader::new(case.token.as_bytes());
-        let said = validated(alloc, &mut source, case, &all, &mut down)?;
+        let said = validated(alloc, &mut source, case, &all, &mut down).ok_or("no report")?;
         assert_eq!(rt; said.as_str(), case.gives, "{}", case.shows);
     }
     Ok(())
@@ -335,7 +343,7 @@ fn drip_in(
     case.policy = policy;
     let mut b = CountUp::new(AMPLE);
     let mut source = Drip::new(token, left);
-    let said = validated(alloc, &mut source, &case, &none, &mut b)?;
+    let said = validated(alloc, &mut source, &case, &none, &mut b).ok_or("no report")?;
     Ok(Dripped {
         said,
         unread: source.rest.len(),
@@ -379,19 +387,31 @@ fn what_follows_one_octet_past_the_limit_is_unread(rt: HostRuntime) -> Result<()
     Ok(())
 }
 
+/// Whether `judge` accepts a token, with the calls that it paid, and what it says.
+fn judged_octets(
+    alloc: Global,
+    token: &[u8],
+    keys: &KeySet,
+    policy: &Policy,
+) -> Option<(bool, u32, String)> {
+    let none = verifiers(alloc, &[]).ok()?;
+    let mut b = CountUp::new(AMPLE);
+    let report = judge(alloc, token, keys, policy, NOW, &none, &mut b);
+    let accepted = matches!(report.verdict, Verdict::Accepted { .. });
+    let said = told(alloc, &report, b.octets(), b.calls()).ok()?;
+    Some((accepted, b.calls(), said))
+}
+
 #[test]
 fn a_token_that_is_cut_is_not_accepted(rt: HostRuntime) -> Result<(), Fail> {
     let alloc = rt.alloc();
-    let none = verifiers(alloc, &[])?;
-    let Ok(policy) = Policy::read(alloc, HS256.as_bytes()) else {
-        return Err("the policy is refused")?;
-    };
-    let keys = KeySet::read(alloc, KEY_A.as_bytes())?;
+    let policy = Policy::read(alloc, HS256.as_bytes())
+        .ok()
+        .ok_or("no policy")?;
+    let keys = KeySet::read(alloc, KEY_A.as_bytes()).ok().ok_or("no keys")?;
     for n in 0..TOKEN_A.len() {
-        let mut b = CountUp::new(AMPLE);
         let token = &TOKEN_A.as_bytes()[..n];
-        let report = judge(alloc, token, &keys, &policy, NOW, &none, &mut b);
-        let said = told(alloc, &report, b.octets(), b.calls())?;
+        let (_, _, said) = judged_octets(alloc, token, &keys, &policy).ok_or("no report")?;
         let want = match n {
             0 => "Empty; tries work 0 calls 0;",
             1..=135 => "Segments; tries work 0 calls 0;",
@@ -408,21 +428,20 @@ fn a_token_that_is_cut_is_not_accepted(rt: HostRuntime) -> Result<(), Fail> {
 #[test]
 fn a_token_with_one_octet_changed_is_not_accepted(rt: HostRuntime) -> Result<(), Fail> {
     let alloc = rt.alloc();
-    let none = verifiers(alloc, &[])?;
-    let Ok(policy) = Policy::read(alloc, HS256.as_bytes()) else {
-        return Err("the policy is refused")?;
-    };
-    let keys = KeySet::read(alloc, KEY_A.as_bytes())?;
+    let policy = Policy::read(alloc, HS256.as_bytes())
+        .ok()
+        .ok_or("no policy")?;
+    let keys = KeySet::read(alloc, KEY_A.as_bytes()).ok().ok_or("no keys")?;
     for place in 0..TOKEN_A.len() {
         for change in 1..=255u8 {
             let mut token = Vec::from_slice(alloc, TOKEN_A.as_bytes())?;
             token[place] ^= change;
-            let mut b = CountDown::new(AMPLE);
-            let report = judge(alloc, &token, &keys, &policy, NOW, &none, &mut b);
-            let accepted = matches!(report.verdict, Verdict::Accepted { .. });
+            let (accepted, calls, said) = judged_octets(alloc, &token, &keys, &policy).ok_or(
+                "no report",
+            )?;
             assert!(rt;
-                !accepted && b.calls() <= 1,
-                "octet {place}, changed by {change}"
+                !accepted && calls <= 1,
+                "octet {place}, changed by {change}: {said}"
             );
         }
     }
@@ -443,27 +462,23 @@ fn list_of(alloc: Global, text: &str, times: usize) -> Result<String, AllocError
 
 /// What `judge` says, under this policy, of a JSON token of so many equal signatures without octets, with 1,024 keys of 32 zero
 /// octets.
-fn judged_all_pairs(alloc: Global, count: usize, ceiling: u64) -> Result<(String, usize), Fail> {
+fn judged_all_pairs(alloc: Global, count: usize, ceiling: u64) -> Option<(String, usize)> {
     let text = "{\"algs\":[\"HS256\"],\"max_signatures\":32,\"limit\":1048576}";
-    let Ok(policy) = Policy::read(alloc, text.as_bytes()) else {
-        return Err("the policy is refused")?;
-    };
+    let policy = Policy::read(alloc, text.as_bytes()).ok()?;
     let key = "{\"kty\":\"oct\",\"k\":\"AAAAAAAAAAAAAAAAAAAAAAAAAAAAAAAAAAAAAAAAAAA\"}";
-    let list = list_of(alloc, key, 1024)?;
-    let document = format!(in alloc; "{{\"keys\":[{list}]}}")?;
-    let keys = KeySet::read(alloc, document.as_bytes())?;
+    let list = list_of(alloc, key, 1024).ok()?;
+    let document = format!(in alloc; "{{\"keys\":[{list}]}}").ok()?;
+    let keys = KeySet::read(alloc, document.as_bytes()).ok()?;
     let element = "{\"protected\":\"eyJhbGciOiJIUzI1NiJ9\",\"signature\":\"\"}";
-    let list = list_of(alloc, element, count)?;
-    let token = format!(in alloc; "{{\"payload\":\"e30\",\"signatures\":[{list}]}}")?;
-    let none = verifiers(alloc, &[])?;
+    let list = list_of(alloc, element, count).ok()?;
+    let token = format!(in alloc; "{{\"payload\":\"e30\",\"signatures\":[{list}]}}").ok()?;
+    let none = verifiers(alloc, &[]).ok()?;
     let mut b = CountDown::new(ceiling);
     let report = judge(alloc, token.as_bytes(), &keys, &policy, NOW, &none, &mut b);
-    let verdict = told_verdict(alloc, &report.verdict)?;
+    let verdict = told_verdict(alloc, &report.verdict).ok()?;
     let octets = b.octets();
-    Ok((
-        format!(in alloc; "{verdict} work {octets}")?,
-        report.tries.len(),
-    ))
+    let said = format!(in alloc; "{verdict} work {octets}").ok()?;
+    Some((said, report.tries.len()))
 }
 
 #[test]
@@ -474,7 +489,7 @@ fn as_many_pairs_as_there_can_be(rt: HostRuntime) -> Result<(), Fail> {
         (32, 6_029_311, "WorkExceeded 31 1023 work 6029128", 32_767),
         (33, 6_029_312, "TooManySignatures work 0", 0),
     ] {
-        let (verdict, length) = judged_all_pairs(alloc, count, ceiling)?;
+        let (verdict, length) = judged_all_pairs(alloc, count, ceiling).ok_or("no report")?;
         assert_eq!(rt; verdict.as_str(), said);
         assert_eq!(rt; length, tries);
     }
@@ -484,9 +499,9 @@ fn as_many_pairs_as_there_can_be(rt: HostRuntime) -> Result<(), Fail> {
 #[test]
 fn keys_of_another_kid_are_not_tried(rt: HostRuntime) -> Result<(), Fail> {
     let alloc = rt.alloc();
-    let Ok(policy) = Policy::read(alloc, HS256.as_bytes()) else {
-        return Err("the policy is refused")?;
-    };
+    let policy = Policy::read(alloc, HS256.as_bytes())
+        .ok()
+        .ok_or("no policy")?;
     let none = verifiers(alloc, &[])?;
     let token = "eyJhbGciOiJIUzI1NiIsImtpZCI6IngifQ.e30.";
     let same =
@@ -542,7 +557,7 @@ fn a_source_that_never_ends_is_too_long(rt: HostRuntime) -> Result<(), Fail> {
     case.policy = "{\"algs\":[\"HS256\"],\"limit\":1048576}";
     let mut b = CountUp::new(AMPLE);
     let mut source = Endless { given: 0 };
-    let said = validated(alloc, &mut source, &case, &none, &mut b)?;
+    let said = validated(alloc, &mut source, &case, &none, &mut b).ok_or("no report")?;
     assert_eq!(rt; said.as_str(), "TooLong; tries work 0 calls 0;");
     assert_eq!(rt; source.given, 1_048_577);
     Ok(())
@@ -590,7 +605,7 @@ fn a_verifier_is_asked_once_for_each_call(rt: HostRuntime) -> Result<(), Fail> {
         "VerifierMemory; tries 0.0 work 0 calls 1; Stopped",
     ] {
         let mut b = CountUp::new(AMPLE);
-        let said = judged(alloc, &case, &all, &mut b)?;
+        let said = judged(alloc, &case, &all, &mut b).ok_or("no report")?;
         assert_eq!(rt; said.as_str(), gives);
     }
     Ok(())
