@@ -1,5 +1,6 @@
 -- One line of an input.
 use Rattle.std.specs.Prelude.{◌≡◌, ◌<◌, ◌≤◌, ◌+◌, ◌==◌, ℕ, Bool, true, false, List, [], ◌∷◌, length, drop, min, Option, Some, if◌then◌else◌}
+use Rattle.jwt_tool.specs.Input.{TakesAtMost}
 use Rattle.jwt_tool.specs.declared.take_line.LineFault.{LineFault}
 use Rattle.jwt_tool.specs.declared.take_line.LineFault.TheVariants.{OutOfMemory, Read, TooLong}
 
@@ -27,4 +28,4 @@ line_most limit x = min (limit + 1) (length (first_line x) + 1)
 abbrev pub LineFails : ℕ → Bool → List ℕ → Option (List ℕ) → LineFault → Type 0
 LineFails limit failed x rest TooLong = (limit < length (first_line x)) × (rest ≡ Some (drop (limit + 1) x)) × (failed ≡ false)
 LineFails limit failed x rest Read = failed ≡ true
-LineFails limit failed x rest OutOfMemory = Unit {0}
+LineFails limit failed x rest OutOfMemory = TakesAtMost (line_most limit x) x rest

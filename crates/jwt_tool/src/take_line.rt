@@ -9,7 +9,7 @@ use std::alloc::{AllocFailed, Global};
 /// Why a line wasn't taken.
 #[derive(Clone, Copy, Debug, PartialEq, Eq)]
 pub(crate) enum LineFault {
-    /// A growth was refused.
+    /// A growth was refused. At most one octet past the limit was taken, and nothing behind the line.
     OutOfMemory,
 
     /// The source failed.

@@ -29,23 +29,18 @@ returns-then-octet-eq10 g c =
     let line = line_at_feed c.args.limit told mid rest c.octets.octets.items before.unread (subst (λ (l : List ℕ). Consumes mid rest l) piece c.in-Some.ensures.octets) before.no_feed (omega arith) in
     record { line = line; works = search rules; fails = search rules; taken = IfSome_then told line (λ x h. inr (line_taken c.args.limit x _ rest h)) }
 
-pub returns-in_err-push-in-Some-clause-fails : goal.returns-in_err-push-in-Some-clause-fails
-returns-in_err-push-in-Some-clause-fails g c =
+pub returns-in_err-push-in-Some : goal.returns-in_err-push-in-Some
+returns-in_err-push-in-Some g c =
     let p = err_from_is_err_and c.from_residual.result c.from_residual.ensures.1 in
-    rw (p.1, p.2) (search rules)
-
-pub returns-in_err-push-in-Some-clause-taken : goal.returns-in_err-push-in-Some-clause-taken
-returns-in_err-push-in-Some-clause-taken g c =
     let told = g.R.Source.remaining c.args.r.now in
     let mid = g.R.Source.remaining c.octets.r in
     let rest = g.R.Source.remaining c.pull.new.self in
     let before = c.octets.invariant in
     let sized : length c.pull.new.buf ≡ 1 = omega arith in
     let one = one_octet c.pull.new.buf c.in-Some.field-0 sized c.in-Some.ensures.count c.in-Some.field-0-test.1 in
-    IfSome_then told
-    (line_without_memory c.args.limit told mid rest c.octets.octets.items (get_or c.pull.new.buf 0 0) before.unread
-    (subst (λ (l : List ℕ). Consumes mid rest l) one c.in-Some.ensures.octets) before.no_feed (omega arith))
-    (λ x h. inr h)
+    let front = line_without_memory c.args.limit told mid rest c.octets.octets.items (get_or c.pull.new.buf 0 0) before.unread
+    (subst (λ (l : List ℕ). Consumes mid rest l) one c.in-Some.ensures.octets) before.no_feed (omega arith) in
+    record { line = rw (p.1) (search rules); works = rw (p.1) (search rules); fails = rw (p.1, p.2) front; taken = IfSome_then told front (λ x h. inr h) }
 
 pub returns : goal.returns
 returns g c =
