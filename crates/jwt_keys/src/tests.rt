@@ -20,6 +20,15 @@ const OCT_THUMBPRINT: &str = "xoNKolCCOwo3X8anKSSJQKMilUpNMW2KQv6Md8OcdL0";
 const MIXED: &str =
     "{\"keys\":[{\"kty\":\"XYZ\"},{\"kty\":\"oct\"},{\"kty\":\"oct\",\"k\":\"AA==\"},{\"kty\":\"oct\",\"k\":\"\"},7,{\"kty\":\"oct\",\"k\":\"AA\"}]}";
 
+/// Why the five are skipped.
+const MIXED_SKIPS: [SkipReason; 5] = [
+    SkipReason::KtyUnknown,
+    SkipReason::MemberMissing,
+    SkipReason::Base64,
+    SkipReason::Length,
+    SkipReason::NotObject,
+];
+
 /// The set of one entry.
 fn set_of(alloc: Global, entry: &str) -> Result<KeySet, KeysFault> {
     let Ok(text) = format!(in alloc; "{{\"keys\":[{entry}]}}") else {
@@ -40,17 +49,10 @@ fn repeated(alloc: Global, text: &str, times: usize) -> Result<String, AllocErro
 #[test]
 fn unreadable_entries_are_skipped_and_readable_ones_numbered(rt: HostRuntime) -> Result<(), Fail> {
     let keys = KeySet::read(rt.alloc(), MIXED.as_bytes())?;
-    let skips = [
-        SkipReason::KtyUnknown,
-        SkipReason::MemberMissing,
-        SkipReason::Base64,
-        SkipReason::Length,
-        SkipReason::NotObject,
-    ];
-    assert_eq!(rt; keys.skipped().len(), skips.len());
+    assert_eq!(rt; keys.skipped().len(), MIXED_SKIPS.len());
     for (place, skip) in keys.skipped().iter().enumerate() {
         assert_eq!(rt; skip.place as usize, place);
-        assert_eq!(rt; Some(&skip.reason), skips.get(place), "at {place}");
+        assert_eq!(rt; Some(&skip.reason), MIXED_SKIPS.get(place), "at {place}");
     }
     assert_eq!(rt; keys.len(), 1);
     assert!(rt; !keys.is_empty());
@@ -147,6 +149,22 @@ fn a_document_that_is_no_key_set_is_refused(rt: HostRuntime) -> Result<(), Fail>
     ];
     for (text, fault) in rows {
         assert_eq!(rt; KeySet::read(alloc, text.as_bytes()).err(), fault, "{text}");
+    }
+    Ok(())
+}
+
+#[test]
+fn a_document_nests_127_deep(rt: HostRuntime) -> Result<(), Fail> {
+    let alloc = rt.alloc();
+    for (lists, fault) in [(126, None), (127, Some(KeysFault::Json))] {
+        let opened = repeated(alloc, "[", lists)?;
+        let closed = repeated(alloc, "]", lists)?;
+        let text = format!(in alloc; "{{\"keys\":[],\"x\":{opened}{closed}}}")?;
+        assert_eq!(rt;
+            KeySet::read(alloc, text.as_bytes()).err(),
+            fault,
+            "{lists}"
+        );
     }
     Ok(())
 }
@@ -355,7 +373,13 @@ fn a_refused_growth_is_out_of_memory(rt: HostRuntime) -> Result<(), Fail> {
     match KeySet::read(rt.alloc(), MIXED.as_bytes()) {
         Ok(keys) => {
             assert_eq!(rt; keys.len(), 1);
-            assert_eq!(rt; keys.skipped().len(), 5);
+            assert_eq!(rt; keys.key(0).map(|key| key.place()), Some(5));
+            assert!(rt;
+                keys.skipped()
+                    .iter()
+                    .map(|skip| skip.reason)
+                    .eq(MIXED_SKIPS)
+            );
         }
         Err(fault) => assert_eq!(rt; fault, KeysFault::OutOfMemory),
     }
