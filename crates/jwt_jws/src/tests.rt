@@ -21,7 +21,7 @@ fn fault_of(alloc: Global, octets: &[u8], most: u32) -> Option<FormFault>
 
 #[test]
 fn names_the_first_cause(rt: HostRuntime) -> Result<(), Fail> {
-    let cases: [(&[u8], FormFault); 30] = [
+    let cases: [(&[u8], FormFault); 32] = [
         (b"", FormFault::Empty),
         (b" \t\r\n", FormFault::Segments),
         (b"a.b", FormFault::Segments),
@@ -94,6 +94,14 @@ fn names_the_first_cause(rt: HostRuntime) -> Result<(), Fail> {
         (
             b"{\"payload\":\"e30\",\"protected\":\"eyJhbGciOiJIUzI1NiJ9\",\"header\":{\"alg\":\"HS256\"},\"signature\":\"A\"}",
             FormFault::NamesOverlap(0),
+        ),
+        (
+            b"{\"payload\":\"eyJpc3MiOiJqb2UiLA0KICJleHAiOjEzMDA4MTkzODAsDQogImh0dHA6Ly9leGFtcGxlLmNvbS9pc19yb290Ijp0cnVlfQ\",\"signatures\":[{\"protected\":\"eyJ0eXAiOiJKV1QiLA0KICJhbGciOiJIUzI1NiJ9\",\"signature\":\"dBjftJeZ4CVP-mB92K27uhbUJU1p1r_wW1gFWFOEjXk\",\"header\":{\"alg\":\"HS256\"}}]}",
+            FormFault::NamesOverlap(0),
+        ),
+        (
+            b"{\"payload\":\"eyJpc3MiOiJqb2UiLA0KICJleHAiOjEzMDA4MTkzODAsDQogImh0dHA6Ly9leGFtcGxlLmNvbS9pc19yb290Ijp0cnVlfQ\",\"signatures\":[{\"protected\":\"eyJ0eXAiOiJKV1QiLA0KICJhbGciOiJIUzI1NiJ9\",\"signature\":\"dBjftJeZ4CVP-mB92K27uhbUJU1p1r_wW1gFWFOEjXk\",\"header\":7}]}",
+            FormFault::UnprotectedKind(0),
         ),
         (
             b"{\"payload\":\"e30\",\"header\":{\"a\":{\"b\":1,\"b\":1}},\"signature\":\"\"}",
@@ -199,6 +207,13 @@ fn reads_three_forms(rt: HostRuntime) -> Result<(), Fail> {
         flattened.signature(0).map(|s| s.kid() == Some("k")),
         Some(true)
     );
+
+    let bare = parse(alloc, b"{\"payload\":\"e30\",\"signature\":\"\"}", 1)
+        .ok()
+        .ok_or("bare")?;
+    assert_eq!(rt; bare.form(), Form::Flattened);
+    assert_eq!(rt; first(&bare), Some((0, 0, 0)));
+    assert_eq!(rt; bare.count(), 1);
     Ok(())
 }
 

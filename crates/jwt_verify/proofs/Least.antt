@@ -18,7 +18,7 @@ use Rattle.jwt_verify.specs.declared.report.SigState.{SigState}
 use Rattle.jwt_verify.specs.declared.report.SigState.TheVariants.{Verified, NotReached, Stopped}
 use Rattle.jwt_verify.specs.Table.{Table, below, verifies, verified, tried, entry, tries, stop, reached, state_at, states_at, outcome, settled, work, is_within, paid, affords}
 use Rattle.jwt_verify.specs.Walk.{IsAt, IsThrough, IsPending, row, rows, goes_on}
-use Rattle.jwt_verify.specs.Laws.{with_valid, LeastTries}
+use Rattle.jwt_verify.specs.Laws.{with_valid}
 use Rattle.jwt_verify.proofs.Below.{below-zero, list_any-below, map-agree, grows}
 use Rattle.jwt_verify.proofs.Paying.{paid_is, paid_all, paid_rest, paid_fits, paid_over, slice_get_at, paid_front, within_less, work-append}
 use Rattle.jwt_verify.proofs.Ending.{recorded_stop, recorded_done, recorded_all, recorded_filled, state_before, state_reached}
@@ -213,10 +213,10 @@ module _ (t : Table) (v : ℕ → ℕ → Bool) (octets : ℕ) (calls : Option �
   twin = with_valid t v
 
   -- what a run leaves is the same
-  record IsSame : Type 0 where
-    paid_same : paid twin octets calls ≡ paid t octets calls
-    stop_same : stop twin octets calls ≡ stop t octets calls
-    states_same : states_at twin (stop t octets calls) ≡ states_at t (stop t octets calls)
+  pub record IsSame : Type 0 where
+    pub paid_same : paid twin octets calls ≡ paid t octets calls
+    pub stop_same : stop twin octets calls ≡ stop t octets calls
+    pub states_same : states_at twin (stop t octets calls) ≡ states_at t (stop t octets calls)
 
   agree_before : (m i : ℕ) → m ≤ i → All (Agrees t v) (rows t i) → All (Agrees t v) (rows t m)
   agree_before m i l agree = let q = rows_within t m i l in All-left (Agrees t v) (rows t m) q.0 (subst (All (Agrees t v)) q.1 agree)
@@ -292,7 +292,7 @@ module _ (t : Table) (v : ℕ → ℕ → Bool) (octets : ℕ) (calls : Option �
         })
   ]
 
-  same_run : All (Agrees t v) (paid t octets calls) → IsSame
+  pub same_run : All (Agrees t v) (paid t octets calls) → IsSame
   unfolding stop
   same_run agree =
       let p = paid t octets calls in
@@ -398,7 +398,7 @@ same_states t u o q s e i l =
     ∙ ap (λ ys. get_or ys i NotReached) e
     ∙ get_or-map-range_with_len (state_at t q) 0 t.signatures i i NotReached l (zero-add i)
 
-changed_states : (t : Table) (v : ℕ → ℕ → Bool) (octets : ℕ) (calls : Option ℕ) → ((i j : ℕ) → t.eligible i j ≡ true → t.bar i ≡ None)
+pub changed_states : (t : Table) (v : ℕ → ℕ → Bool) (octets : ℕ) (calls : Option ℕ) → ((i j : ℕ) → t.eligible i j ≡ true → t.bar i ≡ None)
     → (i j : ℕ) → Contains (paid t octets calls) (entry t i j) → v i j ≡ not (t.valid i j) → ((m n : ℕ) → (m ≡ i → n ≡ j → ⊥) → v m n ≡ t.valid m n)
     → states_at (with_valid t v) (stop (with_valid t v) octets calls) ≡ states_at t (stop t octets calls) → ⊥
 changed_states t v octets calls unbarred i j c changed others same =
@@ -436,9 +436,3 @@ changed_states t v octets calls unbarred i j c changed others same =
           let mine : t.valid i j ≡ true = valid_of t i j (state_verifies t (stop t octets calls) i j (sym equal ∙ theirs)) in
           false≢true (sym n ∙ mine))
     ]
-
-pub least_tries_hold : LeastTries
-least_tries_hold t v octets calls unbarred = (
-  λ agree. (let s = same_run t v octets calls agree in (s.paid_same, rw s.stop_same s.states_same, rw (s.paid_same, s.stop_same) refl)),
-  λ i j paid_here changed others same. changed_states t v octets calls unbarred i j paid_here changed others same,
-)

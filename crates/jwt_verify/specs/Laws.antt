@@ -3,7 +3,7 @@ use Rattle.serde_json.specs.Data.{Members}
 use Rattle.jwt_keys.specs.Keys.{KeyParts}
 use Rattle.jwt_verify.specs.declared.report.Verdict.{Verdict}
 use Rattle.jwt_verify.specs.declared.report.Verdict.TheVariants.{Accepted, Refused}
-use Rattle.jwt_verify.specs.Verdict.{Terms, token_of, token_or_none, table, verdict_of}
+use Rattle.jwt_verify.specs.Verdict.{Terms, concluded, ended, signing_of, token_of, token_or_none, table, verdict_of}
 use Rattle.jwt_mac.specs.declared.algorithm.Alg.{Alg}
 use Rattle.jwt_mac.specs.Algorithm.{is_hmac_alg, block_size, digest_size, key_cost}
 use Rattle.jwt_mac.specs.Verifying.{KeyOctets, OctKey, signing_input}
@@ -12,7 +12,7 @@ use Rattle.jwt_policy.specs.Settings.{Settings}
 use Rattle.jwt_policy.specs.Bars.{alg}
 use Rattle.jwt_verify.specs.declared.report.Fault.TheVariants.{WorkExceeded}
 use Rattle.jwt_verify.specs.Trying.{at_pair}
-use Rattle.std.specs.Prelude.{[], ◌∷◌, max, if◌then◌else◌, map, ℕ, ◌+◌, ◌*◌, ◌<◌, ◌≤◌, ◌≡◌, ◌≢◌, ◌⊎◌, Bool, true, not, List, length, Option, None}
+use Rattle.std.specs.Prelude.{[], ◌∷◌, max, if◌then◌else◌, map, ℕ, ℤ, ◌+◌, ◌*◌, ◌<◌, ◌≤◌, ◌≡◌, ◌≢◌, ◌⊎◌, Bool, true, not, List, length, Option, None}
 use Rattle.std.specs.List.{sum_by, All, AllPairs, Contains}
 use Rattle.std.specs.Option.{option_map_or}
 use Rattle.jwt_verify.specs.declared.report.Try.{Try}
@@ -37,12 +37,17 @@ TriesAreBounded = (t : Table) → AllPairs IsBefore (tries t) × All (λ e. t.el
 abbrev pub with_valid : Table → (ℕ → ℕ → Bool) → Table
 with_valid t v = record { signatures = t.signatures; keys = t.keys; mode = t.mode; bar = t.bar; eligible = t.eligible; valid = v; may_lack = t.may_lack; cost = t.cost }
 
--- What two validities agree on, for the paid tries of one, decides all that a run leaves; where they differ at one paid try
--- alone, the states differ. No key is eligible for a barred signature.
+-- the verdict of a run over the table
+abbrev pub verdict_by : Table → ℕ → Option ℕ → Settings → ℤ → List ℕ → Verdict
+verdict_by t octets calls p now payload = ended (ending t octets calls) (concluded p now payload (signing_of t))
+
+-- What two validities agree on, for the paid tries of one, decides all that a run leaves, and its verdict; where they differ at one
+-- paid try alone, the states differ. No key is eligible for a barred signature.
 abbrev pub LeastTries : Type 0
 LeastTries = (t : Table) (v : ℕ → ℕ → Bool) (octets : ℕ) (calls : Option ℕ) → ((i j : ℕ) → t.eligible i j ≡ true → t.bar i ≡ None)
     → (All (λ e. t.valid e.signature e.key ≡ v e.signature e.key) (paid t octets calls)
-    → (paid (with_valid t v) octets calls ≡ paid t octets calls) × (states (with_valid t v) octets calls ≡ states t octets calls) × (ending (with_valid t v) octets calls ≡ ending t octets calls))
+    → (paid (with_valid t v) octets calls ≡ paid t octets calls) × (states (with_valid t v) octets calls ≡ states t octets calls) × (ending (with_valid t v) octets calls ≡ ending t octets calls)
+    × ((p : Settings) (now : ℤ) (payload : List ℕ) → verdict_by (with_valid t v) octets calls p now payload ≡ verdict_by t octets calls p now payload))
     × ((i j : ℕ) → Contains (paid t octets calls) (entry t i j) → v i j ≡ not (t.valid i j) → ((m n : ℕ) → (m ≡ i → n ≡ j → ⊥) → v m n ≡ t.valid m n)
     → states (with_valid t v) octets calls ≢ states t octets calls)
 

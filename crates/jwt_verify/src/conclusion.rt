@@ -101,6 +101,7 @@ fn conclude<'p>(
         (Mode::Any, Some((i, j)), _) => claim(alloc, i, j, payload, policy, now),
         (Mode::All, Some((i, j)), None) => claim(alloc, i, j, payload, policy, now),
         (_, _, Some((i, fault))) => Verdict::Refused(Fault::Signature(i, fault)),
+        // A signed token has a signature, so this doesn't come.
         (_, None, None) => Verdict::Refused(Fault::Signature(0, SigFault::NoKey)),
     }
 }

@@ -170,7 +170,8 @@ fn refused<'p>(alloc: Global, fault: Fault<'p>) -> Report<'p>
 /// 1970-01-01T00:00:00Z (RFC 7519, section 7.2).
 ///
 /// The condition: the budget is new. Each try is paid from it: a try by HMAC for the octets that are fed, a question to the first
-/// of `verifiers` that names the algorithm for one call and no octets. No pair is tried twice.
+/// of `verifiers` that names the algorithm for one call and no octets. No pair is tried twice. The ceiling is the budget's alone:
+/// the policy's `work` isn't looked at, and `CountDown::new(policy.work())` makes a budget with it.
 ///
 /// # Refused
 /// With the first that holds of `Text(TooLong)`, more octets than the policy's `limit`; `Form`; `CallsExceeded` or `WorkExceeded`,
@@ -235,7 +236,7 @@ fn take_in<'p, R: Source>(alloc: Global, r: &mut R, limit: u32) -> Result<Intake
 /// use jwt_text::Reader;
 /// use jwt_verify::{Verdict, validate};
 ///
-/// let policy = Policy::read(alloc, b"{\"algs\":[\"HS256\"]}")?;
+/// let policy = Policy::read(alloc, b"{\"algs\":[\"HS256\"],\"audiences\":[\"api\"],\"required\":[\"exp\"]}")?;
 /// let keys = KeySet::read(alloc, document)?;
 /// let mut budget = CountDown::new(policy.work());
 /// let report = validate(alloc, &mut Reader::new(input), &keys, &policy, now, &[], &mut budget);
@@ -276,6 +277,7 @@ pub fn validate<'p, R: Source, B: Budget>(
     // Of every source: where it fails nothing is tried, and the budget agrees with the tries.
     ensures failed { R.failed r.new ≡ true → Failed result.verdict result.tries.items }
     ensures read { result.verdict ≡ Refused (Text Read) → R.failed r.new ≡ true }
+    ensures unread { result.verdict ≡ Refused (Text Read) → result.states.items ≡ [] }
     ensures octets { B.octets b.new ≡ work result.tries.items }
     ensures calls { B.calls b.new ≡ length result.tries.items }
     ensures ceiling { B.ceiling b.new ≡ B.ceiling b.old }

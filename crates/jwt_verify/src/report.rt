@@ -31,7 +31,7 @@ pub enum SigState {
     Stopped,
 }
 
-/// Why an input isn't held.
+/// Why an input isn't read as a token.
 #[derive(Clone, Copy, Debug, PartialEq, Eq)]
 pub enum InputFault {
     /// The source failed.
@@ -46,11 +46,12 @@ pub enum InputFault {
 pub enum Fault<'p> {
     /// A growth of memory was refused. It may stand in place of any other verdict.
     OutOfMemory,
-    /// The input isn't held.
+    /// The source failed, or gave more octets than the policy's `limit`.
     Text(InputFault),
     /// The octets are no signed token (RFC 7515, section 7).
     Form(FormFault),
-    /// The next pair of signature and key would have cost more than is left of the budget. It wasn't tried.
+    /// The next pair, the numbers of a signature and of a key, each from 0, would have cost more than is left of the budget. It
+    /// wasn't tried.
     WorkExceeded(u32, u32),
     /// The signature of this number isn't verified. In mode `any` none is, and this is the first; in mode `all` it is the first
     /// that isn't.
@@ -59,8 +60,8 @@ pub enum Fault<'p> {
     Claim(ClaimFault<'p>),
     /// A handed-in verifier lacked memory.
     VerifierMemory,
-    /// The budget had counted as many calls as the policy's `max_calls` before the next pair of signature and key. It wasn't
-    /// tried.
+    /// The budget had counted as many calls as the policy's `max_calls` before the next pair, the numbers of a signature and of a
+    /// key, each from 0. It wasn't tried.
     CallsExceeded(u32, u32),
 }
 

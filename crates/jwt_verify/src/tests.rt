@@ -4,8 +4,8 @@ mod cases;
 
 use crate::{Fault, InputFault, Report, Verdict, judge, validate};
 use cases::{
-    ACCEPTED, AMPLE, ASKING, Asking, CEILINGS, CLAIMS_AND_MODES, Case, FORMS, HEADERS, HS256,
-    KEY_A, Kind, NOW, TOKEN_A,
+    ACCEPTED, AMPLE, ASKING, Asking, CEILINGS, CLAIMS_AND_MODES, Case, FORMS, FOUR_KEYS, HEADERS,
+    HS256, KEY_A, Kind, NOW, ORDERS, STEPS, TOKEN_A,
 };
 use jwt_keys::KeySet;
 use jwt_mac::{Alg, Answer, Budget, CountDown, CountUp, KeyView, Message, Verifier};
@@ -92,14 +92,17 @@ fn told_verdict(alloc: Global, verdict: &Verdict<'_>) -> Result<String, AllocErr
     }
 }
 
-/// A report and what the budget says, in words: the verdict, the tried pairs, the octets and the calls, the states.
+/// A report and what the budget says, in words: the verdict, the tried pairs with their costs, the octets and the calls, the
+/// states, and `uncounted` where the budget hasn't counted just these tries.
 fn told(alloc: Global, report: &Report<'_>, octets: u64, calls: u32) -> Result<String, AllocError> {
     let mut line = told_verdict(alloc, &report.verdict)?;
     line.push_str("; tries ")?;
+    let mut paid = 0u64;
     for entry in &report.tries {
-        let (signature, key) = (entry.signature, entry.key);
-        let pair = format!(in alloc; "{signature}.{key} ")?;
+        let (signature, key, cost) = (entry.signature, entry.key, entry.cost);
+        let pair = format!(in alloc; "{signature}.{key}:{cost} ")?;
         line.push_str(&pair)?;
+        paid = paid.saturating_add(cost);
     }
     let budget = format!(in alloc; "work {octets} calls {calls};")?;
     line.push_str(&budget)?;
@@ -107,10 +110,32 @@ fn told(alloc: Global, report: &Report<'_>, octets: u64, calls: u32) -> Result<S
         let state = format!(in alloc; " {state:?}")?;
         line.push_str(&state)?;
     }
+    if paid != octets || report.tries.len() != calls as usize {
+        line.push_str(" uncounted")?;
+    }
     Ok(line)
 }
 
-/// What `judge` says of the case, where its policy and keys are read.
+/// What `judge` says of a token under this policy and with these keys, where both are read.
+fn judged_octets<B: Budget>(
+    alloc: Global,
+    token: &[u8],
+    policy: &[u8],
+    keys: &[u8],
+    now: i64,
+    verifiers: &[Box<dyn Verifier>],
+    b: &mut B,
+) -> Option<String>
+    requires octets { B.octets b.old ≡ 0 }
+    requires calls { B.calls b.old ≡ 0 }
+{
+    let policy = Policy::read(alloc, policy).ok()?;
+    let keys = KeySet::read(alloc, keys).ok()?;
+    let report = judge(alloc, token, &keys, &policy, now, verifiers, b);
+    told(alloc, &report, b.octets(), b.calls()).ok()
+}
+
+/// What `judge` says of the case.
 fn judged<B: Budget>(
     alloc: Global,
     case: &Case,
@@ -120,11 +145,16 @@ fn judged<B: Budget>(
     requires octets { B.octets b.old ≡ 0 }
     requires calls { B.calls b.old ≡ 0 }
 {
-    let policy = Policy::read(alloc, case.policy.as_bytes()).ok()?;
-    let keys = KeySet::read(alloc, case.keys.as_bytes()).ok()?;
-    let token = case.token.as_bytes();
-    let report = judge(alloc, token, &keys, &policy, case.now, verifiers, b);
-    told(alloc, &report, b.octets(), b.calls()).ok()
+    let (policy, keys) = (case.policy.as_bytes(), case.keys.as_bytes());
+    judged_octets(
+        alloc,
+        case.token.as_bytes(),
+        policy,
+        keys,
+        case.now,
+        verifiers,
+        b,
+    )
 }
 
 /// What `validate` says of the case, over this source, where its policy and keys are read.
@@ -144,48 +174,102 @@ fn validated<R: Source, B: Budget>(
     told(alloc, &report, b.octets(), b.calls()).ok()
 }
 
-/// The first of these cases that `judge` or `validate` reports otherwise, with what it says.
-fn first_difference(alloc: Global, cases: &[Case]) -> Result<Option<String>, Fail> {
-    let none = verifiers(alloc, &[])?;
+/// What both `judge` and `validate` say of the case, under two new budgets.
+fn reported<B: Budget>(
+    alloc: Global,
+    case: &Case,
+    verifiers: &[Box<dyn Verifier>],
+    b: &mut B,
+    other: &mut B,
+) -> Option<String>
+    requires octets { B.octets b.old ≡ 0 }
+    requires calls { B.calls b.old ≡ 0 }
+    requires other_octets { B.octets other.old ≡ 0 }
+    requires other_calls { B.calls other.old ≡ 0 }
+{
+    let said = judged(alloc, case, verifiers, b)?;
+    let mut source = Drip::new(case.token.as_bytes(), 1 << 20);
+    let read = validated(alloc, &mut source, case, verifiers, other)?;
+    if said == read {
+        Some(said)
+    } else {
+        format!(in alloc; "{said}, but {read}").ok()
+    }
+}
+
+/// What a report of the case under either kind of budget says that the case doesn't give.
+fn difference(alloc: Global, case: &Case, verifiers: &[Box<dyn Verifier>]) -> Option<String> {
+    let (mut up, mut other) = (CountUp::new(case.ceiling), CountUp::new(case.ceiling));
+    let counted_up = reported(alloc, case, verifiers, &mut up, &mut other)?;
+    let (mut down, mut other) = (CountDown::new(case.ceiling), CountDown::new(case.ceiling));
+    let counted_down = reported(alloc, case, verifiers, &mut down, &mut other)?;
+    let shows = case.shows;
+    if counted_up.as_str() != case.gives || counted_down.as_str() != case.gives {
+        return format!(in alloc; "{shows}: {counted_up}, {counted_down}").ok();
+    }
+    Some(String::new(alloc))
+}
+
+/// The first of these cases that is reported otherwise, with what is said of it; nothing where there is none.
+fn first_difference(alloc: Global, cases: &[Case]) -> Option<String> {
+    let none = verifiers(alloc, &[]).ok()?;
     for case in cases {
-        let mut up = CountUp::new(case.ceiling);
-        let said = judged(alloc, case, &none, &mut up).ok_or("no report")?;
-        let mut down = CountDown::new(case.ceiling);
-        let mut source = Drip::new(case.token.as_bytes(), 1 << 20);
-        let read = validated(alloc, &mut source, case, &none, &mut down).ok_or("no report")?;
-        if said.as_str() != case.gives || read.as_str() != case.gives {
-            let shows = case.shows;
-            return Ok(Some(format!(in alloc; "{shows}: {said}, {read}")?));
+        let found = difference(alloc, case, &none)?;
+        if !found.is_empty() {
+            return Some(found);
         }
     }
-    Ok(None)
+    Some(String::new(alloc))
 }
 
 #[test]
 fn each_form_gets_its_report(rt: HostRuntime) -> Result<(), Fail> {
-    let difference = first_difference(rt.alloc(), &FORMS)?;
-    assert!(rt; difference.is_none(), "{difference:?}");
+    let found = first_difference(rt.alloc(), &FORMS);
+    assert_eq!(rt; found.as_deref(), Some(""));
     Ok(())
 }
 
 #[test]
 fn each_header_gets_its_report(rt: HostRuntime) -> Result<(), Fail> {
-    let difference = first_difference(rt.alloc(), &HEADERS)?;
-    assert!(rt; difference.is_none(), "{difference:?}");
+    let found = first_difference(rt.alloc(), &HEADERS);
+    assert_eq!(rt; found.as_deref(), Some(""));
     Ok(())
 }
 
 #[test]
 fn claims_and_modes_get_their_report(rt: HostRuntime) -> Result<(), Fail> {
-    let difference = first_difference(rt.alloc(), &CLAIMS_AND_MODES)?;
-    assert!(rt; difference.is_none(), "{difference:?}");
+    let found = first_difference(rt.alloc(), &CLAIMS_AND_MODES);
+    assert_eq!(rt; found.as_deref(), Some(""));
     Ok(())
 }
 
 #[test]
 fn each_ceiling_gets_its_report(rt: HostRuntime) -> Result<(), Fail> {
-    let difference = first_difference(rt.alloc(), &CEILINGS)?;
-    assert!(rt; difference.is_none(), "{difference:?}");
+    let found = first_difference(rt.alloc(), &CEILINGS);
+    assert_eq!(rt; found.as_deref(), Some(""));
+    Ok(())
+}
+
+#[test]
+fn each_order_of_the_keys_gets_its_report(rt: HostRuntime) -> Result<(), Fail> {
+    let found = first_difference(rt.alloc(), &ORDERS);
+    assert_eq!(rt; found.as_deref(), Some(""));
+    Ok(())
+}
+
+#[test]
+fn each_ceiling_of_four_keys_gets_its_report(rt: HostRuntime) -> Result<(), Fail> {
+    let none = verifiers(rt.alloc(), &[])?;
+    let mut case = ACCEPTED;
+    case.keys = FOUR_KEYS;
+    for (first, last, gives) in STEPS {
+        case.gives = gives;
+        for ceiling in first..=last {
+            case.ceiling = ceiling;
+            let found = difference(rt.alloc(), &case, &none);
+            assert_eq!(rt; found.as_deref(), Some(""), "at {ceiling}");
+        }
+    }
     Ok(())
 }
 
@@ -197,57 +281,41 @@ fn verifiers_are_asked(rt: HostRuntime) -> Result<(), Fail> {
         case,
     } in &ASKING {
         let all = verifiers(alloc, kinds)?;
-        let mut up = CountUp::new(case.ceiling);
-        let said = judged(alloc, case, &all, &mut up).ok_or("no report")?;
-        assert_eq!(rt; said.as_str(), case.gives, "{}", case.shows);
-        let mut down = CountDown::new(case.ceiling);
-        let mut source = Reader::new(case.token.as_bytes());
-        let said = validated(alloc, &mut source, case, &all, &mut down).ok_or("no report")?;
-        assert_eq!(rt; said.as_str(), case.gives, "{}", case.shows);
+        let found = difference(alloc, case, &all);
+        assert_eq!(rt; found.as_deref(), Some(""));
     }
     Ok(())
 }
 
-/// What `judge` says of the case where a growth may be refused: that one was, as long as the budget counts the tries. `None`: one
-/// was refused to the test itself, or to its policy or keys.
-fn judged_lacking(alloc: Global, case: &Case, verifiers: &[Box<dyn Verifier>]) -> Option<String> {
-    let policy = Policy::read(alloc, case.policy.as_bytes()).ok()?;
-    let keys = KeySet::read(alloc, case.keys.as_bytes()).ok()?;
-    let mut b = CountUp::new(case.ceiling);
-    let token = case.token.as_bytes();
-    let report = judge(alloc, token, &keys, &policy, case.now, verifiers, &mut b);
-    let mut octets = 0u64;
-    for entry in &report.tries {
-        octets = octets.saturating_add(entry.cost);
-    }
-    let counted = b.octets() == octets && b.calls() as usize == report.tries.len();
-    match report.verdict {
-        Verdict::Refused(Fault::OutOfMemory) if counted => {
-            String::from_str(alloc, "OutOfMemory").ok()
-        }
-        _ => told(alloc, &report, b.octets(), b.calls()).ok(),
-    }
-}
-
-/// What a run counts for that says this: 1 where a growth was refused, and more than that where it reports otherwise.
+/// What a run counts for that says this where a growth may be refused: 1 where one was, with the tries so far counted, and 2 where
+/// it says otherwise.
 fn weight(said: Option<&str>, want: &str) -> usize {
     match said {
         None => 1,
         Some(said) if said == want => 0,
-        Some(said) if said == "OutOfMemory" => 1,
+        Some(said) if said.starts_with("OutOfMemory;") && !said.ends_with("uncounted") => 1,
         Some(_) => 2,
     }
 }
 
-/// What two runs of the case count for.
+/// What a run of `judge` and one of `validate` on the case count for.
 fn two_runs(alloc: Global, case: &Case, kinds: &[Kind]) -> usize {
+    let Ok(all) = verifiers(alloc, kinds) else {
+        return 1;
+    };
+    let mut up = CountUp::new(case.ceiling);
+    let said = judged(alloc, case, &all, &mut up);
+    let mut down = CountDown::new(case.ceiling);
+    let mut source = Reader::new(case.token.as_bytes());
+    let read = validated(alloc, &mut source, case, &all, &mut down);
+    weight(said.as_deref(), case.gives).saturating_add(weight(read.as_deref(), case.gives))
+}
+
+/// What two runs of so many of these cases, from a place on, count for.
+fn runs(alloc: Global, cases: &[Case], from: usize, count: usize) -> usize {
     let mut all = 0usize;
-    for _ in 0..2 {
-        let said = match verifiers(alloc, kinds) {
-            Ok(all) => judged_lacking(alloc, case, &all),
-            Err(_) => None,
-        };
-        all = all.saturating_add(weight(said.as_deref(), case.gives));
+    for case in cases.iter().skip(from).take(count) {
+        all = two_runs(alloc, case, &[]).saturating_add(all);
     }
     all
 }
@@ -255,19 +323,13 @@ fn two_runs(alloc: Global, case: &Case, kinds: &[Kind]) -> usize {
 // `refused-growths` refuses each growth of this test in turn.
 #[test]
 fn a_refused_growth_changes_no_report(rt: HostRuntime) -> Result<(), Fail> {
-    let mut refused = 0usize;
-    for cases in [
-        &FORMS[..1],
-        &FORMS[13..],
-        &HEADERS[1..3],
-        &CLAIMS_AND_MODES[2..3],
-    ] {
-        for case in cases {
-            refused = two_runs(rt.alloc(), case, &[]).saturating_add(refused);
-        }
-    }
-    for Asking { verifiers, case } in &ASKING[2..4] {
-        refused = two_runs(rt.alloc(), case, verifiers).saturating_add(refused);
+    let alloc = rt.alloc();
+    let mut refused = runs(alloc, &FORMS, 0, 1);
+    refused = runs(alloc, &FORMS, 13, 1).saturating_add(refused);
+    refused = runs(alloc, &HEADERS, 1, 2).saturating_add(refused);
+    refused = runs(alloc, &CLAIMS_AND_MODES, 2, 1).saturating_add(refused);
+    for Asking { verifiers, case } in ASKING.iter().skip(2).take(2) {
+        refused = two_runs(alloc, case, verifiers).saturating_add(refused);
     }
     assert!(rt; refused <= 1);
     Ok(())
@@ -387,61 +449,51 @@ fn what_follows_one_octet_past_the_limit_is_unread(rt: HostRuntime) -> Result<()
     Ok(())
 }
 
-/// Whether `judge` accepts a token, with the calls that it paid, and what it says.
-fn judged_octets(
-    alloc: Global,
-    token: &[u8],
-    keys: &KeySet,
-    policy: &Policy,
-) -> Option<(bool, u32, String)> {
+/// What `judge` says of a token with the keys of this document.
+fn said_with(alloc: Global, token: &[u8], document: &[u8]) -> Option<String> {
     let none = verifiers(alloc, &[]).ok()?;
     let mut b = CountUp::new(AMPLE);
-    let report = judge(alloc, token, keys, policy, NOW, &none, &mut b);
-    let accepted = matches!(report.verdict, Verdict::Accepted { .. });
-    let said = told(alloc, &report, b.octets(), b.calls()).ok()?;
-    Some((accepted, b.calls(), said))
+    judged_octets(alloc, token, HS256.as_bytes(), document, NOW, &none, &mut b)
 }
 
 #[test]
 fn a_token_that_is_cut_is_not_accepted(rt: HostRuntime) -> Result<(), Fail> {
-    let alloc = rt.alloc();
-    let policy = Policy::read(alloc, HS256.as_bytes())
-        .ok()
-        .ok_or("no policy")?;
-    let keys = KeySet::read(alloc, KEY_A.as_bytes()).ok().ok_or("no keys")?;
     for n in 0..TOKEN_A.len() {
-        let token = &TOKEN_A.as_bytes()[..n];
-        let (_, _, said) = judged_octets(alloc, token, &keys, &policy).ok_or("no report")?;
+        let said = said_with(rt.alloc(), &TOKEN_A.as_bytes()[..n], KEY_A.as_bytes());
         let want = match n {
             0 => "Empty; tries work 0 calls 0;",
             1..=135 => "Segments; tries work 0 calls 0;",
-            171 => "BadSignature 0; tries 0.0 work 295 calls 1; BadSignature",
-            _ if n % 4 == 0 => "BadSignature 0; tries 0.0 work 295 calls 1; BadSignature",
+            171 => "BadSignature 0; tries 0.0:295 work 295 calls 1; BadSignature",
+            _ if n % 4 == 0 => "BadSignature 0; tries 0.0:295 work 295 calls 1; BadSignature",
             _ => "Base64(Signature(0)); tries work 0 calls 0;",
         };
-        assert_eq!(rt; said.as_str(), want, "at {n}");
+        assert_eq!(rt; said.as_deref(), Some(want), "at {n}");
     }
     Ok(())
+}
+
+/// Whether this is said of no accepted token, and of at most one key tried.
+fn is_refusal(said: Option<&str>) -> bool {
+    match said {
+        Some(said) => {
+            !said.starts_with("accepted")
+                && (said.contains("calls 0;") || said.contains("calls 1;"))
+        }
+        None => false,
+    }
 }
 
 /// A token with one octet changed is never accepted, and at most one key is tried on it.
 #[test]
 fn a_token_with_one_octet_changed_is_not_accepted(rt: HostRuntime) -> Result<(), Fail> {
-    let alloc = rt.alloc();
-    let policy = Policy::read(alloc, HS256.as_bytes())
-        .ok()
-        .ok_or("no policy")?;
-    let keys = KeySet::read(alloc, KEY_A.as_bytes()).ok().ok_or("no keys")?;
     for place in 0..TOKEN_A.len() {
         for change in 1..=255u8 {
-            let mut token = Vec::from_slice(alloc, TOKEN_A.as_bytes())?;
+            let mut token = Vec::from_slice(rt.alloc(), TOKEN_A.as_bytes())?;
             token[place] ^= change;
-            let (accepted, calls, said) = judged_octets(alloc, &token, &keys, &policy).ok_or(
-                "no report",
-            )?;
+            let said = said_with(rt.alloc(), &token, KEY_A.as_bytes());
             assert!(rt;
-                !accepted && calls <= 1,
-                "octet {place}, changed by {change}: {said}"
+                is_refusal(said.as_deref()),
+                "octet {place}, changed by {change}"
             );
         }
     }
@@ -460,38 +512,66 @@ fn list_of(alloc: Global, text: &str, times: usize) -> Result<String, AllocError
     Ok(all)
 }
 
-/// What `judge` says, under this policy, of a JSON token of so many equal signatures without octets, with 1,024 keys of 32 zero
-/// octets.
-fn judged_all_pairs(alloc: Global, count: usize, ceiling: u64) -> Option<(String, usize)> {
-    let text = "{\"algs\":[\"HS256\"],\"max_signatures\":32,\"limit\":1048576}";
-    let policy = Policy::read(alloc, text.as_bytes()).ok()?;
-    let key = "{\"kty\":\"oct\",\"k\":\"AAAAAAAAAAAAAAAAAAAAAAAAAAAAAAAAAAAAAAAAAAA\"}";
-    let list = list_of(alloc, key, 1024).ok()?;
-    let document = format!(in alloc; "{{\"keys\":[{list}]}}").ok()?;
-    let keys = KeySet::read(alloc, document.as_bytes()).ok()?;
+/// A key set of 1,023 times the first key, and the last.
+fn set_of(alloc: Global, first: &str, last: &str) -> Option<String> {
+    let list = list_of(alloc, first, 1023).ok()?;
+    format!(in alloc; "{{\"keys\":[{list},{last}]}}").ok()
+}
+
+/// A JSON token of so many equal signatures without octets.
+fn equal_signatures(alloc: Global, count: usize) -> Option<String> {
     let element = "{\"protected\":\"eyJhbGciOiJIUzI1NiJ9\",\"signature\":\"\"}";
     let list = list_of(alloc, element, count).ok()?;
-    let token = format!(in alloc; "{{\"payload\":\"e30\",\"signatures\":[{list}]}}").ok()?;
+    format!(in alloc; "{{\"payload\":\"e30\",\"signatures\":[{list}]}}").ok()
+}
+
+/// What `judge` says of such a token with 1,024 keys of 32 zero octets.
+fn judged_all_pairs(alloc: Global, count: usize, ceiling: u64) -> Option<String> {
+    let policy = b"{\"algs\":[\"HS256\"],\"max_signatures\":32,\"limit\":1048576}";
+    let key = "{\"kty\":\"oct\",\"k\":\"AAAAAAAAAAAAAAAAAAAAAAAAAAAAAAAAAAAAAAAAAAA\"}";
+    let keys = set_of(alloc, key, key)?;
+    let token = equal_signatures(alloc, count)?;
     let none = verifiers(alloc, &[]).ok()?;
     let mut b = CountDown::new(ceiling);
-    let report = judge(alloc, token.as_bytes(), &keys, &policy, NOW, &none, &mut b);
-    let verdict = told_verdict(alloc, &report.verdict).ok()?;
-    let octets = b.octets();
-    let said = format!(in alloc; "{verdict} work {octets}").ok()?;
-    Some((said, report.tries.len()))
+    judged_octets(
+        alloc,
+        token.as_bytes(),
+        policy,
+        keys.as_bytes(),
+        NOW,
+        &none,
+        &mut b,
+    )
 }
 
 #[test]
 fn as_many_pairs_as_there_can_be(rt: HostRuntime) -> Result<(), Fail> {
-    let alloc = rt.alloc();
-    for (count, ceiling, said, tries) in [
-        (32, 6_029_312, "BadSignature 0 work 6029312", 32_768),
-        (32, 6_029_311, "WorkExceeded 31 1023 work 6029128", 32_767),
-        (33, 6_029_312, "TooManySignatures work 0", 0),
+    for (count, ceiling, begins, budget) in [
+        (
+            32,
+            6_029_312,
+            "BadSignature 0; tries 0.0:184 0.1:184 ",
+            " 31.1023:184 work 6029312 calls 32768; BadSignature ",
+        ),
+        (
+            32,
+            6_029_311,
+            "WorkExceeded 31 1023; tries 0.0:184 0.1:184 ",
+            " 31.1022:184 work 6029128 calls 32767; BadSignature ",
+        ),
+        (
+            33,
+            6_029_312,
+            "TooManySignatures; tries ",
+            " work 0 calls 0;",
+        ),
     ] {
-        let (verdict, length) = judged_all_pairs(alloc, count, ceiling).ok_or("no report")?;
-        assert_eq!(rt; verdict.as_str(), said);
-        assert_eq!(rt; length, tries);
+        let said = judged_all_pairs(rt.alloc(), count, ceiling).ok_or("no report")?;
+        assert!(rt;
+            said.starts_with(begins) && said.contains(budget),
+            "{begins}"
+        );
+        assert!(rt; !said.ends_with("uncounted"));
     }
     Ok(())
 }
@@ -499,26 +579,29 @@ fn as_many_pairs_as_there_can_be(rt: HostRuntime) -> Result<(), Fail> {
 #[test]
 fn keys_of_another_kid_are_not_tried(rt: HostRuntime) -> Result<(), Fail> {
     let alloc = rt.alloc();
-    let policy = Policy::read(alloc, HS256.as_bytes())
-        .ok()
-        .ok_or("no policy")?;
-    let none = verifiers(alloc, &[])?;
-    let token = "eyJhbGciOiJIUzI1NiIsImtpZCI6IngifQ.e30.";
+    let token = b"eyJhbGciOiJIUzI1NiIsImtpZCI6IngifQ.e30.";
     let same =
         "{\"kty\":\"oct\",\"k\":\"AAAAAAAAAAAAAAAAAAAAAAAAAAAAAAAAAAAAAAAAAAA\",\"kid\":\"x\"}";
     let other =
         "{\"kty\":\"oct\",\"k\":\"AAAAAAAAAAAAAAAAAAAAAAAAAAAAAAAAAAAAAAAAAAA\",\"kid\":\"y\"}";
-    for (first, work, calls, key) in [(same, 202_752, 1024, 0), (other, 198, 1, 1023)] {
-        let list = list_of(alloc, first, 1023)?;
-        let document = format!(in alloc; "{{\"keys\":[{list},{same}]}}")?;
-        let keys = KeySet::read(alloc, document.as_bytes())?;
-        let mut b = CountUp::new(AMPLE);
-        let report = judge(alloc, token.as_bytes(), &keys, &policy, NOW, &none, &mut b);
-        let verdict = told_verdict(alloc, &report.verdict)?;
-        assert_eq!(rt; verdict.as_str(), "BadSignature 0");
-        assert_eq!(rt; (b.octets(), b.calls()), (work, calls));
-        assert_eq!(rt; report.tries.len(), calls as usize);
-        assert_eq!(rt; report.tries.first().map(|entry| entry.key), Some(key));
+    for (first, begins, ends) in [
+        (
+            same,
+            "BadSignature 0; tries 0.0:198 0.1:198 ",
+            " 0.1023:198 work 202752 calls 1024; BadSignature",
+        ),
+        (
+            other,
+            "BadSignature 0; tries 0.1023:198 ",
+            " work 198 calls 1; BadSignature",
+        ),
+    ] {
+        let document = set_of(alloc, first, same).ok_or("no document")?;
+        let said = said_with(alloc, token, document.as_bytes()).ok_or("no report")?;
+        assert!(rt;
+            said.starts_with(begins) && said.ends_with(ends),
+            "{begins}"
+        );
     }
     Ok(())
 }
@@ -600,9 +683,9 @@ fn a_verifier_is_asked_once_for_each_call(rt: HostRuntime) -> Result<(), Fail> {
     case.keys =
         "{\"keys\":[{\"kty\":\"RSA\",\"n\":\"AQAB\",\"e\":\"AQAB\"},{\"kty\":\"RSA\",\"n\":\"AQAB\",\"e\":\"AQAB\"}]}";
     for gives in [
-        "BadSignature 0; tries 0.0 0.1 work 0 calls 2; BadSignature",
-        "BadSignature 0; tries 0.0 0.1 work 0 calls 2; BadSignature",
-        "VerifierMemory; tries 0.0 work 0 calls 1; Stopped",
+        "BadSignature 0; tries 0.0:0 0.1:0 work 0 calls 2; BadSignature",
+        "BadSignature 0; tries 0.0:0 0.1:0 work 0 calls 2; BadSignature",
+        "VerifierMemory; tries 0.0:0 work 0 calls 1; Stopped",
     ] {
         let mut b = CountUp::new(AMPLE);
         let said = judged(alloc, &case, &all, &mut b).ok_or("no report")?;

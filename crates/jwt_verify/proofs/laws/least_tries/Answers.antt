@@ -1,4 +1,4 @@
-use Rattle.jwt_verify.proofs.Least.{least_tries_hold}
+use Rattle.jwt_verify.proofs.LeastVerdict.{least_tries_hold}
 use Rattle.jwt_verify.proofs.laws.least_tries.Goals as goal
 
 pub returns : goal.returns
