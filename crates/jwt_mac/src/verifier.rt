@@ -14,7 +14,11 @@ use crate::message::{Answer, KeyView, Message};
 /// Its meaning never changes: the algorithms that it names, the signatures that it accepts, and where
 /// it may lack memory, each by the octets of what it is asked about. Whether those are the signatures
 /// of RFC 7518 or RFC 8037 is its own promise, and so is the least key size of RFC 7518, sections 3.3
-/// and 3.5.
+/// and 3.5, and that a point is on its curve.
+///
+/// It gets the signature's octets as the token has them, of any length: those of ES256 are R and S,
+/// joined (RFC 7518, section 3.4). The numbers of a key are as its document has them, leading zeros
+/// included. A run asks it only about keys that suit the algorithm by kind, curve and members.
 pub trait Verifier: Drop {
     ghost meaning: { Self → Meaning };
 
