@@ -1,6 +1,6 @@
 //! The document of a policy.
 
-ghost use Rattle.std.specs.Prelude.{◌≡◌, IsErrOf, Some, option_map, ◌||◌};
+ghost use Rattle.std.specs.Prelude.{◌≡◌, ◌<◌, Err, IsErrOf, Some, length, option_map, ◌||◌};
 ghost use Rattle.jwt_policy.specs.Texts.{is_among};
 ghost use Rattle.jwt_policy.specs.Document.{policy_of, policy_in, settings_of, run_settings_of, header_settings_of, claim_settings_of, names_of_version_one, is_version_two, is_known, first_unknown};
 ghost use Rattle.jwt_policy.specs.MemberKinds.{optional, whole_of};
@@ -47,7 +47,8 @@ impl Policy {
     /// refused, in place of any other answer but `TooLong`.
     #[tactic(auto, unfolding(crate::specs::Document::policy_of))]
     pub fn read(alloc: Global, document: &[u8]) -> Result<Policy, PolicyFault>
-        ensures { ¬ IsErrOf result PolicyFault.OutOfMemory → result ≡ policy_of document.now }
+        ensures answer { ¬ IsErrOf result PolicyFault.OutOfMemory → result ≡ policy_of document.now }
+        ensures too_long { 65536 < length document.now → result ≡ Err PolicyFault.TooLong }
     {
         if document.len() > MAX_OCTETS {
             return Err(PolicyFault::TooLong);

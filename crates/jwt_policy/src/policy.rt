@@ -134,7 +134,7 @@ impl Policy {
     }
 
     /// The ceiling for the octets that HMAC may hash in a run, at most 1,000,000,000,000. By default 1,048,576. It is for the
-    /// caller, who makes the budget of a run; nothing in this crate looks at it.
+    /// caller, who makes the budget of a run, as by `CountDown::new(policy.work())`; nothing else looks at it.
     pub fn work(&self) -> u64
         ensures value { result ≡ self.now.run.work }
         ensures range { self.now.run.work ≤ 1000000000000 }
@@ -199,8 +199,8 @@ impl Policy {
         header.understood.as_slice()
     }
 
-    /// The allowed `iss` (RFC 8725, section 3.8). Where there is none, which is the default, any issuer is allowed, and a claim
-    /// without issuer too.
+    /// The allowed `iss` (RFC 8725, section 3.8). Where there is none, which is the default, any issuer is allowed, and
+    /// claims without `iss` too.
     pub fn issuers(&self) -> &[String]
         ensures { map string_bytes result.now ≡ self.now.claims.issuers }
     {

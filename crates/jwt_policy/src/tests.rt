@@ -5,7 +5,7 @@ use jwt_jws::parse;
 use jwt_keys::{Key, KeySet};
 use jwt_mac::{Alg, Answer, KeyView, Message, Verifier};
 use jwt_text::encode_text;
-use std::alloc::Global;
+use std::alloc::{AllocError, Global};
 use std::test::Fail;
 
 /// It names RS256, and accepts exactly where the signature's octets are the modulus.
@@ -604,6 +604,30 @@ fn claims_hold_or_are_refused_for_their_first_fault(rt: HostRuntime) -> Result<(
         let policy = policy_of(rt.alloc(), policy)?;
         let found = fault_of(rt.alloc(), &policy, payload, now)?;
         assert_eq!(rt; found.as_str(), want, "at {payload} {now}");
+    }
+    Ok(())
+}
+
+/// An object with so many lists in one another.
+fn nested(alloc: Global, lists: usize) -> Result<String, AllocError> {
+    let mut text = String::from_str(alloc, "{\"a\":")?;
+    for _ in 0..lists {
+        text.push_str("[")?;
+    }
+    for _ in 0..lists {
+        text.push_str("]")?;
+    }
+    text.push_str("}")?;
+    Ok(text)
+}
+
+#[test]
+fn claims_nest_127_deep(rt: HostRuntime) -> Result<(), Fail> {
+    let policy = policy_of(rt.alloc(), HS256)?;
+    for (lists, want) in [(126, "none"), (127, "ClaimsShape")] {
+        let payload = nested(rt.alloc(), lists)?;
+        let found = fault_of(rt.alloc(), &policy, &payload, 0)?;
+        assert_eq!(rt; found.as_str(), want, "{lists}");
     }
     Ok(())
 }

@@ -25,7 +25,7 @@ use jwt_text::{Source, TextFault};
 use std::alloc::{AllocError, Global};
 
 /// How a token is to be issued.
-#[derive(Clone, Copy, Debug)]
+#[derive(Clone, Copy)]
 pub(crate) struct Wanted<'a> {
     pub(crate) alg: Alg,
     pub(crate) typ: Option<&'a str>,
@@ -89,7 +89,7 @@ fn issue_fault_text(alloc: Global, fault: IssueFault) -> Result<String, AllocErr
     }
 }
 
-// The answer where these claims, or the claims fault, stand.
+// The answer where these claims stand.
 fn of_claims(
     alloc: Global,
     wanted: Wanted<'_>,

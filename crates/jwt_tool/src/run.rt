@@ -24,7 +24,8 @@ use std::alloc::{AllocError, Global};
 /// Runs the command that `words` ask for on `r`, prints its answer to `w`, and answers its status. The first word is the
 /// program's name.
 ///
-/// 0: done; 1: refused; 2: wrong words, and `w` has what `clap` says of them; 3: a read or a write failed; 4: want of memory.
+/// 0: done; 1: refused; 2: wrong words, and `w` has what is said of them, or a refused key of `mac`; 3: a read or a write failed;
+/// 4: want of memory.
 /// The whole answer is in hand before any of it goes out.
 pub fn run<R: Source, W: Sink>(alloc: Global, words: &[&str], r: &mut R, w: &mut W) -> u8
     // The line of `mac`, where the words ask for it.

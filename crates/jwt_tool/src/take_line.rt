@@ -30,7 +30,10 @@ impl From<AllocFailed<u8>> for LineFault {
 }
 
 /// Takes the octets before the first octet 10 or the end, and that octet 10, which is dropped. They are read one by one, so
-/// that nothing behind the line is taken.
+/// that nothing behind the line is taken. The limit is at least 1.
+///
+/// Refused with `OutOfMemory`, with `TooLong` where one octet past the limit was taken, none of them 10, and with `Read` where the
+/// source failed.
 pub(crate) fn line<R: Source>(alloc: Global, r: &mut R, limit: u32) -> Result<Vec<u8>, LineFault>
     requires least { 1 ≤ limit }
     requires greatest { limit ≤ GREATEST_LIMIT }

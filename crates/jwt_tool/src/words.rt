@@ -15,7 +15,7 @@ use jwt_mac::Alg;
 use std::alloc::{AllocError, Global};
 
 /// What the words ask for.
-#[derive(Clone, Copy, Debug)]
+#[derive(Clone, Copy)]
 pub enum Order<'a> {
     Mac {
         key: &'a str,
@@ -43,7 +43,7 @@ fn key_option<'a>(alloc: Global) -> Arg<'a>
         .long("k")
         .value_name("TEXT")
         .required(true)
-        .help("The key, octets in base64url")
+        .help("The key, octets in base64url; other users can see it, so it is for test keys")
 }
 
 fn limit_option<'a>(alloc: Global) -> Arg<'a>
@@ -107,7 +107,7 @@ fn mac_command<'a>(alloc: Global) -> Result<Command<'a>, AllocError>
     ensures local { IfOk result (λ c. (fields_of c).has_globals ≡ false) }
 {
     Command::new(alloc, "mac")
-        .about("Computes the tag of a compact token")
+        .about("Computes the tag of a compact token, which standard input holds")
         .arg(key_option(alloc))?
         .arg(limit_option(alloc))
 }
@@ -116,7 +116,7 @@ fn keys_command<'a>(alloc: Global) -> Command<'a>
     ensures shape { app_of result ≡ keys_app }
     ensures local { (fields_of result).has_globals ≡ false }
 {
-    Command::new(alloc, "keys").about("Lists the keys of a key set")
+    Command::new(alloc, "keys").about("Lists the keys of a key set, which standard input holds")
 }
 
 fn show_command<'a>(alloc: Global) -> Result<Command<'a>, AllocError>
@@ -124,7 +124,7 @@ fn show_command<'a>(alloc: Global) -> Result<Command<'a>, AllocError>
     ensures local { IfOk result (λ c. (fields_of c).has_globals ≡ false) }
 {
     Command::new(alloc, "show")
-        .about("Shows a token without verifying it")
+        .about("Shows a token without verifying it; standard input holds it")
         .arg(limit_option(alloc))
 }
 
@@ -133,7 +133,9 @@ fn verify_command<'a>(alloc: Global) -> Result<Command<'a>, AllocError>
     ensures local { IfOk result (λ c. (fields_of c).has_globals ≡ false) }
 {
     Command::new(alloc, "verify")
-        .about("Validates a token by a policy and a key set")
+        .about(
+            "Validates a token; standard input is a line with the policy, one with the key set, then the token",
+        )
         .arg(now_option(alloc))
 }
 
@@ -142,7 +144,7 @@ fn issue_command<'a>(alloc: Global) -> Result<Command<'a>, AllocError>
     ensures local { IfOk result (λ c. (fields_of c).has_globals ≡ false) }
 {
     Command::new(alloc, "issue")
-        .about("Issues a token of some claims by a key set")
+        .about("Issues a token; standard input is a line with the key set, then the claims")
         .arg(alg_option(alloc))?
         .arg(typ_option(alloc))?
         .arg(form_option(alloc))

@@ -36,7 +36,7 @@ pub returns-in-Ok-read-clause-stops : goal.returns-in-Ok-read-clause-stops
 returns-in-Ok-read-clause-stops g c =
     IfSome_then (g.R.Source.remaining c.args.r.now) c.in-Ok.ensures.line
     (λ x h.
-    let is : Ok c.in-Ok-read.policy ≡ policy_of c.as_slice.result.now = c.in-Ok-read.ensures (λ bad. cc bad) in
+    let is : Ok c.in-Ok-read.policy ≡ policy_of c.as_slice.result.now = c.in-Ok-read.ensures.answer (λ bad. cc bad) in
     let text : c.as_slice.result.now ≡ first_line x = c.as_slice.ensures.value ∙ h.line in
     under_policy_taken x c.in-Ok-read.policy _ _ (sym (is ∙ ap policy_of text))
     (then_stops 65536 (λ y. keys_most (c.in-Ok-read.policy.run.limit + 1) y) x _ _ _ _ h c.on_keys.ensures.stops))
