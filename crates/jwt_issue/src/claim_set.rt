@@ -26,7 +26,8 @@ impl Model for ClaimSet {
 }
 
 impl ClaimSet {
-    /// The claims that these octets are the text of. The octets are kept as they stand, and none is copied.
+    /// The claims that these octets are the text of. The octets are kept as they stand, and none is copied; where they are
+    /// refused they are given up.
     ///
     /// # Errors
     /// Those of [`Claims::read`]: the first that holds of `ClaimsShape`, the octets are no object text; then, claim by

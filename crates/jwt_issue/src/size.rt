@@ -42,6 +42,7 @@ pub(crate) fn flattened_len(signer: &Signer<'_>, payload: &[u8]) -> Option<usize
     if signer.protected.len() > MOST || payload.len() > MOST {
         return None;
     }
+    // {"payload":"","protected":"","signature":""}
     at_most(signer.protected.len() + payload.len() + 44 + signature_len(signer))
 }
 
@@ -53,6 +54,7 @@ pub(crate) fn general_len(signers: &[Signer<'_>], payload: &[u8]) -> Option<usiz
     if payload.len() > MOST {
         return None;
     }
+    // {"payload":"","signatures":[]} with {"protected":"","signature":""} for each, and a comma between two
     let mut len = 29 + payload.len();
     for signer in signers {
         if len > MOST || signer.protected.len() > MOST {

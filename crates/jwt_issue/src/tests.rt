@@ -12,6 +12,10 @@ use std::test::Fail;
 const KEYS: &str =
     "{\"keys\":[{\"kty\":\"oct\",\"k\":\"AAAAAAAAAAAAAAAAAAAAAAAAAAAAAAAAAAAAAAAAAAA\"},{\"kty\":\"oct\",\"k\":\"AyM1SysPpbyDfgZld3umj1qzKObwVMkoqQ-EstJQLr_T-1qS0gZH75aKtMN3Yj0iPS4hcgUuTwjAzZr1Z9CAow\"},{\"kty\":\"oct\",\"k\":\"eW91ci0yNTYtYml0LXNlY3JldA\"},{\"kty\":\"oct\",\"k\":\"AAAAAAAAAAAAAAAAAAAAAAAAAAAAAAAAAAAAAAAAAAA\",\"key_ops\":[\"verify\"]},{\"kty\":\"oct\",\"k\":\"AyM1SysPpbyDfgZld3umj1qzKObwVMkoqQ-EstJQLr_T-1qS0gZH75aKtMN3Yj0iPS4hcgUuTwjAzZr1Z9CAow\",\"kid\":\"a\\\"b\",\"alg\":\"HS512\",\"use\":\"sig\",\"key_ops\":[\"verify\",\"sign\"]},{\"kty\":\"oct\",\"k\":\"AAAAAAAAAAAAAAAAAAAAAAAAAAAAAAAAAAAAAAAAAAA\",\"kid\":\"z\"},{\"kty\":\"OKP\",\"crv\":\"Ed25519\",\"x\":\"11qYAYKxCrfVS_7TyWQHOg7hcvPapiMlrwIaaPcHURo\"},{\"kty\":\"oct\",\"k\":\"AyM1SysPpbyDfgZld3umj1qzKObwVMkoqQ-EstJQLr_T-1qS0gZH75aKtMN3Yj0iPS4hcgUuTwjAzZr1Z9CAow\",\"alg\":\"HS384\"}]}";
 
+/// The compact token of the first key over `{}`, with the type `JWT`.
+const COMPACT: &str =
+    "eyJhbGciOiJIUzI1NiIsInR5cCI6IkpXVCJ9.e30.LwimMJA3puF3ioGeS-tfczR3370GXBZMIL-bdpu4hOU";
+
 /// The flattened token of the first key over `{}`.
 const FLAT: &str =
     "{\"payload\":\"e30\",\"protected\":\"eyJhbGciOiJIUzI1NiJ9\",\"signature\":\"4E_Bsx-pJi3kOW9wVXN8CgbATwP09D9V5gxh9-9zSZ0\"}";
@@ -42,13 +46,7 @@ fn tokens_in_compact_form(rt: HostRuntime) -> Result<(), Fail> {
     let alloc = rt.alloc();
     let keys = keys(alloc)?;
     let rows = [
-        (
-            Alg::HS256,
-            0u32,
-            "{}",
-            "eyJhbGciOiJIUzI1NiIsInR5cCI6IkpXVCJ9.e30.LwimMJA3puF3ioGeS-tfczR3370GXBZMIL-bdpu4hOU",
-            200u64,
-        ),
+        (Alg::HS256, 0u32, "{}", COMPACT, 200u64),
         (
             Alg::HS512,
             4,
@@ -216,7 +214,18 @@ fn a_refused_growth_is_out_of_memory(rt: HostRuntime) -> Result<(), Fail> {
     }
     let mut budget = CountUp::new(1_000);
     match issue_compact(alloc, &mut budget, Alg::HS256, zeros, Some("JWT"), &claims) {
-        Ok(token) => assert_eq!(rt; (token.len(), budget.octets()), (84, 200)),
+        Ok(token) => {
+            assert_eq!(rt; token.as_slice(), COMPACT.as_bytes());
+            assert_eq!(rt; budget.octets(), 200);
+        }
+        Err(fault) => assert_eq!(rt; fault, IssueFault::OutOfMemory),
+    }
+    let mut budget = CountUp::new(1_000);
+    match issue_flat(alloc, &mut budget, Alg::HS256, zeros, None, &claims) {
+        Ok(token) => {
+            assert_eq!(rt; token.as_slice(), FLAT.as_bytes());
+            assert_eq!(rt; budget.octets(), 184);
+        }
         Err(fault) => assert_eq!(rt; fault, IssueFault::OutOfMemory),
     }
     Ok(())
