@@ -12,12 +12,12 @@ use Rattle.jwt_verify.proofs.Least.{changed_states, same_run}
 use Rattle.jwt_verify.proofs.Signing.{signing_is}
 use Rattle.jwt_verify.proofs.Judged.{done_stop}
 
--- a run that stopped says so, whatever its signatures come to
-stopped_same : (t : Table) (v : ℕ → ℕ → Bool) (octets : ℕ) (calls : Option ℕ) (p : Settings) (now : ℤ) (payload : List ℕ) (r : End)
+-- the same end, and under it the same conclusion, give the same verdict
+ended_same : (t : Table) (v : ℕ → ℕ → Bool) (octets : ℕ) (calls : Option ℕ) (p : Settings) (now : ℤ) (payload : List ℕ) (r : End)
     → ended r (concluded p now payload (signing_of (with_valid t v))) ≡ ended r (concluded p now payload (signing_of t))
     → r ≡ ending t octets calls → ending (with_valid t v) octets calls ≡ ending t octets calls
     → verdict_by (with_valid t v) octets calls p now payload ≡ verdict_by t octets calls p now payload
-stopped_same t v octets calls p now payload r same here ends =
+ended_same t v octets calls p now payload r same here ends =
     ap (λ e. ended e (concluded p now payload (signing_of (with_valid t v)))) (ends ∙ sym here)
     ∙ same ∙ ap (λ e. ended e (concluded p now payload (signing_of t))) here
 
@@ -37,10 +37,10 @@ verdict_same : (t : Table) (v : ℕ → ℕ → Bool) (octets : ℕ) (calls : Op
 verdict_same t v octets calls unbarred same ends p now payload = go (ending t octets calls) refl
   where
     go : (r : End) → r ≡ ending t octets calls → verdict_by (with_valid t v) octets calls p now payload ≡ verdict_by t octets calls p now payload
-    go end.Done e = stopped_same t v octets calls p now payload end.Done (ap (concluded p now payload) (signing_same t v octets calls unbarred e ends same)) e ends
-    go (end.WorkExceeded i j) e = stopped_same t v octets calls p now payload (end.WorkExceeded i j) refl e ends
-    go (end.CallsExceeded i j) e = stopped_same t v octets calls p now payload (end.CallsExceeded i j) refl e ends
-    go (end.VerifierMemory i j) e = stopped_same t v octets calls p now payload (end.VerifierMemory i j) refl e ends
+    go end.Done e = ended_same t v octets calls p now payload end.Done (ap (concluded p now payload) (signing_same t v octets calls unbarred e ends same)) e ends
+    go (end.WorkExceeded i j) e = ended_same t v octets calls p now payload (end.WorkExceeded i j) refl e ends
+    go (end.CallsExceeded i j) e = ended_same t v octets calls p now payload (end.CallsExceeded i j) refl e ends
+    go (end.VerifierMemory i j) e = ended_same t v octets calls p now payload (end.VerifierMemory i j) refl e ends
 
 pub least_tries_hold : LeastTries
 least_tries_hold t v octets calls unbarred = (
