@@ -19,7 +19,7 @@ const KEY_A: &str =
 const LINE_A: &str = "mac 7418dfb49799e0254ffa607dd8adbbba16d4254d69d6bff05b58055853848d79 equal\n";
 
 // What a run prints, and its status.
-fn printed(alloc: Global, words: &[&str], input: &[u8]) -> Result<(Vec<u8>, u8), Fail> {
+fn printed(alloc: Global, words: &[&str], input: &[u8]) -> (Vec<u8>, u8) {
     let mut out: Vec<u8> = Vec::new(alloc);
     let status = run(
         alloc,
@@ -27,14 +27,12 @@ fn printed(alloc: Global, words: &[&str], input: &[u8]) -> Result<(Vec<u8>, u8),
         &mut Reader::new(input),
         &mut Writer::new(&mut out),
     );
-    Ok((out, status))
+    (out, status)
 }
 
 // Whether a run on this input prints just this, and ends with this status.
 fn prints(alloc: Global, words: &[&str], input: &[u8], lines: &str, status: u8) -> bool {
-    let mut out: Vec<u8> = Vec::new(alloc);
-    let (mut r, mut w) = (Reader::new(input), Writer::new(&mut out));
-    let answered = run(alloc, words, &mut r, &mut w);
+    let (out, answered) = printed(alloc, words, input);
     out.as_slice() == lines.as_bytes() && answered == status
 }
 
@@ -240,13 +238,13 @@ fn wrong_words_print_what_clap_says(rt: HostRuntime) -> Result<(), Fail> {
     let usage =
         "error: 'jwt' requires a subcommand but one was not provided\n  [subcommands: mac, keys, show, verify, issue, help]\n\nUsage: jwt <COMMAND>\n\nFor more information, try '--help'.\n";
     assert_eq!(rt;
-        printed(alloc, &["jwt"], b"")?.0.as_slice(),
+        printed(alloc, &["jwt"], b"").0.as_slice(),
         usage.as_bytes()
     );
     let range =
         "error: invalid value '0' for '--limit <N>': 0 is not in 1..=1048576\n\nFor more information, try '--help'.\n";
     assert_eq!(rt;
-        printed(alloc, &["jwt", "mac", "--k", "AA==", "--limit", "0"], b"")?
+        printed(alloc, &["jwt", "mac", "--k", "AA==", "--limit", "0"], b"")
             .0
             .as_slice(),
         range.as_bytes()
@@ -399,7 +397,7 @@ fn verified(
     input.extend_from_slice(keys.as_bytes())?;
     input.push(b'\n')?;
     input.extend_from_slice(token)?;
-    printed(alloc, &["jwt", "verify", "--now", now], input.as_slice())
+    Ok(printed(alloc, &["jwt", "verify", "--now", now], input.as_slice()))
 }
 
 #[test]
@@ -408,7 +406,7 @@ fn verify_prints_each_verdict(rt: HostRuntime) -> Result<(), Fail> {
         let token = row.token.as_bytes();
         let (out, status) = verified(rt.alloc(), MOMENT, row.policy, row.keys, token)?;
         assert_eq!(rt; out.as_slice(), row.line.as_bytes(), "at {}", row.line);
-        assert_eq!(rt; status == 0, row.line.starts_with("accepted"));
+        assert_eq!(rt; status, row.status);
     }
     Ok(())
 }
@@ -572,7 +570,7 @@ fn issued(alloc: Global, words: &[&str], keys: &str, claims: &str) -> Result<(Ve
     input.extend_from_slice(keys.as_bytes())?;
     input.push(b'\n')?;
     input.extend_from_slice(claims.as_bytes())?;
-    printed(alloc, words, input.as_slice())
+    Ok(printed(alloc, words, input.as_slice()))
 }
 
 const KEY_ZERO: &str =
