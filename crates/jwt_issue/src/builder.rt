@@ -95,7 +95,8 @@ impl Builder {
     /// The claims: the compact JSON text of the members, with no white space and the names in ascending byte order.
     ///
     /// # Errors
-    /// Those of [`ClaimSet::from_octets`] on that text: `ClaimKind` where a registered claim has another kind. `OutOfMemory` comes where a growth was refused, in place of any other answer.
+    /// Those of [`ClaimSet::from_octets`] on that text: `ClaimKind` where a registered claim has another kind. `OutOfMemory`
+    /// comes where a growth was refused, in place of any other answer.
     pub fn finish(self) -> Result<ClaimSet, ClaimFault<'static>>
         ensures answer { Answers ClaimFault.OutOfMemory (λ c. c) result (claim_set_of (compact_text (object self))) }
         ensures order { AreInOrder (names self) }
