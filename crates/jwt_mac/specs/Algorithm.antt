@@ -57,6 +57,14 @@ digest_size _ = 0
 unfoldable pub sha256_of : List ℕ → List ℕ
 sha256_of octets = sha256 octets
 
+-- SHA-384 (FIPS 180-4, section 6.5), as `sha2` states it
+unfoldable pub sha384_of : List ℕ → List ℕ
+sha384_of octets = sha384 octets
+
+-- SHA-512 (FIPS 180-4, section 6.4), as `sha2` states it
+unfoldable pub sha512_of : List ℕ → List ℕ
+sha512_of octets = sha512 octets
+
 -- the hash function of an HMAC algorithm (RFC 7518, section 3.2)
 abbrev pub hash_of : Alg → List ℕ → List ℕ
 hash_of HS256 octets = sha256 octets

@@ -2,7 +2,7 @@
 
 ghost use Rattle.std.specs.Prelude.{◌≡◌, ◌≤◌, ◌<◌, ◌^◌, ◌+◌, ℕ, List, [], ◌∷◌, ◌++◌, length, take, replicate, ◌-◌, IsTrue, SomeIff, IfOk, OnOk, OnErr};
 ghost use Rattle.jwt_mac.specs.Hmac.{block_key, masked, hmac_of, joined};
-ghost use Rattle.jwt_mac.specs.Algorithm.{is_hmac_alg, digest_size, tag_of, cost_of, sha256_of};
+ghost use Rattle.jwt_mac.specs.Algorithm.{is_hmac_alg, digest_size, tag_of, cost_of, sha256_of, sha384_of, sha512_of};
 
 use crate::algorithm::{Alg, cost};
 use crate::budget::Budget;
@@ -151,12 +151,41 @@ pub fn hmac<B: Budget>(b: &mut B, alg: Alg, key: &[u8], parts: [&[u8]; 3]) -> Re
 }
 
 /// The SHA-256 digest (FIPS 180-4, section 6.2) of the octets that the three parts make, joined. It
-/// serves thumbprints (RFC 7638, section 3), is no HMAC work, and is paid from no budget.
+/// serves thumbprints (RFC 7638, section 3) and signatures by RSA (RFC 7518, sections 3.3 and 3.5), is
+/// no HMAC work, and is paid from no budget.
 #[tactic(auto, unfolding(crate::specs::Algorithm::sha256_of))]
 pub fn sha256(parts: [&[u8]; 3]) -> [u8; 32]
     ensures { result ≡ sha256_of (joined parts.entry) }
 {
     let mut hasher = Sha256::new();
+    hasher.update(parts[0]);
+    hasher.update(parts[1]);
+    hasher.update(parts[2]);
+    hasher.finalize()
+}
+
+/// The SHA-384 digest (FIPS 180-4, section 6.5) of the octets that the three parts make, joined. It
+/// serves signatures by RSA (RFC 7518, sections 3.3 and 3.5), is no HMAC work, and is paid from no
+/// budget.
+#[tactic(auto, unfolding(crate::specs::Algorithm::sha384_of))]
+pub fn sha384(parts: [&[u8]; 3]) -> [u8; 48]
+    ensures { result ≡ sha384_of (joined parts.entry) }
+{
+    let mut hasher = Sha384::new();
+    hasher.update(parts[0]);
+    hasher.update(parts[1]);
+    hasher.update(parts[2]);
+    hasher.finalize()
+}
+
+/// The SHA-512 digest (FIPS 180-4, section 6.4) of the octets that the three parts make, joined. It
+/// serves signatures by RSA (RFC 7518, sections 3.3 and 3.5), is no HMAC work, and is paid from no
+/// budget.
+#[tactic(auto, unfolding(crate::specs::Algorithm::sha512_of))]
+pub fn sha512(parts: [&[u8]; 3]) -> [u8; 64]
+    ensures { result ≡ sha512_of (joined parts.entry) }
+{
+    let mut hasher = Sha512::new();
     hasher.update(parts[0]);
     hasher.update(parts[1]);
     hasher.update(parts[2]);
