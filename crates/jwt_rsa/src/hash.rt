@@ -1,0 +1,74 @@
+//! The hash functions of RSA signatures.
+
+ghost use Rattle.std.specs.Prelude.{◌≡◌, ◌≤◌, length};
+ghost use Rattle.jwt_mac.specs.Hmac.{joined};
+
+use crate::digest::Digest;
+use jwt_mac::{sha256, sha384, sha512};
+
+/// A hash function of SHA-2 (FIPS 180-4).
+#[derive(Clone, Copy, Debug, PartialEq, Eq)]
+pub enum Hash {
+    /// SHA-256.
+    Sha256,
+    /// SHA-384.
+    Sha384,
+    /// SHA-512.
+    Sha512,
+}
+
+// The DER encoding of DigestInfo up to the digest (RFC 8017, section 9.2, note 1), for each.
+const INFO_256: [u8; 19] = [
+    0x30, 0x31, 0x30, 0x0d, 0x06, 0x09, 0x60, 0x86, 0x48, 0x01, 0x65, 0x03, 0x04, 0x02, 0x01, 0x05,
+    0x00, 0x04, 0x20,
+];
+
+const INFO_384: [u8; 19] = [
+    0x30, 0x41, 0x30, 0x0d, 0x06, 0x09, 0x60, 0x86, 0x48, 0x01, 0x65, 0x03, 0x04, 0x02, 0x02, 0x05,
+    0x00, 0x04, 0x30,
+];
+
+const INFO_512: [u8; 19] = [
+    0x30, 0x51, 0x30, 0x0d, 0x06, 0x09, 0x60, 0x86, 0x48, 0x01, 0x65, 0x03, 0x04, 0x02, 0x03, 0x05,
+    0x00, 0x04, 0x40,
+];
+
+impl Hash {
+    ghost use Rattle.jwt_rsa.specs.Hashing.{digest_of, digest_size, digest_info};
+
+    // The digest of the octets that the parts make, joined.
+    #[tactic(auto, unfolding(crate::specs::Hashing::digest_of))]
+    pub fn digest(self, parts: [&[u8]; 3]) -> Digest
+        ensures is { result ≡ digest_of self (joined parts.entry) }
+        ensures size { length result ≡ digest_size self }
+    {
+        match self {
+            Hash::Sha256 => Digest::of(&sha256(parts)),
+            Hash::Sha384 => Digest::of(&sha384(parts)),
+            Hash::Sha512 => Digest::of(&sha512(parts)),
+        }
+    }
+
+    // The octets in a digest.
+    pub fn size(self) -> usize
+        ensures is { result ≡ digest_size self }
+        ensures range { (32 ≤ result) × (result ≤ 64) }
+    {
+        match self {
+            Hash::Sha256 => 32,
+            Hash::Sha384 => 48,
+            Hash::Sha512 => 64,
+        }
+    }
+
+    // The DER encoding of DigestInfo up to the digest.
+    pub fn info(self) -> &'static [u8]
+        ensures { result.now ≡ digest_info self }
+    {
+        match self {
+            Hash::Sha256 => &INFO_256,
+            Hash::Sha384 => &INFO_384,
+            Hash::Sha512 => &INFO_512,
+        }
+    }
+}
