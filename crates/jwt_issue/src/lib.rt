@@ -30,8 +30,6 @@ mod header;
 pub mod laws;
 mod signer;
 mod size;
-#[cfg(test)]
-mod tests;
 mod writing;
 
 pub use builder::Builder;

@@ -13,8 +13,6 @@ mod parsing;
 mod signature;
 mod signed;
 mod signing;
-#[cfg(test)]
-mod tests;
 mod unprotected;
 
 pub use compact::{CompactTexts, compact_texts};

@@ -15,8 +15,6 @@ mod material;
 mod set;
 mod shape;
 mod skip;
-#[cfg(test)]
-mod tests;
 mod thumbprint;
 
 pub use fault::KeysFault;

@@ -31,8 +31,6 @@ mod mode;
 mod policy;
 mod policy_fault;
 mod sig_fault;
-#[cfg(test)]
-mod tests;
 mod texts;
 
 pub use algorithm::known_alg;

@@ -1,22 +1,7 @@
 //! The program `jwt`: JSON Web Tokens on the command line.
 #![tactic(auto)]
 
-mod faults;
-mod input;
-mod issue;
-mod keys;
-mod mac;
-mod pieces;
-mod reply;
-mod run;
-mod show;
-mod take_line;
-#[cfg(test)]
-mod tests;
-mod verify;
-mod words;
-
-use crate::run::{lack_memory, run};
+use jwt_command::run::{lack_memory, run};
 use jwt_text::{Reader, Sink, Source, Writer};
 use std::process::ExitCode;
 use std::{env, io};

@@ -12,8 +12,6 @@ mod judging;
 pub mod laws;
 mod pair;
 mod report;
-#[cfg(test)]
-mod tests;
 mod trial;
 mod tries;
 

@@ -1,0 +1,11 @@
+pub mod CostLemmas
+pub mod InputLemmas
+pub mod LineLemmas
+pub mod Listing
+pub mod Numbers
+pub mod Orders
+pub mod PairLemmas
+pub mod Showing
+pub mod Printing
+pub mod Verifying
+pub mod WordCases

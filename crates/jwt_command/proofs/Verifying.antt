@@ -1,0 +1,100 @@
+-- What `verify` takes, and its answer where a line is too long.
+use Rattle.std.proofs.Common.{◌≡◌, ◌≢◌, ◌≤◌, ◌<◌, ◌⊎◌, inl, inr, ℕ, ◌+◌, Bool, true, false, List, length, drop, Option, Some, Ok, Err, refl, sym, ap, subst, ◌∙◌, drop_at, drop-drop, arith, nat_lt, true≢false, IfSome}
+use Rattle.std.proofs.lemmas.Bool.Decides.{nat_tests}
+use Rattle.std.specs.Option.{option_map_or}
+use Rattle.jwt_keys.specs.KeySets.{key_set_of}
+use Rattle.jwt_keys.specs.declared.fault.KeysFault.TheVariants as keys
+use Rattle.jwt_policy.specs.Document.{policy_of}
+use Rattle.jwt_policy.specs.declared.policy_fault.PolicyFault.TheVariants as policy
+use Rattle.jwt_verify.specs.Reports.{TakesAtMost as FrontAtMost}
+use Rattle.jwt_verify.specs.declared.report.InputFault.TheVariants.{Read}
+use Rattle.jwt_verify.specs.declared.report.Fault.TheVariants.{Text}
+use Rattle.jwt_verify.specs.declared.report.Verdict.{Verdict}
+use Rattle.jwt_verify.specs.declared.report.Verdict.TheVariants.{Refused}
+use Rattle.jwt_policy.specs.Settings.{Settings}
+use Rattle.jwt_command.specs.Input.{TakesAtMost}
+use Rattle.jwt_command.specs.Issue.{TokenAsked, issue_answer, issue_under}
+use Rattle.jwt_command.specs.Verify.{keys_answer, keys_refused, policy_refused, under_keys, under_policy, unless_failed, verify_answer}
+use Rattle.jwt_command.specs.Listed.{keys_answer as keys_answer_alone, listed}
+use Rattle.jwt_command.specs.Stops.{behind_policy, keys_most, verify_most}
+use Rattle.jwt_command.specs.TakenLines.{TakesLine, after_line, first_line, line_most}
+use Rattle.jwt_command.proofs.LineLemmas.{line_taken}
+use Rattle.std.proofs.Math.Nat.{min-le_left}
+
+-- ---- what is taken
+
+pub more_taken : (first second most : ℕ) (x : List ℕ) (rest : Option (List ℕ)) (failed : Bool) → first + second ≤ most
+    → (y : List ℕ) → TakesAtMost first x (Some y) → (failed ≡ true) ⊎ TakesAtMost second y rest → (failed ≡ true) ⊎ TakesAtMost most x rest
+more_taken first second most x rest failed within y a (inl is) = inl is
+more_taken first second most x rest failed within y (n, n_within, is) (inr (m, m_within, rest_is)) = inr (n + m, omega (arith, n_within, m_within, within), rest_is ∙ ap Some (ap (drop m) (ap (λ o. option_map_or (λ l. l) o y) is) ∙ drop-drop m n x))
+
+-- what is taken by a line and behind it
+pub then_stops : (limit : ℕ) (more : List ℕ → ℕ) (x octets : List ℕ) (mid rest : Option (List ℕ)) (failed : Bool)
+    → TakesLine limit x octets mid → IfSome mid (λ y. (failed ≡ true) ⊎ TakesAtMost (more y) y rest) → (failed ≡ true) ⊎ TakesAtMost (line_most limit x + more (after_line x)) x rest
+then_stops limit more x octets mid rest failed h behind =
+    more_taken (line_most limit x) (more (after_line x)) (line_most limit x + more (after_line x)) x rest failed (omega arith) (after_line x)
+    (subst (λ m. TakesAtMost (line_most limit x) x m) h.unread (line_taken limit x octets mid h))
+    (subst (λ m. IfSome m (λ y. (failed ≡ true) ⊎ TakesAtMost (more y) y rest)) h.unread behind)
+
+pub under_policy_taken : (x : List ℕ) (p : Settings) (rest : Option (List ℕ)) (failed : Bool) → policy_of (first_line x) ≡ Ok p
+    → (failed ≡ true) ⊎ TakesAtMost (line_most 65536 x + keys_most (p.run.limit + 1) (after_line x)) x rest → (failed ≡ true) ⊎ TakesAtMost (verify_most x) x rest
+under_policy_taken x p rest failed is h = subst (λ r. (failed ≡ true) ⊎ TakesAtMost (line_most 65536 x + behind_policy r (after_line x)) x rest) (sym is) h
+
+pub most_is : (n most : ℕ) (x : List ℕ) (rest : Option (List ℕ)) (failed : Bool) → n ≤ most → (failed ≡ true) ⊎ TakesAtMost n x rest → (failed ≡ true) ⊎ TakesAtMost most x rest
+most_is n most x rest failed within (inl is) = inl is
+most_is n most x rest failed within (inr (m, m_within, is)) = inr (m, omega (arith, m_within, within), is)
+
+-- no more of a line than its limit and one octet
+pub line_within : (limit : ℕ) (x : List ℕ) → line_most limit x ≤ limit + 1
+line_within limit x = min-le_left (limit + 1) (length (first_line x) + 1)
+
+-- of a line, and of what is behind it
+pub line_bounded : (limit most : ℕ) → limit + 1 ≤ most → (x : List ℕ) (rest : Option (List ℕ)) (failed : Bool) → (failed ≡ true) ⊎ TakesAtMost (line_most limit x) x rest → (failed ≡ true) ⊎ TakesAtMost most x rest
+line_bounded limit most within x rest failed h = most_is (line_most limit x) most x rest failed (omega (arith, line_within limit x, within)) h
+
+pub line_stops : (limit more : ℕ) (x : List ℕ) (rest : Option (List ℕ)) (failed : Bool) → (failed ≡ true) ⊎ TakesAtMost (line_most limit x) x rest → (failed ≡ true) ⊎ TakesAtMost (line_most limit x + more) x rest
+line_stops limit more x rest failed h = most_is (line_most limit x) (line_most limit x + more) x rest failed (omega arith) h
+
+pub then_bounded : (limit second most : ℕ) → limit + 1 + second ≤ most → (x octets : List ℕ) (mid rest : Option (List ℕ)) (failed : Bool)
+    → TakesLine limit x octets mid → IfSome mid (λ y. (failed ≡ true) ⊎ TakesAtMost second y rest) → (failed ≡ true) ⊎ TakesAtMost most x rest
+then_bounded limit second most within x octets mid rest failed h more =
+    most_is (line_most limit x + second) most x rest failed (omega (arith, line_within limit x, within)) (then_stops limit (λ y. second) x octets mid rest failed h more)
+
+pub front_taken : (limit most : ℕ) (x : List ℕ) (rest : Option (List ℕ)) (failed : Bool) (v : Verdict) → limit + 1 ≤ most
+    → (v ≢ Refused (Text Read) → FrontAtMost (limit + 1) x rest) → (v ≡ Refused (Text Read) → failed ≡ true) → (failed ≡ true) ⊎ TakesAtMost most x rest
+front_taken limit most x rest true v within taken read = inl refl
+front_taken limit most x rest false v within taken read = inr (drops (taken (λ is. never (read is))))
+  where
+    never : false ≡ true → ⊥
+    never is = true≢false (sym is)
+
+    drops : FrontAtMost (limit + 1) x rest → TakesAtMost most x rest
+    drops (front, back, is, unread, short) = (length front, omega (arith, short, within), unread ∙ ap Some (sym (drop_at front back (length front) refl)) ∙ ap (λ l. Some (drop (length front) l)) (sym is))
+
+-- ---- lines that are too long
+
+pub keys_too_long : (z : List ℕ) → 4194304 < length z → key_set_of z ≡ Err keys.TooLong
+unfolding key_set_of
+keys_too_long z long = let is : nat_lt 4194304 (length z) ≡ true = grind (arith, nat_tests, long) in rw is refl
+
+pub policy_too_long : (z : List ℕ) → 65536 < length z → policy_of z ≡ Err policy.TooLong
+unfolding policy_of
+policy_too_long z long = let is : nat_lt 65536 (length z) ≡ true = grind (arith, nat_tests, long) in rw is refl
+
+pub keys_line_too_long : (now : ℕ) (p : Settings) (x : List ℕ) (failed : Bool) → failed ≡ false → 4194304 < length (first_line x)
+    → keys_refused keys.TooLong ≡ unless_failed failed (keys_answer now p x)
+keys_line_too_long now p x failed works long =
+    sym (ap (λ f. unless_failed f (keys_answer now p x)) works ∙ ap (λ k. under_keys now p k (after_line x)) (keys_too_long (first_line x) long))
+
+pub policy_line_too_long : (now : ℕ) (x : List ℕ) (failed : Bool) → failed ≡ false → 65536 < length (first_line x)
+    → policy_refused policy.TooLong ≡ verify_answer now failed x
+policy_line_too_long now x failed works long =
+    sym (ap (λ f. verify_answer now f x) works ∙ ap (λ k. under_policy now k (after_line x)) (policy_too_long (first_line x) long))
+
+pub set_too_long : (x : List ℕ) (failed : Bool) → failed ≡ false → 4194304 < length x → keys_refused keys.TooLong ≡ keys_answer_alone failed x
+set_too_long x failed works long = sym (ap (λ f. keys_answer_alone f x) works ∙ ap listed (keys_too_long x long))
+
+pub issue_line_too_long : (asked : TokenAsked) (x : List ℕ) (failed : Bool) → failed ≡ false → 4194304 < length (first_line x)
+    → keys_refused keys.TooLong ≡ issue_answer asked failed x
+issue_line_too_long asked x failed works long =
+    sym (ap (λ f. issue_answer asked f x) works ∙ ap (λ k. issue_under asked k (after_line x)) (keys_too_long (first_line x) long))

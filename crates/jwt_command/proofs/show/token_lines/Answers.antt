@@ -1,0 +1,25 @@
+use Rattle.std.proofs.Common.{◌<◌, ◌∙◌, arith, refl, sym, length}
+use Rattle.std.specs.Fmt.{decimal}
+use Rattle.jwt_jws.specs.Views.{parts, token}
+use Rattle.jwt_command.specs.Shown.{form_name}
+use Rattle.jwt_command.proofs.PairLemmas.{slice_within}
+use Rattle.jwt_command.proofs.Showing.{lines_start, signatures_more}
+use Rattle.jwt_command.proofs.show.token_lines.Goals.{in-Some+in_ok-put_signature, in_default}
+use Rattle.jwt_command.proofs.show.token_lines.Goals as goal
+
+pub loop-i-preserved : goal.loop-i-preserved
+loop-i-preserved c =
+    let ss = (token c.args.signed.now).signatures in
+    let l : c.loop-i.i < length ss = omega (arith, c.loop-i-test.true, c.count-i-end.ensures.count) in
+    elim c.match-signature.branch [
+      | in-Some+in_ok-put_signature w ↦ (let e = rw w.in-Some.is at c.signature.ensures in
+          rw w.out-is (signatures_more c.loop-i.out.items w.put_signature.new.out.items _ _ _ c.loop-i.i ss (parts w.in-Some.signature.now) (sym e)
+          c.loop-i.invariant w.in_ok-put_signature.ensures))
+      | in_default w ↦ (let e = rw w.in_default.is at c.signature.ensures in absurd (slice_within ss c.loop-i.i l (sym e)))
+    ]
+
+pub loop-i-init : goal.loop-i-init
+loop-i-init c =
+    let t = token c.args.signed.now in
+    rw c.payload_text-payload.ensures (lines_start _ _ c.as_bytes.result.now (form_name t.form) (decimal (length t.payload)) _ c.in_ok-extend_from_slice.ensures.items c.new-out.ensures.items
+    (c.as_bytes.ensures.value ∙ c.in_ok-start.ensures.ok ∙ rw (c.form_name-form.ensures, c.form.ensures, c.payload.ensures) refl))

@@ -1,0 +1,20 @@
+-- What some words ask for.
+use Rattle.std.specs.Prelude.{◌≡◌, [], ◌∷◌, None, Some, codes}
+use Rattle.jwt_command.specs.Words.{Mac, Verify, order_of}
+
+pub record Examples : Type 0 where
+  pub key_alone : order_of (codes "jwt" ∷ codes "mac" ∷ codes "--k" ∷ codes "AA" ∷ []) ≡ Some (Mac (codes "AA") 8192)
+  pub key_and_limit : order_of (codes "jwt" ∷ codes "mac" ∷ codes "--k" ∷ codes "AA" ∷ codes "--limit" ∷ codes "178" ∷ []) ≡ Some (Mac (codes "AA") 178)
+  pub key_with_hyphen : order_of (codes "jwt" ∷ codes "mac" ∷ codes "--k=-AA" ∷ []) ≡ Some (Mac (codes "-AA") 8192)
+  pub key_hyphen_apart : order_of (codes "jwt" ∷ codes "mac" ∷ codes "--k" ∷ codes "-AA" ∷ []) ≡ None
+  pub limit_zero : order_of (codes "jwt" ∷ codes "mac" ∷ codes "--k" ∷ codes "AA" ∷ codes "--limit" ∷ codes "0" ∷ []) ≡ None
+  pub limit_plus : order_of (codes "jwt" ∷ codes "mac" ∷ codes "--k" ∷ codes "AA" ∷ codes "--limit" ∷ codes "+7" ∷ []) ≡ Some (Mac (codes "AA") 7)
+  pub no_key : order_of (codes "jwt" ∷ codes "mac" ∷ []) ≡ None
+  pub key_twice : order_of (codes "jwt" ∷ codes "mac" ∷ codes "--k" ∷ codes "AA" ∷ codes "--k" ∷ codes "BB" ∷ []) ≡ None
+  pub no_words : order_of (codes "jwt" ∷ []) ≡ None
+  pub help_flag : order_of (codes "jwt" ∷ codes "--help" ∷ []) ≡ None
+  pub help_word : order_of (codes "jwt" ∷ codes "help" ∷ codes "mac" ∷ []) ≡ None
+  pub mac_help : order_of (codes "jwt" ∷ codes "mac" ∷ codes "-h" ∷ []) ≡ None
+  pub empty_key : order_of (codes "jwt" ∷ codes "mac" ∷ codes "--k=" ∷ []) ≡ Some (Mac [] 8192)
+  pub a_moment : order_of (codes "jwt" ∷ codes "verify" ∷ codes "--now" ∷ codes "1300819379" ∷ []) ≡ Some (Verify 1300819379)
+  pub too_late : order_of (codes "jwt" ∷ codes "verify" ∷ codes "--now" ∷ codes "9223372036854775808" ∷ []) ≡ None

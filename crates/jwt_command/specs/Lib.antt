@@ -1,0 +1,14 @@
+pub mod Examples
+pub mod Faults
+pub mod Input
+pub mod Issue
+pub mod Listed
+pub mod Mac
+pub mod Printed
+pub mod Seen
+pub mod Shown
+pub mod Stops
+pub mod TakenLines
+pub mod Verify
+pub mod Views
+pub mod Words

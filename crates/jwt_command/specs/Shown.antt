@@ -1,0 +1,91 @@
+-- What `jwt show` answers.
+use Rattle.std.specs.Prelude.{ℕ, ℤ, suc, ◌+◌, ◌*◌, ◌/◌, ◌%◌, Bool, true, false, List, [], ◌∷◌, ◌++◌, length, nat_lt, if◌then◌else◌, Option, Some, None, Result, Ok, Err, codes}
+use Rattle.std.specs.Fmt.{decimal, signed_decimal}
+use Rattle.std.specs.Option.{option_map_or}
+use Rattle.json.specs.Print.{quoted as quoted_text}
+use Rattle.serde_json.specs.Data.{Members}
+use Rattle.serde_json.specs.Events.{members_len}
+use Rattle.jwt_text.specs.Members.{compact_at, has, text_at, whole_at}
+use Rattle.jwt_jws.specs.Token.{SignatureParts, Token, alg_text, in_header, kid}
+use Rattle.jwt_jws.specs.Forms.{form_of}
+use Rattle.jwt_jws.specs.declared.fault.Form.{Form}
+use Rattle.jwt_jws.specs.declared.fault.Form.TheVariants.{Compact, General, Flattened}
+use Rattle.jwt_jws.specs.declared.fault.FormFault.{FormFault}
+use Rattle.jwt_policy.specs.ClaimKinds.{claims_of}
+use Rattle.jwt_policy.specs.declared.claim_fault.ClaimFault.{ClaimFault}
+use Rattle.jwt_command.specs.Faults.{claim_fault_parts, form_fault_parts, joined_parts}
+use Rattle.jwt_command.specs.Listed.{quoted_or_dash}
+use Rattle.jwt_command.specs.Input.{without_line_feed}
+use Rattle.jwt_command.specs.Printed.{Answer, joined, refused}
+use Rattle.jwt_command.specs.Verify.{unless_failed}
+
+abbrev pub form_name : Form → List ℕ
+form_name Compact = codes "compact"
+form_name General = codes "json"
+form_name Flattened = codes "flattened"
+
+-- a whole number, and `-` for none
+abbrev pub number_or_dash : Option ℤ → List ℕ
+number_or_dash n = option_map_or signed_decimal n (codes "-")
+
+-- a text of the header: `-` where it is absent, `?` where it is of another kind
+abbrev pub header_text : Bool → Option (List ℕ) → List ℕ
+header_text there (Some text) = quoted_text text
+header_text true None = codes "?"
+header_text false None = codes "-"
+
+-- how many octets a base64url text of so many characters spells (RFC 4648, section 5)
+abbrev pub spelled_len : ℕ → ℕ
+spelled_len n = n / 4 * 3 + n % 4 * 3 / 4
+
+abbrev pub member_count : Option Members → ℕ
+member_count None = 0
+member_count (Some ms) = members_len ms
+
+-- the sizes of a signature, beside a payload text of so many octets
+abbrev pub signature_sizes : ℕ → SignatureParts → List ℕ
+signature_sizes payload s = joined (
+    codes " protected=" ∷ decimal (spelled_len (length s.protected_text)) ∷ codes " unprotected=" ∷ decimal (member_count s.unprotected)
+    ∷ codes " signature=" ∷ decimal (length s.octets) ∷ codes " input=" ∷ decimal (length s.protected_text + 1 + payload) ∷ []
+    )
+
+-- the line of signature i
+abbrev pub signature_line : ℕ → ℕ → SignatureParts → List ℕ
+signature_line payload i s =
+    codes "sig=" ++ (decimal i ++ (codes " alg=" ++ (header_text (has (codes "alg") s.protected) (alg_text s) ++ (codes " kid=" ++ (header_text (in_header (codes "kid") s) (kid s)
+    ++ signature_sizes payload s)))))
+
+-- the lines of signatures, the first of which is number i
+abbrev pub signature_lines : ℕ → ℕ → List SignatureParts → List ℕ
+signature_lines payload i [] = []
+signature_lines payload i (s ∷ ss) = signature_line payload i s ++ signature_lines payload (suc i) ss
+
+-- the compact JSON text of `aud`, and `-` for none
+abbrev pub audience : Members → List ℕ
+audience ms = option_map_or (λ text. text) (compact_at (codes "aud") ms) (codes "-")
+
+abbrev pub claims_line : Result Members ClaimFault → List ℕ
+claims_line (Ok ms) = joined (
+    codes "claims aud=" ∷ audience ms ∷ codes " exp=" ∷ number_or_dash (whole_at (codes "exp") ms)
+    ∷ codes " iat=" ∷ number_or_dash (whole_at (codes "iat") ms) ∷ codes " iss=" ∷ quoted_or_dash (text_at (codes "iss") ms)
+    ∷ codes " jti=" ∷ quoted_or_dash (text_at (codes "jti") ms) ∷ codes " nbf=" ∷ number_or_dash (whole_at (codes "nbf") ms)
+    ∷ codes " sub=" ∷ quoted_or_dash (text_at (codes "sub") ms) ∷ []
+    )
+claims_line (Err fault) = joined (codes "claims refused " ∷ joined_parts (claim_fault_parts fault) ∷ [])
+
+abbrev pub token_lines : Token → List ℕ
+token_lines t =
+    joined (codes "unverified " ∷ form_name t.form ∷ []) ++ (joined (codes "payload octets=" ∷ decimal (length t.payload) ∷ [])
+    ++ (signature_lines (length t.payload_text) 0 t.signatures ++ claims_line (claims_of t.payload)))
+
+abbrev pub shown : Result Token FormFault → Answer
+shown (Ok t) = record { text = token_lines t; status = 0 }
+shown (Err fault) = refused (joined_parts (form_fault_parts fault))
+
+-- of a token of at most so many octets, with one octet 10 behind it or none
+abbrev pub show_on : ℕ → List ℕ → Answer
+show_on limit x = if nat_lt limit (length x) then refused (codes "TooLong") else shown (form_of 32 (without_line_feed x))
+
+-- by a reader that has failed or not
+abbrev pub show_answer : ℕ → Bool → List ℕ → Answer
+show_answer limit failed x = unless_failed failed (show_on limit x)

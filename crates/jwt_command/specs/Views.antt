@@ -1,0 +1,17 @@
+-- What contracts see of this crate's own values.
+use Rattle.jwt_command.specs.declared.mac.Digest.{Digest as CodeDigest}
+use Rattle.jwt_command.specs.declared.reply.Reply.{Reply}
+use Rattle.std.specs.Prelude.{option_map}
+use Rattle.jwt_command.specs.Issue.{TokenAsked}
+use Rattle.jwt_command.specs.declared.issue.Wanted.{Wanted as CodeWanted}
+use Rattle.jwt_command.specs.Mac.{Digest}
+use Rattle.jwt_command.specs.Printed.{Answer}
+
+abbrev pub digest_view : CodeDigest → Digest
+digest_view d = record { tag = d.tag; equal = d.equal }
+
+abbrev pub reply_view : Reply → Answer
+reply_view r = record { text = r.text.items; status = r.status }
+
+abbrev pub wanted_view : CodeWanted → TokenAsked
+wanted_view w = record { alg = w.alg; typ = option_map (λ t. t.now) w.typ; form = w.form }

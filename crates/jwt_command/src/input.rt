@@ -1,0 +1,37 @@
+//! A command's input.
+ghost use Rattle.std.specs.Prelude.{◌≡◌, ◌≤◌, ◌+◌, ◌⊎◌, true, length, IfOk, IfSome};
+ghost use Rattle.jwt_command.specs.Input.{ReadsInput, TakesAtMost, without_line_feed};
+
+use jwt_text::{GREATEST_LIMIT, Intake, Source, TextFault};
+use std::alloc::Global;
+
+/// Reads all of an input, of at most so many octets.
+pub(crate) fn read_input<R: Source>(
+    alloc: Global,
+    limit: u32,
+    r: &mut R,
+) -> Result<Intake, TextFault>
+    requires least { 1 ≤ limit }
+    requires greatest { limit ≤ GREATEST_LIMIT }
+    ensures input { IfSome (R.remaining r.old) (λ x. ReadsInput limit (R.failed r.new) x result) }
+    ensures short { IfOk result (λ held. length held.octets ≤ limit) }
+    ensures taken { IfSome (R.remaining r.old) (λ x. (R.failed r.new ≡ true) ⊎ TakesAtMost (limit + 1) x (R.remaining r.new)) }
+{
+    let mut intake = Intake::new(alloc, limit);
+    match intake.read_from(r) {
+        Ok(()) => Ok(intake),
+        Err(fault) => Err(fault),
+    }
+}
+
+/// The octets without one octet 10 at their end.
+pub(crate) fn without_line_feed(octets: &[u8]) -> &[u8]
+    ensures value { result.now ≡ without_line_feed octets.now }
+    ensures short { length result.now ≤ length octets.now }
+{
+    if octets.len() > 0 && octets[octets.len() - 1] == b'\n' {
+        &octets[..octets.len() - 1]
+    } else {
+        octets
+    }
+}

@@ -1,0 +1,120 @@
+//! The command, over any source and sink.
+ghost use Rattle.std.specs.Prelude.{◌≡◌, ◌+◌, ◌⊎◌, ℕ, List, None, Some, map, true, IfOk, IfSome};
+ghost use Rattle.jwt_command.specs.Mac.{key_spelled, mac_answer};
+ghost use Rattle.jwt_command.specs.Input.{TakesAtMost};
+ghost use Rattle.jwt_command.specs.Printed.{Gives, GivesWrongWords, Prints, out_of_memory};
+ghost use Rattle.jwt_command.specs.Views.{reply_view};
+ghost use Rattle.jwt_command.specs.Issue.{TokenAsked, issue_answer};
+ghost use Rattle.jwt_command.specs.Listed.{keys_answer};
+ghost use Rattle.jwt_command.specs.Shown.{show_answer};
+ghost use Rattle.jwt_command.specs.Stops.{most_taken};
+ghost use Rattle.jwt_command.specs.Verify.{verify_answer};
+ghost use Rattle.jwt_command.specs.Words.{Issue, Keys, Mac, Order as Asked, Show, Verify, input_limit, order_of};
+
+use crate::issue::{Wanted, issue};
+use crate::keys::keys;
+use crate::mac::mac;
+use crate::reply::Reply;
+use crate::show::show;
+use crate::verify::verify;
+use crate::words::{Order, WordsFault, read_words};
+use jwt_text::{Sink, Source, write_out};
+use std::alloc::{AllocError, Global};
+
+/// Runs the command that `words` ask for on `r`, prints its answer to `w`, and answers its status. The first word is the
+/// program's name.
+///
+/// 0: done; 1: refused; 2: wrong words, and `w` has what is said of them, or a refused key of `mac`; 3: a read or a write failed;
+/// 4: want of memory.
+/// The whole answer is in hand before any of it goes out.
+pub fn run<R: Source, W: Sink>(alloc: Global, words: &[&str], r: &mut R, w: &mut W) -> u8
+    // The line of `mac`, where the words ask for it.
+    ensures mac { (key : List ℕ) (limit : ℕ) → order_of (map (λ word. word.now) words.now) ≡ Some (Mac key limit)
+        → IfSome (R.remaining r.old) (λ x. Gives (mac_answer key limit (R.failed r.new) x) (W.contents w.old) (W.contents w.new) (W.failed w.new) result) }
+    // The line of `verify`.
+    ensures verify { (now : ℕ) → order_of (map (λ word. word.now) words.now) ≡ Some (Verify now)
+        → IfSome (R.remaining r.old) (λ x. Gives (verify_answer now (R.failed r.new) x) (W.contents w.old) (W.contents w.new) (W.failed w.new) result) }
+    // The token of `issue`.
+    ensures issue { (wanted : TokenAsked) → order_of (map (λ word. word.now) words.now) ≡ Some (Issue wanted.alg wanted.typ wanted.form)
+        → IfSome (R.remaining r.old) (λ x. Gives (issue_answer wanted (R.failed r.new) x) (W.contents w.old) (W.contents w.new) (W.failed w.new) result) }
+    // The lines of `keys`.
+    ensures keys { order_of (map (λ word. word.now) words.now) ≡ Some Keys
+        → IfSome (R.remaining r.old) (λ x. Gives (keys_answer (R.failed r.new) x) (W.contents w.old) (W.contents w.new) (W.failed w.new) result) }
+    // The lines of `show`.
+    ensures show { (limit : ℕ) → order_of (map (λ word. word.now) words.now) ≡ Some (Show limit)
+        → IfSome (R.remaining r.old) (λ x. Gives (show_answer limit (R.failed r.new) x) (W.contents w.old) (W.contents w.new) (W.failed w.new) result) }
+
+    // At most one octet past the limit is taken.
+    ensures taken { (order : Asked) → order_of (map (λ word. word.now) words.now) ≡ Some order
+        → IfSome (R.remaining r.old) (λ x. (R.failed r.new ≡ true) ⊎ TakesAtMost (input_limit order + 1) x (R.remaining r.new)) }
+
+    // Nothing behind a line that is refused.
+    ensures stops { (order : Asked) → order_of (map (λ word. word.now) words.now) ≡ Some order
+        → IfSome (R.remaining r.old) (λ x. (R.failed r.new ≡ true) ⊎ TakesAtMost (most_taken order x) x (R.remaining r.new)) }
+
+    // Where the key is refused, nothing is read.
+    ensures unread_key { (key : List ℕ) (limit : ℕ) → order_of (map (λ word. word.now) words.now) ≡ Some (Mac key limit)
+        → key_spelled key ≡ None → r.new ≡ r.old }
+
+    // Words that `clap` refuses, and help words.
+    ensures wrong { order_of (map (λ word. word.now) words.now) ≡ None
+        → GivesWrongWords (W.contents w.old) (W.contents w.new) (W.failed w.new) result }
+    ensures unread { order_of (map (λ word. word.now) words.now) ≡ None → r.new ≡ r.old }
+{
+    match reply_to(alloc, words, r) {
+        Ok(reply) => send(w, reply.text.as_slice(), reply.status),
+        Err(_) => lack_memory(w),
+    }
+}
+
+/// Prints that a growth was refused, and answers the status 4, or 3 where a write fails.
+pub fn lack_memory<W: Sink>(w: &mut W) -> u8
+    ensures { Prints out_of_memory (W.contents w.old) (W.contents w.new) (W.failed w.new) result }
+{
+    send(w, b"failed OutOfMemory\n", 4)
+}
+
+// Sends a whole answer.
+fn send<W: Sink>(w: &mut W, text: &[u8], status: u8) -> u8
+    ensures { Prints (record { text = text.now; status = status }) (W.contents w.old) (W.contents w.new) (W.failed w.new) result }
+{
+    match write_out(w, text) {
+        Ok(()) => status,
+        Err(_) => 3,
+    }
+}
+
+// The answer, before any of it goes out.
+fn reply_to<R: Source>(alloc: Global, words: &[&str], r: &mut R) -> Result<Reply, AllocError>
+    ensures mac { (key : List ℕ) (limit : ℕ) → order_of (map (λ word. word.now) words.now) ≡ Some (Mac key limit)
+        → IfSome (R.remaining r.old) (λ x. IfOk result (λ a. reply_view a ≡ mac_answer key limit (R.failed r.new) x)) }
+    ensures verify { (now : ℕ) → order_of (map (λ word. word.now) words.now) ≡ Some (Verify now)
+        → IfSome (R.remaining r.old) (λ x. IfOk result (λ a. reply_view a ≡ verify_answer now (R.failed r.new) x)) }
+    ensures issue { (wanted : TokenAsked) → order_of (map (λ word. word.now) words.now) ≡ Some (Issue wanted.alg wanted.typ wanted.form)
+        → IfSome (R.remaining r.old) (λ x. IfOk result (λ a. reply_view a ≡ issue_answer wanted (R.failed r.new) x)) }
+    ensures keys { order_of (map (λ word. word.now) words.now) ≡ Some Keys
+        → IfSome (R.remaining r.old) (λ x. IfOk result (λ a. reply_view a ≡ keys_answer (R.failed r.new) x)) }
+    ensures show { (limit : ℕ) → order_of (map (λ word. word.now) words.now) ≡ Some (Show limit)
+        → IfSome (R.remaining r.old) (λ x. IfOk result (λ a. reply_view a ≡ show_answer limit (R.failed r.new) x)) }
+    ensures taken { (order : Asked) → order_of (map (λ word. word.now) words.now) ≡ Some order
+        → IfSome (R.remaining r.old) (λ x. (R.failed r.new ≡ true) ⊎ TakesAtMost (input_limit order + 1) x (R.remaining r.new)) }
+    ensures stops { (order : Asked) → order_of (map (λ word. word.now) words.now) ≡ Some order
+        → IfSome (R.remaining r.old) (λ x. (R.failed r.new ≡ true) ⊎ TakesAtMost (most_taken order x) x (R.remaining r.new)) }
+    ensures unread_key { (key : List ℕ) (limit : ℕ) → order_of (map (λ word. word.now) words.now) ≡ Some (Mac key limit)
+        → key_spelled key ≡ None → r.new ≡ r.old }
+    ensures wrong { order_of (map (λ word. word.now) words.now) ≡ None → IfOk result (λ a. a.status ≡ 2) }
+    ensures unread { order_of (map (λ word. word.now) words.now) ≡ None → r.new ≡ r.old }
+{
+    match read_words(alloc, words) {
+        Ok(Order::Mac { key, limit }) => mac(alloc, key, limit, r),
+        Ok(Order::Keys) => keys(alloc, r),
+        Ok(Order::Show { limit }) => show(alloc, limit, r),
+        Ok(Order::Verify { now }) => verify(alloc, now, r),
+        Ok(Order::Issue { alg, typ, form }) => issue(alloc, Wanted { alg, typ, form }, r),
+        Err(WordsFault::Wrong(text)) => Ok(Reply {
+            text: text.into_bytes(),
+            status: 2,
+        }),
+        Err(WordsFault::OutOfMemory) => Err(AllocError),
+    }
+}

@@ -1,0 +1,296 @@
+//! The words of the command, read by `clap`.
+ghost use Rattle.std.specs.Prelude.{◌≡◌, ◌≤◌, IfOk, IfErr, IfSome, None, Some, false, map, option_and_then, option_map};
+ghost use Rattle.clap.specs.Words.{app_of, found_of, one_of, rows_of, rule_of, subcommand_rows_of};
+ghost use Rattle.clap.specs.declared.builder.command.Command.TheViews.{out-Command as fields_of};
+ghost use Rattle.clap.specs.declared.builder.ValueParser.TheVariants.{Unsigned};
+ghost use Rattle.jwt_command.specs.Words.{HasLimits, alg_in, alg_rule, form_in, form_named, form_rule, issue_app, issue_order, jwt_app, key_rule, keys_app, limit_rule, mac_app, mac_order, now_rule, number_in, order_in, order_of, show_app, show_order, typ_rule, verify_app, verify_order};
+ghost use Rattle.jwt_command.specs.Examples.{Examples};
+ghost use Rattle.jwt_command.specs.Seen.{IsWrong, seen};
+
+use clap::builder::ValueParser;
+use clap::error::ErrorKind;
+use clap::{Arg, ArgMatches, Command, Error};
+use jwt_jws::Form;
+use jwt_mac::Alg;
+use std::alloc::{AllocError, Global};
+
+/// What the words ask for.
+#[derive(Clone, Copy)]
+pub enum Order<'a> {
+    Mac {
+        key: &'a str,
+        limit: u64,
+    },
+    Keys,
+    Show {
+        limit: u64,
+    },
+    Verify {
+        now: u64,
+    },
+    Issue {
+        alg: Alg,
+        typ: Option<&'a str>,
+        form: Form,
+    },
+}
+
+fn key_option<'a>(alloc: Global) -> Arg<'a>
+    ensures shape { rule_of result ≡ key_rule }
+    ensures local { result.global ≡ false }
+{
+    Arg::new(alloc, "k")
+        .long("k")
+        .value_name("TEXT")
+        .required(true)
+        .help("The key, octets in base64url; other users can see it, so it is for test keys")
+}
+
+fn limit_option<'a>(alloc: Global) -> Arg<'a>
+    ensures shape { rule_of result ≡ limit_rule }
+    ensures local { result.global ≡ false }
+{
+    Arg::new(alloc, "limit")
+        .long("limit")
+        .value_name("N")
+        .value_parser(ValueParser::unsigned(1, 1_048_576))
+        .default_value("8192")
+        .help("The most octets of a token")
+}
+
+fn now_option<'a>(alloc: Global) -> Arg<'a>
+    ensures shape { rule_of result ≡ now_rule }
+    ensures local { result.global ≡ false }
+{
+    Arg::new(alloc, "now")
+        .long("now")
+        .value_name("N")
+        .value_parser(ValueParser::unsigned(0, 9_223_372_036_854_775_807))
+        .required(true)
+        .help("The moment, in seconds since 1970-01-01T00:00:00Z")
+}
+
+fn alg_option<'a>(alloc: Global) -> Arg<'a>
+    ensures shape { rule_of result ≡ alg_rule }
+    ensures local { result.global ≡ false }
+{
+    Arg::new(alloc, "alg")
+        .long("alg")
+        .value_name("A")
+        .required(true)
+        .help("The algorithm: HS256, HS384 or HS512")
+}
+
+fn typ_option<'a>(alloc: Global) -> Arg<'a>
+    ensures shape { rule_of result ≡ typ_rule }
+    ensures local { result.global ≡ false }
+{
+    Arg::new(alloc, "typ")
+        .long("typ")
+        .value_name("T")
+        .help("The media type of the token, as its header names it")
+}
+
+fn form_option<'a>(alloc: Global) -> Arg<'a>
+    ensures shape { rule_of result ≡ form_rule }
+    ensures local { result.global ≡ false }
+{
+    Arg::new(alloc, "form")
+        .long("form")
+        .value_name("F")
+        .default_value("compact")
+        .help("The form of the token: compact, json or flattened")
+}
+
+fn mac_command<'a>(alloc: Global) -> Result<Command<'a>, AllocError>
+    ensures shape { IfOk result (λ c. app_of c ≡ mac_app) }
+    ensures local { IfOk result (λ c. (fields_of c).has_globals ≡ false) }
+{
+    Command::new(alloc, "mac")
+        .about("Computes the tag of a compact token, which standard input holds")
+        .arg(key_option(alloc))?
+        .arg(limit_option(alloc))
+}
+
+fn keys_command<'a>(alloc: Global) -> Command<'a>
+    ensures shape { app_of result ≡ keys_app }
+    ensures local { (fields_of result).has_globals ≡ false }
+{
+    Command::new(alloc, "keys").about("Lists the keys of a key set, which standard input holds")
+}
+
+fn show_command<'a>(alloc: Global) -> Result<Command<'a>, AllocError>
+    ensures shape { IfOk result (λ c. app_of c ≡ show_app) }
+    ensures local { IfOk result (λ c. (fields_of c).has_globals ≡ false) }
+{
+    Command::new(alloc, "show")
+        .about("Shows a token without verifying it; standard input holds it")
+        .arg(limit_option(alloc))
+}
+
+fn verify_command<'a>(alloc: Global) -> Result<Command<'a>, AllocError>
+    ensures shape { IfOk result (λ c. app_of c ≡ verify_app) }
+    ensures local { IfOk result (λ c. (fields_of c).has_globals ≡ false) }
+{
+    Command::new(alloc, "verify")
+        .about(
+            "Validates a token; standard input is a line with the policy, one with the key set, then the token",
+        )
+        .arg(now_option(alloc))
+}
+
+fn issue_command<'a>(alloc: Global) -> Result<Command<'a>, AllocError>
+    ensures shape { IfOk result (λ c. app_of c ≡ issue_app) }
+    ensures local { IfOk result (λ c. (fields_of c).has_globals ≡ false) }
+{
+    Command::new(alloc, "issue")
+        .about("Issues a token; standard input is a line with the key set, then the claims")
+        .arg(alg_option(alloc))?
+        .arg(typ_option(alloc))?
+        .arg(form_option(alloc))
+}
+
+/// The command line of the program.
+pub fn command<'a>(alloc: Global) -> Result<Command<'a>, AllocError>
+    ensures { IfOk result (λ c. app_of c ≡ jwt_app) }
+{
+    Command::new(alloc, "jwt")
+        .about("Validates, issues and explains JSON Web Tokens")
+        .subcommand_required(true)
+        .subcommand(mac_command(alloc)?)?
+        .subcommand(keys_command(alloc))?
+        .subcommand(show_command(alloc)?)?
+        .subcommand(verify_command(alloc)?)?
+        .subcommand(issue_command(alloc)?)
+}
+
+// What is said where `clap` accepts the words and they ask for nothing: of `--alg` and `--form` it takes any text.
+const UNKNOWN_NAME: &str =
+    "error: invalid value for '--alg <A>' or '--form <F>'\n\nFor more information, try '--help'.\n";
+
+/// Why the words ask for nothing.
+#[derive(Debug, Drop)]
+pub enum WordsFault {
+    OutOfMemory,
+    /// The words are wrong, and this is what the user reads of it.
+    Wrong(String),
+}
+
+impl From<AllocError> for WordsFault {
+    ghost use Rattle.jwt_command.specs.declared.words.WordsFault.TheVariants.{OutOfMemory};
+
+    ghost from_gives = { λ _ f. f ≡ OutOfMemory };
+
+    fn from(_error: AllocError) -> WordsFault {
+        WordsFault::OutOfMemory
+    }
+}
+
+/// What the words ask for.
+pub fn read_words<'a>(alloc: Global, words: &'a [&'a str]) -> Result<Order<'a>, WordsFault>
+    ensures limits { IfOk result (λ o. HasLimits (seen o)) }
+    ensures ok { IfOk result (λ o. order_of (map (λ w. w.now) words.now) ≡ Some (seen o)) }
+    ensures err { IfErr result (λ f. IsWrong f → order_of (map (λ w. w.now) words.now) ≡ None) }
+{
+    match command(alloc)?.try_get_matches_from(words) {
+        Ok(matches) => match chosen(&matches) {
+            Some(order) => Ok(order),
+            None => Err(WordsFault::Wrong(String::from_str(alloc, UNKNOWN_NAME)?)),
+        },
+        Err(error) => match error.kind() {
+            ErrorKind::OutOfMemory => Err(WordsFault::OutOfMemory),
+            _ => Err(WordsFault::Wrong(format!(in alloc; "{error}")?)),
+        },
+    }
+}
+
+fn chosen<'a>(matches: &ArgMatches<'a>) -> Option<Order<'a>>
+    ensures limits { IfSome result (λ o. HasLimits (seen o)) }
+    ensures order { option_map seen result
+        ≡ option_and_then (λ p. order_in p.0 p.1) (subcommand_rows_of matches.now) }
+{
+    let (name, options) = matches.subcommand()?;
+    match name {
+        "mac" => chosen_mac(options),
+        "keys" => Some(Order::Keys),
+        "show" => chosen_show(options),
+        "verify" => chosen_verify(options),
+        "issue" => chosen_issue(options),
+        _ => None,
+    }
+}
+
+fn chosen_mac<'a>(options: &ArgMatches<'a>) -> Option<Order<'a>>
+    ensures limits { IfSome result (λ o. HasLimits (seen o)) }
+    ensures order { option_map seen result ≡ mac_order (rows_of (found_of options.now)) }
+{
+    let key = options.get_str("k")?;
+    let limit = number(options, "limit", 1, 1_048_576)?;
+    Some(Order::Mac { key, limit })
+}
+
+fn chosen_show<'a>(options: &ArgMatches<'a>) -> Option<Order<'a>>
+    ensures limits { IfSome result (λ o. HasLimits (seen o)) }
+    ensures order { option_map seen result ≡ show_order (rows_of (found_of options.now)) }
+{
+    let limit = number(options, "limit", 1, 1_048_576)?;
+    Some(Order::Show { limit })
+}
+
+fn chosen_verify<'a>(options: &ArgMatches<'a>) -> Option<Order<'a>>
+    ensures limits { IfSome result (λ o. HasLimits (seen o)) }
+    ensures order { option_map seen result ≡ verify_order (rows_of (found_of options.now)) }
+{
+    let now = number(options, "now", 0, 9_223_372_036_854_775_807)?;
+    Some(Order::Verify { now })
+}
+
+// The algorithm of a token.
+fn chosen_alg(options: &ArgMatches<'_>) -> Option<Alg>
+    ensures { result ≡ alg_in (rows_of (found_of options.now)) }
+{
+    Alg::from_text(options.get_str("alg")?)
+}
+
+fn form_named(text: &str) -> Option<Form>
+    ensures { result ≡ form_named text.now }
+{
+    match text {
+        "compact" => Some(Form::Compact),
+        "json" => Some(Form::General),
+        "flattened" => Some(Form::Flattened),
+        _ => None,
+    }
+}
+
+// The form of a token.
+fn chosen_form(options: &ArgMatches<'_>) -> Option<Form>
+    ensures { result ≡ form_in (rows_of (found_of options.now)) }
+{
+    form_named(options.get_str("form")?)
+}
+
+fn chosen_issue<'a>(options: &ArgMatches<'a>) -> Option<Order<'a>>
+    ensures limits { IfSome result (λ o. HasLimits (seen o)) }
+    ensures order { option_map seen result ≡ issue_order (rows_of (found_of options.now)) }
+{
+    let alg = chosen_alg(options)?;
+    let form = chosen_form(options)?;
+    let typ = options.get_str("typ");
+    Some(Order::Issue { alg, typ, form })
+}
+
+// `clap` has refused a number out of its range; its contract says so of the words and not of the
+// matches, so the range is seen here again.
+fn number(options: &ArgMatches<'_>, id: &str, low: u64, high: u64) -> Option<u64>
+    ensures limits { IfSome result (λ n. (low ≤ n) × (n ≤ high)) }
+    ensures number { result ≡ number_in (Unsigned low high) (one_of id.now (rows_of (found_of options.now))) }
+{
+    let n = options.get_one::<u64>(id)?;
+    if low <= n && n <= high { Some(n) } else { None }
+}
+
+/// What some words ask for, by the definitions alone.
+pub fn some_words()
+    ensures { Examples }
+{}

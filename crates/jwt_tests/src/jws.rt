@@ -1,0 +1,266 @@
+//! The three forms of a signed token.
+ghost use Rattle.std.specs.Prelude.{◌≤◌, ◌<◌};
+
+use super::support::{TOKEN_A, filled, nested, repeated};
+use jwt_jws::{Form, FormFault, Place, Signed, parse};
+use jwt_text::encode;
+use std::alloc::{AllocError, Global};
+use std::test::Fail;
+
+/// The fault of a token, where it has one.
+fn fault_of(alloc: Global, octets: &[u8], most: u32) -> Option<FormFault>
+    requires least { 0 < most }
+    requires most { most ≤ 32 }
+{
+    match parse(alloc, octets, most) {
+        Ok(_) => None,
+        Err(fault) => Some(fault),
+    }
+}
+
+#[test]
+fn names_the_first_cause(rt: HostRuntime) -> Result<(), Fail> {
+    let cases: [(&str, FormFault); 32] = [
+        ("", FormFault::Empty),
+        (" \t\r\n", FormFault::Segments),
+        ("a.b", FormFault::Segments),
+        ("a.b.c.d", FormFault::Segments),
+        ("a.b.c.d.e.f", FormFault::Segments),
+        ("a.b.c.d.e", FormFault::Encrypted),
+        ("a.e3.c", FormFault::Base64(Place::Payload)),
+        (" e30.e30.", FormFault::Base64(Place::Protected(0))),
+        ("e30=.e30.", FormFault::Base64(Place::Protected(0))),
+        (".e30.", FormFault::Header(0)),
+        ("Nw.e30.", FormFault::Header(0)),
+        // The header {"alg":"HS256","alg":"HS256"}.
+        (
+            "eyJhbGciOiJIUzI1NiIsImFsZyI6IkhTMjU2In0.e30.",
+            FormFault::Header(0),
+        ),
+        ("e30.e30.AB", FormFault::Base64(Place::Signature(0))),
+        ("{", FormFault::Json),
+        (
+            r#"{"payload":"e30","payload":"e30","ciphertext":7}"#,
+            FormFault::NameTwice,
+        ),
+        (r#"{"ciphertext":7}"#, FormFault::Encrypted),
+        (r#"{"ciphertext":null,"signature":7}"#, FormFault::Encrypted),
+        (r#"{"signature":""}"#, FormFault::Members),
+        (
+            r#"{"payload":"e30","signature":"","signatures":[]}"#,
+            FormFault::Members,
+        ),
+        (
+            r#"{"payload":"e30","signature":"","signatures":null}"#,
+            FormFault::Members,
+        ),
+        (r#"{"payload":"e30","signatures":[]}"#, FormFault::Members),
+        (r#"{"payload":"e30","signatures":[7]}"#, FormFault::Members),
+        (
+            r#"{"payload":"e30","signatures":[{"protected":null,"signature":""}]}"#,
+            FormFault::Members,
+        ),
+        (
+            r#"{"payload":"\u00e9","signature":""}"#,
+            FormFault::Base64(Place::Payload),
+        ),
+        (
+            r#"{"payload":"e30","protected":"A","signature":""}"#,
+            FormFault::Base64(Place::Protected(0)),
+        ),
+        (
+            r#"{"payload":"e30","header":7,"signature":""}"#,
+            FormFault::UnprotectedKind(0),
+        ),
+        (
+            r#"{"payload":"e30","signatures":[{"signature":""},{"header":null,"signature":""}]}"#,
+            FormFault::UnprotectedKind(1),
+        ),
+        (
+            r#"{"payload":"e30","signatures":[{"signature":"A"},{"header":null,"signature":""}]}"#,
+            FormFault::Base64(Place::Signature(0)),
+        ),
+        // The header {"alg":"HS256"}.
+        (
+            r#"{"payload":"e30","protected":"eyJhbGciOiJIUzI1NiJ9","header":{"alg":"HS256"},"signature":"A"}"#,
+            FormFault::NamesOverlap(0),
+        ),
+        (
+            r#"{"payload":"<PAYLOAD_A>","signatures":[{"protected":"<HEADER_A>","signature":"<SIGNATURE_A>","header":{"alg":"HS256"}}]}"#,
+            FormFault::NamesOverlap(0),
+        ),
+        (
+            r#"{"payload":"<PAYLOAD_A>","signatures":[{"protected":"<HEADER_A>","signature":"<SIGNATURE_A>","header":7}]}"#,
+            FormFault::UnprotectedKind(0),
+        ),
+        (
+            r#"{"payload":"e30","header":{"a":{"b":1,"b":1}},"signature":""}"#,
+            FormFault::NameTwice,
+        ),
+    ];
+    for (text, fault) in cases {
+        let token = filled(rt.alloc(), text)?;
+        assert_eq!(rt;
+            fault_of(rt.alloc(), token.as_bytes(), 8),
+            Some(fault),
+            "{text}"
+        );
+    }
+    Ok(())
+}
+
+/// A general token of so many signatures, each with an empty header.
+fn general(alloc: Global, count: usize) -> Result<String, AllocError> {
+    let elements = repeated(alloc, r#"{"signature":""}"#, ",", count)?;
+    format!(in alloc; r#"{{"payload":"e30","signatures":[{elements}]}}"#)
+}
+
+#[test]
+fn counts_signatures(rt: HostRuntime) -> Result<(), Fail> {
+    for (count, most, fault) in [
+        (8, 8, None),
+        (9, 8, Some(FormFault::TooManySignatures)),
+        (32, 32, None),
+        (33, 32, Some(FormFault::TooManySignatures)),
+    ] {
+        let token = general(rt.alloc(), count)?;
+        assert_eq!(rt; fault_of(rt.alloc(), token.as_bytes(), most), fault);
+    }
+    Ok(())
+}
+
+#[test]
+fn reads_headers_nested_127_deep(rt: HostRuntime) -> Result<(), Fail> {
+    for (lists, fault) in [(126, None), (127, Some(FormFault::Header(0)))] {
+        let header = nested(rt.alloc(), lists)?;
+        let mut token = encode(rt.alloc(), header.as_bytes())?;
+        token.extend_from_slice(b".e30.")?;
+        assert_eq!(rt; fault_of(rt.alloc(), token.as_slice(), 8), fault);
+    }
+    Ok(())
+}
+
+// The octets of the first signature's protected text, the members of its protected header, and its own octets.
+fn first(signed: &Signed<'_>) -> Option<(usize, usize, usize)> {
+    let signature = signed.signature(0)?;
+    Some((
+        signature.protected_text().len(),
+        signature.protected().member_count(),
+        signature.octets().len(),
+    ))
+}
+
+#[test]
+fn reads_three_forms(rt: HostRuntime) -> Result<(), Fail> {
+    let alloc = rt.alloc();
+    let compact = parse(alloc, TOKEN_A.as_bytes(), 1).ok().ok_or("compact")?;
+    assert_eq!(rt; compact.form(), Form::Compact);
+    assert_eq!(rt; compact.payload().len(), 70);
+    assert_eq!(rt; first(&compact), Some((40, 2, 32)));
+    assert_eq!(rt; compact.message(0).is_some(), true);
+    assert_eq!(rt; compact.message(1).is_none(), true);
+
+    let empty = parse(alloc, b"e30..", 1).ok().ok_or("empty")?;
+    assert_eq!(rt; empty.payload().len(), 0);
+    assert_eq!(rt; first(&empty), Some((3, 0, 0)));
+    assert_eq!(rt;
+        empty.signature(0).map(|s| s.alg_text().is_none()),
+        Some(true)
+    );
+
+    let flattened = parse(
+        alloc,
+        br#" {"payload":"e\u00330","signature":"AQAB","header":{"kid":"k"}} "#,
+        1,
+    )
+    .ok()
+    .ok_or("flattened")?;
+    assert_eq!(rt; flattened.form(), Form::Flattened);
+    assert_eq!(rt; flattened.payload_text(), b"e30".as_slice());
+    assert_eq!(rt; first(&flattened), Some((0, 0, 3)));
+    assert_eq!(rt;
+        flattened.signature(0).map(|s| s.kid() == Some("k")),
+        Some(true)
+    );
+
+    let bare = parse(alloc, br#"{"payload":"e30","signature":""}"#, 1)
+        .ok()
+        .ok_or("bare")?;
+    assert_eq!(rt; bare.form(), Form::Flattened);
+    assert_eq!(rt; first(&bare), Some((0, 0, 0)));
+    assert_eq!(rt; bare.count(), 1);
+    Ok(())
+}
+
+#[test]
+fn sees_a_name_that_stands_twice_in_crit(rt: HostRuntime) -> Result<(), Fail> {
+    let cases: [(&[u8], bool); 5] = [
+        (b"{}", false),
+        (br#"{"crit":["a","b","a"]}"#, true),
+        (br#"{"crit":["a",7,"b"]}"#, false),
+        (br#"{"crit":["b","a","\u0061"]}"#, true),
+        (br#"{"crit":"aa"}"#, false),
+    ];
+    for (header, twice) in cases {
+        let mut token = encode(rt.alloc(), header)?;
+        token.extend_from_slice(b".e30.")?;
+        let signed = parse(rt.alloc(), token.as_slice(), 1)
+            .ok()
+            .ok_or("a token")?;
+        assert_eq!(rt; signed.signature(0).map(|s| s.crit_repeats()), Some(twice));
+    }
+    Ok(())
+}
+
+#[test]
+fn names_are_looked_up_in_both_headers(rt: HostRuntime) -> Result<(), Fail> {
+    // The protected header {"alg":"HS256"}.
+    let token =
+        br#"{"payload":"e30","protected":"eyJhbGciOiJIUzI1NiJ9","header":{"kid":"k","x":1},"signature":""}"#;
+    let signed = parse(rt.alloc(), token, 1).ok().ok_or("a token")?;
+    assert!(rt; !signed.is_compact());
+    let signature = signed.signature(0).ok_or("a signature")?;
+    for (name, in_header, in_unprotected) in [
+        ("alg", true, false),
+        ("kid", true, true),
+        ("x", true, true),
+        ("k", false, false),
+        ("", false, false),
+    ] {
+        assert_eq!(rt; signature.in_header(name), in_header, "{name}");
+        assert_eq!(rt; signature.in_unprotected(name), in_unprotected, "{name}");
+    }
+    assert_eq!(rt;
+        signature.unprotected().map(|header| header.member_count()),
+        Some(2)
+    );
+
+    let compact = parse(rt.alloc(), TOKEN_A.as_bytes(), 1)
+        .ok()
+        .ok_or("compact")?;
+    assert!(rt; compact.is_compact());
+    let signature = compact.signature(0).ok_or("a signature")?;
+    assert!(rt; signature.unprotected().is_none());
+    assert!(rt; signature.in_header("alg") && !signature.in_unprotected("alg"));
+    Ok(())
+}
+
+// `refused-growths` refuses each growth of this test in turn.
+#[test]
+fn a_refused_growth_is_out_of_memory(rt: HostRuntime) -> Result<(), Fail> {
+    let general =
+        br#"{"payload":"e30","signatures":[{"signature":"AQAB"},{"protected":"eyJhbGciOiJIUzI1NiJ9","header":{"kid":"k"},"signature":"AQAB"}]}"#;
+    for (octets, count) in [(TOKEN_A.as_bytes(), 1), (general.as_slice(), 2)] {
+        match parse(rt.alloc(), octets, 2) {
+            Ok(signed) => assert_eq!(rt; signed.count(), count),
+            Err(fault) => assert!(rt; fault == FormFault::OutOfMemory, "{count}"),
+        }
+    }
+    assert!(rt;
+        matches!(
+            fault_of(rt.alloc(), br#"{"payload":"e30"}"#, 2),
+            Some(FormFault::Members | FormFault::OutOfMemory)
+        )
+    );
+    Ok(())
+}

@@ -1,0 +1,633 @@
+//! Policies, bars, eligible pairs and claims.
+use super::support::{Asked, HS256, SAME, key_set, nested};
+use jwt_jws::parse;
+use jwt_keys::Key;
+use jwt_mac::{Alg, Verifier};
+use jwt_policy::{
+    Audience, ClaimFault, Claims, Mode, Policy, PolicyFault, SigFault, bar, check, eligible, fits,
+};
+use jwt_text::encode_text;
+use std::alloc::Global;
+use std::test::Fail;
+
+/// A policy that says something about everything.
+const FULL: &str =
+    r#"{"version":2,"algs":["EdDSA","HS512"],"mode":"all","limit":1048576,"work":0,"max_signatures":32,"line_feed":true,"typ":"JWT","need_kid":true,"thumb_kid":true,"understood":["x"],"issuers":["ann","bob"],"audiences":["api"],"required":["sub"],"leeway":86400,"max_age":4294967295,"max_calls":32768}"#;
+
+/// The policy of a document that is read.
+fn policy_of(alloc: Global, document: &str) -> Result<Policy, Fail> {
+    Ok(
+        Policy::read(alloc, document.as_bytes())
+            .ok()
+            .ok_or("no policy")?,
+    )
+}
+
+// ---- documents
+
+/// A fault with the member that it names.
+fn policy_fault(alloc: Global, fault: &PolicyFault) -> Result<String, Fail> {
+    let text = match fault {
+        PolicyFault::OutOfMemory => String::from_str(alloc, "OutOfMemory")?,
+        PolicyFault::Json => String::from_str(alloc, "Json")?,
+        PolicyFault::NameTwice => String::from_str(alloc, "NameTwice")?,
+        PolicyFault::Member(name) => format!(in alloc; "Member {}", name.text())?,
+        PolicyFault::Range(name) => format!(in alloc; "Range {}", name.text())?,
+        PolicyFault::NoAlgorithm => String::from_str(alloc, "NoAlgorithm")?,
+        PolicyFault::TooLong => String::from_str(alloc, "TooLong")?,
+    };
+    Ok(text)
+}
+
+/// The fault of a document with the member that it names, or `read`.
+fn refusal(alloc: Global, document: &[u8]) -> Result<String, Fail> {
+    match &Policy::read(alloc, document) {
+        Ok(_policy) => Ok(String::from_str(alloc, "read")?),
+        Err(fault) => policy_fault(alloc, fault),
+    }
+}
+
+#[test]
+fn a_document_is_read_or_refused_for_its_first_fault(rt: HostRuntime) -> Result<(), Fail> {
+    for (document, want) in [
+        ("", "Json"),
+        ("[]", "Json"),
+        (r#"[{"a":1,"a":2}]"#, "Json"),
+        (r#"{"zz":1,"zz":2}"#, "NameTwice"),
+        ("{}", "NoAlgorithm"),
+        (r#"{"algs":[]}"#, "NoAlgorithm"),
+        (r#"{"mode":7}"#, "NoAlgorithm"),
+        (r#"{"zz":1}"#, "Member zz"),
+        (r#"{"algs":["HS256"],"exp":1}"#, "Member exp"),
+        // Byte order isn't the order of UTF-16: U+FFEE comes before U+1F511.
+        (r#"{"\ud83d\udd11":1,"\uffee":1}"#, "Member \u{ffee}"),
+        (r#"{"algs":null}"#, "Member algs"),
+        (r#"{"algs":"HS256"}"#, "Member algs"),
+        (r#"{"algs":[1,"none"]}"#, "Member algs"),
+        (r#"{"algs":["none"]}"#, "Range algs"),
+        (r#"{"algs":["HS256","hs256"]}"#, "Range algs"),
+        (r#"{"version":3}"#, "Range version"),
+        (r#"{"version":1.0,"algs":[]}"#, "Member version"),
+        (r#"{"algs":["HS256"],"mode":"Any"}"#, "Range mode"),
+        (r#"{"algs":["HS256"],"limit":0,"mode":7}"#, "Member mode"),
+        (r#"{"algs":["HS256"],"limit":0}"#, "Range limit"),
+        (r#"{"algs":["HS256"],"limit":1048577}"#, "Range limit"),
+        (
+            r#"{"algs":["HS256"],"work":9223372036854775807}"#,
+            "Range work",
+        ),
+        (
+            r#"{"algs":["HS256"],"work":9223372036854775808}"#,
+            "Member work",
+        ),
+        (
+            r#"{"algs":["HS256"],"max_signatures":33}"#,
+            "Range max_signatures",
+        ),
+        (r#"{"algs":["HS256"],"line_feed":1}"#, "Member line_feed"),
+        (r#"{"algs":["HS256"],"typ":""}"#, "Range typ"),
+        (
+            r#"{"algs":["HS256"],"understood":["b64"]}"#,
+            "Range understood",
+        ),
+        (
+            r#"{"algs":["HS256"],"understood":["x","crit"]}"#,
+            "Range understood",
+        ),
+        (
+            r#"{"algs":["HS256"],"understood":["crit",7]}"#,
+            "Member understood",
+        ),
+        (r#"{"algs":["HS256"],"leeway":86401}"#, "Range leeway"),
+        (r#"{"algs":["HS256"],"leeway":-1}"#, "Range leeway"),
+        (r#"{"algs":["HS256"],"leeway":1.5}"#, "Member leeway"),
+        (r#"{"algs":["HS256"],"max_age":0}"#, "Range max_age"),
+        (r#"{"version":3,"algs":["HS256"]}"#, "Range version"),
+        (r#"{"algs":["HS256"],"max_calls":1}"#, "Member max_calls"),
+        (r#"{"version":"2","max_calls":1}"#, "Member max_calls"),
+        (
+            r#"{"version":2,"algs":["HS256"],"max_calls":32769}"#,
+            "Range max_calls",
+        ),
+        (
+            r#"{"version":2,"algs":["HS256","HS256","EdDSA"],"max_calls":0}"#,
+            "read",
+        ),
+        (FULL, "read"),
+    ] {
+        let found = refusal(rt.alloc(), document.as_bytes())?;
+        assert_eq!(rt; found.as_str(), want, "at {document}");
+    }
+    Ok(())
+}
+
+#[test]
+fn a_document_has_at_most_65536_octets(rt: HostRuntime) -> Result<(), Fail> {
+    let alloc = rt.alloc();
+    let mut document = Vec::from_slice(alloc, HS256.as_bytes())?;
+    document.resize(65_536, b' ')?;
+    assert_eq!(rt; refusal(alloc, &document)?.as_str(), "read");
+    document.push(b' ')?;
+    assert_eq!(rt; refusal(alloc, &document)?.as_str(), "TooLong");
+    Ok(())
+}
+
+#[test]
+fn a_policy_has_its_defaults(rt: HostRuntime) -> Result<(), Fail> {
+    let policy = policy_of(rt.alloc(), HS256)?;
+    let numbers = (
+        policy.version(),
+        policy.limit(),
+        policy.work(),
+        policy.max_signatures(),
+        policy.leeway(),
+    );
+    assert_eq!(rt; numbers, (1, 8192, 1_048_576, 8, 0));
+    assert_eq!(rt; policy.mode(), Mode::Any);
+    assert!(rt; !policy.line_feed() && !policy.need_kid() && !policy.thumb_kid());
+    assert!(rt;
+        policy.typ().is_none() && policy.max_age().is_none() && policy.max_calls().is_none()
+    );
+    assert!(rt; policy.understood().is_empty() && policy.issuers().is_empty());
+    assert!(rt; policy.audiences().is_empty() && policy.required().is_empty());
+    Ok(())
+}
+
+#[test]
+fn a_policy_says_what_its_document_says(rt: HostRuntime) -> Result<(), Fail> {
+    let policy = policy_of(rt.alloc(), FULL)?;
+    let numbers = (
+        policy.version(),
+        policy.limit(),
+        policy.work(),
+        policy.max_signatures(),
+        policy.leeway(),
+    );
+    assert_eq!(rt; numbers, (2, 1_048_576, 0, 32, 86_400));
+    assert_eq!(rt; policy.algs(), [Alg::EdDSA, Alg::HS512].as_slice());
+    assert_eq!(rt; policy.mode(), Mode::All);
+    assert!(rt; policy.line_feed() && policy.need_kid() && policy.thumb_kid());
+    assert_eq!(rt; policy.typ(), Some("JWT"));
+    assert_eq!(rt;
+        (policy.max_age(), policy.max_calls()),
+        (Some(4_294_967_295), Some(32_768))
+    );
+    assert_eq!(rt; (policy.issuers().len(), policy.understood().len()), (2, 1));
+    assert_eq!(rt; (policy.audiences().len(), policy.required().len()), (1, 1));
+    Ok(())
+}
+
+// ---- headers
+
+/// A flattened token with these headers; the second is left out where it is empty.
+fn flattened(alloc: Global, protected: &str, unprotected: &str) -> Result<String, Fail> {
+    let text = encode_text(alloc, protected.as_bytes())?;
+    let token = if unprotected.is_empty() {
+        format!(in alloc; r#"{{"payload":"e30","protected":"{text}","signature":"AQAB"}}"#)?
+    } else {
+        format!(in alloc;
+            r#"{{"payload":"e30","protected":"{text}","header":{unprotected},"signature":"AQAB"}}"#
+        )?
+    };
+    Ok(token)
+}
+
+/// The bar of the first signature of a token, without verifiers.
+fn bar_in(alloc: Global, policy: &Policy, token: &str) -> Result<Option<SigFault>, Fail> {
+    let signed = parse(alloc, token.as_bytes(), 1).ok().ok_or("no token")?;
+    let signature = signed.signature(0).ok_or("no signature")?;
+    let verifiers: [Box<dyn Verifier>; 0] = [];
+    Ok(bar(policy, signature, &verifiers))
+}
+
+/// The bar of a signature with these headers.
+fn bar_of(
+    alloc: Global,
+    policy: &str,
+    protected: &str,
+    unprotected: &str,
+) -> Result<Option<SigFault>, Fail> {
+    let policy = policy_of(alloc, policy)?;
+    let token = flattened(alloc, protected, unprotected)?;
+    bar_in(alloc, &policy, &token)
+}
+
+#[test]
+fn the_first_bar_is_answered(rt: HostRuntime) -> Result<(), Fail> {
+    let rs256 = r#"{"algs":["RS256"]}"#;
+    let typed = r#"{"algs":["HS256"],"typ":"at+jwt"}"#;
+    let understands = r#"{"algs":["HS256"],"understood":["x"]}"#;
+    let with_kid = r#"{"algs":["HS256"],"need_kid":true}"#;
+    for (policy, protected, unprotected, want) in [
+        (HS256, r#"{"alg":"HS256"}"#, "", None),
+        (
+            HS256,
+            "{}",
+            r#"{"alg":"HS256"}"#,
+            Some(SigFault::AlgMissing),
+        ),
+        (HS256, r#"{"alg":7}"#, "", Some(SigFault::AlgMissing)),
+        (HS256, r#"{"alg":"none"}"#, "", Some(SigFault::AlgNone)),
+        (HS256, r#"{"alg":"hs256"}"#, "", Some(SigFault::AlgUnknown)),
+        (
+            HS256,
+            r#"{"alg":"HS384"}"#,
+            "",
+            Some(SigFault::AlgNotAllowed),
+        ),
+        (
+            HS256,
+            r#"{"alg":"RS256"}"#,
+            "",
+            Some(SigFault::AlgNotAllowed),
+        ),
+        (rs256, r#"{"alg":"RS256"}"#, "", Some(SigFault::NoVerifier)),
+        (
+            HS256,
+            r#"{"alg":"HS256"}"#,
+            r#"{"jku":null}"#,
+            Some(SigFault::KeyUrl),
+        ),
+        (
+            HS256,
+            r#"{"alg":"HS256","crit":["x"],"x":1,"x5u":""}"#,
+            "",
+            Some(SigFault::KeyUrl),
+        ),
+        (
+            HS256,
+            r#"{"alg":"HS256","enc":1,"b64":true}"#,
+            "",
+            Some(SigFault::EncHeader),
+        ),
+        (
+            HS256,
+            r#"{"alg":"HS256","crit":["b64"],"b64":false}"#,
+            "",
+            Some(SigFault::Unencoded),
+        ),
+        (
+            HS256,
+            r#"{"alg":"HS256","crit":["b64"]}"#,
+            "",
+            Some(SigFault::CritShape),
+        ),
+        (
+            HS256,
+            r#"{"alg":"HS256","crit":[]}"#,
+            "",
+            Some(SigFault::CritShape),
+        ),
+        (
+            HS256,
+            r#"{"alg":"HS256","crit":null}"#,
+            "",
+            Some(SigFault::CritShape),
+        ),
+        (
+            HS256,
+            r#"{"alg":"HS256","crit":["x"]}"#,
+            "",
+            Some(SigFault::CritShape),
+        ),
+        (
+            HS256,
+            r#"{"alg":"HS256","crit":["alg"]}"#,
+            "",
+            Some(SigFault::CritShape),
+        ),
+        (
+            understands,
+            r#"{"alg":"HS256","crit":["x","x"],"x":1}"#,
+            "",
+            Some(SigFault::CritShape),
+        ),
+        (
+            understands,
+            r#"{"alg":"HS256"}"#,
+            r#"{"crit":["x"],"x":1}"#,
+            Some(SigFault::CritShape),
+        ),
+        (
+            understands,
+            r#"{"alg":"HS256","crit":["x"]}"#,
+            r#"{"x":1}"#,
+            None,
+        ),
+        (
+            HS256,
+            r#"{"alg":"HS256","crit":["x"],"x":1}"#,
+            "",
+            Some(SigFault::CritUnknown),
+        ),
+        (
+            HS256,
+            r#"{"alg":"HS256","typ":null}"#,
+            "",
+            Some(SigFault::TypShape),
+        ),
+        (
+            HS256,
+            r#"{"alg":"HS256","cty":7}"#,
+            r#"{"typ":7}"#,
+            Some(SigFault::TypShape),
+        ),
+        (HS256, r#"{"alg":"HS256"}"#, r#"{"typ":7}"#, None),
+        (
+            typed,
+            r#"{"alg":"HS256"}"#,
+            r#"{"typ":"at+jwt"}"#,
+            Some(SigFault::TypMismatch),
+        ),
+        (
+            typed,
+            r#"{"alg":"HS256","typ":"JWT"}"#,
+            "",
+            Some(SigFault::TypMismatch),
+        ),
+        (
+            typed,
+            r#"{"alg":"HS256","typ":"at+jwt; x=1"}"#,
+            "",
+            Some(SigFault::TypMismatch),
+        ),
+        (
+            typed,
+            r#"{"alg":"HS256","typ":"application/AT+JWT"}"#,
+            "",
+            None,
+        ),
+        (
+            HS256,
+            r#"{"alg":"HS256","cty":"jwt"}"#,
+            "",
+            Some(SigFault::Nested),
+        ),
+        (
+            HS256,
+            r#"{"alg":"HS256","cty":"APPLICATION/JWT"}"#,
+            "",
+            Some(SigFault::Nested),
+        ),
+        (HS256, r#"{"alg":"HS256","cty":"jwt/"}"#, "", None),
+        (
+            HS256,
+            r#"{"alg":"HS256"}"#,
+            r#"{"kid":null}"#,
+            Some(SigFault::KidShape),
+        ),
+        (
+            with_kid,
+            r#"{"alg":"HS256"}"#,
+            "",
+            Some(SigFault::KidMissing),
+        ),
+        (with_kid, r#"{"alg":"HS256"}"#, r#"{"kid":""}"#, None),
+    ] {
+        let found = bar_of(rt.alloc(), policy, protected, unprotected)?;
+        assert_eq!(rt; found, want, "at {protected} {unprotected}");
+    }
+    Ok(())
+}
+
+// ---- keys
+
+/// The secret of 64 octets of RFC 7515, appendix A.1, without its closing brace.
+const SECRET: &str = r#"{"kty":"oct","k":"<KEY_A>""#;
+
+/// The key of RFC 7638, section 3.1, without its `kid` and its closing brace.
+const RSA: &str = r#"{"kty":"RSA","n":"<RSA_N>","e":"AQAB","alg":"RS256""#;
+
+/// Whether a key is eligible for the first signature of a token; what is eligible fits.
+fn is_eligible_in(alloc: Global, policy: &Policy, token: &str, key: &Key) -> Result<bool, Fail> {
+    let signed = parse(alloc, token.as_bytes(), 1).ok().ok_or("no token")?;
+    let signature = signed.signature(0).ok_or("no signature")?;
+    let same: Box<dyn Verifier> = Box::new(alloc, Asked { kind: SAME })?;
+    let found = eligible(policy, signature, key, &[same]);
+    if found && !fits(policy, signature, key) {
+        return Err("eligible and unfit".into());
+    }
+    Ok(found)
+}
+
+/// Whether a key is eligible for a signature with these headers, with a verifier of RS256.
+fn is_eligible(
+    alloc: Global,
+    policy: &str,
+    protected: &str,
+    unprotected: &str,
+    key: &str,
+) -> Result<bool, Fail> {
+    let policy = policy_of(alloc, policy)?;
+    let token = flattened(alloc, protected, unprotected)?;
+    let keys = key_set(alloc, key)?;
+    let key = keys.key(0).ok_or("no key")?;
+    is_eligible_in(alloc, &policy, &token, key)
+}
+
+#[test]
+fn a_key_is_eligible_by_kind_members_and_kid(rt: HostRuntime) -> Result<(), Fail> {
+    let alloc = rt.alloc();
+    let hs256 = r#"{"alg":"HS256"}"#;
+    let rs256 = r#"{"alg":"RS256"}"#;
+    let two = r#"{"algs":["HS256","RS256"]}"#;
+    let by_thumbprint = r#"{"algs":["RS256"],"thumb_kid":true}"#;
+    let of_rsa = r#"{"kid":"NzbLsXh8uDCcd-6MNwXF4W_7noWXFZAfHkxZsRGC9Xs"}"#;
+    let short = r#"{"kty":"oct","k":"eW91ci0yNTYtYml0LXNlY3JldA""#;
+    for (policy, protected, unprotected, key, more, want) in [
+        (HS256, hs256, "", SECRET, "", true),
+        (HS256, hs256, "", short, "", false),
+        (two, hs256, "", RSA, "", false),
+        (two, rs256, "", SECRET, "", false),
+        (two, rs256, "", RSA, "", true),
+        (HS256, rs256, "", RSA, "", false),
+        (HS256, hs256, "", SECRET, r#","alg":"HS384""#, false),
+        (
+            HS256,
+            hs256,
+            "",
+            SECRET,
+            r#","alg":"HS256","use":"sig","key_ops":["sign","verify"]"#,
+            true,
+        ),
+        (HS256, hs256, "", SECRET, r#","use":"enc""#, false),
+        (HS256, hs256, "", SECRET, r#","key_ops":["sign"]"#, false),
+        (
+            HS256,
+            hs256,
+            r#"{"kid":"x"}"#,
+            SECRET,
+            r#","kid":"x""#,
+            true,
+        ),
+        (
+            HS256,
+            hs256,
+            r#"{"kid":"x"}"#,
+            SECRET,
+            r#","kid":"y""#,
+            false,
+        ),
+        (HS256, hs256, r#"{"kid":"x"}"#, SECRET, "", false),
+        (HS256, hs256, "", SECRET, r#","kid":"y""#, true),
+        (two, rs256, of_rsa, RSA, "", false),
+        (by_thumbprint, rs256, of_rsa, RSA, "", true),
+        (by_thumbprint, rs256, of_rsa, RSA, r#","kid":"x""#, false),
+        (by_thumbprint, rs256, r#"{"kid":"x"}"#, RSA, "", false),
+    ] {
+        let key = format!(in alloc; "{key}{more}}}")?;
+        let found = is_eligible(alloc, policy, protected, unprotected, key.as_str())?;
+        assert_eq!(rt; found, want, "at {protected} {unprotected} {more}");
+    }
+    Ok(())
+}
+
+// ---- claims
+
+/// A fault with the claim that it names.
+fn claim_fault(alloc: Global, fault: &ClaimFault<'_>) -> Result<String, Fail> {
+    let text = match fault {
+        ClaimFault::OutOfMemory => String::from_str(alloc, "OutOfMemory")?,
+        ClaimFault::ClaimsShape => String::from_str(alloc, "ClaimsShape")?,
+        ClaimFault::ClaimKind(claim) => format!(in alloc; "ClaimKind {}", claim.name())?,
+        ClaimFault::ClaimDate(claim) => format!(in alloc; "ClaimDate {}", claim.name())?,
+        ClaimFault::ClaimMissing(name) => format!(in alloc; "ClaimMissing {}", name.text())?,
+        ClaimFault::Issuer => String::from_str(alloc, "Issuer")?,
+        ClaimFault::Audience => String::from_str(alloc, "Audience")?,
+        ClaimFault::Expired => String::from_str(alloc, "Expired")?,
+        ClaimFault::NotYet => String::from_str(alloc, "NotYet")?,
+        ClaimFault::IssuedLater => String::from_str(alloc, "IssuedLater")?,
+        ClaimFault::TooOld => String::from_str(alloc, "TooOld")?,
+    };
+    Ok(text)
+}
+
+/// What `check` says of claims, or `none`.
+fn check_fault(alloc: Global, policy: &Policy, claims: &Claims, now: i64) -> Result<String, Fail> {
+    match &check(policy, claims, now) {
+        None => Ok(String::from_str(alloc, "none")?),
+        Some(fault) => claim_fault(alloc, fault),
+    }
+}
+
+/// The fault of claims with the claim that it names, or `none`.
+fn fault_of(alloc: Global, policy: &Policy, payload: &str, now: i64) -> Result<String, Fail> {
+    match &Claims::read(alloc, payload.as_bytes()) {
+        Ok(claims) => check_fault(alloc, policy, claims, now),
+        Err(fault) => claim_fault(alloc, fault),
+    }
+}
+
+#[test]
+fn claims_hold_or_are_refused_for_their_first_fault(rt: HostRuntime) -> Result<(), Fail> {
+    let lenient = r#"{"algs":["HS256"],"leeway":1}"#;
+    let most = r#"{"algs":["HS256"],"leeway":86400}"#;
+    let aged = r#"{"algs":["HS256"],"max_age":10}"#;
+    let asks = r#"{"algs":["HS256"],"required":["sub","iat","jti"],"max_age":10}"#;
+    let issued = r#"{"algs":["HS256"],"issuers":["ann"]}"#;
+    let api = r#"{"algs":["HS256"],"audiences":["b","api"]}"#;
+    for (policy, payload, now, want) in [
+        (HS256, "{}", 0, "none"),
+        (HS256, "[]", 0, "ClaimsShape"),
+        (HS256, r#"{"a":1,"a":1}"#, 0, "ClaimsShape"),
+        (HS256, r#"{"iss":7,"sub":7}"#, 0, "ClaimKind iss"),
+        (
+            HS256,
+            r#"{"iss":"a","exp":1.0,"nbf":"x"}"#,
+            0,
+            "ClaimDate exp",
+        ),
+        (HS256, r#"{"exp":"1"}"#, 0, "ClaimKind exp"),
+        (HS256, r#"{"exp":1e3}"#, 0, "ClaimDate exp"),
+        (HS256, r#"{"exp":9223372036854775808}"#, 0, "ClaimDate exp"),
+        (HS256, r#"{"nbf":null}"#, 0, "ClaimKind nbf"),
+        (HS256, r#"{"iat":-0}"#, 0, "ClaimDate iat"),
+        (HS256, r#"{"jti":[]}"#, 0, "ClaimKind jti"),
+        (HS256, r#"{"aud":["a",7]}"#, 0, "ClaimKind aud"),
+        (HS256, r#"{"exp":100}"#, 99, "none"),
+        (HS256, r#"{"exp":100}"#, 100, "Expired"),
+        (lenient, r#"{"exp":100}"#, 100, "none"),
+        (HS256, r#"{"nbf":100}"#, 99, "NotYet"),
+        (lenient, r#"{"nbf":100}"#, 99, "none"),
+        (aged, r#"{"iat":100}"#, 99, "IssuedLater"),
+        (aged, r#"{"iat":100}"#, 110, "none"),
+        (aged, r#"{"iat":100}"#, 111, "TooOld"),
+        (aged, "{}", 0, "ClaimMissing iat"),
+        (asks, "{}", 0, "ClaimMissing sub"),
+        (asks, r#"{"sub":"a"}"#, 0, "ClaimMissing iat"),
+        (
+            asks,
+            r#"{"sub":"a","iat":1,"exp":0}"#,
+            0,
+            "ClaimMissing jti",
+        ),
+        (issued, "{}", 0, "Issuer"),
+        (issued, r#"{"iss":"Ann","aud":"a"}"#, 0, "Issuer"),
+        (issued, r#"{"iss":"ann"}"#, 0, "none"),
+        (HS256, r#"{"aud":"a"}"#, 0, "Audience"),
+        (api, r#"{"aud":[]}"#, 0, "Audience"),
+        (api, r#"{"aud":["a","api"]}"#, 0, "none"),
+        (api, r#"{"aud":"api"}"#, 0, "none"),
+        (most, r#"{"exp":9223372036854775807}"#, i64::MAX, "none"),
+        (
+            HS256,
+            r#"{"exp":-9223372036854775808}"#,
+            i64::MIN,
+            "Expired",
+        ),
+    ] {
+        let policy = policy_of(rt.alloc(), policy)?;
+        let found = fault_of(rt.alloc(), &policy, payload, now)?;
+        assert_eq!(rt; found.as_str(), want, "at {payload} {now}");
+    }
+    Ok(())
+}
+
+#[test]
+fn claims_nest_127_deep(rt: HostRuntime) -> Result<(), Fail> {
+    let policy = policy_of(rt.alloc(), HS256)?;
+    for (lists, want) in [(126, "none"), (127, "ClaimsShape")] {
+        let payload = nested(rt.alloc(), lists)?;
+        let found = fault_of(rt.alloc(), &policy, &payload, 0)?;
+        assert_eq!(rt; found.as_str(), want, "{lists}");
+    }
+    Ok(())
+}
+
+#[test]
+fn claims_say_what_their_payload_says(rt: HostRuntime) -> Result<(), Fail> {
+    let payload =
+        br#"{"iss":"joe","sub":"","aud":["a","b"],"exp":1300819380,"nbf":-1,"jti":"x","z":true}"#;
+    let claims = Claims::read(rt.alloc(), payload).ok().ok_or("refused")?;
+    assert_eq!(rt;
+        (claims.iss(), claims.sub(), claims.jti()),
+        (Some("joe"), Some(""), Some("x"))
+    );
+    assert_eq!(rt;
+        (claims.exp(), claims.nbf(), claims.iat()),
+        (Some(1_300_819_380), Some(-1), None)
+    );
+    assert!(rt; matches!(claims.aud(), Some(Audience::Texts(list)) if list.text(1) == Some("b")));
+    assert_eq!(rt; claims.object().flag("z"), Some(true));
+    Ok(())
+}
+
+/// Run with each allocation refused in turn.
+#[test]
+fn a_refused_growth_is_out_of_memory(rt: HostRuntime) -> Result<(), Fail> {
+    let alloc = rt.alloc();
+    match &Policy::read(alloc, FULL.as_bytes()) {
+        Ok(policy) => assert_eq!(rt; policy.max_calls(), Some(32_768)),
+        Err(fault) => assert!(rt; matches!(fault, PolicyFault::OutOfMemory)),
+    }
+    match &Policy::read(alloc, br#"{"algs":["none"]}"#) {
+        Ok(_) => return Err("read".into()),
+        Err(PolicyFault::Range(name)) => assert_eq!(rt; name.text(), "algs"),
+        Err(fault) => assert!(rt; matches!(fault, PolicyFault::OutOfMemory)),
+    }
+    match &Claims::read(alloc, br#"{"aud":["a"],"exp":5}"#) {
+        Ok(claims) => assert_eq!(rt; claims.exp(), Some(5)),
+        Err(fault) => assert!(rt; matches!(fault, ClaimFault::OutOfMemory)),
+    }
+    Ok(())
+}

@@ -1,0 +1,387 @@
+//! `judge` and `validate`.
+use super::cases::{
+    ACCEPTED, ASKED, ASKING, BARRED_IN_MODE_ALL, BARRED_THEN_VERIFIED, CEILINGS, CLAIM_MISSING,
+    CLAIMS_AND_MODES, FORMS, FOUR_KEYS, HEADERS, KEYS_A, ORDERS, STEPS, THUMBPRINT,
+    THUMBPRINT_AS_KID, TWO_KEYS,
+};
+use super::reports::{
+    AMPLE, Case, difference, first_difference, judged, judged_octets, judged_under, validated,
+};
+use super::support::{Drip, Endless, HS256, NOW, TOKEN_A, filled, key_set, repeated, verifiers};
+use jwt_mac::{Alg, Answer, CountDown, CountUp, KeyView, Message, Verifier};
+use jwt_policy::Policy;
+use jwt_text::Reader;
+use std::alloc::{AllocError, Global};
+use std::cell::Cell;
+use std::test::Fail;
+
+#[test]
+fn each_form_gets_its_report(rt: HostRuntime) -> Result<(), Fail> {
+    let found = first_difference(rt.alloc(), &FORMS);
+    assert_eq!(rt; found.as_deref(), Some(""));
+    Ok(())
+}
+
+#[test]
+fn each_header_gets_its_report(rt: HostRuntime) -> Result<(), Fail> {
+    let found = first_difference(rt.alloc(), &HEADERS);
+    assert_eq!(rt; found.as_deref(), Some(""));
+    Ok(())
+}
+
+#[test]
+fn claims_and_modes_get_their_report(rt: HostRuntime) -> Result<(), Fail> {
+    let found = first_difference(rt.alloc(), &CLAIMS_AND_MODES);
+    assert_eq!(rt; found.as_deref(), Some(""));
+    Ok(())
+}
+
+#[test]
+fn each_ceiling_gets_its_report(rt: HostRuntime) -> Result<(), Fail> {
+    let found = first_difference(rt.alloc(), &CEILINGS);
+    assert_eq!(rt; found.as_deref(), Some(""));
+    Ok(())
+}
+
+#[test]
+fn each_order_of_the_keys_gets_its_report(rt: HostRuntime) -> Result<(), Fail> {
+    let found = first_difference(rt.alloc(), &ORDERS);
+    assert_eq!(rt; found.as_deref(), Some(""));
+    Ok(())
+}
+
+#[test]
+fn each_ceiling_of_four_keys_gets_its_report(rt: HostRuntime) -> Result<(), Fail> {
+    for &(first, last, gives) in &STEPS {
+        for ceiling in first..=last {
+            let case = Case {
+                keys: FOUR_KEYS,
+                ceiling,
+                gives,
+                ..ACCEPTED
+            };
+            let found = difference(rt.alloc(), &case);
+            assert_eq!(rt; found.as_deref(), Some(""), "at {ceiling}");
+        }
+    }
+    Ok(())
+}
+
+#[test]
+fn verifiers_are_asked(rt: HostRuntime) -> Result<(), Fail> {
+    let found = first_difference(rt.alloc(), &ASKING);
+    assert_eq!(rt; found.as_deref(), Some(""));
+    Ok(())
+}
+
+/// What a run counts for that says this where a growth may be refused: 1 where one was, with the tries so far counted, and 2 where
+/// it says otherwise.
+fn weight(said: Option<&str>, want: &str) -> usize {
+    match said {
+        None => 1,
+        Some(said) if said == want => 0,
+        Some(said) if said.starts_with("OutOfMemory;") && !said.ends_with("uncounted") => 1,
+        Some(_) => 2,
+    }
+}
+
+/// What a run of `judge` and one of `validate` on the case count for.
+fn two_runs(alloc: Global, case: &Case) -> usize {
+    let Ok(all) = verifiers(alloc, case.verifiers) else {
+        return 1;
+    };
+    let Ok(token) = filled(alloc, case.token) else {
+        return 1;
+    };
+    let mut up = CountUp::new(case.ceiling);
+    let said = judged(alloc, case, &all, &mut up);
+    let mut down = CountDown::new(case.ceiling);
+    let mut source = Reader::new(token.as_bytes());
+    let read = validated(alloc, &mut source, case, &all, &mut down);
+    weight(said.as_deref(), case.gives).saturating_add(weight(read.as_deref(), case.gives))
+}
+
+// `refused-growths` refuses each growth of this test in turn.
+#[test]
+fn a_refused_growth_changes_no_report(rt: HostRuntime) -> Result<(), Fail> {
+    let mut refused = 0usize;
+    for case in &[
+        ACCEPTED,
+        TWO_KEYS,
+        BARRED_THEN_VERIFIED,
+        BARRED_IN_MODE_ALL,
+        CLAIM_MISSING,
+        THUMBPRINT,
+        THUMBPRINT_AS_KID,
+    ] {
+        refused = two_runs(rt.alloc(), case).saturating_add(refused);
+    }
+    assert!(rt; refused <= 1);
+    Ok(())
+}
+
+/// What `validate` says of a token that is dripped, what is unread then, and how many pulls there were.
+#[derive(Drop)]
+struct Dripped {
+    said: String,
+    unread: usize,
+    pulls: usize,
+}
+
+fn drip_in(
+    alloc: Global,
+    policy: &'static str,
+    token: &[u8],
+    left: usize,
+) -> Result<Dripped, Fail> {
+    let case = Case { policy, ..ACCEPTED };
+    let mut b = CountUp::new(AMPLE);
+    let mut source = Drip::new(token, left);
+    let said = validated(alloc, &mut source, &case, &[], &mut b).ok_or("no report")?;
+    Ok(Dripped {
+        said,
+        unread: source.rest.len(),
+        pulls: source.pulls,
+    })
+}
+
+#[test]
+fn a_source_that_fails_is_a_read_fault(rt: HostRuntime) -> Result<(), Fail> {
+    let alloc = rt.alloc();
+    let policy = r#"{"algs":["HS256"],"limit":179}"#;
+    for left in 0..=180 {
+        let run = drip_in(alloc, policy, TOKEN_A.as_bytes(), left)?;
+        if left < 180 {
+            assert_eq!(rt;
+                run.said.as_str(),
+                "Read; tries work 0 calls 0;",
+                "at {left}"
+            );
+            assert_eq!(rt; run.unread, TOKEN_A.len() - left, "at {left}");
+        } else {
+            assert_eq!(rt; run.said.as_str(), ACCEPTED.gives);
+            assert_eq!(rt; run.pulls, 180);
+        }
+    }
+    Ok(())
+}
+
+#[test]
+fn what_follows_one_octet_past_the_limit_is_unread(rt: HostRuntime) -> Result<(), Fail> {
+    let alloc = rt.alloc();
+    let mut token = String::new(alloc);
+    token.push_str(TOKEN_A)?;
+    for _ in 0..1000 {
+        token.push_str("A")?;
+    }
+    let policy = r#"{"algs":["HS256"],"limit":178}"#;
+    let run = drip_in(alloc, policy, token.as_bytes(), 2000)?;
+    assert_eq!(rt; run.said.as_str(), "TooLong; tries work 0 calls 0;");
+    assert_eq!(rt; (run.unread, run.pulls), (1000, 179));
+    Ok(())
+}
+
+/// What `judge` says of a token with the keys of this document.
+fn said_with(alloc: Global, token: &[u8], document: &str) -> Option<String> {
+    let mut b = CountUp::new(AMPLE);
+    judged_octets(alloc, token, HS256, document, NOW, &[], &mut b)
+}
+
+#[test]
+fn a_token_that_is_cut_is_not_accepted(rt: HostRuntime) -> Result<(), Fail> {
+    let keys = filled(rt.alloc(), KEYS_A)?;
+    for n in 0..TOKEN_A.len() {
+        let said = said_with(rt.alloc(), &TOKEN_A.as_bytes()[..n], &keys);
+        let want = match n {
+            0 => "Empty; tries work 0 calls 0;",
+            1..=135 => "Segments; tries work 0 calls 0;",
+            171 => "BadSignature 0; tries 0.0:295 work 295 calls 1; BadSignature",
+            _ if n % 4 == 0 => "BadSignature 0; tries 0.0:295 work 295 calls 1; BadSignature",
+            _ => "Base64(Signature(0)); tries work 0 calls 0;",
+        };
+        assert_eq!(rt; said.as_deref(), Some(want), "at {n}");
+    }
+    Ok(())
+}
+
+/// Whether this is said of no accepted token, and of at most one key tried.
+fn is_refusal(said: Option<&str>) -> bool {
+    match said {
+        Some(said) => {
+            !said.starts_with("accepted")
+                && (said.contains("calls 0;") || said.contains("calls 1;"))
+        }
+        None => false,
+    }
+}
+
+/// A token with one octet changed is never accepted, and at most one key is tried on it.
+#[test]
+fn a_token_with_one_octet_changed_is_not_accepted(rt: HostRuntime) -> Result<(), Fail> {
+    let alloc = rt.alloc();
+    let keys = key_set(alloc, r#"{"kty":"oct","k":"<KEY_A>"}"#)?;
+    let policy = Policy::read(alloc, HS256.as_bytes())
+        .ok()
+        .ok_or("no policy")?;
+    for place in 0..TOKEN_A.len() {
+        for change in 1..=255u8 {
+            let mut token = Vec::from_slice(alloc, TOKEN_A.as_bytes())?;
+            token[place] ^= change;
+            let mut b = CountUp::new(AMPLE);
+            let said = judged_under(alloc, &token, &keys, &policy, NOW, &[], &mut b);
+            assert!(rt;
+                is_refusal(said.as_deref()),
+                "octet {place}, changed by {change}"
+            );
+        }
+    }
+    Ok(())
+}
+
+/// A key set of 1,023 times the first key, and the last.
+fn key_set_of(alloc: Global, first: &str, last: &str) -> Result<String, AllocError> {
+    let list = repeated(alloc, first, ",", 1023)?;
+    let document = format!(in alloc; r#"{{"keys":[{list},{last}]}}"#)?;
+    filled(alloc, &document)
+}
+
+/// A JSON token of so many equal signatures without octets.
+fn equal_signatures(alloc: Global, count: usize) -> Result<String, AllocError> {
+    let element = r#"{"protected":"eyJhbGciOiJIUzI1NiJ9","signature":""}"#;
+    let list = repeated(alloc, element, ",", count)?;
+    format!(in alloc; r#"{{"payload":"e30","signatures":[{list}]}}"#)
+}
+
+/// What `judge` says of such a token with 1,024 keys of 32 zero octets.
+fn judged_all_pairs(alloc: Global, count: usize, ceiling: u64) -> Option<String> {
+    let policy = r#"{"algs":["HS256"],"max_signatures":32,"limit":1048576}"#;
+    let key = r#"{"kty":"oct","k":"<ZEROS>"}"#;
+    let keys = key_set_of(alloc, key, key).ok()?;
+    let token = equal_signatures(alloc, count).ok()?;
+    let mut b = CountDown::new(ceiling);
+    judged_octets(alloc, token.as_bytes(), policy, &keys, NOW, &[], &mut b)
+}
+
+#[test]
+fn as_many_pairs_as_there_can_be(rt: HostRuntime) -> Result<(), Fail> {
+    for (count, ceiling, begins, budget) in [
+        (
+            32,
+            6_029_312,
+            "BadSignature 0; tries 0.0:184 0.1:184 ",
+            " 31.1023:184 work 6029312 calls 32768; BadSignature ",
+        ),
+        (
+            32,
+            6_029_311,
+            "WorkExceeded 31 1023; tries 0.0:184 0.1:184 ",
+            " 31.1022:184 work 6029128 calls 32767; BadSignature ",
+        ),
+        (
+            33,
+            6_029_312,
+            "TooManySignatures; tries ",
+            " work 0 calls 0;",
+        ),
+    ] {
+        let said = judged_all_pairs(rt.alloc(), count, ceiling).ok_or("no report")?;
+        assert!(rt;
+            said.starts_with(begins) && said.contains(budget),
+            "{begins}"
+        );
+        assert!(rt; !said.ends_with("uncounted"));
+    }
+    Ok(())
+}
+
+#[test]
+fn keys_of_another_kid_are_not_tried(rt: HostRuntime) -> Result<(), Fail> {
+    let alloc = rt.alloc();
+    let token = b"eyJhbGciOiJIUzI1NiIsImtpZCI6IngifQ.e30.";
+    let same = r#"{"kty":"oct","k":"<ZEROS>","kid":"x"}"#;
+    let other = r#"{"kty":"oct","k":"<ZEROS>","kid":"y"}"#;
+    for (first, begins, ends) in [
+        (
+            same,
+            "BadSignature 0; tries 0.0:198 0.1:198 ",
+            " 0.1023:198 work 202752 calls 1024; BadSignature",
+        ),
+        (
+            other,
+            "BadSignature 0; tries 0.1023:198 ",
+            " work 198 calls 1; BadSignature",
+        ),
+    ] {
+        let document = key_set_of(alloc, first, same)?;
+        let said = said_with(alloc, token, &document).ok_or("no report")?;
+        assert!(rt;
+            said.starts_with(begins) && said.ends_with(ends),
+            "{begins}"
+        );
+    }
+    Ok(())
+}
+
+#[test]
+fn a_source_that_never_ends_is_too_long(rt: HostRuntime) -> Result<(), Fail> {
+    let alloc = rt.alloc();
+    let case = Case {
+        policy: r#"{"algs":["HS256"],"limit":1048576}"#,
+        ..ACCEPTED
+    };
+    let mut b = CountUp::new(AMPLE);
+    let mut source = Endless::new();
+    let said = validated(alloc, &mut source, &case, &[], &mut b).ok_or("no report")?;
+    assert_eq!(rt; said.as_str(), "TooLong; tries work 0 calls 0;");
+    assert_eq!(rt; source.given, 1_048_577);
+    Ok(())
+}
+
+/// A verifier for RS256 that accepts nothing, and finds no memory after so many questions.
+#[derive(Drop)]
+struct Counting {
+    asked: Cell<u32>,
+}
+
+impl Verifier for Counting {
+    ghost use Rattle.std.specs.Prelude.{true, false};
+    ghost use Rattle.jwt_tests.specs.Verifiers.{test_meaning};
+    ghost use Rattle.jwt_mac.specs.declared.algorithm.Alg.TheVariants.{RS256};
+
+    ghost meaning = { λ _. test_meaning RS256 false true };
+
+    fn names(&self, alg: Alg) -> bool {
+        alg.text() == "RS256"
+    }
+
+    fn verify(&self, _alg: Alg, _key: &KeyView, _message: Message, _signature: &[u8]) -> Answer {
+        let before = self.asked.get();
+        if before >= 4 {
+            return Answer::NoMemory;
+        }
+        self.asked.set(before + 1);
+        Answer::Invalid
+    }
+}
+
+#[test]
+fn a_verifier_is_asked_once_for_each_call(rt: HostRuntime) -> Result<(), Fail> {
+    let alloc = rt.alloc();
+    let asked = Cell::new(0);
+    let mut all: Vec<Box<dyn Verifier>> = Vec::new(alloc);
+    all.push(Box::new(alloc, Counting { asked })?)?;
+    let case = Case {
+        keys: r#"{"keys":[{"kty":"RSA","n":"AQAB","e":"AQAB"},{"kty":"RSA","n":"AQAB","e":"AQAB"}]}"#,
+        ..ASKED
+    };
+    for gives in [
+        "BadSignature 0; tries 0.0:0 0.1:0 work 0 calls 2; BadSignature",
+        "BadSignature 0; tries 0.0:0 0.1:0 work 0 calls 2; BadSignature",
+        "VerifierMemory; tries 0.0:0 work 0 calls 1; Stopped",
+    ] {
+        let mut b = CountUp::new(AMPLE);
+        let said = judged(alloc, &case, &all, &mut b).ok_or("no report")?;
+        assert_eq!(rt; said.as_str(), gives);
+    }
+    Ok(())
+}

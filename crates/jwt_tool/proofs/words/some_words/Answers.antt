@@ -1,5 +1,0 @@
-use Rattle.jwt_tool.proofs.WordCases as shown
-use Rattle.jwt_tool.proofs.words.some_words.Goals as goal
-
-pub returns : goal.returns
-returns c = record { key_alone = shown.key_alone; key_and_limit = shown.key_and_limit; key_with_hyphen = shown.key_with_hyphen; key_hyphen_apart = shown.key_hyphen_apart; limit_zero = shown.limit_zero; limit_plus = shown.limit_plus; no_key = shown.no_key; key_twice = shown.key_twice; no_words = shown.no_words; help_flag = shown.help_flag; help_word = shown.help_word; mac_help = shown.mac_help; empty_key = shown.empty_key; a_moment = shown.a_moment; too_late = shown.too_late }
