@@ -19,6 +19,8 @@ mod policy;
 #[cfg(test)]
 mod reports;
 #[cfg(test)]
+mod rsa;
+#[cfg(test)]
 mod support;
 #[cfg(test)]
 mod text;
