@@ -1,10 +1,13 @@
 //! Laws of the definitions: each function does nothing, and its contract holds of every table.
 
-ghost use Rattle.jwt_verify.specs.Accepted.{AcceptsExactly, RefusesExactly};
+ghost use Rattle.jwt_verify.specs.Accepted.{AcceptsExactly, RefusesExactly, TellsVerdicts, HasOneVerdict};
 ghost use Rattle.jwt_verify.specs.Laws.{TriesAreBounded, LeastTries, MoreKeys, SameKeys, WorkIsBounded, CeilingSuffices};
 
-use jwt_jws::laws::signed_tokens;
-use jwt_policy::laws::{bar_is_first_row, eligible_pairs};
+use jwt_jws::laws::{form_faults, signed_tokens};
+use jwt_policy::laws::{
+    bar_is_first_row, check_is_first_row, claims_hold, eligible_pairs, payload_claims,
+};
+use jwt_text::laws::object_texts;
 
 /// The tries stand in dictionary order, so no pair twice, and each is eligible; there are no more than pairs, and their costs
 /// add up to no more than the bound.
@@ -41,7 +44,16 @@ pub fn least_tries()
 /// the first verified signature, its least key and the payload's claims.
 pub fn accepts_exactly()
     ensures { AcceptsExactly }
-{}
+{
+    signed_tokens();
+    form_faults();
+    object_texts();
+    eligible_pairs();
+    bar_is_first_row();
+    payload_claims();
+    check_is_first_row();
+    claims_hold();
+}
 
 /// The verdict is a refusal for a fault exactly where that fault holds, in words, and none before it does: it is too long; it is
 /// no signed token; a ceiling stopped the run at that pair; the signature is the first that isn't verified, in mode `any` where
@@ -50,6 +62,41 @@ pub fn refuses_exactly()
     ensures { RefusesExactly }
 {
     signed_tokens();
+    form_faults();
+    object_texts();
+    eligible_pairs();
+    bar_is_first_row();
+    payload_claims();
+    check_is_first_row();
+    claims_hold();
+}
+
+/// The verdict that the code computes, step by step, is the verdict in words, and no other.
+pub fn tells_verdicts()
+    ensures { TellsVerdicts }
+{
+    signed_tokens();
+    form_faults();
+    object_texts();
+    eligible_pairs();
+    bar_is_first_row();
+    payload_claims();
+    check_is_first_row();
+    claims_hold();
+}
+
+/// Exactly one verdict is that on given octets.
+pub fn one_verdict()
+    ensures { HasOneVerdict }
+{
+    signed_tokens();
+    form_faults();
+    object_texts();
+    eligible_pairs();
+    bar_is_first_row();
+    payload_claims();
+    check_is_first_row();
+    claims_hold();
 }
 
 /// More keys never refuse: what is accepted with some keys is accepted with more, with the same claims, where the ceilings leave
