@@ -47,6 +47,7 @@ pub record Laws : Type 0 where
   pub form_faults : TellsFormFaults
   pub eligible : (p : Settings) (s : SignatureParts) (k : KeyParts) (v : List Meaning) → (eligible_for p s k v ≡ true) ↔ IsEligible p s k v
   pub bar : (p : Settings) (s : SignatureParts) (v : List Meaning) (f : SigFault) → (bar_of p s v ≡ Some f) ↔ IsFirstRow (bar_rows p s v) f
+  pub no_bar : (p : Settings) (s : SignatureParts) (v : List Meaning) → bar_of p s v ≡ None → NoRow (bar_rows p s v)
   pub objects : (text : List ℕ) (ms : Members) → (object_of text ≡ Ok ms) ↔ IsObjectText text ms
   pub claims_read : (payload : List ℕ) (ms : Members) → (claims_of payload ≡ Ok ms) ↔ (IsObjectText payload ms × NoRow (kind_rows ms))
   pub claims_kind : (payload : List ℕ) (ms : Members) (f : ClaimFault) → IsObjectText payload ms → (claims_of payload ≡ Err f) ↔ IsFirstRow (kind_rows ms) f
@@ -86,7 +87,7 @@ stopped_token q x w e h = let t = stops_token q x w e h in (t.0, token_is q x t.
 
 module _ (laws : Laws) where
   -- the token that is read asks what the computed table says
-  token_asks : (q : Terms) (x : List ℕ) (t : Token) → IsReadToken q x t → IsAsking q x t (table q x)
+  pub token_asks : (q : Terms) (x : List ℕ) (t : Token) → IsReadToken q x t → IsAsking q x t (table q x)
   token_asks q x t h = (
     (h.0, (laws.signed_tokens _ _ t).0 h.1),
     subst (IsTable q t) (table_of_token q x t (is_token q x t h)) (the_table laws.eligible laws.bar q t),

@@ -1,6 +1,7 @@
 //! Laws of the definitions: each function does nothing, and its contract holds of every table.
 
 ghost use Rattle.jwt_verify.specs.Accepted.{AcceptsExactly, RefusesExactly, TellsVerdicts, HasOneVerdict};
+ghost use Rattle.jwt_verify.specs.Steps.{ReportsInWords, ReportsOnTaken, TakenTokens, TellsReports};
 ghost use Rattle.jwt_verify.specs.Laws.{TriesAreBounded, LeastTries, MoreKeys, SameKeys, WorkIsBounded, CeilingSuffices};
 
 use jwt_jws::laws::{form_faults, signed_tokens};
@@ -88,6 +89,37 @@ pub fn tells_verdicts()
 /// Exactly one verdict is that on given octets.
 pub fn one_verdict()
     ensures { HasOneVerdict }
+{
+    signed_tokens();
+    form_faults();
+    object_texts();
+    eligible_pairs();
+    bar_is_first_row();
+    payload_claims();
+    check_is_first_row();
+    claims_hold();
+}
+
+/// Where memory was there, a report that holds what it has to in words lists the tries and the states that the code computes, step
+/// by step, and has that verdict.
+pub fn tells_reports()
+    ensures { TellsReports }
+{
+    signed_tokens();
+    form_faults();
+    object_texts();
+    eligible_pairs();
+    bar_is_first_row();
+    payload_claims();
+    check_is_first_row();
+    claims_hold();
+}
+
+// What the code computes, step by step, is the report in words; and what is past the octet behind the limit plays no part in it.
+pub(crate) fn reports_in_words()
+    ensures listed { ReportsInWords }
+    ensures taken { ReportsOnTaken }
+    ensures token { TakenTokens }
 {
     signed_tokens();
     form_faults();

@@ -7,6 +7,7 @@ returns c = refuses_in_words (record {
   form_faults = c.form_faults.ensures;
   eligible = c.eligible_pairs.ensures;
   bar = c.bar_is_first_row.ensures.some;
+  no_bar = λ p s v h. (c.bar_is_first_row.ensures.none p s v).0 h;
   objects = c.object_texts.ensures.object;
   claims_read = c.payload_claims.ensures.read;
   claims_kind = c.payload_claims.ensures.kind;
