@@ -183,7 +183,7 @@ no_tries : (t : Table) → t.signatures ≡ 0 → tries t ≡ []
 unfolding tries pairs
 no_tries t h = rw (h, below-zero) refl
 
-no_stop : (t : Table) (w : ℕ) (calls : Option ℕ) → t.signatures ≡ 0 → stop t w calls ≡ None
+pub no_stop : (t : Table) (w : ℕ) (calls : Option ℕ) → t.signatures ≡ 0 → stop t w calls ≡ None
 unfolding stop
 no_stop t w calls h = rw (no_tries t h) refl
 
@@ -199,7 +199,7 @@ stops_token q x w e h = go (token_of q.policy x) refl
         let never = sym none ∙ h in
         cc
 
-verdict_token : (q : Terms) (x : List ℕ) (w : ℕ) (t : Token) → token_of q.policy x ≡ Ok t
+pub verdict_token : (q : Terms) (x : List ℕ) (w : ℕ) (t : Token) → token_of q.policy x ≡ Ok t
     → verdict_of q x w ≡ ended (ending (table q x) w q.policy.max_calls) (concluded q.policy q.now t.payload (signing_of (table q x)))
 unfolding verdict_of token_verdict
 verdict_token q x w t here =

@@ -3,6 +3,7 @@
 ghost use Rattle.jwt_verify.specs.Accepted.{AcceptsExactly, RefusesExactly, TellsVerdicts, HasOneVerdict};
 ghost use Rattle.jwt_verify.specs.Steps.{ReportsInWords, ReportsOnTaken, TakenTokens, TellsReports};
 ghost use Rattle.jwt_verify.specs.Laws.{TriesAreBounded, LeastTries, MoreKeys, SameKeys, WorkIsBounded, CeilingSuffices};
+ghost use Rattle.jwt_verify.specs.Verdicts.{PaidIsLongest, CallsSuffice, CallersBound, GreatestWork, MoreKeysAccept, SameKeysAgree, LeastTriesOfToken};
 
 use jwt_jws::laws::{form_faults, signed_tokens};
 use jwt_policy::laws::{
@@ -120,6 +121,100 @@ pub(crate) fn reports_in_words()
     ensures listed { ReportsInWords }
     ensures taken { ReportsOnTaken }
     ensures token { TakenTokens }
+{
+    signed_tokens();
+    form_faults();
+    object_texts();
+    eligible_pairs();
+    bar_is_first_row();
+    payload_claims();
+    check_is_first_row();
+    claims_hold();
+}
+
+/// What is paid is the longest front of the tries that both ceilings allow.
+pub fn paid_is_longest()
+    ensures { PaidIsLongest }
+{}
+
+/// Where signatures times keys are within the policy's `max_calls`, no token is refused with `CallsExceeded`.
+pub fn calls_suffice()
+    ensures { CallsSuffice }
+{
+    signed_tokens();
+    form_faults();
+    object_texts();
+    eligible_pairs();
+    bar_is_first_row();
+    payload_claims();
+    check_is_first_row();
+    claims_hold();
+}
+
+/// The bound in a caller's terms, without the tries: signatures times keys times the longest signing input with two blocks and a
+/// digest, and signatures times the lengths of all secrets.
+pub fn callers_bound()
+    ensures { CallersBound }
+{
+    signed_tokens();
+    form_faults();
+    object_texts();
+    eligible_pairs();
+    bar_is_first_row();
+    payload_claims();
+    check_is_first_row();
+    claims_hold();
+}
+
+/// That bound is at most 34,504,441,856 octets, with up to 32 signatures, 1,024 keys, signing inputs of 1,048,576 octets and
+/// secrets of 4,096.
+pub fn greatest_work()
+    ensures { GreatestWork }
+{
+    signed_tokens();
+    form_faults();
+    object_texts();
+    eligible_pairs();
+    bar_is_first_row();
+    payload_claims();
+    check_is_first_row();
+    claims_hold();
+}
+
+/// More keys never refuse, where no ceiling stops the run with them: what is accepted with some keys is accepted with more, with the
+/// same claims.
+pub fn more_keys_accept()
+    ensures { MoreKeysAccept }
+{
+    signed_tokens();
+    form_faults();
+    object_texts();
+    eligible_pairs();
+    bar_is_first_row();
+    payload_claims();
+    check_is_first_row();
+    claims_hold();
+}
+
+/// Key sets with the same keys, in any order and with repeats, give the same verdict and the same states but for the numbers of
+/// keys, where no ceiling stops a run.
+pub fn same_keys_agree()
+    ensures { SameKeysAgree }
+{
+    signed_tokens();
+    form_faults();
+    object_texts();
+    eligible_pairs();
+    bar_is_first_row();
+    payload_claims();
+    check_is_first_row();
+    claims_hold();
+}
+
+/// No try of a token can be spared: another validity that agrees with its own on the paid tries leaves the same tries, states and
+/// verdict, and where one paid try alone has other validity, the states differ.
+pub fn least_tries_of_token()
+    ensures { LeastTriesOfToken }
 {
     signed_tokens();
     form_faults();
