@@ -21,6 +21,7 @@ use jwt_keys::{Key, KeySet, KeysFault};
 use jwt_mac::{Alg, Budget, CountDown, KeyView, Message, Verifier, hmac};
 use jwt_policy::{Policy, PolicyFault};
 use jwt_text::{Reader, TextFault, object};
+use jwt_verify::laws::tells_reports;
 use jwt_verify::{Fault, InputFault, Verdict, judge, validate};
 use std::alloc::Global;
 
@@ -102,6 +103,7 @@ impl Ready<'_> {
     {
         let verifiers: [Box<dyn Verifier>; 0] = [];
         let mut budget = CountDown::new(self.policy.work());
+        tells_reports();
         let report = judge(
             alloc,
             self.given.token,
@@ -122,6 +124,7 @@ impl Ready<'_> {
         let verifiers: [Box<dyn Verifier>; 0] = [];
         let mut budget = CountDown::new(self.policy.work());
         let mut source = Reader::new(self.given.token);
+        tells_reports();
         let report = validate(
             alloc,
             &mut source,

@@ -9,3 +9,4 @@ pub mod Showing
 pub mod Printing
 pub mod Verifying
 pub mod WordCases
+pub mod SpelledLemmas

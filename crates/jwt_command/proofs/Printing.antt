@@ -11,3 +11,6 @@ pub gives_memory : (told : Option (List ℕ)) (answer : List ℕ → Answer) (be
     → Prints out_of_memory before after failed status → IfSome told (λ x. Gives (answer x) before after failed status)
 gives_memory None answer before after failed status printed = tt
 gives_memory (Some x) answer before after failed status printed = inr printed
+
+pub gives_one : (a b : Answer) (before after : Option (List ℕ)) (failed : Bool) (status : ℕ) → a ≡ b → Prints a before after failed status → Gives b before after failed status
+gives_one a b before after failed status is printed = inl (subst (λ (b : Answer). Prints b before after failed status) is printed)

@@ -1,20 +1,26 @@
 -- What `verify` takes, and its answer where a line is too long.
-use Rattle.std.proofs.Common.{◌≡◌, ◌≢◌, ◌≤◌, ◌<◌, ◌⊎◌, inl, inr, ℕ, ◌+◌, Bool, true, false, List, length, drop, Option, Some, Ok, Err, refl, sym, ap, subst, ◌∙◌, drop_at, drop-drop, arith, nat_lt, true≢false, IfSome}
+use Rattle.std.proofs.Common.{◌≡◌, ◌≢◌, ◌≤◌, ◌<◌, ◌⊎◌, inl, inr, ℕ, ◌+◌, Bool, true, false, List, length, drop, Option, Some, Result, Ok, Err, IfOk, refl, sym, ap, subst, ◌∙◌, drop_at, drop-drop, arith, nat_lt, true≢false, IfSome}
 use Rattle.std.proofs.lemmas.Bool.Decides.{nat_tests}
 use Rattle.std.specs.Option.{option_map_or}
 use Rattle.jwt_keys.specs.KeySets.{key_set_of}
 use Rattle.jwt_keys.specs.declared.fault.KeysFault.TheVariants as keys
 use Rattle.jwt_policy.specs.Document.{policy_of}
 use Rattle.jwt_policy.specs.declared.policy_fault.PolicyFault.TheVariants as policy
-use Rattle.jwt_verify.specs.Reports.{TakesAtMost as FrontAtMost}
-use Rattle.jwt_verify.specs.declared.report.InputFault.TheVariants.{Read}
-use Rattle.jwt_verify.specs.declared.report.Fault.TheVariants.{Text}
+use Rattle.jwt_verify.specs.Table.{work}
+use Rattle.jwt_verify.specs.Verdict.{Terms, verdict_of}
+use Rattle.jwt_verify.specs.Reports.{FoundMemory, Failed, IsReport, TakesAtMost as FrontAtMost}
+use Rattle.jwt_verify.specs.Steps.{TellsReports}
+use Rattle.jwt_verify.specs.declared.report.Report.{Report}
+use Rattle.jwt_verify.specs.declared.report.Try.{Try}
+use Rattle.jwt_verify.specs.declared.report.InputFault.TheVariants.{Read, TooLong}
+use Rattle.jwt_verify.specs.declared.report.Fault.TheVariants.{OutOfMemory, Text, Form, WorkExceeded, CallsExceeded, VerifierMemory, Signature, Claim}
 use Rattle.jwt_verify.specs.declared.report.Verdict.{Verdict}
-use Rattle.jwt_verify.specs.declared.report.Verdict.TheVariants.{Refused}
+use Rattle.jwt_verify.specs.declared.report.Verdict.TheVariants.{Accepted, Refused}
 use Rattle.jwt_policy.specs.Settings.{Settings}
 use Rattle.jwt_command.specs.Input.{TakesAtMost}
 use Rattle.jwt_command.specs.Issue.{TokenAsked, issue_answer, issue_under}
-use Rattle.jwt_command.specs.Verify.{keys_answer, keys_refused, policy_refused, under_keys, under_policy, unless_failed, verify_answer}
+use Rattle.jwt_command.specs.Verify.{keys_answer, keys_refused, policy_refused, token_answer, under_keys, under_policy, unless_failed, verify_answer, verify_line}
+use Rattle.jwt_command.specs.Printed.{Answer}
 use Rattle.jwt_command.specs.Listed.{keys_answer as keys_answer_alone, listed}
 use Rattle.jwt_command.specs.Stops.{behind_policy, keys_most, verify_most}
 use Rattle.jwt_command.specs.TakenLines.{TakesLine, after_line, first_line, line_most}
@@ -98,3 +104,49 @@ pub issue_line_too_long : (asked : TokenAsked) (x : List ℕ) (failed : Bool) �
     → keys_refused keys.TooLong ≡ issue_answer asked failed x
 issue_line_too_long asked x failed works long =
     sym (ap (λ f. issue_answer asked f x) works ∙ ap (λ k. issue_under asked k (after_line x)) (keys_too_long (first_line x) long))
+
+-- ---- the line of a verdict
+
+pub both_ok : {A E : Type 0} {P F Q : A → Type 0} (r : Result A E) → IfOk r P → IfOk r F → ((a : A) → P a → F a → Q a) → IfOk r Q
+both_ok (Ok a) p f h = h a p f
+both_ok (Err e) p f h = tt
+
+read_or : (v : Verdict) → (v ≡ Refused (Text Read)) ⊎ (v ≢ Refused (Text Read))
+read_or (Accepted i j claims) = inr (λ e. cc)
+read_or (Refused OutOfMemory) = inr (λ e. cc)
+read_or (Refused (Text Read)) = inl refl
+read_or (Refused (Text TooLong)) = inr (λ e. cc)
+read_or (Refused (Form f)) = inr (λ e. cc)
+read_or (Refused (WorkExceeded i j)) = inr (λ e. cc)
+read_or (Refused (Signature i f)) = inr (λ e. cc)
+read_or (Refused (Claim f)) = inr (λ e. cc)
+read_or (Refused VerifierMemory) = inr (λ e. cc)
+read_or (Refused (CallsExceeded i j)) = inr (λ e. cc)
+
+failed_read : (v : Verdict) (es : List Try) → FoundMemory v → Failed v es → v ≡ Refused (Text Read)
+failed_read (Accepted i j claims) es found h = absurd h
+failed_read (Refused OutOfMemory) es found h = absurd found
+failed_read (Refused (Text Read)) es found h = refl
+failed_read (Refused (Text TooLong)) es found h = absurd h
+failed_read (Refused (Form f)) es found h = absurd h
+failed_read (Refused (WorkExceeded i j)) es found h = absurd h
+failed_read (Refused (Signature i f)) es found h = absurd h
+failed_read (Refused (Claim f)) es found h = absurd h
+failed_read (Refused VerifierMemory) es found h = absurd h
+failed_read (Refused (CallsExceeded i j)) es found h = absurd h
+
+-- the line of a report, where memory was there, is that of the verdict on what the source gave
+pub answered : (q : Terms) (x : List ℕ) → TellsReports → (failed : Bool) (r : Report) (octets : ℕ) → (r.verdict ≢ Refused (Text Read) → IsReport q x q.policy.run.work r)
+    → (failed ≡ true → Failed r.verdict r.tries.items) → (r.verdict ≡ Refused (Text Read) → failed ≡ true) → octets ≡ work r.tries.items → FoundMemory r.verdict
+    → (a : Answer) → a ≡ verify_line r.verdict (length r.tries.items) octets → a ≡ unless_failed failed (token_answer q x)
+answered q x tells failed r octets report fails read counted found a line = elim (read_or r.verdict) [
+  | inl e ↦ line ∙ ap (λ v. verify_line v (length r.tries.items) octets) e ∙ sym (ap (λ f. unless_failed f (token_answer q x)) (read e))
+  | inr n ↦ (let t = tells q x q.policy.run.work r (report n) found in
+      let same : a ≡ token_answer q x = line ∙ ap (λ n. verify_line r.verdict (length r.tries.items) n) counted ∙ ap (λ v. verify_line v (length r.tries.items) (work r.tries.items)) t.0
+      ∙ ap (λ es. verify_line (verdict_of q x q.policy.run.work) (length es) (work es)) t.1 in
+      working failed (λ is. n (failed_read r.verdict r.tries.items found (fails is))) same)
+]
+  where
+    working : (failed : Bool) → (failed ≡ true → ⊥) → a ≡ token_answer q x → a ≡ unless_failed failed (token_answer q x)
+    working true never same = absurd (never refl)
+    working false never same = same

@@ -80,8 +80,12 @@ abbrev pub mac_on : List ℕ → ℕ → Bool → List ℕ → Answer
 mac_on key limit true input = read_failed
 mac_on key limit false input = if nat_lt limit (length input) then refused (codes "TooLong") else mac_line (digest_of key (without_line_feed input))
 
+-- of a key text that is refused, whatever the input
+abbrev pub key_refused : Answer
+key_refused = line (codes "refused Key" ∷ []) 2
+
 abbrev pub mac_under : Option (List ℕ) → ℕ → Bool → List ℕ → Answer
-mac_under None limit failed input = line (codes "refused Key" ∷ []) 2
+mac_under None limit failed input = key_refused
 mac_under (Some key) limit failed input = mac_on key limit failed input
 
 -- the answer of `jwt mac` with a key text and a limit

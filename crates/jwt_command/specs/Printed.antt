@@ -1,5 +1,5 @@
 -- What a command prints, and its status.
-use Rattle.std.specs.Prelude.{◌≡◌, ◌⊎◌, ℕ, Bool, true, List, [], ◌∷◌, ◌++◌, Option, take, codes}
+use Rattle.std.specs.Prelude.{◌≡◌, ◌<◌, ◌⊎◌, ℕ, Bool, true, false, length, List, [], ◌∷◌, ◌++◌, Option, take, codes}
 use Rattle.std.specs.Io.KnownBytes.{Appends}
 
 pub record Answer : Type 0 where
@@ -23,10 +23,10 @@ out_of_memory = line (codes "failed OutOfMemory" ∷ []) 4
 abbrev pub refused : List ℕ → Answer
 refused name = line (codes "refused " ∷ name ∷ []) 1
 
--- From what had gone out to what has gone out: the whole text went out, and the status is the answer's; or the writer has
--- failed, a front of the text went out, and the status is 3.
+-- From what had gone out to what has gone out: the whole text went out, the writer hasn't failed, unless there was nothing to be
+-- written, and the status is the answer's; or the writer has failed, a front of the text went out, and the status is 3.
 abbrev pub Prints : Answer → Option (List ℕ) → Option (List ℕ) → Bool → ℕ → Type 0
-Prints a before after failed status = (Appends before after a.text × (status ≡ a.status))
+Prints a before after failed status = (Appends before after a.text × (0 < length a.text → failed ≡ false) × (status ≡ a.status))
     ⊎ ((failed ≡ true) × ((n : ℕ) × Appends before after (take n a.text)) × (status ≡ 3))
 
 -- the answer is given, or a growth was refused

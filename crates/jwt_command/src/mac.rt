@@ -6,7 +6,7 @@ ghost use Rattle.jwt_text.specs.Base64url.{spelled};
 ghost use Rattle.jwt_mac.specs.Algorithm.{is_hmac_alg};
 ghost use Rattle.jwt_jws.specs.Views.{texts_view};
 ghost use Rattle.jwt_command.specs.declared.mac.MacFault.TheVariants.{Base64};
-ghost use Rattle.jwt_command.specs.Mac.{algorithm_of, digest_by, digest_line, digest_of, fault_name, key_spelled, mac_answer, mac_line, texts_digest};
+ghost use Rattle.jwt_command.specs.Mac.{algorithm_of, digest_by, digest_line, digest_of, fault_name, key_refused, key_spelled, mac_answer, mac_line, texts_digest};
 ghost use Rattle.jwt_command.specs.Input.{TakesAtMost};
 ghost use Rattle.jwt_command.specs.Views.{digest_view, reply_view};
 
@@ -190,6 +190,7 @@ pub(crate) fn mac<R: Source>(
     requires most { limit ≤ 1048576 }
     ensures line { IfSome (R.remaining r.old) (λ x. IfOk result (λ a. reply_view a ≡ mac_answer key.now limit (R.failed r.new) x)) }
     ensures taken { IfSome (R.remaining r.old) (λ x. (R.failed r.new ≡ true) ⊎ TakesAtMost (limit + 1) x (R.remaining r.new)) }
+    ensures key { key_spelled key.now ≡ None → IfOk result (λ a. reply_view a ≡ key_refused) }
     ensures unread { key_spelled key.now ≡ None → r.new ≡ r.old }
 {
     let Some(key) = key_octets(alloc, key)? else {

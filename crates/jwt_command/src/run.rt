@@ -1,6 +1,6 @@
 //! The command, over any source and sink.
 ghost use Rattle.std.specs.Prelude.{◌≡◌, ◌+◌, ◌⊎◌, ℕ, List, None, Some, map, true, IfOk, IfSome};
-ghost use Rattle.jwt_command.specs.Mac.{key_spelled, mac_answer};
+ghost use Rattle.jwt_command.specs.Mac.{key_refused, key_spelled, mac_answer};
 ghost use Rattle.jwt_command.specs.Input.{TakesAtMost};
 ghost use Rattle.jwt_command.specs.Printed.{Gives, GivesWrongWords, Prints, out_of_memory};
 ghost use Rattle.jwt_command.specs.Views.{reply_view};
@@ -52,7 +52,9 @@ pub fn run<R: Source, W: Sink>(alloc: Global, words: &[&str], r: &mut R, w: &mut
     ensures stops { (order : Asked) → order_of (map (λ word. word.now) words.now) ≡ Some order
         → IfSome (R.remaining r.old) (λ x. (R.failed r.new ≡ true) ⊎ TakesAtMost (most_taken order x) x (R.remaining r.new)) }
 
-    // Where the key is refused, nothing is read.
+    // Where the key is refused, its line, of every source; and nothing is read.
+    ensures refused_key { (key : List ℕ) (limit : ℕ) → order_of (map (λ word. word.now) words.now) ≡ Some (Mac key limit)
+        → key_spelled key ≡ None → Gives key_refused (W.contents w.old) (W.contents w.new) (W.failed w.new) result }
     ensures unread_key { (key : List ℕ) (limit : ℕ) → order_of (map (λ word. word.now) words.now) ≡ Some (Mac key limit)
         → key_spelled key ≡ None → r.new ≡ r.old }
 
@@ -100,6 +102,8 @@ fn reply_to<R: Source>(alloc: Global, words: &[&str], r: &mut R) -> Result<Reply
         → IfSome (R.remaining r.old) (λ x. (R.failed r.new ≡ true) ⊎ TakesAtMost (input_limit order + 1) x (R.remaining r.new)) }
     ensures stops { (order : Asked) → order_of (map (λ word. word.now) words.now) ≡ Some order
         → IfSome (R.remaining r.old) (λ x. (R.failed r.new ≡ true) ⊎ TakesAtMost (most_taken order x) x (R.remaining r.new)) }
+    ensures refused_key { (key : List ℕ) (limit : ℕ) → order_of (map (λ word. word.now) words.now) ≡ Some (Mac key limit)
+        → key_spelled key ≡ None → IfOk result (λ a. reply_view a ≡ key_refused) }
     ensures unread_key { (key : List ℕ) (limit : ℕ) → order_of (map (λ word. word.now) words.now) ≡ Some (Mac key limit)
         → key_spelled key ≡ None → r.new ≡ r.old }
     ensures wrong { order_of (map (λ word. word.now) words.now) ≡ None → IfOk result (λ a. a.status ≡ 2) }

@@ -1,5 +1,6 @@
 //! The command `show`: what stands in a token, with nothing of it verified.
-ghost use Rattle.std.specs.Prelude.{◌≡◌, ◌≤◌, ◌+◌, ◌++◌, ◌⊎◌, true, length, option_map, IfOk, IfSome, Ok, Err, string_bytes};
+ghost use Rattle.std.specs.Prelude.{◌≡◌, ◌≤◌, ◌+◌, ◌++◌, ◌⊎◌, ℕ, List, true, length, option_map, IfOk, IfSome, Ok, Err, string_bytes};
+ghost use Rattle.jwt_text.specs.Base64url.{Spells};
 ghost use Rattle.jwt_jws.specs.Views.{parts, token};
 ghost use Rattle.jwt_policy.specs.ClaimKinds.{claims_of};
 ghost use Rattle.jwt_command.specs.Input.{TakesAtMost};
@@ -44,9 +45,11 @@ fn unprotected_count(signature: &Signature<'_>) -> usize
     }
 }
 
-// How many octets a base64url text of so many characters spells.
+// How many octets a base64url text of so many characters spells (RFC 4648, section 5).
 fn spelled_len(chars: usize) -> usize
-    ensures { result ≡ spelled_len chars }
+    ensures value { result ≡ spelled_len chars }
+    ensures spelled { (text octets : List ℕ) → length text ≡ chars → Spells text octets
+        → result ≡ length octets }
 {
     chars / 4 * 3 + chars % 4 * 3 / 4
 }

@@ -15,6 +15,7 @@ use jwt_keys::{KeySet, KeysFault};
 use jwt_mac::{Budget, CountDown, Verifier};
 use jwt_policy::{Policy, PolicyFault};
 use jwt_text::Source;
+use jwt_verify::laws::tells_reports;
 use jwt_verify::{Fault, InputFault, Report, Verdict, validate};
 use std::alloc::{AllocError, Global};
 
@@ -93,6 +94,7 @@ fn on_token<R: Source>(
     let limit = policy.limit();
     prove!(limit <= 1_048_576);
     let mut budget = CountDown::new(policy.work());
+    tells_reports();
     let report = validate(alloc, r, keys, policy, now as i64, &verifiers, &mut budget);
     report_line(alloc, &report, budget.octets())
 }

@@ -1,12 +1,14 @@
 //! Reading a signed token.
-ghost use Rattle.std.specs.Prelude.{◌≡◌, ◌<◌, ◌≤◌, false, length, map, IfOk};
+ghost use Rattle.std.specs.Prelude.{◌≡◌, ◌<◌, ◌≤◌, ◌⊎◌, ℕ, List, true, false, length, map, IfOk};
 ghost use Rattle.jwt_text.specs.Answers.{Answers, each};
+ghost use Rattle.jwt_jws.specs.CompactForm.{IsCompact};
 ghost use Rattle.jwt_jws.specs.Forms.{signed_of, signature_of, form_of, opens_object};
 ghost use Rattle.jwt_jws.specs.Views.{token, parts, spelled_view, json_view, compact_view, AreLent};
 
 use crate::compact::{CompactTexts, segments_of};
 use crate::fault::{Form, FormFault, Place};
 use crate::json::{SpelledJson, SpelledSignature, json_object, opens_object, spelled_json};
+use crate::laws::compact_form;
 use crate::signature::Signature;
 use crate::signed::Signed;
 use crate::signing::{make_signature, octets_of};
@@ -98,7 +100,12 @@ pub fn parse<'a>(
     requires most { max_signatures ≤ 32 }
     ensures value { Answers FormFault.OutOfMemory token result (form_of max_signatures octets.now) }
     ensures lent { opens_object octets.now ≡ false → IfOk result AreLent }
+
+    // Want of memory comes only of octets in JSON form or in compact form: it stands in place of no other fault.
+    ensures memory { result ≡ Err FormFault.OutOfMemory → (opens_object octets.now ≡ true)
+        ⊎ ((h p g : List ℕ) × IsCompact octets.now h p g) }
 {
+    compact_form();
     if octets.is_empty() {
         return Err(FormFault::Empty);
     }

@@ -23,12 +23,13 @@ use Rattle.jwt_verify.specs.declared.report.Verdict.TheVariants.{Accepted}
 use Rattle.jwt_verify.specs.Table.{Table, below, verifies, verified, outcome, stop, ending}
 use Rattle.jwt_verify.specs.Trying.{table_of}
 use Rattle.jwt_verify.specs.Verdict.{Terms, Signing, VerifiedBy, Unverified, first_in, key_at, fault_at, unverified, verified_or, signing_in, signing_of, checked, claimed, concluded, ended, token_verdict, formed, token_of, decided, verdict_of, table, without_line_feed}
-use Rattle.jwt_verify.specs.Accepted.{IsLeastKey, Counts, IsVerifiedBy, IsToken, IsAccepted, AcceptsExactly}
+use Rattle.jwt_verify.specs.Accepted.{IsLeastKey, Counts, IsVerifiedBy}
 use Rattle.jwt_verify.proofs.First.{first_zero, first_here, first_more, first_none_at, first-below, or_else}
 use Rattle.jwt_verify.proofs.Walking.{find-below}
 use Rattle.jwt_verify.proofs.Least.{least_found}
 use Rattle.jwt_verify.proofs.Signing.{none_below, found_any, key_none, fault_none}
 use Rattle.jwt_verify.proofs.Judged.{unbarred_by, done_stop, table_of_token}
+use Rattle.jwt_verify.proofs.Stepwise.{IsReadToken, IsAcceptedStepwise, AcceptsStepwise}
 
 -- ---- the least number that passes, and the first that has an answer
 
@@ -196,20 +197,20 @@ formed_is : (r : Result Token FormFault) (t : Token) → formed r ≡ Ok t → r
 formed_is (Err f) t h = cc
 formed_is (Ok s) t h = let e : s ≡ t = cc in ap Ok e
 
-pub token_is : (q : Terms) (x : List ℕ) (t : Token) → token_of q.policy x ≡ Ok t → IsToken q x t
+pub token_is : (q : Terms) (x : List ℕ) (t : Token) → token_of q.policy x ≡ Ok t → IsReadToken q x t
 unfolding token_of
 token_is q x t h = elim (cases_lt q.policy.run.limit (length x)) [
   | inl l ↦ (let e = rw (lt-ltb q.policy.run.limit (length x) l) at h in cc)
   | inr m ↦ (let e = rw (le-ltb q.policy.run.limit (length x) m) at h in (m, formed_is (form_of q.policy.run.max_signatures (without_line_feed q.policy.run.line_feed x)) t e))
 ]
 
-pub is_token : (q : Terms) (x : List ℕ) (t : Token) → IsToken q x t → token_of q.policy x ≡ Ok t
+pub is_token : (q : Terms) (x : List ℕ) (t : Token) → IsReadToken q x t → token_of q.policy x ≡ Ok t
 unfolding token_of
 is_token q x t h = rw (le-ltb q.policy.run.limit (length x) h.0, h.1) refl
 
 -- ---- the whole
 
-accepted_words : (q : Terms) (x : List ℕ) (w i j : ℕ) (claims : Members) (r : Result Token Fault) → r ≡ token_of q.policy x → decided q w r ≡ Accepted i j claims → IsAccepted q x w i j claims
+accepted_words : (q : Terms) (x : List ℕ) (w i j : ℕ) (claims : Members) (r : Result Token Fault) → r ≡ token_of q.policy x → decided q w r ≡ Accepted i j claims → IsAcceptedStepwise q x w i j claims
 unfolding token_verdict
 accepted_words q x w i j claims (Err f) e h = cc
 accepted_words q x w i j claims (Ok t) e h =
@@ -226,7 +227,7 @@ accepted_words q x w i j claims (Ok t) e h =
       hold = b.2;
     }
 
-words_accepted : (q : Terms) (x : List ℕ) (w i j : ℕ) (claims : Members) → IsAccepted q x w i j claims → verdict_of q x w ≡ Accepted i j claims
+words_accepted : (q : Terms) (x : List ℕ) (w i j : ℕ) (claims : Members) → IsAcceptedStepwise q x w i j claims → verdict_of q x w ≡ Accepted i j claims
 unfolding verdict_of token_verdict
 words_accepted q x w i j claims a =
     let t = a.token in
@@ -238,6 +239,6 @@ words_accepted q x w i j claims a =
     ap (decided q w) e ∙ ap (λ r. ended r (concluded q.policy q.now t.payload (signing_of T))) (stop_done T w q.policy.max_calls none)
     ∙ ap (concluded q.policy q.now t.payload) by ∙ ap (claimed q.policy q.now i j) a.read ∙ ap (checked i j claims) a.hold
 
-pub accepts_exactly_holds : AcceptsExactly
+pub accepts_exactly_holds : AcceptsStepwise
 unfolding verdict_of
 accepts_exactly_holds q x w i j claims = (λ h. accepted_words q x w i j claims (token_of q.policy x) refl h, λ h. words_accepted q x w i j claims h)

@@ -79,7 +79,7 @@ pub tries_eligible : (t : Table) → All (λ e. t.eligible e.signature e.key ≡
 unfolding tries
 tries_eligible t = All-weaker (λ e. is_tried t e ≡ true) (λ e. t.eligible e.signature e.key ≡ true) (λ e h. tried_eligible t e.signature e.key h) (tries t) (filter_passes (is_tried t) (pairs t))
 
-sum_bound : (t : Table) (common : ℕ) (extra : ℕ → ℕ → ℕ) → ((i j : ℕ) → t.eligible i j ≡ true → t.cost i j ≤ common + extra i j) → (es : List Try) → All (HasCost t) es → All (λ e. t.eligible e.signature e.key ≡ true) es
+pub sum_bound : (t : Table) (common : ℕ) (extra : ℕ → ℕ → ℕ) → ((i j : ℕ) → t.eligible i j ≡ true → t.cost i j ≤ common + extra i j) → (es : List Try) → All (HasCost t) es → All (λ e. t.eligible e.signature e.key ≡ true) es
     → sum_by (λ e. e.cost) es ≤ length es * common + sum_by (λ e. extra e.signature e.key) es
 sum_bound t common extra h [] all eligible = omega arith
 sum_bound t common extra h (e ∷ es) all eligible =

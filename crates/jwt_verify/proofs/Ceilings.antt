@@ -122,7 +122,7 @@ module _ (eligible_words : (p : Settings) (s : SignatureParts) (k : KeyParts) (v
         greatest_allowed digest_size p.run.algs a fine,
       ))
 
-  table_cost : (p : Settings) (v : List Meaning) (ks : List KeyParts) (t : Token) (i j : ℕ) → at_pair (λ s k. eligible_for p s k v) false t ks i j ≡ true
+  pub table_cost : (p : Settings) (v : List Meaning) (ks : List KeyParts) (t : Token) (i j : ℕ) → at_pair (λ s k. eligible_for p s k v) false t ks i j ≡ true
       → at_pair (λ s k. cost_by (message_of t s) s k) 0 t ks i j ≤ common_cost p t + at_pair long_key 0 t ks i j
   table_cost p v ks t i j h = go (slice_get t.signatures i) refl (slice_get ks j) h
     where

@@ -14,7 +14,8 @@ use Rattle.jwt_verify.specs.declared.report.SigState.TheVariants.{NotReached, St
 use Rattle.jwt_verify.specs.declared.tries.RowEnd.TheVariants.{Through, Stop}
 use Rattle.jwt_verify.specs.declared.tries.End.TheVariants.{Done, WorkExceeded, CallsExceeded, VerifierMemory}
 use Rattle.jwt_verify.specs.Table.{Table, below, verifies, reached, entry, work, is_within, outcome, settled, state_at, states_at}
-use Rattle.jwt_verify.specs.Walk.{IsAt, IsThrough, IsPending, IsFront, IsEnd, IsRowEnd, IsRecorded, goes_on, IsNextKey, NoneEligible}
+use Rattle.jwt_verify.specs.Walk.{IsAt, IsThrough, IsPending, IsEnd, IsRowEnd, IsRecorded, goes_on, IsNextKey, NoneEligible}
+use Rattle.jwt_verify.specs.Paying.{IsFront}
 use Rattle.jwt_verify.proofs.Below.{length-below, map-below, map-agree, map-tail, list_any-gap}
 use Rattle.jwt_verify.specs.Table.{IsRun, paid}
 use Rattle.jwt_verify.specs.Walk.{IsCounted, stopped_at}

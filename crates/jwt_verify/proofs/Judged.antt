@@ -31,7 +31,8 @@ use Rattle.jwt_verify.specs.declared.report.Verdict.TheVariants.{Accepted, Refus
 use Rattle.jwt_verify.specs.Table.{Table, below, entry, pairs, tries, affords, work, paid, stop, states_at, states, ending, is_within, IsRun}
 use Rattle.jwt_verify.specs.Trying.{at_pair, table_of}
 use Rattle.jwt_verify.specs.Verdict.{Terms, Signing, VerifiedBy, Unverified, checked, claimed, concluded, ended, token_verdict, signing_of, formed, token_of, table, decided, verdict_of, without_line_feed}
-use Rattle.jwt_verify.specs.Reports.{FoundMemory, IsWhole, signing_by}
+use Rattle.jwt_verify.specs.Reports.{FoundMemory}
+use Rattle.jwt_verify.specs.Steps.{IsWhole, signing_by}
 use Rattle.jwt_verify.proofs.Below.{below-zero, length-below}
 use Rattle.jwt_verify.proofs.Paying.{work-nil}
 use Rattle.jwt_verify.proofs.Signing.{signing_is}
@@ -197,7 +198,7 @@ take_none : {X : Type 0} (n : ℕ) (xs : List X) → xs ≡ [] → take n xs ≡
 take_none zero xs h = refl
 take_none (suc n) xs h = rw h refl
 
-no_paid : (t : Table) (w : ℕ) (calls : Option ℕ) → t.signatures ≡ 0 → paid t w calls ≡ []
+pub no_paid : (t : Table) (w : ℕ) (calls : Option ℕ) → t.signatures ≡ 0 → paid t w calls ≡ []
 unfolding paid
 no_paid t w calls h = take_none (prefix_len (affords t w calls) (range_with_len 1 (length (tries t)))) (tries t) (no_tries t h)
 

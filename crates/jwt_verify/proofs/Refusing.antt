@@ -25,12 +25,13 @@ use Rattle.jwt_verify.specs.declared.report.Verdict.TheVariants.{Refused}
 use Rattle.jwt_verify.specs.Table.{Table, below, verified, pairs, tries, paid, stop, ending, is_within}
 use Rattle.jwt_verify.specs.Trying.{table_of}
 use Rattle.jwt_verify.specs.Verdict.{Terms, Signing, VerifiedBy, Unverified, first_in, key_at, fault_at, unverified, verified_or, signing_in, signing_of, checked, claimed, concluded, ended, token_verdict, formed, token_of, decided, verdict_of, table, token_or_none, without_line_feed}
-use Rattle.jwt_verify.specs.Accepted.{IsVerifiedBy, StopsAt, IsFirstUnverified, IsClaimFault, IsFault, RefusesExactly}
+use Rattle.jwt_verify.specs.Accepted.{IsVerifiedBy, IsFirstUnverified}
 use Rattle.jwt_verify.proofs.Below.{below-zero}
 use Rattle.jwt_verify.proofs.First.{first_here, first_none_at}
 use Rattle.jwt_verify.proofs.Signing.{key_none, fault_none}
 use Rattle.jwt_verify.proofs.Judged.{unbarred_by, table_of_token, too_long}
 use Rattle.jwt_verify.proofs.Accepting.{first_is, none_first, not_verified, verified_none, signing_by_words, stop_done, token_is, is_token}
+use Rattle.jwt_verify.proofs.Stepwise.{StopsStepwise, IsClaimFaultStepwise, IsFaultStepwise, RefusesStepwise}
 
 refusal : (f g : Fault) → Refused f ≡ Refused g → f ≡ g
 refusal f g h = cc
@@ -38,14 +39,14 @@ refusal f g h = cc
 -- ---- what is no token
 
 form_words : (q : Terms) (x : List ℕ) (w : ℕ) (f : Fault) → length x ≤ q.policy.run.limit → (r : Result Token FormFault)
-    → r ≡ form_of q.policy.run.max_signatures (without_line_feed q.policy.run.line_feed x) → formed r ≡ Err f → IsFault q x w f
+    → r ≡ form_of q.policy.run.max_signatures (without_line_feed q.policy.run.line_feed x) → formed r ≡ Err f → IsFaultStepwise q x w f
 form_words q x w f l (Ok t) e h = cc
-form_words q x w f l (Err g) e h = let s : Form g ≡ f = cc in subst (IsFault q x w) s (l, sym e)
+form_words q x w f l (Err g) e h = let s : Form g ≡ f = cc in subst (IsFaultStepwise q x w) s (l, sym e)
 
-token_words : (q : Terms) (x : List ℕ) (w : ℕ) (f : Fault) → token_of q.policy x ≡ Err f → IsFault q x w f
+token_words : (q : Terms) (x : List ℕ) (w : ℕ) (f : Fault) → token_of q.policy x ≡ Err f → IsFaultStepwise q x w f
 unfolding token_of
 token_words q x w f h = elim (cases_lt q.policy.run.limit (length x)) [
-  | inl l ↦ (let e = rw (lt-ltb q.policy.run.limit (length x) l) at h in let s : Text TooLong ≡ f = cc in subst (IsFault q x w) s l)
+  | inl l ↦ (let e = rw (lt-ltb q.policy.run.limit (length x) l) at h in let s : Text TooLong ≡ f = cc in subst (IsFaultStepwise q x w) s l)
   | inr m ↦ form_words q x w f m (form_of q.policy.run.max_signatures (without_line_feed q.policy.run.line_feed x)) refl (rw (le-ltb q.policy.run.limit (length x) m) at h)
 ]
 
@@ -120,11 +121,11 @@ module _ (t : Table) (barred : (i j : ℕ) → t.eligible i j ≡ true → t.bar
 -- ---- a token
 
 claim_words : (q : Terms) (payload : List ℕ) (i j : ℕ) (f : Fault) (r : Result Members ClaimFault) → r ≡ claims_of payload → claimed q.policy q.now i j r ≡ Refused f
-    → (g : ClaimFault) × (Claim g ≡ f) × IsClaimFault q payload g
+    → (g : ClaimFault) × (Claim g ≡ f) × IsClaimFaultStepwise q payload g
 claim_words q payload i j f (Err g) e h = (g, refusal (Claim g) f h, inl (sym e))
 claim_words q payload i j f (Ok claims) e h = go (check_of q.policy claims q.now) refl h
   where
-    go : (o : Option ClaimFault) → o ≡ check_of q.policy claims q.now → checked i j claims o ≡ Refused f → (g : ClaimFault) × (Claim g ≡ f) × IsClaimFault q payload g
+    go : (o : Option ClaimFault) → o ≡ check_of q.policy claims q.now → checked i j claims o ≡ Refused f → (g : ClaimFault) × (Claim g ≡ f) × IsClaimFaultStepwise q payload g
     go None e2 h = cc
     go (Some g) e2 h = (g, refusal (Claim g) f h, inr (claims, sym e, sym e2))
 
@@ -135,11 +136,11 @@ module _ (q : Terms) (x : List ℕ) (w : ℕ) (f : Fault) (t : Token) (here : to
   same : T ≡ table q x
   same = table_of_token q x t here
 
-  signing_words : (s : Signing) → s ≡ signing_of T → stop T w q.policy.max_calls ≡ None → concluded q.policy q.now t.payload s ≡ Refused f → IsFault q x w f
+  signing_words : (s : Signing) → s ≡ signing_of T → stop T w q.policy.max_calls ≡ None → concluded q.policy q.now t.payload s ≡ Refused f → IsFaultStepwise q x w f
   signing_words (VerifiedBy i j) e none h =
       let c = claim_words q t.payload i j f (claims_of t.payload) refl h in
       let by : IsVerifiedBy T i j = (signing_by_words T (unbarred_by q.policy q.verifiers q.keys t) i j).0 (sym e) in
-      subst (IsFault q x w) c.1 (
+      subst (IsFaultStepwise q x w) c.1 (
         t,
         token_is q x t here,
         subst (λ t. stop t w q.policy.max_calls ≡ None) same none,
@@ -148,7 +149,7 @@ module _ (q : Terms) (x : List ℕ) (w : ℕ) (f : Fault) (t : Token) (here : to
       )
   signing_words (Unverified i g) e none h =
       let u = unverified_words T (unbarred_by q.policy q.verifiers q.keys t) some i g (sym e) in
-      subst (IsFault q x w) (refusal (Signature i g) f h) (
+      subst (IsFaultStepwise q x w) (refusal (Signature i g) f h) (
         t,
         token_is q x t here,
         subst (λ t. stop t w q.policy.max_calls ≡ None) same none,
@@ -158,18 +159,18 @@ module _ (q : Terms) (x : List ℕ) (w : ℕ) (f : Fault) (t : Token) (here : to
 
   stop_words : (o : Option Try) → o ≡ stop T w q.policy.max_calls → (b : Bool) → b ≡ is_within q.policy.max_calls (length (paid T w q.policy.max_calls) + 1)
       → ended (option_map_or (λ e. if b then end.WorkExceeded e.signature e.key else end.CallsExceeded e.signature e.key) o end.Done) (concluded q.policy q.now t.payload (signing_of T)) ≡ Refused f
-      → IsFault q x w f
+      → IsFaultStepwise q x w f
   stop_words None e b k h = signing_words (signing_of T) refl (sym e) h
-  stop_words (Some s) e true k h = subst (IsFault q x w) (refusal (WorkExceeded s.signature s.key) f h)
+  stop_words (Some s) e true k h = subst (IsFaultStepwise q x w) (refusal (WorkExceeded s.signature s.key) f h)
       ((s, subst (λ t. stop t w q.policy.max_calls ≡ Some s) same (sym e), refl, refl), subst (λ t. is_within q.policy.max_calls (length (paid t w q.policy.max_calls) + 1) ≡ true) same (sym k))
-  stop_words (Some s) e false k h = subst (IsFault q x w) (refusal (CallsExceeded s.signature s.key) f h)
+  stop_words (Some s) e false k h = subst (IsFaultStepwise q x w) (refusal (CallsExceeded s.signature s.key) f h)
       ((s, subst (λ t. stop t w q.policy.max_calls ≡ Some s) same (sym e), refl, refl), subst (λ t. is_within q.policy.max_calls (length (paid t w q.policy.max_calls) + 1) ≡ false) same (sym k))
 
-fault_words : ReadsSignedTokens → (q : Terms) (x : List ℕ) (w : ℕ) (f : Fault) → verdict_of q x w ≡ Refused f → IsFault q x w f
+fault_words : ReadsSignedTokens → (q : Terms) (x : List ℕ) (w : ℕ) (f : Fault) → verdict_of q x w ≡ Refused f → IsFaultStepwise q x w f
 unfolding verdict_of token_verdict
 fault_words reads q x w f h = go (token_of q.policy x) refl h
   where
-    go : (r : Result Token Fault) → r ≡ token_of q.policy x → decided q w r ≡ Refused f → IsFault q x w f
+    go : (r : Result Token Fault) → r ≡ token_of q.policy x → decided q w r ≡ Refused f → IsFaultStepwise q x w f
     go (Err g) e h = token_words q x w f (sym e ∙ ap Err (refusal g f h))
     go (Ok t) e h =
         let T = table_of q.policy q.verifiers q.keys t in
@@ -182,12 +183,12 @@ no_tries : (t : Table) → t.signatures ≡ 0 → tries t ≡ []
 unfolding tries pairs
 no_tries t h = rw (h, below-zero) refl
 
-no_stop : (t : Table) (w : ℕ) (calls : Option ℕ) → t.signatures ≡ 0 → stop t w calls ≡ None
+pub no_stop : (t : Table) (w : ℕ) (calls : Option ℕ) → t.signatures ≡ 0 → stop t w calls ≡ None
 unfolding stop
 no_stop t w calls h = rw (no_tries t h) refl
 
 -- a run that stops is that of a token
-stops_token : (q : Terms) (x : List ℕ) (w : ℕ) (e : Try) → stop (table q x) w q.policy.max_calls ≡ Some e → (t : Token) × (token_of q.policy x ≡ Ok t)
+pub stops_token : (q : Terms) (x : List ℕ) (w : ℕ) (e : Try) → stop (table q x) w q.policy.max_calls ≡ Some e → (t : Token) × (token_of q.policy x ≡ Ok t)
 unfolding table
 stops_token q x w e h = go (token_of q.policy x) refl
   where
@@ -198,7 +199,7 @@ stops_token q x w e h = go (token_of q.policy x) refl
         let never = sym none ∙ h in
         cc
 
-verdict_token : (q : Terms) (x : List ℕ) (w : ℕ) (t : Token) → token_of q.policy x ≡ Ok t
+pub verdict_token : (q : Terms) (x : List ℕ) (w : ℕ) (t : Token) → token_of q.policy x ≡ Ok t
     → verdict_of q x w ≡ ended (ending (table q x) w q.policy.max_calls) (concluded q.policy q.now t.payload (signing_of (table q x)))
 unfolding verdict_of token_verdict
 verdict_token q x w t here =
@@ -211,10 +212,10 @@ verdict_unstopped q x w t s here none signing =
     ∙ ap (λ r. ended r (concluded q.policy q.now t.payload (signing_of (table q x)))) (stop_done (table q x) w q.policy.max_calls none)
     ∙ ap (concluded q.policy q.now t.payload) signing
 
-ending_work : (t : Table) (w : ℕ) (calls : Option ℕ) (i j : ℕ) → StopsAt t w calls i j → is_within calls (length (paid t w calls) + 1) ≡ true → ending t w calls ≡ end.WorkExceeded i j
+ending_work : (t : Table) (w : ℕ) (calls : Option ℕ) (i j : ℕ) → StopsStepwise t w calls i j → is_within calls (length (paid t w calls) + 1) ≡ true → ending t w calls ≡ end.WorkExceeded i j
 ending_work t w calls i j s y = rw (s.1, y) (rw (s.2, s.3) refl)
 
-ending_calls : (t : Table) (w : ℕ) (calls : Option ℕ) (i j : ℕ) → StopsAt t w calls i j → is_within calls (length (paid t w calls) + 1) ≡ false → ending t w calls ≡ end.CallsExceeded i j
+ending_calls : (t : Table) (w : ℕ) (calls : Option ℕ) (i j : ℕ) → StopsStepwise t w calls i j → is_within calls (length (paid t w calls) + 1) ≡ false → ending t w calls ≡ end.CallsExceeded i j
 ending_calls t w calls i j s n = rw (s.1, n) (rw (s.2, s.3) refl)
 
 module _ (t : Table) (barred : (i j : ℕ) → t.eligible i j ≡ true → t.bar i ≡ None) (some : 0 < t.signatures) where
@@ -230,7 +231,7 @@ module _ (t : Table) (barred : (i j : ℕ) → t.eligible i j ≡ true → t.bar
   unfolding signing_of
   unverified_is i g h is = unverified_by t.mode i g h is
 
-claim_fault_is : (q : Terms) (payload : List ℕ) (i j : ℕ) (f : ClaimFault) → IsClaimFault q payload f → claimed q.policy q.now i j (claims_of payload) ≡ Refused (Claim f)
+claim_fault_is : (q : Terms) (payload : List ℕ) (i j : ℕ) (f : ClaimFault) → IsClaimFaultStepwise q payload f → claimed q.policy q.now i j (claims_of payload) ≡ Refused (Claim f)
 claim_fault_is q payload i j f (inl e) = ap (claimed q.policy q.now i j) e
 claim_fault_is q payload i j f (inr c) = ap (claimed q.policy q.now i j) c.1 ∙ ap (checked i j c.0) c.2
 
@@ -243,7 +244,7 @@ of_none : (q : Terms) (x : List ℕ) (w : ℕ) (f : Fault) → token_of q.policy
 unfolding verdict_of
 of_none q x w f e = ap (decided q w) e
 
-words_fault : ReadsSignedTokens → (q : Terms) (x : List ℕ) (w : ℕ) (f : Fault) → IsFault q x w f → verdict_of q x w ≡ Refused f
+words_fault : ReadsSignedTokens → (q : Terms) (x : List ℕ) (w : ℕ) (f : Fault) → IsFaultStepwise q x w f → verdict_of q x w ≡ Refused f
 words_fault reads q x w (Text TooLong) l = of_none q x w (Text TooLong) (too_long q.policy x l)
 words_fault reads q x w (Text Read) h = absurd h
 words_fault reads q x w OutOfMemory h = absurd h
@@ -272,5 +273,5 @@ words_fault reads q x w (Claim f) (t, is, none, (i, j, verified_by), fault) =
     ) in
     verdict_unstopped q x w t (VerifiedBy i j) here none by ∙ claim_fault_is q t.payload i j f fault
 
-pub refuses_exactly_holds : ReadsSignedTokens → RefusesExactly
+pub refuses_exactly_holds : ReadsSignedTokens → RefusesStepwise
 refuses_exactly_holds reads q x w f = (fault_words reads q x w f, words_fault reads q x w f)

@@ -3,6 +3,7 @@ use Rattle.std.proofs.Common.{◌≡◌, ℕ, ℤ, ◌+◌, ◌<◌, true, false
 use Rattle.std.specs.Option.{option_map_or}
 use Rattle.serde_json.specs.Data.{Members}
 use Rattle.jwt_jws.specs.Token.{Token}
+use Rattle.jwt_keys.specs.Keys.{KeyParts}
 use Rattle.jwt_policy.specs.declared.mode.Mode.{Mode}
 use Rattle.jwt_policy.specs.declared.mode.Mode.TheVariants.{Any, All}
 use Rattle.jwt_policy.specs.declared.sig_fault.SigFault.{SigFault}
@@ -13,12 +14,12 @@ use Rattle.jwt_policy.specs.Checks.{check_of}
 use Rattle.jwt_verify.specs.declared.report.SigState.{SigState}
 use Rattle.jwt_verify.specs.declared.report.SigState.TheVariants.{Barred, NoKey, BadSignature, Verified, NotReached, Stopped}
 use Rattle.jwt_verify.specs.declared.report.Fault.{Fault}
-use Rattle.jwt_verify.specs.declared.report.Verdict.TheVariants.{Refused}
+use Rattle.jwt_verify.specs.declared.report.Verdict.TheVariants.{Accepted, Refused}
 use Rattle.jwt_verify.specs.Table.{Table, below, verifies, verified, outcome, stop, states_at}
 use Rattle.jwt_verify.specs.Trying.{table_of}
 use Rattle.jwt_verify.specs.Verdict.{Terms, Signing, VerifiedBy, Unverified, first_in, fault_of, key_at, fault_at, unverified, verified_or, signing_in, signing_of, checked, claimed, concluded, ended, token_verdict, token_of, decided, verdict_of, table}
 use Rattle.jwt_verify.specs.Accepted.{IsLeastKey, Counts, IsVerifiedBy}
-use Rattle.jwt_verify.specs.Laws.{with_keys, MoreKeys, SameKeys, kind_of, without_key}
+use Rattle.jwt_verify.specs.Laws.{AreAmong, with_keys, MoreKeys, SameKeys, kind_of, without_key}
 use Rattle.jwt_verify.proofs.First.{first_agree}
 use Rattle.jwt_verify.proofs.Bounds.{never_stops}
 use Rattle.jwt_verify.proofs.Least.{least_found}
@@ -53,8 +54,10 @@ more_counts t u same count more i j h = go t.mode h.1 (λ m c. c) same
         let key = least_key u 0 (each 0 (omega (arith, h.0, count))) in
         (0, key.0, (omega (arith, h.0, count), subst (λ m. Counts m u 0) (sym e) (refl, each), key.1))
 
-pub more_keys_hold : MoreKeys
-more_keys_hold q more x w more_w i j claims among room accepted =
+pub more_keys_unstopped : (q : Terms) (more : List KeyParts) (x : List ℕ) (w more_w i j : ℕ) (claims : Members) → AreAmong more q.keys
+    → stop (table (with_keys q more) x) more_w q.policy.max_calls ≡ None → verdict_of q x w ≡ Accepted i j claims
+    → (m : ℕ) × (n : ℕ) × (verdict_of (with_keys q more) x more_w ≡ Accepted m n claims)
+more_keys_unstopped q more x w more_w i j claims among none accepted =
     let a = (accepts_exactly_holds q x w i j claims).0 accepted in
     let p = with_keys q more in
     let e : token_of q.policy x ≡ Ok a.token = is_token q x a.token a.signed in
@@ -67,12 +70,16 @@ more_keys_hold q more x w more_w i j claims among room accepted =
       (accepts_exactly_holds p x more_w by.0 by.1 claims).1 (record {
         token = a.token;
         signed = a.signed;
-        unstopped = never_stops (table p x) more_w q.policy.max_calls room.0 room.1;
+        unstopped = none;
         verified_by = subst (λ t. IsVerifiedBy t by.0 by.1) (sym u) by.2;
         read = a.read;
         hold = a.hold;
       }),
     )
+
+pub more_keys_hold : MoreKeys
+more_keys_hold q more x w more_w i j claims among room accepted =
+    more_keys_unstopped q more x w more_w i j claims among (never_stops (table (with_keys q more) x) more_w q.policy.max_calls room.0 room.1) accepted
 
 -- ---- the same keys
 
@@ -162,18 +169,12 @@ verdict_refused : (q : Terms) (x : List ℕ) (w : ℕ) (f : Fault) → token_of 
 unfolding verdict_of
 verdict_refused q x w f e = ap (decided q w) e
 
-pub same_keys_hold : SameKeys
-same_keys_hold q others x w other_w h k room other_room = go (token_of q.policy x) refl
+pub same_keys_unstopped : (q : Terms) (others : List KeyParts) (x : List ℕ) (w other_w : ℕ) → AreAmong others q.keys → AreAmong q.keys others
+    → stop (table q x) w q.policy.max_calls ≡ None → stop (table (with_keys q others) x) other_w q.policy.max_calls ≡ None
+    → (without_key (verdict_of q x w) ≡ without_key (verdict_of (with_keys q others) x other_w))
+    × (map kind_of (states_at (table q x) (stop (table q x) w q.policy.max_calls)) ≡ map kind_of (states_at (table (with_keys q others) x) (stop (table (with_keys q others) x) other_w q.policy.max_calls)))
+same_keys_unstopped q others x w other_w h k none other_none = go (token_of q.policy x) refl
   where
-    p : Terms
-    p = with_keys q others
-
-    none : stop (table q x) w q.policy.max_calls ≡ None
-    none = never_stops (table q x) w q.policy.max_calls room.0 room.1
-
-    other_none : stop (table (with_keys q others) x) other_w q.policy.max_calls ≡ None
-    other_none = never_stops (table (with_keys q others) x) other_w q.policy.max_calls other_room.0 other_room.1
-
     go : (r : Result Token Fault) → r ≡ token_of q.policy x
         → (without_key (verdict_of q x w) ≡ without_key (verdict_of (with_keys q others) x other_w))
         × (map kind_of (states_at (table q x) (stop (table q x) w q.policy.max_calls)) ≡ map kind_of (states_at (table (with_keys q others) x) (stop (table (with_keys q others) x) other_w q.policy.max_calls)))
@@ -192,3 +193,8 @@ same_keys_hold q others x w other_w h k room other_room = go (token_of q.policy 
               ∙ states_same q.policy q.verifiers t q.keys others h k
               ∙ ap (λ t. map kind_of (states_at t None)) (table_of_token (with_keys q others) x t (sym e)) ∙ sym (ap (λ o. map kind_of (states_at (table (with_keys q others) x) o)) other_none),
         )
+
+pub same_keys_hold : SameKeys
+same_keys_hold q others x w other_w h k room other_room =
+    same_keys_unstopped q others x w other_w h k (never_stops (table q x) w q.policy.max_calls room.0 room.1)
+    (never_stops (table (with_keys q others) x) other_w q.policy.max_calls other_room.0 other_room.1)

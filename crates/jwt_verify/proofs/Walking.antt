@@ -13,7 +13,8 @@ use Rattle.std.specs.Prelude.{None, ◌*◌}
 use Rattle.jwt_policy.specs.declared.mode.Mode.TheVariants.{Any, All}
 use Rattle.jwt_verify.specs.declared.report.Try.{Try}
 use Rattle.jwt_verify.specs.Table.{Table, below, verifies, verified, reached_in, reached, tried, entry, pairs, tries}
-use Rattle.jwt_verify.specs.Walk.{is_tried, row, rows, IsAt, IsThrough, IsFront, goes_on}
+use Rattle.jwt_verify.specs.Walk.{is_tried, row, rows, IsAt, IsThrough, goes_on}
+use Rattle.jwt_verify.specs.Paying.{IsFront}
 use Rattle.jwt_verify.proofs.Below.{below-zero, below_more, length-below, grows, list_any-below, list_all-below, filter-map-below, flat_map-below, filter-flat_map, list_any-gap, filter-gap, flat_map-gap}
 
 false_not_true : {A : Type 0} → (b : Bool) → b ≡ true → b ≡ false → A

@@ -1,20 +1,29 @@
 -- When a token is accepted, and why it is refused, in words.
-use Rattle.std.specs.Prelude.{ℕ, ◌+◌, ◌<◌, ◌≤◌, ◌≡◌, ◌⊎◌, ◌↔◌, true, false, List, length, Some, None, Option, Ok, Err}
+use Rattle.std.specs.Prelude.{ℕ, ◌+◌, ◌<◌, ◌≤◌, ◌≡◌, ◌⊎◌, ◌↔◌, true, false, List, length, Option, Some, None}
 use Rattle.serde_json.specs.Data.{Members}
+use Rattle.jwt_text.specs.ObjectText.{IsObjectText}
+use Rattle.jwt_text.specs.Rows.{IsFirstRow, NoRow}
 use Rattle.jwt_jws.specs.Token.{Token}
-use Rattle.jwt_jws.specs.Forms.{form_of}
+use Rattle.jwt_jws.specs.FormFaults.{IsFormFault}
 use Rattle.jwt_policy.specs.declared.mode.Mode.{Mode}
 use Rattle.jwt_policy.specs.declared.mode.Mode.TheVariants.{Any, All}
+use Rattle.jwt_policy.specs.declared.sig_fault.SigFault.{SigFault}
+use Rattle.jwt_policy.specs.declared.sig_fault.SigFault.TheVariants.{NoKey, BadSignature}
 use Rattle.jwt_policy.specs.declared.claim_fault.ClaimFault.{ClaimFault}
-use Rattle.jwt_policy.specs.ClaimKinds.{claims_of}
-use Rattle.jwt_policy.specs.Checks.{check_of}
+use Rattle.jwt_policy.specs.declared.claim_fault.ClaimFault.TheVariants.{ClaimsShape}
+use Rattle.jwt_policy.specs.ClaimKinds.{kind_rows}
+use Rattle.jwt_policy.specs.Checks.{check_rows}
+use Rattle.jwt_policy.specs.Laws.{ClaimsHold}
 use Rattle.jwt_verify.specs.declared.report.Try.{Try}
 use Rattle.jwt_verify.specs.declared.report.InputFault.TheVariants.{TooLong}
 use Rattle.jwt_verify.specs.declared.report.Fault.{Fault}
 use Rattle.jwt_verify.specs.declared.report.Fault.TheVariants.{Text, Form, WorkExceeded, CallsExceeded, Signature, Claim}
+use Rattle.jwt_verify.specs.declared.report.Verdict.{Verdict}
 use Rattle.jwt_verify.specs.declared.report.Verdict.TheVariants.{Accepted, Refused}
-use Rattle.jwt_verify.specs.Table.{Table, verifies, verified, paid, stop, is_within}
-use Rattle.jwt_verify.specs.Verdict.{Terms, without_line_feed, fault_at, table, verdict_of}
+use Rattle.jwt_verify.specs.Table.{Table, verifies, verified, entry, tries, work}
+use Rattle.jwt_verify.specs.Paying.{IsNext, IsWithin, AreAllowed}
+use Rattle.jwt_verify.specs.Asks.{IsAsking}
+use Rattle.jwt_verify.specs.Verdict.{Terms, without_line_feed, verdict_of}
 
 -- j is the least key that is eligible and valid for signature i
 abbrev pub IsLeastKey : Table → ℕ → ℕ → Type 0
@@ -30,48 +39,90 @@ Counts All t i = (i ≡ 0) × ((k : ℕ) → k < t.signatures → verified t k �
 abbrev pub IsVerifiedBy : Table → ℕ → ℕ → Type 0
 IsVerifiedBy t i j = (i < t.signatures) × Counts t.mode t i × IsLeastKey t i j
 
--- x isn't too long, and is this signed token
-abbrev pub IsToken : Terms → List ℕ → Token → Type 0
-IsToken q x t = (length x ≤ q.policy.run.limit) × (form_of q.policy.run.max_signatures (without_line_feed q.policy.run.line_feed x) ≡ Ok t)
+-- the claims are those of the payload, and each registered one has its kind (RFC 7519, sections 4.1 and 7.2)
+abbrev pub HasClaims : List ℕ → Members → Type 0
+HasClaims payload claims = IsObjectText payload claims × NoRow (kind_rows claims)
 
--- x is accepted: it is a signed token, no ceiling stops the run, the signatures are verified, and the claims hold
+-- x is accepted, w being the budget's ceiling: it is a signed token, no ceiling stops the run, the signatures are verified, and
+-- the claims hold
 pub record IsAccepted (q : Terms) (x : List ℕ) (w i j : ℕ) (claims : Members) : Type 0 where
   pub token : Token
-  pub signed : IsToken q x token
-  pub unstopped : stop (table q x) w q.policy.max_calls ≡ None
-  pub verified_by : IsVerifiedBy (table q x) i j
-  pub read : claims_of token.payload ≡ Ok claims
-  pub hold : check_of q.policy claims q.now ≡ None
-
--- the verdict is an acceptance exactly where the token is accepted, with that signature, that key and those claims
-abbrev pub AcceptsExactly : Type 0
-AcceptsExactly = (q : Terms) (x : List ℕ) (w i j : ℕ) (claims : Members) → (verdict_of q x w ≡ Accepted i j claims) ↔ IsAccepted q x w i j claims
+  pub table : Table
+  pub signed : IsAsking q x token table
+  pub unstopped : AreAllowed w q.policy.max_calls (tries table)
+  pub verified_by : IsVerifiedBy table i j
+  pub read : HasClaims token.payload claims
+  pub hold : ClaimsHold q.policy claims q.now
 
 -- ---- refusals
 
--- the run stops at this pair: before it, all that a ceiling allows was tried
-abbrev pub StopsAt : Table → ℕ → Option ℕ → ℕ → ℕ → Type 0
-StopsAt t w calls i j = (e : Try) × (stop t w calls ≡ Some e) × (e.signature ≡ i) × (e.key ≡ j)
+-- the run stops before the pair of i and j: the tries es come before it, and both ceilings allow them
+pub record StopsAt (t : Table) (w : ℕ) (calls : Option ℕ) (i j : ℕ) (es : List Try) : Type 0 where
+  pub next : IsNext t es (entry t i j)
+  pub allowed : AreAllowed w calls es
+
+-- the cost of that pair exceeds what is left of the budget, and one more call is within the ceiling on calls
+abbrev pub StopsForWork : Table → ℕ → Option ℕ → ℕ → ℕ → Type 0
+StopsForWork t w calls i j = (es : List Try) × StopsAt t w calls i j es × (w < work es + t.cost i j) × IsWithin calls (length es + 1)
+
+-- one more call exceeds the ceiling on calls
+abbrev pub StopsForCalls : Table → ℕ → Option ℕ → ℕ → ℕ → Type 0
+StopsForCalls t w calls i j = (es : List Try) × StopsAt t w calls i j es × ((most : ℕ) × (calls ≡ Some most) × (most < length es + 1))
 
 -- Signature i is the first that isn't verified; in mode Any none is, in mode All each one before it is.
 abbrev pub IsFirstUnverified : Mode → Table → ℕ → Type 0
 IsFirstUnverified Any t i = (i ≡ 0) × ((k : ℕ) → k < t.signatures → verified t k ≡ false)
 IsFirstUnverified All t i = (i < t.signatures) × (verified t i ≡ false) × ((k : ℕ) → k < i → verified t k ≡ true)
 
--- the claims of a payload are refused for this, as claims or by the policy
+-- why a signature isn't verified: its bar; or it has none, and no key is eligible; or some key is, and none of these is valid
+abbrev pub IsReason : Table → ℕ → SigFault → Type 0
+IsReason t i f = (t.bar i ≡ Some f) ⊎ ((t.bar i ≡ None) × (
+    ((f ≡ NoKey) × ((j : ℕ) → j < t.keys → t.eligible i j ≡ false)) ⊎ ((f ≡ BadSignature) × ((j : ℕ) × (j < t.keys) × (t.eligible i j ≡ true)))))
+
+-- why the claims of a payload are refused: it is no object text; a registered claim has another kind; or the first row of the
+-- policy's checks that holds
 abbrev pub IsClaimFault : Terms → List ℕ → ClaimFault → Type 0
-IsClaimFault q payload f = (claims_of payload ≡ Err f) ⊎ ((claims : Members) × (claims_of payload ≡ Ok claims) × (check_of q.policy claims q.now ≡ Some f))
+IsClaimFault q payload f = ((f ≡ ClaimsShape) × ((claims : Members) → ¬ IsObjectText payload claims))
+    ⊎ (((claims : Members) × IsObjectText payload claims × IsFirstRow (kind_rows claims) f)
+    ⊎ ((claims : Members) × HasClaims payload claims × IsFirstRow (check_rows q.policy claims q.now) f))
+
+-- x is a signed token, and this holds of its payload and its table
+abbrev pub OfToken : Terms → List ℕ → (List ℕ → Table → Type 0) → Type 0
+OfToken q x P = (token : Token) × (t : Table) × IsAsking q x token t × P token.payload t
+
+-- the same, where no ceiling stops the run
+abbrev pub OfRun : Terms → List ℕ → ℕ → (List ℕ → Table → Type 0) → Type 0
+OfRun q x w P = OfToken q x (λ payload t. AreAllowed w q.policy.max_calls (tries t) × P payload t)
 
 -- why x is refused, each cause where none before it holds
 abbrev pub IsFault : Terms → List ℕ → ℕ → Fault → Type 0
 IsFault q x w (Text TooLong) = q.policy.run.limit < length x
-IsFault q x w (Form f) = (length x ≤ q.policy.run.limit) × (form_of q.policy.run.max_signatures (without_line_feed q.policy.run.line_feed x) ≡ Err f)
-IsFault q x w (CallsExceeded i j) = StopsAt (table q x) w q.policy.max_calls i j × (is_within q.policy.max_calls (length (paid (table q x) w q.policy.max_calls) + 1) ≡ false)
-IsFault q x w (WorkExceeded i j) = StopsAt (table q x) w q.policy.max_calls i j × (is_within q.policy.max_calls (length (paid (table q x) w q.policy.max_calls) + 1) ≡ true)
-IsFault q x w (Signature i f) = (t : Token) × IsToken q x t × (stop (table q x) w q.policy.max_calls ≡ None) × IsFirstUnverified q.policy.run.mode (table q x) i × (fault_at (table q x) i ≡ Some f)
-IsFault q x w (Claim f) = (t : Token) × IsToken q x t × (stop (table q x) w q.policy.max_calls ≡ None) × ((i : ℕ) × (j : ℕ) × IsVerifiedBy (table q x) i j) × IsClaimFault q t.payload f
+IsFault q x w (Form f) = (length x ≤ q.policy.run.limit) × IsFormFault q.policy.run.max_signatures (without_line_feed q.policy.run.line_feed x) f
+IsFault q x w (CallsExceeded i j) = OfToken q x (λ payload t. StopsForCalls t w q.policy.max_calls i j)
+IsFault q x w (WorkExceeded i j) = OfToken q x (λ payload t. StopsForWork t w q.policy.max_calls i j)
+IsFault q x w (Signature i f) = OfRun q x w (λ payload t. IsFirstUnverified t.mode t i × IsReason t i f)
+IsFault q x w (Claim f) = OfRun q x w (λ payload t. ((i : ℕ) × (j : ℕ) × IsVerifiedBy t i j) × IsClaimFault q payload f)
 IsFault q x w _ = ⊥
 
--- the verdict is a refusal exactly where that fault is the first that holds
+-- ---- the verdict
+
+-- the verdict on x, where memory is there and w is the budget's ceiling
+abbrev pub IsVerdict : Terms → List ℕ → ℕ → Verdict → Type 0
+IsVerdict q x w (Accepted i j claims) = IsAccepted q x w i j claims
+IsVerdict q x w (Refused f) = IsFault q x w f
+
+-- exactly one verdict is that on x
+abbrev pub HasOneVerdict : Type 0
+HasOneVerdict = (q : Terms) (x : List ℕ) (w : ℕ) → (v : Verdict) × IsVerdict q x w v × ((u : Verdict) → IsVerdict q x w u → u ≡ v)
+
+-- the verdict that is computed is an acceptance exactly where the token is accepted, with that signature, key and claims
+abbrev pub AcceptsExactly : Type 0
+AcceptsExactly = (q : Terms) (x : List ℕ) (w i j : ℕ) (claims : Members) → (verdict_of q x w ≡ Accepted i j claims) ↔ IsAccepted q x w i j claims
+
+-- it is a refusal exactly where that fault is the first that holds
 abbrev pub RefusesExactly : Type 0
 RefusesExactly = (q : Terms) (x : List ℕ) (w : ℕ) (f : Fault) → (verdict_of q x w ≡ Refused f) ↔ IsFault q x w f
+
+-- it is the verdict on x
+abbrev pub TellsVerdicts : Type 0
+TellsVerdicts = (q : Terms) (x : List ℕ) (w : ℕ) (v : Verdict) → (verdict_of q x w ≡ v) ↔ IsVerdict q x w v

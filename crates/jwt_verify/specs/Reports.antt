@@ -1,22 +1,25 @@
--- What a report says of a verdict.
-use Rattle.std.specs.Prelude.{◌≡◌, ◌≤◌, ◌+◌, ℕ, ℤ, ◌++◌, Bool, true, drop, Result, Ok, Err, List, [], ◌∷◌, length, slice_get, Option, Some, None, option_and_then}
+-- What a report on a token holds.
+use Rattle.std.specs.Prelude.{◌≡◌, ◌≤◌, ◌⊎◌, ℕ, ℤ, ◌++◌, true, List, [], ◌∷◌, length, slice_get, Option, Some}
+use Rattle.std.specs.List.{All}
 use Rattle.jwt_mac.specs.Verifying.{Meaning}
-use Rattle.jwt_text.specs.Intake.{Bounded, taken}
+use Rattle.jwt_jws.specs.Token.{Token}
 use Rattle.jwt_keys.specs.declared.set.KeySet.{KeySet}
 use Rattle.jwt_keys.specs.KeySets.{key_set}
-use Rattle.jwt_policy.specs.declared.mode.Mode.{Mode}
 use Rattle.jwt_policy.specs.Settings.{Settings}
-use Rattle.jwt_policy.specs.declared.sig_fault.SigFault.{SigFault}
+use Rattle.jwt_policy.specs.Laws.{IsEligible}
 use Rattle.jwt_verify.specs.declared.report.Try.{Try}
 use Rattle.jwt_verify.specs.declared.report.SigState.{SigState}
-use Rattle.jwt_verify.specs.declared.report.SigState.TheVariants.{Verified}
 use Rattle.jwt_verify.specs.declared.report.InputFault.TheVariants.{Read}
-use Rattle.jwt_verify.specs.declared.report.Fault.{Fault}
 use Rattle.jwt_verify.specs.declared.report.Fault.TheVariants.{OutOfMemory, VerifierMemory, Text}
+use Rattle.jwt_verify.specs.declared.report.Report.{Report}
 use Rattle.jwt_verify.specs.declared.report.Verdict.{Verdict}
 use Rattle.jwt_verify.specs.declared.report.Verdict.TheVariants.{Refused}
-use Rattle.jwt_verify.specs.Table.{Table, below, paid, states, states_at}
-use Rattle.jwt_verify.specs.Verdict.{Terms, Signing, fault_of, first_in, signing_in}
+use Rattle.jwt_verify.specs.Table.{Table, tries, states_at}
+use Rattle.jwt_verify.specs.Paying.{IsFront, AreAllowed, ArePaid}
+use Rattle.jwt_verify.specs.Asks.{AtPair, IsToken, IsAsking}
+use Rattle.jwt_verify.specs.Accepted.{IsVerdict}
+use Rattle.jwt_verify.specs.Laws.{work_most}
+use Rattle.jwt_verify.specs.Verdict.{Terms}
 
 abbrev pub terms : Settings → KeySet → ℤ → List Meaning → Terms
 terms p keys now verifiers = record { policy = p; keys = (key_set keys).keys; now = now; verifiers = verifiers }
@@ -27,13 +30,39 @@ FoundMemory (Refused OutOfMemory) = ⊥
 FoundMemory (Refused VerifierMemory) = ⊥
 FoundMemory _ = Unit {0}
 
--- A run that found memory lists all that is paid, and every state. Where a verifier lacked it, the last try is the one that it
--- was asked for, and the states are those of a run that stopped there.
-abbrev pub IsWhole : Table → ℕ → Option ℕ → List Try → List SigState → Verdict → Type 0
-IsWhole t w calls es sts (Refused OutOfMemory) = Unit {0}
-IsWhole t w calls es sts (Refused VerifierMemory) =
+-- Where memory was there, the tries listed are those that are paid, and the states are those of a run that stops at the try after
+-- them, where there is one. Where a verifier lacked memory, the last try is the one that it was asked for, and the run stopped
+-- there. After OutOfMemory nothing is said of the states.
+abbrev pub IsComplete : Table → ℕ → Option ℕ → List Try → List SigState → Verdict → Type 0
+IsComplete t w calls es sts (Refused OutOfMemory) = Unit {0}
+IsComplete t w calls es sts (Refused VerifierMemory) =
     (before : List Try) × (e : Try) × (es ≡ before ++ e ∷ []) × (t.may_lack e.signature e.key ≡ true) × (sts ≡ states_at t (Some e))
-IsWhole t w calls es sts _ = (es ≡ paid t w calls) × (sts ≡ states t w calls)
+IsComplete t w calls es sts _ = ArePaid t w calls es × (sts ≡ states_at t (slice_get (tries t) (length es)))
+
+-- the report of a run over the table: the tries listed are a front of the tries, and both ceilings allow them
+pub record IsRunReport (t : Table) (w : ℕ) (calls : Option ℕ) (r : Report) : Type 0 where
+  pub front : IsFront t r.tries.items
+  pub allowed : AreAllowed w calls r.tries.items
+  pub complete : IsComplete t w calls r.tries.items r.states.items r.verdict
+
+-- no try and no state is listed; after OutOfMemory nothing is said of the states
+abbrev pub IsBlank : Report → Type 0
+IsBlank r = (r.tries.items ≡ []) × ((r.verdict ≡ Refused OutOfMemory) ⊎ (FoundMemory r.verdict × (r.states.items ≡ [])))
+
+-- The report on x, w being the budget's ceiling: its verdict, unless memory was refused, is that on x; of a signed token it lists
+-- what its run comes to, of anything else nothing.
+pub record IsReport (q : Terms) (x : List ℕ) (w : ℕ) (r : Report) : Type 0 where
+  pub verdict : FoundMemory r.verdict → IsVerdict q x w r.verdict
+  pub run : (token : Token) (t : Table) → IsAsking q x token t → IsRunReport t w q.policy.max_calls r
+  pub blank : ((token : Token) → ¬ IsToken q x token) → IsBlank r
+
+-- each of these tries is of an eligible pair
+abbrev pub AreEligible : Terms → List ℕ → List Try → Type 0
+AreEligible q x es = (token : Token) → IsToken q x token → All (λ e. AtPair token q.keys e.signature e.key (λ s key. IsEligible q.policy s key q.verifiers)) es
+
+-- so many octets are within the bound on these tries
+abbrev pub IsBounded : Terms → List ℕ → List Try → ℕ → Type 0
+IsBounded q x es octets = (token : Token) → IsToken q x token → octets ≤ work_most q token es
 
 -- the source failed, and nothing was tried; or memory was refused before anything was
 abbrev pub Failed : Verdict → List Try → Type 0
@@ -44,32 +73,3 @@ Failed _ es = ⊥
 -- at most so many octets of x were taken, and the others are still to come
 abbrev pub TakesAtMost : ℕ → List ℕ → Option (List ℕ) → Type 0
 TakesAtMost most x rest = (front : List ℕ) × (back : List ℕ) × (x ≡ front ++ back) × (rest ≡ Some back) × (length front ≤ most)
-
--- the octets of x that are held, and what is still to come; or memory was refused, and not more were taken
-abbrev pub Holds : Result Bounded Fault → ℕ → List ℕ → Option (List ℕ) → Type 0
-Holds (Ok held) limit x rest = (held.octets ≡ taken x limit) × (rest ≡ Some (drop (limit + 1) x))
-Holds (Err OutOfMemory) limit x rest = TakesAtMost (limit + 1) x rest
-Holds (Err _) limit x rest = Unit {0}
-
--- why nothing is held, by whether the source has failed
-abbrev pub IsSourceFault : Bool → Fault → Type 0
-IsSourceFault failed OutOfMemory = Unit {0}
-IsSourceFault failed (Text Read) = failed ≡ true
-IsSourceFault failed _ = ⊥
-
--- ---- the states of a run, one by one
-
--- the key that verifies a signature in this state
-abbrev pub key_of : SigState → Option ℕ
-key_of (Verified j) = Some j
-key_of _ = None
-
-abbrev pub key_in : List SigState → ℕ → Option ℕ
-key_in states i = option_and_then key_of (slice_get states i)
-
-abbrev pub fault_in : List SigState → ℕ → Option SigFault
-fault_in states i = option_and_then fault_of (slice_get states i)
-
--- what the signatures in these states come to
-abbrev pub signing_by : Mode → List SigState → Signing
-signing_by mode states = signing_in mode (first_in (key_in states) (below (length states))) (first_in (fault_in states) (below (length states)))

@@ -13,6 +13,7 @@ use Rattle.jwt_policy.specs.declared.mode.Mode.{Mode}
 use Rattle.jwt_policy.specs.declared.mode.Mode.TheVariants.{Any, All}
 use Rattle.jwt_verify.specs.declared.report.Try.{Try}
 use Rattle.jwt_verify.specs.Table.{Table, below, verifies, verified, reached, tried, entry, tries, work, is_within, state_at}
+use Rattle.jwt_verify.specs.Paying.{IsFront, IsNext}
 
 abbrev pub is_tried : Table → Try → Bool
 is_tried t e = tried t e.signature e.key
@@ -70,14 +71,6 @@ pub record IsPending (t : Table) (i j : ℕ) (es : List Try) : Type 0 where
   pub at : IsAt t i j es
   pub within : j < t.keys
   pub eligible : t.eligible i j ≡ true
-
--- es is a front of the tries
-abbrev pub IsFront : Table → List Try → Type 0
-IsFront t es = (rest : List Try) × (tries t ≡ es ++ rest)
-
--- e is the try after es
-abbrev pub IsNext : Table → List Try → Try → Type 0
-IsNext t es e = (rest : List Try) × (tries t ≡ es ++ e ∷ rest)
 
 -- how a run ended
 abbrev pub IsEnd : Table → ℕ → Option ℕ → List Try → End → Type 0

@@ -6,7 +6,7 @@ ghost use Rattle.jwt_verify.specs.Table.{below};
 ghost use Rattle.jwt_verify.specs.Verdict.{first_in, claimed, concluded, ended};
 ghost use Rattle.jwt_verify.specs.declared.report.Verdict.TheVariants.{Refused};
 ghost use Rattle.jwt_verify.specs.declared.report.Fault.TheVariants.{OutOfMemory};
-ghost use Rattle.jwt_verify.specs.Reports.{key_in, fault_in, signing_by};
+ghost use Rattle.jwt_verify.specs.Steps.{key_in, fault_in, signing_by};
 
 use crate::report::{Fault, SigState, Verdict};
 use crate::tries::End;

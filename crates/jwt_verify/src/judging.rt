@@ -1,6 +1,7 @@
 //! Judges a token in hand, or one that a source gives.
 
-ghost use Rattle.std.specs.Prelude.{◌≡◌, ◌≢◌, ◌≤◌, ◌+◌, ◌++◌, [], List, Some, true, false, map, length, drop, IfOk, OnOk, IfErr, IfSome};
+ghost use Rattle.std.specs.Prelude.{◌≡◌, ◌≢◌, ◌≤◌, ◌+◌, ◌++◌, [], ℕ, List, Some, true, false, map, length, drop, IfOk, OnOk, IfErr, IfSome};
+ghost use Rattle.std.specs.List.{AllPairs};
 ghost use Rattle.jwt_text.specs.Answers.{Answers};
 ghost use Rattle.jwt_jws.specs.Views.{token};
 ghost use Rattle.jwt_keys.specs.KeySets.{key_set};
@@ -8,13 +9,18 @@ ghost use Rattle.jwt_policy.specs.Bars.{bar_of};
 ghost use Rattle.jwt_verify.specs.Table.{work, paid, IsRun};
 ghost use Rattle.jwt_verify.specs.Trying.{table_of};
 ghost use Rattle.jwt_verify.specs.Verdict.{token_verdict, token_of, verdict_of, table, without_line_feed};
-ghost use Rattle.jwt_verify.specs.Reports.{FoundMemory, IsWhole, Failed, TakesAtMost, Holds, IsSourceFault, terms};
+ghost use Rattle.jwt_verify.specs.Accepted.{IsVerdict};
+ghost use Rattle.jwt_verify.specs.Laws.{IsBefore};
+ghost use Rattle.jwt_verify.specs.Paying.{IsWithin};
+ghost use Rattle.jwt_verify.specs.Reports.{FoundMemory, IsReport, AreEligible, IsBounded, Failed, TakesAtMost, terms};
+ghost use Rattle.jwt_verify.specs.Steps.{IsWhole, Holds, IsSourceFault};
 ghost use Rattle.jwt_verify.specs.declared.report.InputFault.TheVariants.{Read};
 ghost use Rattle.jwt_verify.specs.declared.report.Fault.TheVariants.{OutOfMemory, Text};
 ghost use Rattle.jwt_verify.specs.declared.report.Verdict.TheVariants.{Refused};
 
 use crate::asked::Asked;
 use crate::conclusion::verdict_after;
+use crate::laws::reports_in_words;
 use crate::report::{Fault, InputFault, Report, SigState, Try, Verdict};
 use crate::tries::{End, run};
 use jwt_jws::{FormFault, Signed, parse};
@@ -161,6 +167,32 @@ fn refused<'p>(alloc: Global, fault: Fault<'p>) -> Report<'p>
     }
 }
 
+/// The report on octets in hand, by the steps of the definitions.
+fn judge_octets<'p, B: Budget>(
+    alloc: Global,
+    octets: &[u8],
+    keys: &KeySet,
+    policy: &'p Policy,
+    now: i64,
+    verifiers: &[Box<dyn Verifier>],
+    b: &mut B,
+) -> Report<'p>
+    requires no_octets { B.octets b.old ≡ 0 }
+    requires no_calls { B.calls b.old ≡ 0 }
+    ensures verdict { FoundMemory result.verdict → result.verdict ≡ verdict_of (terms policy.now keys.now now (map meaning verifiers.now)) octets.now (B.ceiling b.old) }
+    ensures tries { IsWhole (table (terms policy.now keys.now now (map meaning verifiers.now)) octets.now) (B.ceiling b.old) policy.now.max_calls result.tries.items result.states.items result.verdict }
+    ensures front { (more : List Try) × (paid (table (terms policy.now keys.now now (map meaning verifiers.now)) octets.now) (B.ceiling b.old) policy.now.max_calls ≡ result.tries.items ++ more) }
+    ensures read { result.verdict ≢ Refused (Text Read) }
+    ensures octets { B.octets b.new ≡ work result.tries.items }
+    ensures calls { B.calls b.new ≡ length result.tries.items }
+    ensures ceiling { B.ceiling b.new ≡ B.ceiling b.old }
+{
+    match read_token(alloc, octets, policy) {
+        Ok(signed) => judge_token(alloc, &signed, keys, policy, now, verifiers, b),
+        Err(fault) => refused(alloc, fault),
+    }
+}
+
 /// The verdict on octets in hand, with what became of each signature and each try that was paid.
 ///
 /// The octets, without one final octet 10 where the policy has `line_feed`, are read as a signed token (RFC 7515, section 7). The
@@ -191,21 +223,28 @@ pub fn judge<'p, B: Budget>(
     requires no_octets { B.octets b.old ≡ 0 }
     requires no_calls { B.calls b.old ≡ 0 }
 
-    // The verdict, unless memory was refused; the states and the tries; and the tries after every verdict.
-    ensures verdict { FoundMemory result.verdict → result.verdict ≡ verdict_of (terms policy.now keys.now now (map meaning verifiers.now)) octets.now (B.ceiling b.old) }
-    ensures tries { IsWhole (table (terms policy.now keys.now now (map meaning verifiers.now)) octets.now) (B.ceiling b.old) policy.now.max_calls result.tries.items result.states.items result.verdict }
-    ensures front { (more : List Try) × (paid (table (terms policy.now keys.now now (map meaning verifiers.now)) octets.now) (B.ceiling b.old) policy.now.max_calls ≡ result.tries.items ++ more) }
+    // The verdict is that on the octets, unless memory was refused; and what else the report holds.
+    ensures verdict { FoundMemory result.verdict → IsVerdict (terms policy.now keys.now now (map meaning verifiers.now))
+        octets.now (B.ceiling b.old) result.verdict }
+    ensures report { IsReport (terms policy.now keys.now now (map meaning verifiers.now))
+        octets.now (B.ceiling b.old) result }
     ensures read { result.verdict ≢ Refused (Text Read) }
+
+    // No pair is tried twice, and each is eligible; the octets are within the bound, the calls within the policy's ceiling.
+    ensures once { AllPairs IsBefore result.tries.items }
+    ensures eligible { AreEligible (terms policy.now keys.now now (map meaning verifiers.now))
+        octets.now result.tries.items }
+    ensures bound { IsBounded (terms policy.now keys.now now (map meaning verifiers.now))
+        octets.now result.tries.items (B.octets b.new) }
+    ensures within { IsWithin policy.now.max_calls (B.calls b.new) }
 
     // The budget agrees with the tries.
     ensures octets { B.octets b.new ≡ work result.tries.items }
     ensures calls { B.calls b.new ≡ length result.tries.items }
     ensures ceiling { B.ceiling b.new ≡ B.ceiling b.old }
 {
-    match read_token(alloc, octets, policy) {
-        Ok(signed) => judge_token(alloc, &signed, keys, policy, now, verifiers, b),
-        Err(fault) => refused(alloc, fault),
-    }
+    reports_in_words();
+    judge_octets(alloc, octets, keys, policy, now, verifiers, b)
 }
 
 /// The octets of the source, as far as they are looked at: all, or one more than the limit.
@@ -213,6 +252,7 @@ fn take_in<'p, R: Source>(alloc: Global, r: &mut R, limit: u32) -> Result<Intake
     requires least { 1 ≤ limit }
     requires greatest { limit ≤ 1048576 }
     ensures octets { IfSome (R.remaining r.old) (λ x. Holds result limit x (R.remaining r.new)) }
+    ensures bound { IfOk result (λ held. length held.octets ≤ limit + 1) }
     ensures ok { OnOk result (R.failed r.new ≡ false) }
     ensures fault { IfErr result (IsSourceFault (R.failed r.new)) }
 {
@@ -262,19 +302,30 @@ pub fn validate<'p, R: Source, B: Budget>(
     requires no_octets { B.octets b.old ≡ 0 }
     requires no_calls { B.calls b.old ≡ 0 }
 
-    // Of a source that tells its octets and doesn't fail: what was taken, the verdict, the states and the tries.
-    ensures verdict { IfSome (R.remaining r.old) (λ x. result.verdict ≢ Refused (Text Read) → FoundMemory result.verdict
-        → result.verdict ≡ verdict_of (terms policy.now keys.now now (map meaning verifiers.now)) x (B.ceiling b.old)) }
-    ensures taken { IfSome (R.remaining r.old) (λ x. result.verdict ≢ Refused (Text Read) → result.verdict ≢ Refused OutOfMemory
+    // Of a source that tells its octets, unless a read failed: the verdict is that on them, unless memory was refused; what else
+    // the report holds; and what was taken.
+    ensures verdict { IfSome (R.remaining r.old) (λ x. result.verdict ≢ Refused (Text Read)
+        → FoundMemory result.verdict → IsVerdict (terms policy.now keys.now now (map meaning verifiers.now))
+        x (B.ceiling b.old) result.verdict) }
+    ensures report { IfSome (R.remaining r.old) (λ x. result.verdict ≢ Refused (Text Read)
+        → IsReport (terms policy.now keys.now now (map meaning verifiers.now)) x (B.ceiling b.old) result) }
+    ensures eligible { IfSome (R.remaining r.old) (λ x.
+        AreEligible (terms policy.now keys.now now (map meaning verifiers.now)) x result.tries.items) }
+    ensures bound { IfSome (R.remaining r.old) (λ x.
+        IsBounded (terms policy.now keys.now now (map meaning verifiers.now))
+        x result.tries.items (B.octets b.new)) }
+    ensures taken { IfSome (R.remaining r.old) (λ x. result.verdict ≢ Refused (Text Read)
+        → result.verdict ≢ Refused OutOfMemory
         → R.remaining r.new ≡ Some (drop (policy.now.run.limit + 1) x)) }
     ensures most { IfSome (R.remaining r.old) (λ x. result.verdict ≢ Refused (Text Read)
         → TakesAtMost (policy.now.run.limit + 1) x (R.remaining r.new)) }
-    ensures tries { IfSome (R.remaining r.old) (λ x. result.verdict ≢ Refused (Text Read)
-        → IsWhole (table (terms policy.now keys.now now (map meaning verifiers.now)) x) (B.ceiling b.old) policy.now.max_calls result.tries.items result.states.items result.verdict) }
-    ensures front { IfSome (R.remaining r.old) (λ x. (more : List Try)
-        × (paid (table (terms policy.now keys.now now (map meaning verifiers.now)) x) (B.ceiling b.old) policy.now.max_calls ≡ result.tries.items ++ more)) }
 
-    // Of every source: where it fails nothing is tried, and the budget agrees with the tries.
+    // Of every source, also of one that doesn't tell its octets: unless a read failed, some octets have this report.
+    ensures some { result.verdict ≢ Refused (Text Read)
+        → (x : List ℕ) × (length x ≤ policy.now.run.limit + 1)
+        × IsReport (terms policy.now keys.now now (map meaning verifiers.now)) x (B.ceiling b.old) result }
+    ensures once { AllPairs IsBefore result.tries.items }
+    ensures within { IsWithin policy.now.max_calls (B.calls b.new) }
     ensures failed { R.failed r.new ≡ true → Failed result.verdict result.tries.items }
     ensures read { result.verdict ≡ Refused (Text Read) → R.failed r.new ≡ true }
     ensures unread { result.verdict ≡ Refused (Text Read) → result.states.items ≡ [] }
@@ -282,6 +333,7 @@ pub fn validate<'p, R: Source, B: Budget>(
     ensures calls { B.calls b.new ≡ length result.tries.items }
     ensures ceiling { B.ceiling b.new ≡ B.ceiling b.old }
 {
+    reports_in_words();
     match take_in(alloc, r, policy.limit()) {
         Ok(intake) => judge(alloc, intake.octets(), keys, policy, now, verifiers, b),
         Err(fault) => refused(alloc, fault),

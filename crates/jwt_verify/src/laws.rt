@@ -1,10 +1,15 @@
 //! Laws of the definitions: each function does nothing, and its contract holds of every table.
 
-ghost use Rattle.jwt_verify.specs.Accepted.{AcceptsExactly, RefusesExactly};
+ghost use Rattle.jwt_verify.specs.Accepted.{AcceptsExactly, RefusesExactly, TellsVerdicts, HasOneVerdict};
+ghost use Rattle.jwt_verify.specs.Steps.{ReportsInWords, ReportsOnTaken, TakenTokens, TellsReports};
 ghost use Rattle.jwt_verify.specs.Laws.{TriesAreBounded, LeastTries, MoreKeys, SameKeys, WorkIsBounded, CeilingSuffices};
+ghost use Rattle.jwt_verify.specs.Verdicts.{PaidIsLongest, CallsSuffice, CallersBound, GreatestWork, MoreKeysAccept, SameKeysAgree, LeastTriesOfToken};
 
-use jwt_jws::laws::signed_tokens;
-use jwt_policy::laws::{bar_is_first_row, eligible_pairs};
+use jwt_jws::laws::{form_faults, signed_tokens};
+use jwt_policy::laws::{
+    bar_is_first_row, check_is_first_row, claims_hold, eligible_pairs, payload_claims,
+};
+use jwt_text::laws::object_texts;
 
 /// The tries stand in dictionary order, so no pair twice, and each is eligible; there are no more than pairs, and their costs
 /// add up to no more than the bound.
@@ -41,7 +46,16 @@ pub fn least_tries()
 /// the first verified signature, its least key and the payload's claims.
 pub fn accepts_exactly()
     ensures { AcceptsExactly }
-{}
+{
+    signed_tokens();
+    form_faults();
+    object_texts();
+    eligible_pairs();
+    bar_is_first_row();
+    payload_claims();
+    check_is_first_row();
+    claims_hold();
+}
 
 /// The verdict is a refusal for a fault exactly where that fault holds, in words, and none before it does: it is too long; it is
 /// no signed token; a ceiling stopped the run at that pair; the signature is the first that isn't verified, in mode `any` where
@@ -50,6 +64,166 @@ pub fn refuses_exactly()
     ensures { RefusesExactly }
 {
     signed_tokens();
+    form_faults();
+    object_texts();
+    eligible_pairs();
+    bar_is_first_row();
+    payload_claims();
+    check_is_first_row();
+    claims_hold();
+}
+
+/// The verdict that the code computes, step by step, is the verdict in words, and no other.
+pub fn tells_verdicts()
+    ensures { TellsVerdicts }
+{
+    signed_tokens();
+    form_faults();
+    object_texts();
+    eligible_pairs();
+    bar_is_first_row();
+    payload_claims();
+    check_is_first_row();
+    claims_hold();
+}
+
+/// Exactly one verdict is that on given octets.
+pub fn one_verdict()
+    ensures { HasOneVerdict }
+{
+    signed_tokens();
+    form_faults();
+    object_texts();
+    eligible_pairs();
+    bar_is_first_row();
+    payload_claims();
+    check_is_first_row();
+    claims_hold();
+}
+
+/// Where memory was there, a report that holds what it has to in words lists the tries and the states that the code computes, step
+/// by step, and has that verdict.
+pub fn tells_reports()
+    ensures { TellsReports }
+{
+    signed_tokens();
+    form_faults();
+    object_texts();
+    eligible_pairs();
+    bar_is_first_row();
+    payload_claims();
+    check_is_first_row();
+    claims_hold();
+}
+
+// What the code computes, step by step, is the report in words; and what is past the octet behind the limit plays no part in it.
+pub(crate) fn reports_in_words()
+    ensures listed { ReportsInWords }
+    ensures taken { ReportsOnTaken }
+    ensures token { TakenTokens }
+{
+    signed_tokens();
+    form_faults();
+    object_texts();
+    eligible_pairs();
+    bar_is_first_row();
+    payload_claims();
+    check_is_first_row();
+    claims_hold();
+}
+
+/// What is paid is the longest front of the tries that both ceilings allow.
+pub fn paid_is_longest()
+    ensures { PaidIsLongest }
+{}
+
+/// Where signatures times keys are within the policy's `max_calls`, no token is refused with `CallsExceeded`.
+pub fn calls_suffice()
+    ensures { CallsSuffice }
+{
+    signed_tokens();
+    form_faults();
+    object_texts();
+    eligible_pairs();
+    bar_is_first_row();
+    payload_claims();
+    check_is_first_row();
+    claims_hold();
+}
+
+/// The bound in a caller's terms, without the tries: signatures times keys times the longest signing input with two blocks and a
+/// digest, and signatures times the lengths of all secrets.
+pub fn callers_bound()
+    ensures { CallersBound }
+{
+    signed_tokens();
+    form_faults();
+    object_texts();
+    eligible_pairs();
+    bar_is_first_row();
+    payload_claims();
+    check_is_first_row();
+    claims_hold();
+}
+
+/// That bound is at most 34,504,441,856 octets, with up to 32 signatures, 1,024 keys, signing inputs of 1,048,576 octets and
+/// secrets of 4,096.
+pub fn greatest_work()
+    ensures { GreatestWork }
+{
+    signed_tokens();
+    form_faults();
+    object_texts();
+    eligible_pairs();
+    bar_is_first_row();
+    payload_claims();
+    check_is_first_row();
+    claims_hold();
+}
+
+/// More keys never refuse, where no ceiling stops the run with them: what is accepted with some keys is accepted with more, with the
+/// same claims.
+pub fn more_keys_accept()
+    ensures { MoreKeysAccept }
+{
+    signed_tokens();
+    form_faults();
+    object_texts();
+    eligible_pairs();
+    bar_is_first_row();
+    payload_claims();
+    check_is_first_row();
+    claims_hold();
+}
+
+/// Key sets with the same keys, in any order and with repeats, give the same verdict and the same states but for the numbers of
+/// keys, where no ceiling stops a run.
+pub fn same_keys_agree()
+    ensures { SameKeysAgree }
+{
+    signed_tokens();
+    form_faults();
+    object_texts();
+    eligible_pairs();
+    bar_is_first_row();
+    payload_claims();
+    check_is_first_row();
+    claims_hold();
+}
+
+/// No try of a token can be spared: another validity that agrees with its own on the paid tries leaves the same tries, states and
+/// verdict, and where one paid try alone has other validity, the states differ.
+pub fn least_tries_of_token()
+    ensures { LeastTriesOfToken }
+{
+    signed_tokens();
+    form_faults();
+    object_texts();
+    eligible_pairs();
+    bar_is_first_row();
+    payload_claims();
+    check_is_first_row();
+    claims_hold();
 }
 
 /// More keys never refuse: what is accepted with some keys is accepted with more, with the same claims, where the ceilings leave

@@ -1,7 +1,8 @@
 //! Which pairs of signature and key are tried, and what they cost.
 ghost use Rattle.std.specs.Prelude.{◌≡◌, ◌<◌, ◌≤◌, ◌+◌, ◌*◌, ◌-◌, ◌^◌, replicate, OnOk, ◌∷◌, ◌++◌, [], List, true, length, map, OnErr, IfOk, MatchOption, MatchResult};
 ghost use Rattle.jwt_verify.specs.Table.{entry, work, is_within, paid, settled, IsRun};
-ghost use Rattle.jwt_verify.specs.Walk.{IsAt, IsCounted, IsAnswer, IsPending, IsRowEnd, IsEnd, IsFront, stopped_at, goes_on, IsRecorded};
+ghost use Rattle.jwt_verify.specs.Walk.{IsAt, IsCounted, IsAnswer, IsPending, IsRowEnd, IsEnd, stopped_at, goes_on, IsRecorded};
+ghost use Rattle.jwt_verify.specs.Paying.{IsFront};
 ghost use Rattle.jwt_verify.specs.AskedTable.{asked_table, HasBars};
 
 use crate::asked::Asked;

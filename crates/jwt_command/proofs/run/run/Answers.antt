@@ -1,11 +1,11 @@
 use Rattle.std.proofs.Common.{inr}
-use Rattle.jwt_command.specs.Mac.{mac_answer}
+use Rattle.jwt_command.specs.Mac.{key_refused, mac_answer}
 use Rattle.jwt_command.specs.Shown.{show_answer}
 use Rattle.jwt_command.specs.Issue.{issue_answer}
 use Rattle.jwt_command.specs.Listed.{keys_answer}
 use Rattle.jwt_command.specs.Verify.{verify_answer}
 use Rattle.jwt_command.specs.Views.{reply_view}
-use Rattle.jwt_command.proofs.Printing.{gives_answer, gives_memory}
+use Rattle.jwt_command.proofs.Printing.{gives_answer, gives_memory, gives_one}
 use Rattle.jwt_command.proofs.run.run.Goals as goal
 
 pub returns-in-Ok-clause-mac : goal.returns-in-Ok-clause-mac
@@ -55,3 +55,10 @@ returns-in-Ok-clause-keys g c = λ asked.
 pub returns-in-Err-clause-keys : goal.returns-in-Err-clause-keys
 returns-in-Err-clause-keys g c = λ asked.
     gives_memory (g.R.Source.remaining c.args.r.now) (keys_answer (g.R.Source.failed c.reply_to.new.r)) _ _ _ _ c.lack_memory.ensures
+
+pub returns-in-Ok-clause-refused_key : goal.returns-in-Ok-clause-refused_key
+returns-in-Ok-clause-refused_key g c = λ key limit asked none.
+    gives_one (reply_view c.in-Ok.reply) key_refused _ _ _ _ (c.in-Ok.ensures.refused_key key limit asked none) (rw c.as_slice.ensures.value at c.send.ensures)
+
+pub returns-in-Err-clause-refused_key : goal.returns-in-Err-clause-refused_key
+returns-in-Err-clause-refused_key g c = λ key limit asked none. inr c.lack_memory.ensures

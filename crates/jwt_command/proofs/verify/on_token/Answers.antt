@@ -1,6 +1,11 @@
-use Rattle.std.proofs.Common.{◌+◌, arith}
+use Rattle.std.proofs.Common.{◌≡◌, ◌+◌, ◌∙◌, [], pos, subst, arith, to_z, w64}
+use Rattle.std.proofs.lemmas.Int.{to_z_pos}
+use Rattle.jwt_verify.specs.Reports.{IsReport, terms as terms_at}
 use Rattle.std.proofs.lemmas.Option.{IfSome_then}
-use Rattle.jwt_command.proofs.Verifying.{front_taken}
+use Rattle.jwt_keys.specs.KeySets.{key_set}
+use Rattle.jwt_command.specs.Verify.{terms}
+use Rattle.jwt_command.specs.Views.{reply_view}
+use Rattle.jwt_command.proofs.Verifying.{front_taken, answered, both_ok}
 use Rattle.jwt_command.proofs.verify.on_token.Goals as goal
 
 pub returns-clause-taken : goal.returns-clause-taken
@@ -12,3 +17,15 @@ pub returns-clause-stops : goal.returns-clause-stops
 returns-clause-stops g c =
     IfSome_then (g.R.Source.remaining c.args.r.now) c.validate-report.ensures.most
     (λ x most. front_taken c.args.policy.now.run.limit (c.args.policy.now.run.limit + 1) x _ _ c.validate-report.result.verdict (omega arith) most c.validate-report.ensures.read)
+
+pub returns-clause-line : goal.returns-clause-line
+returns-clause-line g c =
+    let q = terms c.args.now c.args.policy.now (key_set c.args.keys.now) in
+    let r = c.validate-report.result in
+    let z : to_z w64 c.args.now ≡ pos c.args.now = to_z_pos w64 c.args.now (omega arith) in
+    IfSome_then (g.R.Source.remaining c.args.r.now) c.validate-report.ensures.report
+    (λ x report. both_ok c.report_line.result c.report_line.ensures.line c.report_line.ensures.memory
+    (λ a line found. answered q x c.tells_reports.ensures _ r c.octets.result
+    (λ n. subst (λ w. IsReport q x w r) (c.new-budget.ensures.ceiling ∙ c.work.ensures.value)
+    (subst (λ m. IsReport (terms_at c.args.policy.now c.args.keys.now m []) x c.new-budget.result.ceiling r) z (report n)))
+    c.validate-report.ensures.failed c.validate-report.ensures.read (c.octets.ensures ∙ c.validate-report.ensures.octets) found (reply_view a) line))

@@ -1,7 +1,7 @@
 use Rattle.std.proofs.Common.{◌≡◌, None}
 use Rattle.jwt_verify.specs.Table.{below}
 use Rattle.jwt_verify.specs.Verdict.{first_in}
-use Rattle.jwt_verify.specs.Reports.{fault_in}
+use Rattle.jwt_verify.specs.Steps.{fault_in}
 use Rattle.jwt_verify.proofs.conclusion.first_fault.Given as goal
 
 abbrev pub invariant-states : goal.invariant-states

@@ -1,5 +1,5 @@
 use Rattle.std.proofs.Common.{sym, ◌∙◌, length, arith}
-use Rattle.jwt_verify.specs.Reports.{key_in}
+use Rattle.jwt_verify.specs.Steps.{key_in}
 use Rattle.jwt_verify.proofs.First.{first_zero, first_here, first_more}
 use Rattle.jwt_verify.proofs.conclusion.first_verified.Goals as goal
 

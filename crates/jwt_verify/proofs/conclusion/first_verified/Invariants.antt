@@ -1,7 +1,7 @@
 use Rattle.std.proofs.Common.{◌≡◌, None}
 use Rattle.jwt_verify.specs.Table.{below}
 use Rattle.jwt_verify.specs.Verdict.{first_in}
-use Rattle.jwt_verify.specs.Reports.{key_in}
+use Rattle.jwt_verify.specs.Steps.{key_in}
 use Rattle.jwt_verify.proofs.conclusion.first_verified.Given as goal
 
 abbrev pub invariant-states : goal.invariant-states

@@ -4,7 +4,8 @@ use Rattle.std.proofs.lemmas.List.{length-map}
 use Rattle.jwt_jws.specs.Views.{token, parts}
 use Rattle.jwt_keys.specs.KeySets.{key_set}
 use Rattle.jwt_verify.specs.Trying.{table_of}
-use Rattle.jwt_verify.specs.Reports.{terms, signing_by}
+use Rattle.jwt_verify.specs.Reports.{terms}
+use Rattle.jwt_verify.specs.Steps.{signing_by}
 use Rattle.jwt_verify.proofs.Judged.{run_says, run_whole, run_read, run_length, whole_none, read_none}
 use Rattle.jwt_verify.proofs.judging.judge_token.Goals.{in-Ok, in-Err}
 use Rattle.jwt_verify.proofs.judging.judge_token.Goals as goal

@@ -1,53 +1,103 @@
-use Rattle.std.proofs.Common.{sym, map, ◌∙◌, ap, w64}
+-- What is taken of the source has the report of all of it.
+use Rattle.std.proofs.Common.{[], length, map, ap, subst, ◌∙◌, arith, w64}
 use Rattle.std.proofs.lemmas.Int.{to_z-of_z}
 use Rattle.std.proofs.lemmas.Option.{IfSome_then}
-use Rattle.jwt_verify.specs.Table.{paid}
-use Rattle.jwt_verify.specs.Verdict.{token_of, table}
-use Rattle.jwt_verify.specs.Reports.{terms}
-use Rattle.jwt_verify.proofs.Judged.{same_verdict, same_table, front_none, octets_none}
-use Rattle.jwt_verify.proofs.Taking.{token_taken, takes_taken}
+use Rattle.jwt_verify.specs.Reports.{terms, IsReport, AreEligible, IsBounded}
+use Rattle.jwt_verify.proofs.Judged.{octets_none}
+use Rattle.jwt_verify.proofs.Taking.{takes_taken}
+use Rattle.jwt_verify.proofs.Reporting.{none_once, none_within, none_eligible, none_bounded, source_report}
 use Rattle.jwt_verify.proofs.judging.validate.Goals as goal
 
 pub returns-in-Ok-clause-verdict : goal.returns-in-Ok-clause-verdict
 returns-in-Ok-clause-verdict g c =
     let v = map (λ b. (goal.Verifier-dyn g (b.vtable, b.value)).meaning b.value) c.args.verifiers.now in
     let q = terms c.args.policy.now c.args.keys.now c.args.now v in
-    let h = rw (to_z-of_z w64 c.args.now c.ranges.now) at c.judge.ensures.verdict in
+    let w = g.B.Budget.ceiling c.args.b.now in
+    let z = to_z-of_z w64 c.args.now c.ranges.now in
     IfSome_then (g.R.Source.remaining c.args.r.now) c.in-Ok.ensures.octets
-    (λ x k read found. h found ∙ same_verdict q c.octets.result.now x (g.B.Budget.ceiling c.args.b.now)
-    (ap (token_of q.policy) (c.octets.ensures.value ∙ rw c.limit.ensures.value at k.0) ∙ token_taken q.policy x))
+    (λ x k read. (c.reports_in_words.ensures.taken q x w c.judge.result (subst (λ y. IsReport q y w c.judge.result) (c.octets.ensures.value ∙ rw c.limit.ensures.value at k.0) (rw z at c.judge.ensures.report))).verdict)
+
+pub returns-in-Ok-clause-report : goal.returns-in-Ok-clause-report
+returns-in-Ok-clause-report g c =
+    let v = map (λ b. (goal.Verifier-dyn g (b.vtable, b.value)).meaning b.value) c.args.verifiers.now in
+    let q = terms c.args.policy.now c.args.keys.now c.args.now v in
+    let w = g.B.Budget.ceiling c.args.b.now in
+    let z = to_z-of_z w64 c.args.now c.ranges.now in
+    IfSome_then (g.R.Source.remaining c.args.r.now) c.in-Ok.ensures.octets
+    (λ x k read. c.reports_in_words.ensures.taken q x w c.judge.result (subst (λ y. IsReport q y w c.judge.result) (c.octets.ensures.value ∙ rw c.limit.ensures.value at k.0) (rw z at c.judge.ensures.report)))
+
+pub returns-in-Ok-clause-eligible : goal.returns-in-Ok-clause-eligible
+returns-in-Ok-clause-eligible g c =
+    let v = map (λ b. (goal.Verifier-dyn g (b.vtable, b.value)).meaning b.value) c.args.verifiers.now in
+    let q = terms c.args.policy.now c.args.keys.now c.args.now v in
+    let z = to_z-of_z w64 c.args.now c.ranges.now in
+    IfSome_then (g.R.Source.remaining c.args.r.now) c.in-Ok.ensures.octets
+    (λ x k token is. subst (λ y. AreEligible q y c.judge.result.tries.items) (c.octets.ensures.value ∙ rw c.limit.ensures.value at k.0) (rw z at c.judge.ensures.eligible) token (c.reports_in_words.ensures.token q x token is))
+
+pub returns-in-Ok-clause-bound : goal.returns-in-Ok-clause-bound
+returns-in-Ok-clause-bound g c =
+    let v = map (λ b. (goal.Verifier-dyn g (b.vtable, b.value)).meaning b.value) c.args.verifiers.now in
+    let q = terms c.args.policy.now c.args.keys.now c.args.now v in
+    let z = to_z-of_z w64 c.args.now c.ranges.now in
+    let octets = g.B.Budget.octets c.judge.new.b in
+    let bound = subst (λ n. IsBounded (terms c.args.policy.now c.args.keys.now n v) c.octets.result.now c.judge.result.tries.items octets) z c.judge.ensures.bound in
+    IfSome_then (g.R.Source.remaining c.args.r.now) c.in-Ok.ensures.octets
+    (λ x k token is. subst (λ y. IsBounded q y c.judge.result.tries.items octets) (c.octets.ensures.value ∙ rw c.limit.ensures.value at k.0) bound token (c.reports_in_words.ensures.token q x token is))
 
 pub returns-in-Ok-clause-most : goal.returns-in-Ok-clause-most
 returns-in-Ok-clause-most g c =
     IfSome_then (g.R.Source.remaining c.args.r.now) c.in-Ok.ensures.octets
     (λ x k read. takes_taken x c.args.policy.now.run.limit _ (rw c.limit.ensures.value at k.1))
 
-pub returns-in-Ok-clause-tries : goal.returns-in-Ok-clause-tries
-returns-in-Ok-clause-tries g c =
+pub returns-in-Ok-clause-some : goal.returns-in-Ok-clause-some
+returns-in-Ok-clause-some g c =
+    let z = to_z-of_z w64 c.args.now c.ranges.now in
+    λ read. (c.octets.result.now, omega (arith, ap length c.octets.ensures.value, c.in-Ok.ensures.bound, c.limit.ensures.value), rw z at c.judge.ensures.report)
+
+pub returns-in-Err-clause-verdict : goal.returns-in-Err-clause-verdict
+returns-in-Err-clause-verdict g c =
     let v = map (λ b. (goal.Verifier-dyn g (b.vtable, b.value)).meaning b.value) c.args.verifiers.now in
     let q = terms c.args.policy.now c.args.keys.now c.args.now v in
-    IfSome_then (g.R.Source.remaining c.args.r.now) c.in-Ok.ensures.octets
-    (λ x k read. rw (sym (same_table q c.octets.result.now x
-    (ap (token_of q.policy) (c.octets.ensures.value ∙ rw c.limit.ensures.value at k.0) ∙ token_taken q.policy x))) (rw (to_z-of_z w64 c.args.now c.ranges.now) at c.judge.ensures.tries))
+    let w = g.B.Budget.ceiling c.args.b.now in
+    IfSome_then (g.R.Source.remaining c.args.r.now) c.take_in.ensures.octets
+    (λ x k read. (source_report q x w c.refused.result _ c.in-Err.fault c.in-Err.ensures.fault c.refused.ensures.verdict c.refused.ensures.tries read).verdict)
 
-pub returns-in-Ok-clause-front : goal.returns-in-Ok-clause-front
-returns-in-Ok-clause-front g c =
+pub returns-in-Err-clause-report : goal.returns-in-Err-clause-report
+returns-in-Err-clause-report g c =
     let v = map (λ b. (goal.Verifier-dyn g (b.vtable, b.value)).meaning b.value) c.args.verifiers.now in
     let q = terms c.args.policy.now c.args.keys.now c.args.now v in
-    let f = rw (to_z-of_z w64 c.args.now c.ranges.now) at c.judge.ensures.front in
-    IfSome_then (g.R.Source.remaining c.args.r.now) c.in-Ok.ensures.octets
-    (λ x k. (
-      f.0,
-      ap (λ t. paid t (g.B.Budget.ceiling c.args.b.now) c.args.policy.now.max_calls) (sym (same_table q c.octets.result.now x
-          (ap (token_of q.policy) (c.octets.ensures.value ∙ rw c.limit.ensures.value at k.0) ∙ token_taken q.policy x))) ∙ f.1,
-    ))
+    let w = g.B.Budget.ceiling c.args.b.now in
+    IfSome_then (g.R.Source.remaining c.args.r.now) c.take_in.ensures.octets
+    (λ x k read. source_report q x w c.refused.result _ c.in-Err.fault c.in-Err.ensures.fault c.refused.ensures.verdict c.refused.ensures.tries read)
 
-pub returns-in-Err-clause-front : goal.returns-in-Err-clause-front
-returns-in-Err-clause-front g c =
+pub returns-in-Err-clause-eligible : goal.returns-in-Err-clause-eligible
+returns-in-Err-clause-eligible g c =
     let v = map (λ b. (goal.Verifier-dyn g (b.vtable, b.value)).meaning b.value) c.args.verifiers.now in
     let q = terms c.args.policy.now c.args.keys.now c.args.now v in
     IfSome_then (g.R.Source.remaining c.args.r.now) c.take_in.ensures.octets
-    (λ x k. front_none (paid (table q x) (g.B.Budget.ceiling c.args.b.now) c.args.policy.now.max_calls) c.refused.result.tries.items c.refused.ensures.tries)
+    (λ x k. none_eligible q x c.refused.result.tries.items c.refused.ensures.tries)
+
+pub returns-in-Err-clause-bound : goal.returns-in-Err-clause-bound
+returns-in-Err-clause-bound g c =
+    let v = map (λ b. (goal.Verifier-dyn g (b.vtable, b.value)).meaning b.value) c.args.verifiers.now in
+    let q = terms c.args.policy.now c.args.keys.now c.args.now v in
+    IfSome_then (g.R.Source.remaining c.args.r.now) c.take_in.ensures.octets
+    (λ x k. none_bounded q x c.refused.result.tries.items (g.B.Budget.octets c.args.b.now) c.requires.no_octets)
+
+pub returns-in-Err-clause-some : goal.returns-in-Err-clause-some
+returns-in-Err-clause-some g c =
+    let v = map (λ b. (goal.Verifier-dyn g (b.vtable, b.value)).meaning b.value) c.args.verifiers.now in
+    let q = terms c.args.policy.now c.args.keys.now c.args.now v in
+    let w = g.B.Budget.ceiling c.args.b.now in
+    λ read. ([], omega arith, source_report q [] w c.refused.result _ c.in-Err.fault c.in-Err.ensures.fault c.refused.ensures.verdict c.refused.ensures.tries read)
+
+pub returns-in-Err-clause-once : goal.returns-in-Err-clause-once
+returns-in-Err-clause-once g c =
+    none_once c.refused.result.tries.items c.refused.ensures.tries
+
+pub returns-in-Err-clause-within : goal.returns-in-Err-clause-within
+returns-in-Err-clause-within g c =
+    none_within c.args.policy.now.max_calls (g.B.Budget.calls c.args.b.now) c.requires.no_calls
 
 pub returns-in-Err-clause-octets : goal.returns-in-Err-clause-octets
 returns-in-Err-clause-octets g c = octets_none _ _ c.requires.no_octets c.refused.ensures.tries

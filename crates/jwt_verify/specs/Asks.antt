@@ -1,0 +1,60 @@
+-- What a signed token asks of a list of keys, in words.
+use Rattle.std.specs.Prelude.{ℕ, ◌≡◌, ◌⊎◌, ◌↔◌, ◌≤◌, true, false, List, length, slice_get, Some}
+use Rattle.jwt_mac.specs.declared.algorithm.Alg.{Alg}
+use Rattle.jwt_mac.specs.Algorithm.{is_hmac_alg, tag_of}
+use Rattle.jwt_mac.specs.Verifying.{Meaning, KeyOctets, OctKey, MessageOctets, signing_input, first_naming}
+use Rattle.jwt_text.specs.Rows.{IsFirstRow}
+use Rattle.jwt_jws.specs.Token.{Token, SignatureParts, message_of}
+use Rattle.jwt_jws.specs.SignedToken.{IsSignedToken}
+use Rattle.jwt_keys.specs.Keys.{KeyParts}
+use Rattle.jwt_policy.specs.declared.sig_fault.SigFault.{SigFault}
+use Rattle.jwt_policy.specs.Bars.{alg, bar_rows}
+use Rattle.jwt_policy.specs.Laws.{IsEligible}
+use Rattle.jwt_verify.specs.Table.{Table}
+use Rattle.jwt_verify.specs.Trying.{at_pair, cost_by}
+use Rattle.jwt_verify.specs.Verdict.{Terms, without_line_feed}
+
+-- ---- one pair
+
+-- by HMAC the key is a secret, and the octets are the tag of the signing input under it (RFC 2104; RFC 7518, section 3.2)
+abbrev pub IsTag : Alg → KeyOctets → MessageOctets → List ℕ → Type 0
+IsTag a key message octets = (is_hmac_alg a ≡ true) × ((k : List ℕ) × (key ≡ OctKey k) × (octets ≡ tag_of a k (signing_input message)))
+
+-- for another algorithm the first handed-in verifier that names it is asked
+abbrev pub IsAsked : List Meaning → Alg → Meaning → Type 0
+IsAsked verifiers a v = (is_hmac_alg a ≡ false) × (first_naming verifiers a ≡ Some v)
+
+-- the signature is valid by the key: it is the tag, or the verifier that is asked accepts it (RFC 7515, section 5.2, step 8)
+abbrev pub IsValid : List Meaning → MessageOctets → SignatureParts → KeyParts → Type 0
+IsValid verifiers message s key = (a : Alg) × (alg s ≡ Some a)
+    × (IsTag a key.octets message s.octets ⊎ ((v : Meaning) × IsAsked verifiers a v × (v.accepts a key.octets message s.octets ≡ true)))
+
+-- the verifier that is asked may lack memory
+abbrev pub MayLack : List Meaning → MessageOctets → SignatureParts → KeyParts → Type 0
+MayLack verifiers message s key = (a : Alg) × (alg s ≡ Some a) × ((v : Meaning) × IsAsked verifiers a v × (v.may_lack a key.octets message s.octets ≡ true))
+
+-- ---- all pairs
+
+-- signature i and key j are there, and this holds of the two
+abbrev pub AtPair : Token → List KeyParts → ℕ → ℕ → (SignatureParts → KeyParts → Type 0) → Type 0
+AtPair token keys i j P = (s : SignatureParts) × (key : KeyParts) × (slice_get token.signatures i ≡ Some s) × (slice_get keys j ≡ Some key) × P s key
+
+-- The table of the token's signatures and the keys: their numbers and the mode; the bar of each signature, which is the first row
+-- that holds; for each pair whether it is eligible, whether it is valid, whether a verifier may lack memory for it, and its cost.
+pub record IsTable (q : Terms) (token : Token) (t : Table) : Type 0 where
+  pub signatures : t.signatures ≡ length token.signatures
+  pub keys : t.keys ≡ length q.keys
+  pub mode : t.mode ≡ q.policy.run.mode
+  pub bar : (i : ℕ) (f : SigFault) → (t.bar i ≡ Some f) ↔ ((s : SignatureParts) × (slice_get token.signatures i ≡ Some s) × IsFirstRow (bar_rows q.policy s q.verifiers) f)
+  pub eligible : (i j : ℕ) → (t.eligible i j ≡ true) ↔ AtPair token q.keys i j (λ s key. IsEligible q.policy s key q.verifiers)
+  pub valid : (i j : ℕ) → (t.valid i j ≡ true) ↔ AtPair token q.keys i j (λ s key. IsValid q.verifiers (message_of token s) s key)
+  pub may_lack : (i j : ℕ) → (t.may_lack i j ≡ true) ↔ AtPair token q.keys i j (λ s key. MayLack q.verifiers (message_of token s) s key)
+  pub cost : (i j : ℕ) → t.cost i j ≡ at_pair (λ s key. cost_by (message_of token s) s key) 0 token q.keys i j
+
+-- x isn't too long and, without one octet 10 at its end where the policy drops it, is this signed token (RFC 7515, section 7)
+abbrev pub IsToken : Terms → List ℕ → Token → Type 0
+IsToken q x token = (length x ≤ q.policy.run.limit) × IsSignedToken q.policy.run.max_signatures (without_line_feed q.policy.run.line_feed x) token
+
+-- x is this signed token, and its table is t
+abbrev pub IsAsking : Terms → List ℕ → Token → Table → Type 0
+IsAsking q x token t = IsToken q x token × IsTable q token t

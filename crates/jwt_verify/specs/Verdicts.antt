@@ -1,0 +1,82 @@
+-- Laws of the verdict and of the tries, in words.
+use Rattle.std.specs.Prelude.{ℕ, ◌+◌, ◌*◌, ◌≤◌, ◌≡◌, ◌≢◌, Bool, true, not, List, length, map, Option, None}
+use Rattle.std.specs.List.{All, Contains, sum_by}
+use Rattle.serde_json.specs.Data.{Members}
+use Rattle.jwt_mac.specs.Verifying.{KeyOctets, OctKey}
+use Rattle.jwt_jws.specs.Token.{Token}
+use Rattle.jwt_keys.specs.Keys.{KeyParts}
+use Rattle.jwt_verify.specs.declared.report.Try.{Try}
+use Rattle.jwt_verify.specs.declared.report.Fault.TheVariants.{CallsExceeded}
+use Rattle.jwt_verify.specs.declared.report.Verdict.{Verdict}
+use Rattle.jwt_verify.specs.declared.report.Verdict.TheVariants.{Accepted, Refused}
+use Rattle.jwt_verify.specs.Table.{Table, entry, tries, work, paid, states_at, states}
+use Rattle.jwt_verify.specs.Verdict.{Terms}
+use Rattle.jwt_verify.specs.Paying.{IsWithin, AreAllowed, ArePaid}
+use Rattle.jwt_verify.specs.Asks.{IsToken, IsAsking}
+use Rattle.jwt_verify.specs.Accepted.{IsVerdict}
+use Rattle.jwt_verify.specs.Laws.{AreAmong, with_keys, kind_of, without_key, common_cost, longest_input, with_valid, verdict_by}
+
+-- what is paid is the longest front of the tries that both ceilings allow, and nothing else is
+abbrev pub PaidIsLongest : Type 0
+PaidIsLongest = (t : Table) (octets : ℕ) (calls : Option ℕ) → ArePaid t octets calls (paid t octets calls) × ((es : List Try) → ArePaid t octets calls es → es ≡ paid t octets calls)
+
+-- where signatures times keys are within the ceiling on calls, no run stops for it
+abbrev pub CallsSuffice : Type 0
+CallsSuffice = (q : Terms) (x : List ℕ) (w i j : ℕ) (token : Token) → IsToken q x token → IsWithin q.policy.max_calls (length token.signatures * length q.keys)
+    → ¬ IsVerdict q x w (Refused (CallsExceeded i j))
+
+-- ---- the bound in a caller's terms
+
+abbrev pub secret_length : KeyOctets → ℕ
+secret_length (OctKey k) = length k
+secret_length _ = 0
+
+-- the lengths of all secrets together
+abbrev pub secrets : List KeyParts → ℕ
+secrets keys = sum_by (λ key. secret_length key.octets) keys
+
+-- the work of all tries is at most signatures times keys times the common cost, and signatures times the lengths of all secrets
+abbrev pub CallersBound : Type 0
+CallersBound = (q : Terms) (x : List ℕ) (token : Token) (t : Table) → IsAsking q x token t
+    → work (tries t) ≤ length token.signatures * length q.keys * common_cost q.policy token + length token.signatures * secrets q.keys
+
+-- its greatest value, with 32 signatures, 1,024 keys, signing inputs of 1,048,576 octets and secrets of 4,096
+abbrev pub GreatestWork : Type 0
+GreatestWork = (q : Terms) (x : List ℕ) (token : Token) (t : Table) → IsAsking q x token t
+    → length token.signatures ≤ 32 → length q.keys ≤ 1024 → longest_input token ≤ 1048576 → All (λ key. secret_length key.octets ≤ 4096) q.keys
+    → work (tries t) ≤ 34504441856
+
+-- ---- other keys, where no ceiling stops a run
+
+abbrev pub IsUnstopped : Terms → List ℕ → ℕ → Type 0
+IsUnstopped q x w = (token : Token) (t : Table) → IsAsking q x token t → AreAllowed w q.policy.max_calls (tries t)
+
+-- what is accepted with some keys is accepted with more, with the same claims
+abbrev pub MoreKeysAccept : Type 0
+MoreKeysAccept = (q : Terms) (more : List KeyParts) (x : List ℕ) (w more_w i j : ℕ) (claims : Members) → AreAmong more q.keys
+    → IsUnstopped (with_keys q more) x more_w → IsVerdict q x w (Accepted i j claims)
+    → (m : ℕ) × (n : ℕ) × IsVerdict (with_keys q more) x more_w (Accepted m n claims)
+
+-- lists of the same keys, in any order and with repeats, give the same verdict and states, but for the numbers of keys
+abbrev pub SameKeysAgree : Type 0
+SameKeysAgree = (q : Terms) (others : List KeyParts) (x : List ℕ) (w other_w : ℕ) → AreAmong others q.keys → AreAmong q.keys others
+    → IsUnstopped q x w → IsUnstopped (with_keys q others) x other_w
+    → ((u v : Verdict) → IsVerdict q x w u → IsVerdict (with_keys q others) x other_w v → without_key u ≡ without_key v)
+    × ((token : Token) (t o : Table) → IsAsking q x token t → IsAsking (with_keys q others) x token o
+    → map kind_of (states_at t None) ≡ map kind_of (states_at o None))
+
+-- ---- no try of a token can be spared
+
+-- What another validity has in common with that of a table, for the paid tries, decides the tries, the states and the verdict on x;
+-- where the two differ at one paid try alone, the states differ.
+abbrev pub SparesNone : Terms → List ℕ → ℕ → List ℕ → Table → (ℕ → ℕ → Bool) → Type 0
+SparesNone q x w payload t v = (All (λ e. t.valid e.signature e.key ≡ v e.signature e.key) (paid t w q.policy.max_calls)
+    → (paid (with_valid t v) w q.policy.max_calls ≡ paid t w q.policy.max_calls)
+    × (states (with_valid t v) w q.policy.max_calls ≡ states t w q.policy.max_calls)
+    × IsVerdict q x w (verdict_by (with_valid t v) w q.policy.max_calls q.policy q.now payload))
+    × ((i j : ℕ) → Contains (paid t w q.policy.max_calls) (entry t i j) → v i j ≡ not (t.valid i j) → ((m n : ℕ) → (m ≡ i → n ≡ j → ⊥) → v m n ≡ t.valid m n)
+    → states (with_valid t v) w q.policy.max_calls ≢ states t w q.policy.max_calls)
+
+-- of a token none is spared
+abbrev pub LeastTriesOfToken : Type 0
+LeastTriesOfToken = (q : Terms) (x : List ℕ) (w : ℕ) (token : Token) (t : Table) (v : ℕ → ℕ → Bool) → IsAsking q x token t → SparesNone q x w token.payload t v
