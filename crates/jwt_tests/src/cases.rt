@@ -124,7 +124,7 @@ pub(crate) const ASKED: Case = Case {
     ..JUDGED
 };
 
-pub(crate) static FORMS: [Case; 14] = [
+static FORMS: [Case; 14] = [
     ACCEPTED,
     Case {
         shows: "at its expiration time it is expired",
@@ -207,7 +207,7 @@ pub(crate) static FORMS: [Case; 14] = [
     TWO_KEYS,
 ];
 
-pub(crate) static HEADERS: [Case; 14] = [
+static HEADERS: [Case; 14] = [
     Case {
         shows: "two keys, and one octet less",
         keys: KEYS_ZA,
@@ -301,7 +301,7 @@ pub(crate) static HEADERS: [Case; 14] = [
     },
 ];
 
-pub(crate) static CLAIMS_AND_MODES: [Case; 12] = [
+static CLAIMS_AND_MODES: [Case; 12] = [
     Case {
         shows: "a final octet 10 counts towards the limit",
         policy: r#"{"algs":["HS256"],"line_feed":true,"limit":179}"#,
@@ -381,7 +381,7 @@ pub(crate) static CLAIMS_AND_MODES: [Case; 12] = [
     },
 ];
 
-pub(crate) static CEILINGS: [Case; 7] = [
+static CEILINGS: [Case; 7] = [
     Case {
         shows: "a key longer than a block is counted",
         keys: r#"{"keys":[{"kty":"oct","k":"<AAS>"},{"kty":"oct","k":"<KEY_A>"}]}"#,
@@ -464,7 +464,7 @@ pub(crate) static STEPS: [(u64, u64, &str); 5] = [
 ];
 
 /// Tokens under a ceiling of what all their eligible pairs cost, or more.
-pub(crate) static ORDERS: [Case; 7] = [
+static ORDERS: [Case; 7] = [
     Case {
         shows: "the key before two others",
         keys: r#"{"keys":[{"kty":"oct","k":"<KEY_A>"},{"kty":"oct","k":"<ZEROS>"},{"kty":"oct","k":"<ZEROS>"}]}"#,
@@ -518,7 +518,7 @@ pub(crate) static ORDERS: [Case; 7] = [
     },
 ];
 
-pub(crate) static ASKING: [Case; 11] = [
+static ASKING: [Case; 11] = [
     ASKED,
     Case {
         shows: "no verifier",
@@ -585,3 +585,15 @@ pub(crate) static ASKING: [Case; 11] = [
         ..ASKED
     },
 ];
+
+/// All the cases.
+pub(crate) fn tables() -> [&'static [Case]; 6] {
+    [
+        &FORMS,
+        &HEADERS,
+        &CLAIMS_AND_MODES,
+        &CEILINGS,
+        &ORDERS,
+        &ASKING,
+    ]
+}

@@ -1,7 +1,5 @@
 //! The command, over sources and sinks in memory.
-use super::cases::{
-    ASKING, CEILINGS, CLAIMS_AND_MODES, FORMS, HEADERS, KEYS_A, KEYS_Z, KEYS_ZA, ORDERS,
-};
+use super::cases::{KEYS_A, KEYS_Z, KEYS_ZA, tables};
 use super::reports::Case;
 use super::support::{Drip, Endless, HS256, KEY_A, NOW, Narrow, TOKEN_A, filled};
 use jwt_command::run::{lack_memory, run};
@@ -24,6 +22,13 @@ fn printed(alloc: Global, words: &[&str], input: &[u8]) -> (Vec<u8>, u8) {
         &mut Reader::new(input),
         &mut Writer::new(&mut out),
     );
+    (out, status)
+}
+
+// What a run prints on a source of one octet a pull, and its status.
+fn dripped(alloc: Global, words: &[&str], source: &mut Drip<'_>) -> (Vec<u8>, u8) {
+    let mut out: Vec<u8> = Vec::new(alloc);
+    let status = run(alloc, words, source, &mut Writer::new(&mut out));
     (out, status)
 }
 
@@ -169,8 +174,7 @@ fn a_read_that_fails_ends_with_status_3(rt: HostRuntime) -> Result<(), Fail> {
         let input = filled(rt.alloc(), text)?;
         for left in 0..=input.len() {
             let mut source = Drip::new(input.as_bytes(), left);
-            let mut out: Vec<u8> = Vec::new(rt.alloc());
-            let status = run(rt.alloc(), words, &mut source, &mut Writer::new(&mut out));
+            let (out, status) = dripped(rt.alloc(), words, &mut source);
             assert_eq!(rt; out.as_slice(), b"failed Read\n".as_slice());
             assert_eq!(rt; (status, source.rest.len()), (3, input.len() - left));
         }
@@ -183,9 +187,8 @@ fn a_read_that_fails_ends_with_status_3(rt: HostRuntime) -> Result<(), Fail> {
 fn mac_takes_what_it_may(rt: HostRuntime) -> Result<(), Fail> {
     for (key, limit, unread) in [(KEY_A, "178", 0), (KEY_A, "100", 78), ("AA==", "100", 179)] {
         let mut source = Drip::new(TOKEN_A.as_bytes(), 1000);
-        let mut out: Vec<u8> = Vec::new(rt.alloc());
         let words = ["jwt", "mac", "--k", key, "--limit", limit];
-        let _status = run(rt.alloc(), &words, &mut source, &mut Writer::new(&mut out));
+        let _ran = dripped(rt.alloc(), &words, &mut source);
         assert_eq!(rt; source.rest.len(), unread);
     }
     Ok(())
@@ -258,11 +261,8 @@ fn wrong_words_print_what_clap_says(rt: HostRuntime) -> Result<(), Fail> {
     ];
     for words in cases {
         let mut source = Drip::new(TOKEN_A.as_bytes(), 0);
-        let mut out: Vec<u8> = Vec::new(alloc);
-        assert_eq!(rt;
-            run(alloc, words, &mut source, &mut Writer::new(&mut out)),
-            2
-        );
+        let (out, status) = dripped(alloc, words, &mut source);
+        assert_eq!(rt; status, 2);
         assert!(rt; !out.is_empty());
         assert!(rt; !source.failed);
     }
@@ -439,15 +439,7 @@ fn first_other_line(alloc: Global, cases: &[Case]) -> Result<String, Fail> {
 
 #[test]
 fn verify_prints_each_verdict(rt: HostRuntime) -> Result<(), Fail> {
-    let tables: [&[Case]; 6] = [
-        &FORMS,
-        &HEADERS,
-        &CLAIMS_AND_MODES,
-        &CEILINGS,
-        &ORDERS,
-        &ASKING,
-    ];
-    for cases in tables {
+    for cases in tables() {
         assert_eq!(rt; first_other_line(rt.alloc(), cases)?.as_str(), "");
     }
     Ok(())
@@ -660,8 +652,7 @@ abc"#,
     ];
     for (words, rest, line, unread) in cases {
         let mut source = Drip::new(rest.as_bytes(), 1000);
-        let mut out: Vec<u8> = Vec::new(alloc);
-        let status = run(alloc, words, &mut source, &mut Writer::new(&mut out));
+        let (out, status) = dripped(alloc, words, &mut source);
         assert_eq!(rt; out.as_slice(), line.as_bytes());
         assert_eq!(rt; status, 1);
         assert_eq!(rt; source.rest.len(), unread);

@@ -1,8 +1,7 @@
 //! `judge` and `validate`.
 use super::cases::{
-    ACCEPTED, ASKED, ASKING, BARRED_IN_MODE_ALL, BARRED_THEN_VERIFIED, CEILINGS, CLAIM_MISSING,
-    CLAIMS_AND_MODES, FORMS, FOUR_KEYS, HEADERS, KEYS_A, ORDERS, STEPS, THUMBPRINT,
-    THUMBPRINT_AS_KID, TWO_KEYS,
+    ACCEPTED, ASKED, BARRED_IN_MODE_ALL, BARRED_THEN_VERIFIED, CLAIM_MISSING, FOUR_KEYS, KEYS_A,
+    STEPS, THUMBPRINT, THUMBPRINT_AS_KID, TWO_KEYS, tables,
 };
 use super::reports::{
     AMPLE, Case, difference, first_difference, judged, judged_octets, judged_under, validated,
@@ -16,37 +15,11 @@ use std::cell::Cell;
 use std::test::Fail;
 
 #[test]
-fn each_form_gets_its_report(rt: HostRuntime) -> Result<(), Fail> {
-    let found = first_difference(rt.alloc(), &FORMS);
-    assert_eq!(rt; found.as_deref(), Some(""));
-    Ok(())
-}
-
-#[test]
-fn each_header_gets_its_report(rt: HostRuntime) -> Result<(), Fail> {
-    let found = first_difference(rt.alloc(), &HEADERS);
-    assert_eq!(rt; found.as_deref(), Some(""));
-    Ok(())
-}
-
-#[test]
-fn claims_and_modes_get_their_report(rt: HostRuntime) -> Result<(), Fail> {
-    let found = first_difference(rt.alloc(), &CLAIMS_AND_MODES);
-    assert_eq!(rt; found.as_deref(), Some(""));
-    Ok(())
-}
-
-#[test]
-fn each_ceiling_gets_its_report(rt: HostRuntime) -> Result<(), Fail> {
-    let found = first_difference(rt.alloc(), &CEILINGS);
-    assert_eq!(rt; found.as_deref(), Some(""));
-    Ok(())
-}
-
-#[test]
-fn each_order_of_the_keys_gets_its_report(rt: HostRuntime) -> Result<(), Fail> {
-    let found = first_difference(rt.alloc(), &ORDERS);
-    assert_eq!(rt; found.as_deref(), Some(""));
+fn each_case_gets_its_report(rt: HostRuntime) -> Result<(), Fail> {
+    for cases in tables() {
+        let found = first_difference(rt.alloc(), cases);
+        assert_eq!(rt; found.as_deref(), Some(""));
+    }
     Ok(())
 }
 
@@ -64,13 +37,6 @@ fn each_ceiling_of_four_keys_gets_its_report(rt: HostRuntime) -> Result<(), Fail
             assert_eq!(rt; found.as_deref(), Some(""), "at {ceiling}");
         }
     }
-    Ok(())
-}
-
-#[test]
-fn verifiers_are_asked(rt: HostRuntime) -> Result<(), Fail> {
-    let found = first_difference(rt.alloc(), &ASKING);
-    assert_eq!(rt; found.as_deref(), Some(""));
     Ok(())
 }
 
