@@ -5,11 +5,12 @@ ghost use Rattle.serde_json.specs.Events.{members_len};
 ghost use Rattle.jwt_text.specs.Members.{has, text_at, is_number_at, whole_at, flag_at, list_at, object_at, names, AreInOrder, are_texts, compact_at};
 
 use crate::TextFault;
-use crate::members::{
-    all_texts, compact_text_or_texts, copy, item, item_count, member, name_at, share_name,
-};
+use crate::compact::compact_node;
+use crate::copy::copy_object;
+use crate::lookup::{all_texts, member, share_name};
+use crate::node::{Entry, Node, as_flag, as_whole, is_numeric};
 use crate::owned::Object;
-use serde_json::{Map, Value};
+use crate::store::Store;
 use std::alloc::Global;
 use std::marker::Model;
 
@@ -19,13 +20,15 @@ use std::marker::Model;
 /// of another kind.
 #[derive(Drop)]
 pub struct ObjectRef<'a> {
-    pub(crate) members: &'a Map<String, Value>,
+    pub(crate) store: &'a Store,
+    pub(crate) entries: &'a [Entry],
 }
 
 /// A JSON list that another value lends. Contracts see its elements.
 #[derive(Drop)]
 pub struct List<'a> {
-    items: &'a Vec<Value>,
+    store: &'a Store,
+    nodes: &'a [Node],
 }
 
 impl<'a> Model for ObjectRef<'a> {
@@ -36,13 +39,15 @@ impl<'a> Model for ObjectRef<'a> {
 
     ghost coded = { members_code };
 
-    ghost use Rattle.serde_json.specs.View.{members_view};
+    ghost use Rattle.jwt_text.specs.Flat.{members_data, AreEntries, IsNode, most};
 
-    ghost view = { λ o. members_view o.members.now.entries };
+    ghost view = { λ o. members_data most o.store.now o.entries.now };
+
+    ghost invariant = { λ o. AreEntries (IsNode most o.store.now) o.store.now o.entries.now };
 }
 
 impl<'a> Model for List<'a> {
-    ghost use Rattle.std.specs.Prelude.{List};
+    ghost use Rattle.std.specs.Prelude.{List, map};
     ghost use Rattle.std.specs.Coded.{coded_list};
     ghost use Rattle.serde_json.specs.Data.{Data};
     ghost use Rattle.jwt_text.specs.Stored.{data_code};
@@ -51,10 +56,11 @@ impl<'a> Model for List<'a> {
 
     ghost coded = { coded_list data_code };
 
-    ghost use Rattle.serde_json.specs.View.{items_view};
-    ghost use Rattle.jwt_text.specs.Members.{elements};
+    ghost use Rattle.jwt_text.specs.Flat.{node_data, Each, IsNode, most};
 
-    ghost view = { λ l. elements (items_view l.items.now.items) };
+    ghost view = { λ l. map (node_data most l.store.now) l.nodes.now };
+
+    ghost invariant = { λ l. Each (IsNode most l.store.now) l.nodes.now };
 }
 
 impl<'a> ObjectRef<'a> {
@@ -62,37 +68,40 @@ impl<'a> ObjectRef<'a> {
     pub fn has(&self, name: &str) -> bool
         ensures { result ≡ has name.now self.now }
     {
-        member(self.members, name).is_some()
+        member(self.store, self.entries, name).is_some()
     }
 
     /// The text of this name, with its escapes undone.
     pub fn text(&self, name: &str) -> Option<&'a str>
         ensures { option_map (λ s. s.now) result ≡ text_at name.now self.now }
     {
-        member(self.members, name)?.as_str()
+        self.store.text_at(member(self.store, self.entries, name)?)
     }
 
     /// The whole number of this name: written with digits alone, after a minus or none, and within 64 signed bits. `1.0`, `1e3`,
     /// `-0` and 2^63 are none.
+    #[tactic(auto, using(crate::proofs::KindLemmas::whole_is))]
     pub fn whole(&self, name: &str) -> Option<i64>
         ensures { result ≡ whole_at name.now self.now }
     {
-        member(self.members, name)?.as_i64()
+        as_whole(member(self.store, self.entries, name)?)
     }
 
     /// The truth value of this name.
+    #[tactic(auto, using(crate::proofs::KindLemmas::flag_is))]
     pub fn flag(&self, name: &str) -> Option<bool>
         ensures { result ≡ flag_at name.now self.now }
     {
-        member(self.members, name)?.as_bool()
+        as_flag(member(self.store, self.entries, name)?)
     }
 
     /// Whether there is a member of this name that is a number of any kind.
+    #[tactic(auto, using(crate::proofs::KindLemmas::number_is))]
     pub fn number(&self, name: &str) -> bool
         ensures { result ≡ is_number_at name.now self.now }
     {
-        match member(self.members, name) {
-            Some(value) => value.is_number(),
+        match member(self.store, self.entries, name) {
+            Some(node) => is_numeric(node),
             None => false,
         }
     }
@@ -101,38 +110,50 @@ impl<'a> ObjectRef<'a> {
     pub fn list(&self, name: &str) -> Option<List<'a>>
         ensures { result ≡ list_at name.now self.now }
     {
-        let items = member(self.members, name)?.as_array()?;
-        Some(List { items })
+        let nodes = self.store.list_at(member(self.store, self.entries, name)?)?;
+        Some(List {
+            store: self.store,
+            nodes,
+        })
     }
 
     /// The object of this name.
     pub fn object(&self, name: &str) -> Option<ObjectRef<'a>>
         ensures { result ≡ object_at name.now self.now }
     {
-        let members = member(self.members, name)?.as_object()?;
-        Some(ObjectRef { members })
+        let entries = self
+            .store
+            .entries_at(member(self.store, self.entries, name)?)?;
+        Some(ObjectRef {
+            store: self.store,
+            entries,
+        })
     }
 
     /// The number of members.
     pub fn member_count(&self) -> usize
         ensures { result ≡ members_len self.now }
     {
-        self.members.len()
+        self.entries.len()
     }
 
-    /// The name at this place, from 0, in ascending byte order; `None` past the last. It walks to the place.
+    /// The name at this place, from 0, in ascending byte order; `None` past the last.
     pub fn name(&self, place: usize) -> Option<&'a str>
         ensures name { option_map (λ s. s.now) result ≡ slice_get (names self.now) place }
         ensures order { AreInOrder (names self.now) }
     {
-        name_at(self.members, place)
+        if place < self.entries.len() {
+            Some(self.store.text(self.entries[place].name))
+        } else {
+            None
+        }
     }
 
     /// Whether some name is in both objects. Each name of this one is looked up in the other.
     pub fn shares_name(&self, other: &ObjectRef<'_>) -> bool
         ensures { result ≡ list_any (λ name. has name other.now) (names self.now) }
     {
-        share_name(self.members, other.members)
+        share_name(self.store, self.entries, other)
     }
 
     /// The compact JSON text of a member that is a text or a list of texts, and `None` for any other or none.
@@ -143,8 +164,8 @@ impl<'a> ObjectRef<'a> {
             (λ o. option_map (λ v. v.items) o ≡ compact_at name.now self.now) }
         ensures err { IsOkUnless result TextFault.OutOfMemory }
     {
-        match member(self.members, name) {
-            Some(value) => compact_text_or_texts(alloc, value),
+        match member(self.store, self.entries, name) {
+            Some(node) => compact_node(alloc, self.store, node),
             None => Ok(None),
         }
     }
@@ -156,9 +177,9 @@ impl<'a> ObjectRef<'a> {
         ensures ok { IfOk result (λ o. o ≡ self.now) }
         ensures err { IsOkUnless result TextFault.OutOfMemory }
     {
-        match copy(alloc, self.members) {
-            Ok(members) => Ok(Object { members }),
-            Err(_) => Err(TextFault::OutOfMemory),
+        match copy_object(alloc, self.store, self.entries) {
+            Some(object) => Ok(object),
+            None => Err(TextFault::OutOfMemory),
         }
     }
 }
@@ -168,35 +189,46 @@ impl<'a> List<'a> {
     pub fn len(&self) -> usize
         ensures { result ≡ length self.now }
     {
-        item_count(self.items)
+        self.nodes.len()
     }
 
     /// Whether there is no element.
     pub fn is_empty(&self) -> bool
         ensures { IsTrue result ↔ (self.now ≡ []) }
     {
-        item_count(self.items) == 0
+        self.nodes.len() == 0
     }
 
     /// The text at this place, from 0; `None` past the last, or where the element is of another kind.
     pub fn text(&self, place: usize) -> Option<&'a str>
         ensures { option_map (λ s. s.now) result ≡ option_and_then as_str (slice_get self.now place) }
     {
-        item(self.items, place)?.as_str()
+        if place < self.nodes.len() {
+            self.store.text_at(self.nodes[place])
+        } else {
+            None
+        }
     }
 
     /// The object at this place, from 0; `None` past the last, or where the element is of another kind.
     pub fn object(&self, place: usize) -> Option<ObjectRef<'a>>
         ensures { result ≡ option_and_then as_object (slice_get self.now place) }
     {
-        let members = item(self.items, place)?.as_object()?;
-        Some(ObjectRef { members })
+        if place < self.nodes.len() {
+            let entries = self.store.entries_at(self.nodes[place])?;
+            Some(ObjectRef {
+                store: self.store,
+                entries,
+            })
+        } else {
+            None
+        }
     }
 
     /// Whether each element is a text; also where there is none.
     pub fn are_texts(&self) -> bool
         ensures { result ≡ are_texts self.now }
     {
-        all_texts(self.items)
+        all_texts(self.nodes)
     }
 }

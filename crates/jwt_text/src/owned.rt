@@ -5,7 +5,8 @@ ghost use Rattle.jwt_text.specs.Members.{has, text_at, is_number_at, whole_at, f
 
 use crate::TextFault;
 use crate::lent::{List, ObjectRef};
-use serde_json::{Map, Value};
+use crate::node::Entry;
+use crate::store::Store;
 use std::alloc::Global;
 use std::marker::Model;
 
@@ -14,7 +15,8 @@ use std::marker::Model;
 /// Each reader lends what it answers, and answers `None` where the member is absent or of another kind.
 #[derive(Drop)]
 pub struct Object {
-    pub(crate) members: Map<String, Value>,
+    pub(crate) store: Store,
+    pub(crate) entries: Vec<Entry>,
 }
 
 impl Model for Object {
@@ -25,9 +27,11 @@ impl Model for Object {
 
     ghost coded = { members_code };
 
-    ghost use Rattle.serde_json.specs.View.{members_view};
+    ghost use Rattle.jwt_text.specs.Flat.{members_data, AreEntries, IsNode, most};
 
-    ghost view = { λ o. members_view o.members.entries };
+    ghost view = { λ o. members_data most o.store o.entries.items };
+
+    ghost invariant = { λ o. AreEntries (IsNode most o.store) o.store o.entries.items };
 }
 
 impl Object {
@@ -36,7 +40,8 @@ impl Object {
         ensures { result ≡ no_members }
     {
         Object {
-            members: Map::new(alloc),
+            store: Store::new(alloc),
+            entries: Vec::new(alloc),
         }
     }
 
@@ -45,7 +50,8 @@ impl Object {
         ensures { result ≡ self.now }
     {
         ObjectRef {
-            members: &self.members,
+            store: &self.store,
+            entries: &self.entries,
         }
     }
 
@@ -105,7 +111,7 @@ impl Object {
         self.lend().member_count()
     }
 
-    /// The name at this place, from 0, in ascending byte order; `None` past the last. It walks to the place.
+    /// The name at this place, from 0, in ascending byte order; `None` past the last.
     pub fn name(&self, place: usize) -> Option<&str>
         ensures name { option_map (λ s. s.now) result ≡ slice_get (names self.now) place }
         ensures order { AreInOrder (names self.now) }

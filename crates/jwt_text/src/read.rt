@@ -1,4 +1,4 @@
-ghost use Rattle.std.specs.Prelude.{◌≡◌, ◌≢◌, Some, None, IfOk, IfErr, IsErrOf, option_map};
+ghost use Rattle.std.specs.Prelude.{◌≡◌, ◌≢◌, Some, None, Err, IfOk, IfErr, IfSome, IsErrOf, option_map};
 ghost use Rattle.serde_json.specs.Find.{as_object};
 ghost use Rattle.serde_json.specs.View.{view, members_view};
 ghost use Rattle.jwt_text.specs.ObjectText.{reading, object_of, IsObjectText};
@@ -7,29 +7,72 @@ use crate::TextFault;
 use crate::colons::count_colons;
 use crate::entries::take_members;
 use crate::owned::Object;
+use crate::reading::read_members;
+use crate::store::Store;
+use json::{Reader, Scratch, Token};
 use serde_json::{Map, Value};
 use std::alloc::Global;
 
-/// The object that the octets are the text of (RFC 8259), read in one pass, with its colons counted in one more.
+/// How deep a member of an object text may nest.
+const BELOW: usize = 126;
+
+/// The object that the octets are the text of (RFC 8259), read in one pass. Only where there is none, or where memory was refused,
+/// they are read once more, for the fault.
 ///
 /// The faults, by the first cause that holds: `Json` where the octets aren't one JSON text in UTF-8 that nests at most 127 deep,
 /// `NotObject` where the text is another value, `NameTwice` where some object in it, at any depth, has a name twice
-/// (RFC 7515, section 4; RFC 7519, section 4). `OutOfMemory` may come in place of any answer, where a growth was refused.
-#[tactic(auto, unfolding(crate::specs::ObjectText::object_of))]
+/// (RFC 7515, section 4; RFC 7519, section 4). `OutOfMemory` may come in place of any answer, where a growth was refused or the
+/// text has 4 GiB or more.
 pub fn object(alloc: Global, octets: &[u8]) -> Result<Object, TextFault>
     ensures text { IfOk result (IsObjectText octets.now) }
     ensures answer { ¬ IsErrOf result TextFault.OutOfMemory → result ≡ object_of octets.now }
 {
+    match object_in(alloc, octets) {
+        Some(object) => Ok(object),
+        None => Err(fault_in(alloc, octets)),
+    }
+}
+
+/// The object that the octets are the text of; `None` where there is none, or where it can't be held.
+fn object_in(alloc: Global, octets: &[u8]) -> Option<Object>
+    ensures { IfSome result (IsObjectText octets.now) }
+{
+    let text = std::str::from_utf8(octets).ok()?;
+    let mut scratch = Scratch::new(alloc);
+    object_in_text(alloc, text, &mut scratch)
+}
+
+/// The same, of text.
+fn object_in_text(alloc: Global, text: &str, scratch: &mut Scratch) -> Option<Object>
+    ensures { IfSome result (IsObjectText text.now) }
+{
+    let mut reader = Reader::new(text, scratch).ok()?;
+    let Token::BeginObject = reader.next()? else {
+        return None;
+    };
+    let mut store = Store::new(alloc);
+    let entries = read_members(alloc, &mut reader, BELOW, &mut store)?;
+    if reader.next().is_some() {
+        return None;
+    }
+    Some(Object { store, entries })
+}
+
+/// Why the octets are the text of no object; `OutOfMemory` where they are the text of one.
+#[tactic(auto, unfolding(crate::specs::ObjectText::object_of))]
+fn fault_in(alloc: Global, octets: &[u8]) -> TextFault
+    ensures { result ≢ TextFault.OutOfMemory → object_of octets.now ≡ Err result }
+{
     let value = match value(alloc, octets) {
         Ok(value) => value,
-        Err(fault) => return Err(fault),
+        Err(fault) => return fault,
     };
     let Some(members) = members_in(value) else {
-        return Err(TextFault::NotObject);
+        return TextFault::NotObject;
     };
     match take_members(&members, count_colons(octets)) {
-        Some(0) => Ok(Object { members }),
-        _ => Err(TextFault::NameTwice),
+        Some(0) => TextFault::OutOfMemory,
+        _ => TextFault::NameTwice,
     }
 }
 

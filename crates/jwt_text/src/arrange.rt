@@ -1,0 +1,38 @@
+//! The members of an object in ascending byte order of their names.
+ghost use Rattle.std.specs.Prelude.{◌≡◌, IsTrue};
+ghost use Rattle.std.specs.List.Sorted.{IsPermutation};
+ghost use Rattle.jwt_text.specs.Flat.{entry_names};
+ghost use Rattle.jwt_text.specs.Members.{AreInOrder};
+
+use crate::node::Entry;
+use crate::store::Store;
+use std::cmp::Ordering;
+
+/// Puts entries in ascending byte order of their names; false where a name stands twice, or where memory was refused.
+pub(crate) fn arrange(store: &Store, entries: &mut Vec<Entry>) -> bool
+    ensures permutation { IsPermutation entries.old.items entries.new.items }
+    ensures order { IsTrue result → AreInOrder (entry_names store.now entries.new.items) }
+{
+    if is_ascending(store, entries) {
+        return true;
+    }
+    let sorted = entries.sort_by(|one: &Entry, other: &Entry| -> Ordering {
+        store.octets(one.name).cmp(store.octets(other.name))
+    });
+    sorted.is_ok() && is_ascending(store, entries)
+}
+
+/// Whether each name is below the next.
+fn is_ascending(store: &Store, entries: &[Entry]) -> bool
+    ensures { IsTrue result → AreInOrder (entry_names store.now entries.now) }
+{
+    for place in 1..entries.len() {
+        let before = store.octets(entries[place - 1].name);
+        let name = store.octets(entries[place].name);
+        match before.cmp(name) {
+            Ordering::Less => {}
+            _ => return false,
+        }
+    }
+    true
+}

@@ -1,0 +1,86 @@
+//! What the flat lists hold.
+ghost use Rattle.std.specs.Prelude.{◌≡◌};
+ghost use Rattle.jwt_text.specs.Kinds.{as_flag, as_whole, is_numeric, as_text, as_list, as_entries};
+
+/// A run of elements: `len` from `start` on.
+#[derive(Clone, Copy, Drop)]
+pub(crate) struct Span {
+    pub(crate) start: u32,
+    pub(crate) len: u32,
+}
+
+/// A JSON value. A text is a run of octets, a list a run of nodes, an object a run of entries.
+#[derive(Clone, Copy, Drop)]
+pub(crate) enum Node {
+    Null,
+    Bool(bool),
+    Unsigned(u64),
+    Negative(i64),
+    Float(f64),
+    Text(Span),
+    List(Span),
+    Object(Span),
+}
+
+/// A member of an object.
+#[derive(Clone, Copy, Drop)]
+pub(crate) struct Entry {
+    pub(crate) name: Span,
+    pub(crate) node: Node,
+}
+
+pub(crate) fn as_flag(node: Node) -> Option<bool>
+    ensures { result ≡ as_flag node }
+{
+    match node {
+        Node::Bool(b) => Some(b),
+        _ => None,
+    }
+}
+
+pub(crate) fn as_whole(node: Node) -> Option<i64>
+    ensures { result ≡ as_whole node }
+{
+    match node {
+        Node::Unsigned(n) => if n <= i64::MAX as u64 {
+            Some(n as i64)
+        } else {
+            None
+        },
+        Node::Negative(n) => Some(n),
+        _ => None,
+    }
+}
+
+pub(crate) fn is_numeric(node: Node) -> bool
+    ensures { result ≡ is_numeric node }
+{
+    matches!(node, Node::Unsigned(_) | Node::Negative(_) | Node::Float(_))
+}
+
+pub(crate) fn as_text(node: Node) -> Option<Span>
+    ensures { result ≡ as_text node }
+{
+    match node {
+        Node::Text(span) => Some(span),
+        _ => None,
+    }
+}
+
+pub(crate) fn as_list(node: Node) -> Option<Span>
+    ensures { result ≡ as_list node }
+{
+    match node {
+        Node::List(span) => Some(span),
+        _ => None,
+    }
+}
+
+pub(crate) fn as_entries(node: Node) -> Option<Span>
+    ensures { result ≡ as_entries node }
+{
+    match node {
+        Node::Object(span) => Some(span),
+        _ => None,
+    }
+}

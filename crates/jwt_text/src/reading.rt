@@ -1,0 +1,86 @@
+//! Reading a JSON text into a store.
+ghost use Rattle.std.specs.Prelude.{◌≡◌, IfSome, OnSome};
+ghost use Rattle.jwt_text.specs.Reads.{ReadsNode, ReadsItems, ReadsMembers};
+
+use crate::arrange::arrange;
+use crate::node::{Entry, Node, Span};
+use crate::number::{node_of, parse_number};
+use crate::store::Store;
+use json::{Reader, Token};
+use std::alloc::Global;
+
+/// The value at the front, which nests at most so deep; `None` where it can't be had.
+#[cycle(read)]
+#[inline(always)]
+fn read(alloc: Global, reader: &mut Reader<'_>, depth: usize, store: &mut Store) -> Option<Node>
+    ensures { IfSome result (ReadsNode depth reader.old reader.new store.old store.new) }
+{
+    match reader.next()? {
+        Token::String(text) => Some(Node::Text(store.add_text(text)?)),
+        Token::Number(text) => Some(node_of(parse_number(text)?)),
+        Token::Bool(flag) => Some(Node::Bool(flag)),
+        Token::Null => Some(Node::Null),
+        Token::BeginArray => {
+            if depth == 0 {
+                return None;
+            }
+            Some(Node::List(read_items(alloc, reader, depth - 1, store)?))
+        }
+        Token::BeginObject => {
+            if depth == 0 {
+                return None;
+            }
+            let entries = read_members(alloc, reader, depth - 1, store)?;
+            Some(Node::Object(store.add_entries(&entries)?))
+        }
+        Token::EndObject | Token::EndArray | Token::Key(_) | Token::Bad => None,
+    }
+}
+
+/// The items of a list, and the bracket that closes it.
+#[cycle(read)]
+#[inline(never)]
+fn read_items(
+    alloc: Global,
+    reader: &mut Reader<'_>,
+    depth: usize,
+    store: &mut Store,
+) -> Option<Span>
+    ensures { IfSome result (ReadsItems depth reader.old reader.new store.old store.new) }
+{
+    let mut built = Vec::new(alloc);
+    'items: while !reader.take_end_array() {
+        let node = read(alloc, reader, depth, store)?;
+        if built.push(node).is_err() {
+            return None;
+        }
+    }
+    store.add_nodes(&built)
+}
+
+/// The members of an object in order, and the brace that closes it.
+#[cycle(read)]
+#[inline(never)]
+pub(crate) fn read_members(
+    alloc: Global,
+    reader: &mut Reader<'_>,
+    depth: usize,
+    store: &mut Store,
+) -> Option<Vec<Entry>>
+    ensures { IfSome result
+        (λ es. ReadsMembers depth reader.old reader.new store.old store.new es.items) }
+{
+    let mut built = Vec::new(alloc);
+    'members: while let Some(key) = reader.next_key().ok()? {
+        let name = store.add_text(key)?;
+        let node = read(alloc, reader, depth, store)?;
+        if built.push(Entry { name, node }).is_err() {
+            return None;
+        }
+    }
+    if arrange(store, &mut built) {
+        Some(built)
+    } else {
+        None
+    }
+}
