@@ -1,6 +1,6 @@
 -- The work in a caller's terms.
-use Rattle.std.proofs.Common.{◌≡◌, ℕ, zero, suc, ◌+◌, ◌*◌, ◌<◌, ◌≤◌, Bool, true, false, List, [], ◌∷◌, ◌++◌, length, take, get_or, map, Option, Some, None, refl, sym, ◌∙◌, ap, subst, inl, inr, arith, add-one}
-use Rattle.std.specs.Prelude.{max, slice_get, nat_lt, if◌then◌else◌}
+use Rattle.std.proofs.Common.{◌≡◌, ℕ, zero, suc, ◌+◌, ◌*◌, ◌<◌, ◌≤◌, Bool, true, false, List, [], ◌∷◌, length, take, get_or, map, Option, Some, None, refl, sym, ◌∙◌, ap, subst, inl, inr, arith, add-one}
+use Rattle.std.specs.Prelude.{slice_get, nat_lt, if◌then◌else◌}
 use Rattle.std.specs.List.{All, sum_by, filter, flat_map}
 use Rattle.std.specs.Option.{option_map_or}
 use Rattle.std.proofs.Math.Nat.{mul-le-mul_right, mul-le-mul_left, suc-mul}
@@ -11,18 +11,15 @@ use Rattle.std.proofs.lemmas.List.Sums.{sum_by-append, sum_by_push, sum_by-cons}
 use Rattle.std.proofs.lemmas.Option.{slice_get-get_or}
 use Rattle.jwt_mac.specs.declared.algorithm.Alg.{Alg}
 use Rattle.jwt_mac.specs.declared.algorithm.Alg.TheVariants.{HS256, HS384, HS512, RS256, RS384, RS512, PS256, PS384, PS512, ES256, ES384, ES512, EdDSA}
-use Rattle.jwt_mac.specs.Algorithm.{is_hmac_alg, block_size, digest_size, key_cost}
+use Rattle.jwt_mac.specs.Algorithm.{is_hmac_alg, block_size, digest_size}
 use Rattle.jwt_mac.specs.Verifying.{KeyOctets, OctKey, RsaKey, EcKey, OkpKey}
 use Rattle.jwt_jws.specs.Token.{Token, SignatureParts}
 use Rattle.jwt_keys.specs.Keys.{KeyParts}
 use Rattle.jwt_policy.specs.Bars.{alg}
-use Rattle.jwt_policy.specs.Settings.{Settings}
 use Rattle.jwt_verify.specs.declared.report.Try.{Try}
 use Rattle.jwt_verify.specs.Table.{Table, below, entry, tried, pairs, tries, work}
 use Rattle.jwt_verify.specs.Trying.{at_pair, table_of}
-use Rattle.jwt_verify.specs.Verdict.{Terms}
-use Rattle.jwt_verify.specs.Asks.{IsAsking}
-use Rattle.jwt_verify.specs.Laws.{greatest, longest_input, common_cost, long_secret, long_key, bound}
+use Rattle.jwt_verify.specs.Laws.{greatest, common_cost, long_secret, long_key}
 use Rattle.jwt_verify.specs.Verdicts.{secret_length, secrets, CallersBound, GreatestWork}
 use Rattle.jwt_verify.proofs.Below.{below_more, below-zero, length-below}
 use Rattle.jwt_verify.proofs.Bounds.{work_bounded}

@@ -1,18 +1,12 @@
 -- The laws of the verdict and of the tries hold in words.
-use Rattle.std.proofs.Common.{◌≡◌, ℕ, ◌+◌, ◌*◌, ◌≤◌, Bool, true, List, ◌∷◌, length, map, Option, Some, None, Result, Ok, Err, refl, sym, ◌∙◌, ap, subst, arith, length-append}
-use Rattle.serde_json.specs.Data.{Members}
+use Rattle.std.proofs.Common.{◌≡◌, ℕ, ◌*◌, ◌≤◌, true, List, ◌∷◌, length, map, None, Result, Ok, Err, refl, sym, ◌∙◌, ap, subst, arith, length-append}
 use Rattle.jwt_jws.specs.Token.{Token}
-use Rattle.jwt_keys.specs.Keys.{KeyParts}
 use Rattle.jwt_verify.specs.declared.report.Fault.{Fault}
-use Rattle.jwt_verify.specs.declared.report.Fault.TheVariants.{CallsExceeded}
-use Rattle.jwt_verify.specs.declared.report.Verdict.{Verdict}
-use Rattle.jwt_verify.specs.declared.report.Verdict.TheVariants.{Accepted, Refused}
+use Rattle.jwt_verify.specs.declared.report.Verdict.TheVariants.{Accepted}
 use Rattle.jwt_verify.specs.Table.{Table, entry, tries, stop, states_at}
-use Rattle.jwt_verify.specs.Trying.{table_of}
-use Rattle.jwt_verify.specs.Verdict.{Terms, token_of, table, verdict_of}
-use Rattle.jwt_verify.specs.Asks.{IsToken, IsAsking}
-use Rattle.jwt_verify.specs.Accepted.{IsAccepted, IsVerdict}
-use Rattle.jwt_verify.specs.Laws.{AreAmong, with_keys, kind_of, without_key, with_valid, verdict_by}
+use Rattle.jwt_verify.specs.Verdict.{Terms, token_of, table}
+use Rattle.jwt_verify.specs.Asks.{IsToken}
+use Rattle.jwt_verify.specs.Laws.{with_keys, kind_of, without_key, with_valid, verdict_by}
 use Rattle.jwt_verify.specs.Verdicts.{PaidIsLongest, CallsSuffice, IsUnstopped, MoreKeysAccept, SameKeysAgree, SparesNone, LeastTriesOfToken}
 use Rattle.jwt_verify.proofs.Bounds.{length-tries}
 use Rattle.jwt_verify.proofs.Judged.{unbarred_by, table_none, table_of_token}

@@ -1,5 +1,5 @@
 -- Laws of the verdict and of the tries, in words.
-use Rattle.std.specs.Prelude.{ℕ, ◌+◌, ◌*◌, ◌≤◌, ◌≡◌, ◌≢◌, Bool, true, not, List, length, map, Option, None}
+use Rattle.std.specs.Prelude.{ℕ, ◌+◌, ◌*◌, ◌≤◌, ◌≡◌, ◌≢◌, Bool, not, List, length, map, Option, None}
 use Rattle.std.specs.List.{All, Contains, sum_by}
 use Rattle.serde_json.specs.Data.{Members}
 use Rattle.jwt_mac.specs.Verifying.{KeyOctets, OctKey}

@@ -37,7 +37,8 @@ fn bars_of(
     policy: &Policy,
     verifiers: &[Box<dyn Verifier>],
 ) -> Result<Vec<Option<SigFault>>, AllocError>
-    ensures { IfOk result (λ v. v.items ≡ map (λ s. bar_of policy.now s (map meaning verifiers.now)) (token signed.now).signatures) }
+    ensures { IfOk result (λ v. v.items
+        ≡ map (λ s. bar_of policy.now s (map meaning verifiers.now)) (token signed.now).signatures) }
 {
     let mut bars = Vec::new(alloc);
     'signatures: for i in 0..signed.count() {
@@ -98,8 +99,12 @@ fn try_token<B: Budget>(
     ensures ceiling { B.ceiling b.new ≡ B.ceiling b.old }
     ensures octets { B.octets b.new ≡ work tries.new.items }
     ensures calls { B.calls b.new ≡ length tries.new.items }
-    ensures front { (more : List Try) × (paid (table_of policy.now (map meaning verifiers.now) (key_set keys.now).keys (token signed.now)) (B.ceiling b.old) policy.now.max_calls ≡ tries.new.items ++ more) }
-    ensures run { IfOk result (IsRun (table_of policy.now (map meaning verifiers.now) (key_set keys.now).keys (token signed.now)) (B.ceiling b.old) policy.now.max_calls tries.new.items states.new.items) }
+    ensures front { (more : List Try) × (paid
+        (table_of policy.now (map meaning verifiers.now) (key_set keys.now).keys (token signed.now))
+        (B.ceiling b.old) policy.now.max_calls ≡ tries.new.items ++ more) }
+    ensures run { IfOk result (IsRun
+        (table_of policy.now (map meaning verifiers.now) (key_set keys.now).keys (token signed.now))
+        (B.ceiling b.old) policy.now.max_calls tries.new.items states.new.items) }
 {
     let bars = bars_of(alloc, signed, policy, verifiers)?;
     let asked = Asked {
@@ -123,9 +128,16 @@ fn judge_token<'p, B: Budget>(
 ) -> Report<'p>
     requires no_octets { B.octets b.old ≡ 0 }
     requires no_calls { B.calls b.old ≡ 0 }
-    ensures verdict { FoundMemory result.verdict → result.verdict ≡ token_verdict (terms policy.now keys.now now (map meaning verifiers.now)) (B.ceiling b.old) (token signed.now) }
-    ensures tries { IsWhole (table_of policy.now (map meaning verifiers.now) (key_set keys.now).keys (token signed.now)) (B.ceiling b.old) policy.now.max_calls result.tries.items result.states.items result.verdict }
-    ensures front { (more : List Try) × (paid (table_of policy.now (map meaning verifiers.now) (key_set keys.now).keys (token signed.now)) (B.ceiling b.old) policy.now.max_calls ≡ result.tries.items ++ more) }
+    ensures verdict { FoundMemory result.verdict → result.verdict
+        ≡ token_verdict (terms policy.now keys.now now (map meaning verifiers.now))
+        (B.ceiling b.old) (token signed.now) }
+    ensures tries { IsWhole
+        (table_of policy.now (map meaning verifiers.now) (key_set keys.now).keys (token signed.now))
+        (B.ceiling b.old) policy.now.max_calls
+        result.tries.items result.states.items result.verdict }
+    ensures front { (more : List Try) × (paid
+        (table_of policy.now (map meaning verifiers.now) (key_set keys.now).keys (token signed.now))
+        (B.ceiling b.old) policy.now.max_calls ≡ result.tries.items ++ more) }
     ensures octets { B.octets b.new ≡ work result.tries.items }
     ensures calls { B.calls b.new ≡ length result.tries.items }
     ensures ceiling { B.ceiling b.new ≡ B.ceiling b.old }
@@ -179,9 +191,16 @@ fn judge_octets<'p, B: Budget>(
 ) -> Report<'p>
     requires no_octets { B.octets b.old ≡ 0 }
     requires no_calls { B.calls b.old ≡ 0 }
-    ensures verdict { FoundMemory result.verdict → result.verdict ≡ verdict_of (terms policy.now keys.now now (map meaning verifiers.now)) octets.now (B.ceiling b.old) }
-    ensures tries { IsWhole (table (terms policy.now keys.now now (map meaning verifiers.now)) octets.now) (B.ceiling b.old) policy.now.max_calls result.tries.items result.states.items result.verdict }
-    ensures front { (more : List Try) × (paid (table (terms policy.now keys.now now (map meaning verifiers.now)) octets.now) (B.ceiling b.old) policy.now.max_calls ≡ result.tries.items ++ more) }
+    ensures verdict { FoundMemory result.verdict → result.verdict
+        ≡ verdict_of (terms policy.now keys.now now (map meaning verifiers.now))
+        octets.now (B.ceiling b.old) }
+    ensures tries { IsWhole
+        (table (terms policy.now keys.now now (map meaning verifiers.now)) octets.now)
+        (B.ceiling b.old) policy.now.max_calls
+        result.tries.items result.states.items result.verdict }
+    ensures front { (more : List Try) × (paid
+        (table (terms policy.now keys.now now (map meaning verifiers.now)) octets.now)
+        (B.ceiling b.old) policy.now.max_calls ≡ result.tries.items ++ more) }
     ensures read { result.verdict ≢ Refused (Text Read) }
     ensures octets { B.octets b.new ≡ work result.tries.items }
     ensures calls { B.calls b.new ≡ length result.tries.items }
@@ -224,7 +243,8 @@ pub fn judge<'p, B: Budget>(
     requires no_calls { B.calls b.old ≡ 0 }
 
     // The verdict is that on the octets, unless memory was refused; and what else the report holds.
-    ensures verdict { FoundMemory result.verdict → IsVerdict (terms policy.now keys.now now (map meaning verifiers.now))
+    ensures verdict { FoundMemory result.verdict
+        → IsVerdict (terms policy.now keys.now now (map meaning verifiers.now))
         octets.now (B.ceiling b.old) result.verdict }
     ensures report { IsReport (terms policy.now keys.now now (map meaning verifiers.now))
         octets.now (B.ceiling b.old) result }
@@ -305,12 +325,15 @@ pub fn validate<'p, R: Source, B: Budget>(
     // Of a source that tells its octets, unless a read failed: the verdict is that on them, unless memory was refused; what else
     // the report holds; and what was taken.
     ensures verdict { IfSome (R.remaining r.old) (λ x. result.verdict ≢ Refused (Text Read)
-        → FoundMemory result.verdict → IsVerdict (terms policy.now keys.now now (map meaning verifiers.now))
+        → FoundMemory result.verdict
+        → IsVerdict (terms policy.now keys.now now (map meaning verifiers.now))
         x (B.ceiling b.old) result.verdict) }
     ensures report { IfSome (R.remaining r.old) (λ x. result.verdict ≢ Refused (Text Read)
-        → IsReport (terms policy.now keys.now now (map meaning verifiers.now)) x (B.ceiling b.old) result) }
+        → IsReport (terms policy.now keys.now now (map meaning verifiers.now))
+        x (B.ceiling b.old) result) }
     ensures eligible { IfSome (R.remaining r.old) (λ x.
-        AreEligible (terms policy.now keys.now now (map meaning verifiers.now)) x result.tries.items) }
+        AreEligible (terms policy.now keys.now now (map meaning verifiers.now))
+        x result.tries.items) }
     ensures bound { IfSome (R.remaining r.old) (λ x.
         IsBounded (terms policy.now keys.now now (map meaning verifiers.now))
         x result.tries.items (B.octets b.new)) }
@@ -323,7 +346,8 @@ pub fn validate<'p, R: Source, B: Budget>(
     // Of every source, also of one that doesn't tell its octets: unless a read failed, some octets have this report.
     ensures some { result.verdict ≢ Refused (Text Read)
         → (x : List ℕ) × (length x ≤ policy.now.run.limit + 1)
-        × IsReport (terms policy.now keys.now now (map meaning verifiers.now)) x (B.ceiling b.old) result }
+        × IsReport (terms policy.now keys.now now (map meaning verifiers.now))
+        x (B.ceiling b.old) result }
     ensures once { AllPairs IsBefore result.tries.items }
     ensures within { IsWithin policy.now.max_calls (B.calls b.new) }
     ensures failed { R.failed r.new ≡ true → Failed result.verdict result.tries.items }
