@@ -120,7 +120,7 @@ const EXPONENT_OF_65_BITS: Numbers = Numbers {
 };
 
 /// Signatures made by OpenSSL, and by the equations of RFC 8017 where OpenSSL takes no such key.
-static SIGNATURES: [Row; 28] = [
+const SIGNATURES: [Row; 28] = [
     Row {
         shows: "RS256, 2,048 bits, by OpenSSL",
         alg: Alg::RS256,
@@ -348,7 +348,7 @@ static SIGNATURES: [Row; 28] = [
 ];
 
 /// What RS256 and RS384 refuse: encodings that are none (RFC 8017, section 9.2), and numbers and lengths that serve no signature.
-static NO_PKCS1: [Row; 31] = [
+const NO_PKCS1: [Row; 31] = [
     Row {
         shows: "a padding of eight octets, and octets behind the digest (Bleichenbacher)",
         alg: Alg::RS256,
@@ -600,7 +600,7 @@ static NO_PKCS1: [Row; 31] = [
 ];
 
 /// What PS256 and PS384 refuse: encodings that are none (RFC 8017, section 9.1.2).
-static NO_PSS: [Row; 15] = [
+const NO_PSS: [Row; 15] = [
     Row {
         shows: "RS256's signature as PS256's",
         alg: Alg::PS256,
@@ -724,7 +724,7 @@ static NO_PSS: [Row; 15] = [
 ];
 
 /// Keys that are not taken, with what their equation holds of.
-static NO_KEYS: [Row; 8] = [
+const NO_KEYS: [Row; 8] = [
     Row {
         shows: "an exponent of 1, whose signature is the encoding",
         alg: Alg::RS256,
