@@ -5,6 +5,7 @@ use Rattle.std.specs.Option.{option_map_or}
 use Rattle.std.specs.Str.{bytes_eq}
 use Rattle.jwt_text.specs.ObjectText.{object_of}
 use Rattle.jwt_mac.specs.Algorithm.{is_hmac_alg, tag_of, cost_of}
+use Rattle.jwt_mac.specs.Verifying.{Meaning}
 use Rattle.jwt_mac.specs.declared.algorithm.Alg.{Alg}
 use Rattle.jwt_keys.specs.Keys.{KeyParts}
 use Rattle.jwt_keys.specs.KeySets.{key_set_of}
@@ -20,7 +21,7 @@ use Rattle.jwt_issue.specs.Issued.{PairParts, compact_of, pair_cost, secret_in}
 use Rattle.jwt_bench.specs.Given.{GivenParts}
 use Rattle.jwt_bench.specs.declared.totals.Ran.{Ran}
 use Rattle.jwt_bench.specs.declared.workload.Workload.{Workload}
-use Rattle.jwt_bench.specs.declared.workload.Workload.TheVariants.{Judge, Validate, Parse, Object, Keys, Policy, Issue, Hmac}
+use Rattle.jwt_bench.specs.declared.workload.Workload.TheVariants.{Judge, Public, Validate, Parse, Object, Keys, Policy, Issue, Hmac}
 
 -- what is read once: the last key, and of the first signature its algorithm, its header, its signing input and its octets
 pub record ReadyParts : Type 0 where
@@ -47,15 +48,22 @@ abbrev pub is_accepted : Verdict → Bool
 is_accepted (Accepted i j claims) = true
 is_accepted (Refused fault) = false
 
--- a second before the token of RFC 7515, appendix A.1, expires; without verifiers for public keys
-abbrev pub terms_of : ReadyParts → Terms
-terms_of b = record { policy = b.policy; keys = b.keys; now = pos 1300819379; verifiers = [] }
+-- a second before the token of RFC 7515, appendix A.1, expires
+abbrev pub terms_of : List Meaning → ReadyParts → Terms
+terms_of verifiers b = record { policy = b.policy; keys = b.keys; now = pos 1300819379; verifiers = verifiers }
 
-abbrev pub paid_tries : ReadyParts → List Try
-paid_tries b = paid (table (terms_of b) b.given.token) b.policy.run.work b.policy.max_calls
+abbrev pub paid_tries : List Meaning → ReadyParts → List Try
+paid_tries verifiers b = paid (table (terms_of verifiers b) b.given.token) b.policy.run.work b.policy.max_calls
 
+-- under these verifiers for public keys
+abbrev pub judged_by : List Meaning → ReadyParts → Ran
+judged_by verifiers b =
+    let tries = paid_tries verifiers b in
+    ran (is_accepted (verdict_of (terms_of verifiers b) b.given.token b.policy.run.work)) (work tries) (length tries)
+
+-- without verifiers
 abbrev pub judged : ReadyParts → Ran
-judged b = ran (is_accepted (verdict_of (terms_of b) b.given.token b.policy.run.work)) (work (paid_tries b)) (length (paid_tries b))
+judged = judged_by []
 
 -- ---- issuing, and HMAC alone
 
@@ -75,14 +83,15 @@ hashed b secret =
     then ran (bytes_eq b.signature (tag_of b.alg secret b.input)) (cost_of b.alg secret b.input) 1
     else ran false 0 0
 
--- ---- each workload
+-- ---- each workload, with these verifiers built in
 
-abbrev pub ran_of : Workload → ReadyParts → Ran
-ran_of Judge b = judged b
-ran_of Validate b = judged b
-ran_of Parse b = read_ran (form_of b.policy.run.max_signatures b.given.token)
-ran_of Object b = ran (is_ok (object_of b.header) && is_ok (object_of b.claims)) 0 0
-ran_of Keys b = read_ran (key_set_of b.given.keys)
-ran_of Policy b = read_ran (policy_of b.given.policy)
-ran_of Issue b = issued b
-ran_of Hmac b = option_map_or (hashed b) (secret_in b.key.octets) (ran false 0 0)
+abbrev pub ran_of : List Meaning → Workload → ReadyParts → Ran
+ran_of built_in Judge b = judged b
+ran_of built_in Public b = judged_by built_in b
+ran_of built_in Validate b = judged b
+ran_of built_in Parse b = read_ran (form_of b.policy.run.max_signatures b.given.token)
+ran_of built_in Object b = ran (is_ok (object_of b.header) && is_ok (object_of b.claims)) 0 0
+ran_of built_in Keys b = read_ran (key_set_of b.given.keys)
+ran_of built_in Policy b = read_ran (policy_of b.given.policy)
+ran_of built_in Issue b = issued b
+ran_of built_in Hmac b = option_map_or (hashed b) (secret_in b.key.octets) (ran false 0 0)

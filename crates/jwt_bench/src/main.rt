@@ -16,6 +16,8 @@ mod words;
 mod workload;
 
 use crate::run::run;
+use jwt_mac::Verifier;
+use jwt_rsa::Rsa;
 use jwt_text::{Reader, Sink, Source, Writer};
 use std::process::ExitCode;
 use std::{env, io};
@@ -34,5 +36,6 @@ fn main(rt: HostRuntime) -> ExitCode {
 fn run_words<R: Source, W: Sink>(rt: &HostRuntime, r: &mut R, w: &mut W) -> io::Result<u8> {
     let args: Vec<String> = env::args(rt)?.collect(rt.alloc())?;
     let words: Vec<&str> = args.iter().map(|word| word.as_str()).collect(rt.alloc())?;
-    Ok(run(rt.alloc(), words.as_slice(), r, w))
+    let rsa: [Box<dyn Verifier>; 1] = [Box::new(rt.alloc(), Rsa)?];
+    Ok(run(rt.alloc(), words.as_slice(), &rsa, r, w))
 }

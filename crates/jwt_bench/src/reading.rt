@@ -1,5 +1,5 @@
 //! Reading the input once, and the runs over it.
-ghost use Rattle.std.specs.Prelude.{◌≡◌, ◌≤◌, ◌-◌, Ok, Some, IfOk, IfSome, length, slice_get};
+ghost use Rattle.std.specs.Prelude.{◌≡◌, ◌≤◌, ◌-◌, Ok, Some, IfOk, IfSome, length, map, slice_get};
 ghost use Rattle.jwt_text.specs.Base64url.{spelled};
 ghost use Rattle.jwt_jws.specs.Views.{token};
 ghost use Rattle.jwt_jws.specs.Token.{SignatureParts};
@@ -7,7 +7,7 @@ ghost use Rattle.jwt_keys.specs.KeySets.{key_set, key_set_of};
 ghost use Rattle.jwt_policy.specs.Document.{policy_of};
 ghost use Rattle.jwt_issue.specs.ClaimSets.{claim_set_of};
 ghost use Rattle.jwt_bench.specs.Once.{ReadyParts, ran_of};
-ghost use Rattle.jwt_bench.specs.Ready.{HasFirst, IsReady, IsReadyOf};
+ghost use Rattle.jwt_bench.specs.Ready.{IsReady, IsReadyOf, IsReadyOver};
 ghost use Rattle.jwt_bench.specs.Totals.{times};
 ghost use Rattle.jwt_bench.specs.Views.{given_view, ready_view};
 
@@ -19,19 +19,24 @@ use crate::words::Order;
 use jwt_issue::ClaimSet;
 use jwt_jws::{FormFault, Signed, parse};
 use jwt_keys::{KeySet, KeysFault};
-use jwt_mac::Alg;
+use jwt_mac::{Alg, Verifier};
 use jwt_policy::{ClaimFault, Policy, PolicyFault};
 use jwt_text::{GREATEST_LIMIT, Intake, Source, TextFault, decode};
 use std::alloc::Global;
 
 // All runs.
-fn repeat(alloc: Global, order: Order, ready: &Ready<'_>) -> Result<Totals, RunFault>
+fn repeat(
+    alloc: Global,
+    order: Order,
+    ready: &Ready<'_>,
+    built_in: &[Box<dyn Verifier>],
+) -> Result<Totals, RunFault>
     requires { order.count ≤ 10000000 }
-    ensures { IfOk result (λ t. t ≡ times order.count (ran_of order.workload (ready_view ready.now))) }
+    ensures { IfOk result (λ t. t ≡ times order.count (ran_of (map meaning built_in.now) order.workload (ready_view ready.now))) }
 {
     let mut totals = Totals::none();
     'runs: for _ in 0..order.count {
-        let ran = ready.once(alloc, order.workload)?;
+        let ran = ready.once(alloc, order.workload, built_in)?;
         totals.add(ran);
     }
     Ok(totals)
@@ -60,6 +65,48 @@ fn octets_of(alloc: Global, text: &[u8]) -> Result<Vec<u8>, RunFault>
     }
 }
 
+// What a run over a signed token takes; `claims` and `header` are read from it before.
+fn ready_over<'a>(
+    given: Given<'a>,
+    policy: &'a Policy,
+    keys: &'a KeySet,
+    signed: &'a Signed<'_>,
+    claims: &'a ClaimSet,
+    header: &'a [u8],
+) -> Result<Ready<'a>, RunFault>
+    requires claims { claim_set_of (token signed.now).payload ≡ Ok claims.now }
+    requires header { IfSome (slice_get (token signed.now).signatures 0) (λ s. spelled s.protected_text ≡ Ok header.now) }
+    ensures { IfOk result (λ r. IsReadyOver (given_view given.entry) policy.now (key_set keys.now).keys (token signed.now) (ready_view r)) }
+{
+    let last = keys.len().saturating_sub(1);
+    let key = keys.key(last).ok_or(RunFault::Input)?;
+    let signature = signed.signature(0).ok_or(RunFault::Input)?;
+    let message = signed.message(0).ok_or(RunFault::Input)?;
+    let name = signature.alg_text().ok_or(RunFault::Input)?;
+    let alg = Alg::from_text(name).ok_or(RunFault::Input)?;
+    Ok(Ready {
+        given,
+        policy,
+        keys,
+        claims,
+        key,
+        alg,
+        header,
+        message,
+        signature: signature.octets(),
+    })
+}
+
+// What the protected text of a token's first signature spells.
+fn header_of(alloc: Global, signed: &Signed<'_>) -> Result<Vec<u8>, RunFault>
+    ensures { IfOk result (λ v. IfSome (slice_get (token signed.now).signatures 0) (λ s. spelled s.protected_text ≡ Ok v.items)) }
+{
+    match signed.signature(0) {
+        Some(signature) => octets_of(alloc, signature.protected_text()),
+        None => Err(RunFault::Input),
+    }
+}
+
 // The runs over a signed token.
 fn on_signed(
     alloc: Global,
@@ -68,32 +115,17 @@ fn on_signed(
     policy: &Policy,
     keys: &KeySet,
     signed: &Signed<'_>,
+    built_in: &[Box<dyn Verifier>],
 ) -> Result<Totals, RunFault>
     requires { order.count ≤ 10000000 }
-    ensures { IfOk result (λ t. (b : ReadyParts) × (b.given ≡ given_view given.entry) × (b.policy ≡ policy.now) × (b.keys ≡ (key_set keys.now).keys)
-        × (slice_get b.keys (length b.keys - 1) ≡ Some b.key) × (claim_set_of (token signed.now).payload ≡ Ok b.claims)
-        × ((s : SignatureParts) × HasFirst b (token signed.now) s) × (t ≡ times order.count (ran_of order.workload b))) }
+    ensures { IfOk result (λ t. (b : ReadyParts)
+        × IsReadyOver (given_view given.entry) policy.now (key_set keys.now).keys (token signed.now) b
+        × (t ≡ times order.count (ran_of (map meaning built_in.now) order.workload b))) }
 {
-    let last = keys.len().saturating_sub(1);
-    let key = keys.key(last).ok_or(RunFault::Input)?;
-    let signature = signed.signature(0).ok_or(RunFault::Input)?;
-    let message = signed.message(0).ok_or(RunFault::Input)?;
-    let name = signature.alg_text().ok_or(RunFault::Input)?;
-    let alg = Alg::from_text(name).ok_or(RunFault::Input)?;
     let claims = claims(alloc, signed)?;
-    let header = octets_of(alloc, signature.protected_text())?;
-    let ready = Ready {
-        given,
-        policy,
-        keys,
-        claims: &claims,
-        key,
-        alg,
-        header: header.as_slice(),
-        message,
-        signature: signature.octets(),
-    };
-    repeat(alloc, order, &ready)
+    let header = header_of(alloc, signed)?;
+    let ready = ready_over(given, policy, keys, signed, &claims, header.as_slice())?;
+    repeat(alloc, order, &ready, built_in)
 }
 
 // The policy of a document.
@@ -119,38 +151,53 @@ fn keys_in(alloc: Global, document: &[u8]) -> Result<KeySet, RunFault>
 }
 
 // The runs over an input in its three parts.
-fn on_given(alloc: Global, order: Order, given: Given<'_>) -> Result<Totals, RunFault>
+fn on_given(
+    alloc: Global,
+    order: Order,
+    given: Given<'_>,
+    built_in: &[Box<dyn Verifier>],
+) -> Result<Totals, RunFault>
     requires { order.count ≤ 10000000 }
-    ensures { IfOk result (λ t. (b : ReadyParts) × IsReadyOf (given_view given.entry) b × (t ≡ times order.count (ran_of order.workload b))) }
+    ensures { IfOk result (λ t. (b : ReadyParts) × IsReadyOf (given_view given.entry) b × (t ≡ times order.count (ran_of (map meaning built_in.now) order.workload b))) }
 {
     let policy = policy_in(alloc, given.policy)?;
     let keys = keys_in(alloc, given.keys)?;
     match parse(alloc, given.token, policy.max_signatures()) {
-        Ok(signed) => on_signed(alloc, order, given, &policy, &keys, &signed),
+        Ok(signed) => on_signed(alloc, order, given, &policy, &keys, &signed, built_in),
         Err(FormFault::OutOfMemory) => Err(RunFault::OutOfMemory),
         Err(_) => Err(RunFault::Input),
     }
 }
 
 // The runs over the octets of an input.
-fn on_octets(alloc: Global, order: Order, octets: &[u8]) -> Result<Totals, RunFault>
+fn on_octets(
+    alloc: Global,
+    order: Order,
+    octets: &[u8],
+    built_in: &[Box<dyn Verifier>],
+) -> Result<Totals, RunFault>
     requires { order.count ≤ 10000000 }
-    ensures { IfOk result (λ t. (b : ReadyParts) × IsReady octets.now b × (t ≡ times order.count (ran_of order.workload b))) }
+    ensures { IfOk result (λ t. (b : ReadyParts) × IsReady octets.now b × (t ≡ times order.count (ran_of (map meaning built_in.now) order.workload b))) }
 {
     match split(octets) {
-        Some(given) => on_given(alloc, order, given),
+        Some(given) => on_given(alloc, order, given, built_in),
         None => Err(RunFault::Input),
     }
 }
 
 /// Reads the input, at most [`GREATEST_LIMIT`] octets, and runs the workload over it so many times.
-pub(crate) fn totals<R: Source>(alloc: Global, order: Order, r: &mut R) -> Result<Totals, RunFault>
+pub(crate) fn totals<R: Source>(
+    alloc: Global,
+    order: Order,
+    built_in: &[Box<dyn Verifier>],
+    r: &mut R,
+) -> Result<Totals, RunFault>
     requires { order.count ≤ 10000000 }
-    ensures { IfSome (R.remaining r.old) (λ x. IfOk result (λ t. (b : ReadyParts) × IsReady x b × (t ≡ times order.count (ran_of order.workload b)))) }
+    ensures { IfSome (R.remaining r.old) (λ x. IfOk result (λ t. (b : ReadyParts) × IsReady x b × (t ≡ times order.count (ran_of (map meaning built_in.now) order.workload b)))) }
 {
     let mut intake = Intake::new(alloc, GREATEST_LIMIT);
     match intake.read_from(r) {
-        Ok(()) => on_octets(alloc, order, intake.octets()),
+        Ok(()) => on_octets(alloc, order, intake.octets(), built_in),
         Err(TextFault::OutOfMemory) => Err(RunFault::OutOfMemory),
         Err(TextFault::Read) => Err(RunFault::Read),
         Err(_) => Err(RunFault::Input),

@@ -1,5 +1,5 @@
 //! What is read once, and one run over it.
-ghost use Rattle.std.specs.Prelude.{◌≡◌, ◌≢◌, ◌≤◌, IfOk, is_ok};
+ghost use Rattle.std.specs.Prelude.{◌≡◌, ◌≢◌, ◌≤◌, [], IfOk, is_ok, map};
 ghost use Rattle.jwt_text.specs.ObjectText.{object_of};
 ghost use Rattle.jwt_keys.specs.KeySets.{key_set_of};
 ghost use Rattle.jwt_jws.specs.Forms.{form_of};
@@ -8,7 +8,7 @@ ghost use Rattle.jwt_verify.specs.Reports.{FoundMemory};
 ghost use Rattle.jwt_verify.specs.declared.report.InputFault.TheVariants.{Read};
 ghost use Rattle.jwt_verify.specs.declared.report.Fault.TheVariants.{Text};
 ghost use Rattle.jwt_verify.specs.declared.report.Verdict.TheVariants.{Refused};
-ghost use Rattle.jwt_bench.specs.Once.{hashed, is_accepted, issued, judged, ran, ran_of, read_ran};
+ghost use Rattle.jwt_bench.specs.Once.{hashed, is_accepted, issued, judged, judged_by, ran, ran_of, read_ran};
 ghost use Rattle.jwt_bench.specs.declared.workload.Workload.TheVariants.{Object as ObjectRuns, Hmac as HmacRuns};
 
 use crate::fault::RunFault;
@@ -97,11 +97,10 @@ fn is_object(alloc: Global, octets: &[u8]) -> Result<bool, RunFault>
 impl Ready<'_> {
     ghost use Rattle.jwt_bench.specs.Views.{ready_view};
 
-    fn judge(&self, alloc: Global) -> Result<Ran, RunFault>
-        ensures value { IfOk result (λ ran. ran ≡ judged (ready_view self.now)) }
+    fn judge_by(&self, alloc: Global, verifiers: &[Box<dyn Verifier>]) -> Result<Ran, RunFault>
+        ensures value { IfOk result (λ ran. ran ≡ judged_by (map meaning verifiers.now) (ready_view self.now)) }
         ensures within { IfOk result (λ ran. ran.octets ≤ 1000000000000) }
     {
-        let verifiers: [Box<dyn Verifier>; 0] = [];
         let mut budget = CountDown::new(self.policy.work());
         tells_reports();
         let report = judge(
@@ -110,11 +109,19 @@ impl Ready<'_> {
             self.keys,
             self.policy,
             NOW,
-            &verifiers,
+            verifiers,
             &mut budget,
         );
         let accepted = is_accepted(&report.verdict)?;
         Ok(ran(accepted, &budget))
+    }
+
+    fn judge(&self, alloc: Global) -> Result<Ran, RunFault>
+        ensures value { IfOk result (λ ran. ran ≡ judged (ready_view self.now)) }
+        ensures within { IfOk result (λ ran. ran.octets ≤ 1000000000000) }
+    {
+        let verifiers: [Box<dyn Verifier>; 0] = [];
+        self.judge_by(alloc, &verifiers)
     }
 
     fn validate(&self, alloc: Global) -> Result<Ran, RunFault>
@@ -149,7 +156,7 @@ impl Ready<'_> {
     }
 
     fn object(&self, alloc: Global) -> Result<Ran, RunFault>
-        ensures { IfOk result (λ ran. ran ≡ ran_of ObjectRuns (ready_view self.now)) }
+        ensures { IfOk result (λ ran. ran ≡ ran_of [] ObjectRuns (ready_view self.now)) }
     {
         let header = is_object(alloc, self.header)?;
         let claims = is_object(alloc, self.claims.octets())?;
@@ -203,7 +210,7 @@ impl Ready<'_> {
     }
 
     fn hmac(&self) -> Ran
-        ensures value { result ≡ ran_of HmacRuns (ready_view self.now) }
+        ensures value { result ≡ ran_of [] HmacRuns (ready_view self.now) }
         ensures within { result.octets ≤ 1000000000000 }
     {
         match self.key.view() {
@@ -212,13 +219,19 @@ impl Ready<'_> {
         }
     }
 
-    /// Runs the workload once.
-    pub(crate) fn once(&self, alloc: Global, workload: Workload) -> Result<Ran, RunFault>
-        ensures value { IfOk result (λ ran. ran ≡ ran_of workload (ready_view self.now)) }
+    /// Runs the workload once; `built_in` are the verifiers of [`Workload::Public`].
+    pub(crate) fn once(
+        &self,
+        alloc: Global,
+        workload: Workload,
+        built_in: &[Box<dyn Verifier>],
+    ) -> Result<Ran, RunFault>
+        ensures value { IfOk result (λ ran. ran ≡ ran_of (map meaning built_in.now) workload (ready_view self.now)) }
         ensures within { IfOk result (λ ran. ran.octets ≤ 1000000000000) }
     {
         match workload {
             Workload::Judge => self.judge(alloc),
+            Workload::Public => self.judge_by(alloc, built_in),
             Workload::Validate => self.validate(alloc),
             Workload::Parse => self.parse(alloc),
             Workload::Object => self.object(alloc),

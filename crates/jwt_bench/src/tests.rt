@@ -1,4 +1,5 @@
 use crate::run::run;
+use jwt_mac::Verifier;
 use jwt_text::{Reader, Writer};
 use std::alloc::Global;
 use std::test::Fail;
@@ -10,10 +11,12 @@ eyJ0eXAiOiJKV1QiLA0KICJhbGciOiJIUzI1NiJ9.eyJpc3MiOiJqb2UiLA0KICJleHAiOjEzMDA4MTk
 
 // What a run prints, and its status.
 fn printed(alloc: Global, words: &[&str], input: &[u8]) -> (Vec<u8>, u8) {
+    let built_in: [Box<dyn Verifier>; 0] = [];
     let mut out: Vec<u8> = Vec::new(alloc);
     let status = run(
         alloc,
         words,
+        &built_in,
         &mut Reader::new(input),
         &mut Writer::new(&mut out),
     );
@@ -22,8 +25,9 @@ fn printed(alloc: Global, words: &[&str], input: &[u8]) -> (Vec<u8>, u8) {
 
 #[test]
 fn each_workload_runs(rt: HostRuntime) -> Result<(), Fail> {
-    let cases: [(&str, &str, &str, u8); 13] = [
+    let cases: [(&str, &str, &str, u8); 14] = [
         ("judge", "1", "1 295 1\n", 0),
+        ("public", "1", "1 295 1\n", 0),
         ("validate", "1", "1 295 1\n", 0),
         ("parse", "1", "1 0 0\n", 0),
         ("object", "1", "1 0 0\n", 0),

@@ -7,6 +7,9 @@ pub(crate) enum Workload {
     /// `judge` on the token, with a new budget.
     Judge,
 
+    /// `judge` on the token with the verifiers that are built in, with a new budget.
+    Public,
+
     /// `validate` on the token as a source, with a new budget.
     Validate,
 
@@ -38,6 +41,7 @@ impl Workload {
     {
         match name {
             "judge" => Some(Workload::Judge),
+            "public" => Some(Workload::Public),
             "validate" => Some(Workload::Validate),
             "parse" => Some(Workload::Parse),
             "object" => Some(Workload::Object),

@@ -1,4 +1,4 @@
-use Rattle.std.proofs.Common.{◌≡◌}
+use Rattle.std.proofs.Common.{◌≡◌, map}
 use Rattle.jwt_bench.specs.Once.{ran_of}
 use Rattle.jwt_bench.specs.Totals.{times}
 use Rattle.jwt_bench.specs.Views.{ready_view}
@@ -6,4 +6,6 @@ use Rattle.jwt_bench.proofs.reading.repeat.Given as goal
 
 -- what the runs so far came to
 abbrev pub invariant-runs : goal.invariant-runs
-invariant-runs l = l.totals ≡ times l.counter (ran_of l.order.workload (ready_view l.ready))
+invariant-runs g l =
+    let built_in = map (λ b. (goal.Verifier-dyn g (b.vtable, b.value)).meaning b.value) l.built_in in
+    l.totals ≡ times l.counter (ran_of built_in l.order.workload (ready_view l.ready))
