@@ -1,5 +1,5 @@
 -- What some words ask for.
-use Rattle.std.proofs.Common.{◌≡◌, [], ◌∷◌, None, Some, refl}
+use Rattle.std.proofs.Common.{◌≡◌, [], ◌∷◌, None, Some, true, false, refl}
 use Rattle.std.specs.Prelude.{codes}
 use Rattle.clap.proofs.OnLiterals.{clap_on_literals}
 use Rattle.jwt_command.specs.Words.{Mac, Verify, order_of}
@@ -56,10 +56,26 @@ pub empty_key : order_of (codes "jwt" ∷ codes "mac" ∷ codes "--k=" ∷ []) �
 unfolding clap_on_literals
 empty_key = refl
 
-pub a_moment : order_of (codes "jwt" ∷ codes "verify" ∷ codes "--now" ∷ codes "1300819379" ∷ []) ≡ Some (Verify 1300819379)
+pub a_moment : order_of (codes "jwt" ∷ codes "verify" ∷ codes "--now" ∷ codes "1300819379" ∷ []) ≡ Some (Verify 1300819379 false)
 unfolding clap_on_literals
 a_moment = refl
 
 pub too_late : order_of (codes "jwt" ∷ codes "verify" ∷ codes "--now" ∷ codes "9223372036854775808" ∷ []) ≡ None
 unfolding clap_on_literals
 too_late = refl
+
+pub public_keys : order_of (codes "jwt" ∷ codes "verify" ∷ codes "--public-keys" ∷ codes "--now" ∷ codes "1300819379" ∷ []) ≡ Some (Verify 1300819379 true)
+unfolding clap_on_literals
+public_keys = refl
+
+pub public_keys_behind : order_of (codes "jwt" ∷ codes "verify" ∷ codes "--now" ∷ codes "1300819379" ∷ codes "--public-keys" ∷ []) ≡ Some (Verify 1300819379 true)
+unfolding clap_on_literals
+public_keys_behind = refl
+
+pub public_keys_twice : order_of (codes "jwt" ∷ codes "verify" ∷ codes "--now" ∷ codes "7" ∷ codes "--public-keys" ∷ codes "--public-keys" ∷ []) ≡ None
+unfolding clap_on_literals
+public_keys_twice = refl
+
+pub public_keys_of_a_value : order_of (codes "jwt" ∷ codes "verify" ∷ codes "--now" ∷ codes "7" ∷ codes "--public-keys=true" ∷ []) ≡ None
+unfolding clap_on_literals
+public_keys_of_a_value = refl

@@ -1,5 +1,5 @@
 -- What some words ask for.
-use Rattle.std.specs.Prelude.{◌≡◌, [], ◌∷◌, None, Some, codes}
+use Rattle.std.specs.Prelude.{◌≡◌, [], ◌∷◌, None, Some, true, false, codes}
 use Rattle.jwt_command.specs.Words.{Mac, Verify, order_of}
 
 pub record Examples : Type 0 where
@@ -16,5 +16,9 @@ pub record Examples : Type 0 where
   pub help_word : order_of (codes "jwt" ∷ codes "help" ∷ codes "mac" ∷ []) ≡ None
   pub mac_help : order_of (codes "jwt" ∷ codes "mac" ∷ codes "-h" ∷ []) ≡ None
   pub empty_key : order_of (codes "jwt" ∷ codes "mac" ∷ codes "--k=" ∷ []) ≡ Some (Mac [] 8192)
-  pub a_moment : order_of (codes "jwt" ∷ codes "verify" ∷ codes "--now" ∷ codes "1300819379" ∷ []) ≡ Some (Verify 1300819379)
+  pub a_moment : order_of (codes "jwt" ∷ codes "verify" ∷ codes "--now" ∷ codes "1300819379" ∷ []) ≡ Some (Verify 1300819379 false)
   pub too_late : order_of (codes "jwt" ∷ codes "verify" ∷ codes "--now" ∷ codes "9223372036854775808" ∷ []) ≡ None
+  pub public_keys : order_of (codes "jwt" ∷ codes "verify" ∷ codes "--public-keys" ∷ codes "--now" ∷ codes "1300819379" ∷ []) ≡ Some (Verify 1300819379 true)
+  pub public_keys_behind : order_of (codes "jwt" ∷ codes "verify" ∷ codes "--now" ∷ codes "1300819379" ∷ codes "--public-keys" ∷ []) ≡ Some (Verify 1300819379 true)
+  pub public_keys_twice : order_of (codes "jwt" ∷ codes "verify" ∷ codes "--now" ∷ codes "7" ∷ codes "--public-keys" ∷ codes "--public-keys" ∷ []) ≡ None
+  pub public_keys_of_a_value : order_of (codes "jwt" ∷ codes "verify" ∷ codes "--now" ∷ codes "7" ∷ codes "--public-keys=true" ∷ []) ≡ None

@@ -10,7 +10,7 @@ abbrev pub seen : Asked → Order
 seen (asked.Mac key limit) = Mac key.now limit
 seen asked.Keys = Keys
 seen (asked.Show limit) = Show limit
-seen (asked.Verify now) = Verify now
+seen (asked.Verify now public_keys) = Verify now public_keys
 seen (asked.Issue alg typ form) = Issue alg (option_map (λ t. t.now) typ) form
 
 -- the words are wrong, and memory was there

@@ -26,6 +26,6 @@ abbrev pub verify_most : List ℕ → ℕ
 verify_most x = line_most 65536 x + behind_policy (policy_of (first_line x)) (after_line x)
 
 abbrev pub most_taken : Order → List ℕ → ℕ
-most_taken (Verify now) x = verify_most x
+most_taken (Verify now public_keys) x = verify_most x
 most_taken (Issue alg typ form) x = keys_most 1048577 x
 most_taken order x = input_limit order + 1

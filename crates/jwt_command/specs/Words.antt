@@ -1,5 +1,6 @@
 -- The words of the command `jwt`, over `clap`'s own definitions of what a command takes.
-use Rattle.std.specs.Prelude.{◌≤◌, ℕ, true, false, List, [], ◌∷◌, Option, Some, None, if◌then◌else◌, codes, option_and_then, option_map}
+use Rattle.std.specs.Prelude.{◌≤◌, ℕ, Bool, true, false, List, [], ◌∷◌, Option, Some, None, if◌then◌else◌, codes, option_and_then, option_map}
+use Rattle.std.specs.Option.{option_map_or}
 use Rattle.std.specs.Str.{bytes_eq}
 use Rattle.std.specs.Str.Parse.{digits_value, without_leading_plus}
 use Rattle.clap.specs.Words.{App, Kinds, Row, Rule, Text, fault_of, first_of, new_app, new_rule, one_of, subcommand_of, with_rule, with_subcommand}
@@ -8,6 +9,7 @@ use Rattle.jwt_mac.specs.declared.algorithm.Alg.{Alg}
 use Rattle.jwt_jws.specs.declared.fault.Form.{Form}
 use Rattle.jwt_jws.specs.declared.fault.Form.TheVariants.{Compact, Flattened, General}
 use Rattle.clap.specs.ValueTests.{accepts}
+use Rattle.clap.specs.declared.builder.action.ArgAction.TheVariants.{SetTrue}
 use Rattle.clap.specs.declared.builder.value_parser.ValueParser.{ValueParser}
 use Rattle.clap.specs.declared.builder.value_parser.ValueParser.TheVariants as vp
 
@@ -32,6 +34,10 @@ limit_rule = record (option (codes "limit")) { parser = Some limit_range; defaul
 abbrev pub now_rule : Rule
 now_rule = record (option (codes "now")) { parser = Some now_range; required = true }
 
+-- a flag `--public-keys`
+abbrev pub public_keys_rule : Rule
+public_keys_rule = record (new_rule (codes "public-keys")) { long = Some (codes "public-keys"); action = Some SetTrue }
+
 abbrev pub alg_rule : Rule
 alg_rule = record (option (codes "alg")) { required = true }
 
@@ -53,7 +59,7 @@ abbrev pub show_app : App
 show_app = with_rule (new_app (codes "show")) limit_rule
 
 abbrev pub verify_app : App
-verify_app = with_rule (new_app (codes "verify")) now_rule
+verify_app = with_rule (with_rule (new_app (codes "verify")) now_rule) public_keys_rule
 
 abbrev pub issue_app : App
 issue_app = with_rule (with_rule (with_rule (new_app (codes "issue")) alg_rule) typ_rule) form_rule
@@ -70,7 +76,7 @@ pub data Order : Type 0 where
   Mac : Text → ℕ → Order
   Keys : Order
   Show : ℕ → Order
-  Verify : ℕ → Order
+  Verify : ℕ → Bool → Order
   Issue : Alg → Option Text → Form → Order
 
 -- the numbers of an order are in their ranges
@@ -78,7 +84,7 @@ abbrev pub HasLimits : Order → Type 0
 HasLimits (Mac key limit) = (1 ≤ limit) × (limit ≤ 1048576)
 HasLimits Keys = Unit {0}
 HasLimits (Show limit) = (1 ≤ limit) × (limit ≤ 1048576)
-HasLimits (Verify now) = now ≤ 9223372036854775807
+HasLimits (Verify now public_keys) = now ≤ 9223372036854775807
 HasLimits (Issue alg typ form) = Unit {0}
 
 -- the most octets of an order's input; that of `verify` is a policy of 65,536 octets, a key set of 4,194,304 and a token of
@@ -87,7 +93,7 @@ abbrev pub input_limit : Order → ℕ
 input_limit (Mac key limit) = limit
 input_limit Keys = 4194304
 input_limit (Show limit) = limit
-input_limit (Verify now) = 5308418
+input_limit (Verify now public_keys) = 5308418
 input_limit (Issue alg typ form) = 5242881
 
 -- the number that an option has, where its parser takes it
@@ -100,8 +106,12 @@ mac_order rows = option_and_then (λ key. option_map (λ limit. Mac key limit) (
 abbrev pub show_order : List Row → Option Order
 show_order rows = option_map (λ limit. Show limit) (number_in limit_range (one_of (codes "limit") rows))
 
+-- a flag has the value `true` where it is used, and else `false`
+abbrev pub public_keys_in : List Row → Bool
+public_keys_in rows = option_map_or (λ t. bytes_eq t (codes "true")) (first_of (codes "public-keys") rows) false
+
 abbrev pub verify_order : List Row → Option Order
-verify_order rows = option_map (λ now. Verify now) (number_in now_range (one_of (codes "now") rows))
+verify_order rows = option_map (λ now. Verify now (public_keys_in rows)) (number_in now_range (one_of (codes "now") rows))
 
 -- the form of a token that a text names
 abbrev pub form_named : Text → Option Form

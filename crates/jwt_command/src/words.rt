@@ -3,13 +3,13 @@ ghost use Rattle.std.specs.Prelude.{◌≡◌, ◌≤◌, IfOk, IfErr, IfSome, N
 ghost use Rattle.clap.specs.Words.{app_of, found_of, one_of, rows_of, rule_of, subcommand_rows_of};
 ghost use Rattle.clap.specs.declared.builder.command.Command.TheViews.{out-Command as fields_of};
 ghost use Rattle.clap.specs.declared.builder.ValueParser.TheVariants.{Unsigned};
-ghost use Rattle.jwt_command.specs.Words.{HasLimits, alg_in, alg_rule, form_in, form_named, form_rule, issue_app, issue_order, jwt_app, key_rule, keys_app, limit_rule, mac_app, mac_order, now_rule, number_in, order_in, order_of, show_app, show_order, typ_rule, verify_app, verify_order};
+ghost use Rattle.jwt_command.specs.Words.{HasLimits, alg_in, alg_rule, form_in, form_named, form_rule, issue_app, issue_order, jwt_app, key_rule, keys_app, limit_rule, mac_app, mac_order, now_rule, number_in, order_in, order_of, public_keys_in, public_keys_rule, show_app, show_order, typ_rule, verify_app, verify_order};
 ghost use Rattle.jwt_command.specs.Examples.{Examples};
 ghost use Rattle.jwt_command.specs.Seen.{IsWrong, seen};
 
 use clap::builder::ValueParser;
 use clap::error::ErrorKind;
-use clap::{Arg, ArgMatches, Command, Error};
+use clap::{Arg, ArgAction, ArgMatches, Command, Error};
 use jwt_jws::Form;
 use jwt_mac::Alg;
 use std::alloc::{AllocError, Global};
@@ -27,6 +27,7 @@ pub enum Order<'a> {
     },
     Verify {
         now: u64,
+        public_keys: bool,
     },
     Issue {
         alg: Alg,
@@ -68,6 +69,16 @@ fn now_option<'a>(alloc: Global) -> Arg<'a>
         .value_parser(ValueParser::unsigned(0, 9_223_372_036_854_775_807))
         .required(true)
         .help("The moment, in seconds since 1970-01-01T00:00:00Z")
+}
+
+fn public_keys_option<'a>(alloc: Global) -> Arg<'a>
+    ensures shape { rule_of result ≡ public_keys_rule }
+    ensures local { result.global ≡ false }
+{
+    Arg::new(alloc, "public-keys")
+        .long("public-keys")
+        .action(ArgAction::SetTrue)
+        .help("Verifies signatures by public keys too: RS256, RS384, RS512, PS256, PS384, PS512")
 }
 
 fn alg_option<'a>(alloc: Global) -> Arg<'a>
@@ -136,7 +147,8 @@ fn verify_command<'a>(alloc: Global) -> Result<Command<'a>, AllocError>
         .about(
             "Validates a token; standard input is a line with the policy, one with the key set, then the token",
         )
-        .arg(now_option(alloc))
+        .arg(now_option(alloc))?
+        .arg(public_keys_option(alloc))
 }
 
 fn issue_command<'a>(alloc: Global) -> Result<Command<'a>, AllocError>
@@ -237,12 +249,23 @@ fn chosen_show<'a>(options: &ArgMatches<'a>) -> Option<Order<'a>>
     Some(Order::Show { limit })
 }
 
+// Whether the verifiers for public keys are asked for.
+fn chosen_public_keys(options: &ArgMatches<'_>) -> bool
+    ensures { result ≡ public_keys_in (rows_of (found_of options.now)) }
+{
+    match options.get_str("public-keys") {
+        Some(text) => text == "true",
+        None => false,
+    }
+}
+
 fn chosen_verify<'a>(options: &ArgMatches<'a>) -> Option<Order<'a>>
     ensures limits { IfSome result (λ o. HasLimits (seen o)) }
     ensures order { option_map seen result ≡ verify_order (rows_of (found_of options.now)) }
 {
     let now = number(options, "now", 0, 9_223_372_036_854_775_807)?;
-    Some(Order::Verify { now })
+    let public_keys = chosen_public_keys(options);
+    Some(Order::Verify { now, public_keys })
 }
 
 // The algorithm of a token.

@@ -1,0 +1,18 @@
+-- What the command answers to what its words ask for.
+use Rattle.std.specs.Prelude.{ℕ, Bool, List}
+use Rattle.jwt_mac.specs.Verifying.{Meaning}
+use Rattle.jwt_command.specs.Issue.{issue_answer}
+use Rattle.jwt_command.specs.Listed.{keys_answer}
+use Rattle.jwt_command.specs.Mac.{mac_answer}
+use Rattle.jwt_command.specs.Printed.{Answer}
+use Rattle.jwt_command.specs.Shown.{show_answer}
+use Rattle.jwt_command.specs.Verify.{asked_for, verify_answer}
+use Rattle.jwt_command.specs.Words.{Issue, Keys, Mac, Order, Show, Verify}
+
+-- with these verifiers at hand, of an input, by a reader that has failed or not
+abbrev pub answer_of : List Meaning → Order → Bool → List ℕ → Answer
+answer_of built_in (Mac key limit) failed x = mac_answer key limit failed x
+answer_of built_in Keys failed x = keys_answer failed x
+answer_of built_in (Show limit) failed x = show_answer limit failed x
+answer_of built_in (Verify now public_keys) failed x = verify_answer (asked_for public_keys built_in) now failed x
+answer_of built_in (Issue alg typ form) failed x = issue_answer (record { alg = alg; typ = typ; form = form }) failed x
