@@ -1,9 +1,12 @@
 //! The command, over sources and sinks in memory.
 use super::cases::{KEYS_A, KEYS_Z, KEYS_ZA, tables};
 use super::reports::Case;
+use super::rsa::{KEYS_A2, TOKEN_A2};
 use super::support::{Drip, Endless, HS256, KEY_A, NOW, Narrow, TOKEN_A, filled};
-use jwt_command::run::{lack_memory, run};
+use jwt_command::run::{lack_memory, run, run_with};
 use jwt_command::take_line::{LineFault, line};
+use jwt_mac::Verifier;
+use jwt_rsa::Rsa;
 use jwt_text::{Reader, Writer};
 use std::alloc::Global;
 use std::test::Fail;
@@ -510,6 +513,104 @@ fn verify_prints_the_verdict(rt: HostRuntime) -> Result<(), Fail> {
         assert_eq!(rt; out.as_slice(), line.as_bytes());
         assert_eq!(rt; code, status);
     }
+    Ok(())
+}
+
+// What a run with a verifier of RSA signatures at hand prints, and its status.
+fn printed_with_rsa(alloc: Global, words: &[&str], input: &[u8]) -> Result<(Vec<u8>, u8), Fail> {
+    let mut built_in: Vec<Box<dyn Verifier>> = Vec::new(alloc);
+    built_in.push(Box::new(alloc, Rsa)?)?;
+    let mut out: Vec<u8> = Vec::new(alloc);
+    let status = run_with(
+        alloc,
+        words,
+        &built_in,
+        &mut Reader::new(input),
+        &mut Writer::new(&mut out),
+    );
+    Ok((out, status))
+}
+
+/// The words of `verify` without and with public keys, and with them a second later.
+const WITHOUT: &[&str] = &["jwt", "verify", "--now", MOMENT];
+
+const ASKED: &[&str] = &["jwt", "verify", "--now", MOMENT, "--public-keys"];
+
+const ASKED_LATER: &[&str] = &["jwt", "verify", "--public-keys", "--now", "1300819380"];
+
+const RS256: &str = r#"{"algs":["RS256"]}"#;
+
+// RFC 7515, appendix A.2, with a verifier at hand.
+#[test]
+fn public_keys_verify_where_they_are_asked_for(rt: HostRuntime) -> Result<(), Fail> {
+    let alloc = rt.alloc();
+    let changed = TOKEN_A2.replace(alloc, ".cC4h", ".cC4i")?;
+    let cases: [(&[&str], &str, &str, &str, &str, u8); 6] = [
+        (
+            ASKED,
+            RS256,
+            KEYS_A2,
+            TOKEN_A2,
+            "accepted sig=0 key=0 tries=1 work=0\n",
+            0,
+        ),
+        (
+            WITHOUT,
+            RS256,
+            KEYS_A2,
+            TOKEN_A2,
+            "refused NoVerifier sig=0 tries=0 work=0\n",
+            1,
+        ),
+        (
+            ASKED,
+            RS256,
+            KEYS_A2,
+            changed.as_str(),
+            "refused BadSignature sig=0 tries=1 work=0\n",
+            1,
+        ),
+        (
+            ASKED_LATER,
+            RS256,
+            KEYS_A2,
+            TOKEN_A2,
+            "refused Expired tries=1 work=0\n",
+            1,
+        ),
+        (
+            ASKED,
+            RS256,
+            KEYS_A,
+            TOKEN_A2,
+            "refused NoKey sig=0 tries=0 work=0\n",
+            1,
+        ),
+        (
+            ASKED,
+            HS256,
+            KEYS_A,
+            TOKEN_A,
+            "accepted sig=0 key=0 tries=1 work=295\n",
+            0,
+        ),
+    ];
+    for (words, policy, keys, token, line, status) in cases {
+        let text = format!(in alloc; "{policy}\n{keys}\n{token}")?;
+        let input = filled(alloc, &text)?;
+        let (out, code) = printed_with_rsa(alloc, words, input.as_bytes())?;
+        assert_eq!(rt; out.as_slice(), line.as_bytes());
+        assert_eq!(rt; code, status);
+    }
+    Ok(())
+}
+
+// `run` has none at hand.
+#[test]
+fn public_keys_verify_nothing_where_none_are_at_hand(rt: HostRuntime) -> Result<(), Fail> {
+    let input = format!(in rt.alloc(); "{RS256}\n{KEYS_A2}\n{TOKEN_A2}")?;
+    let line = "refused NoVerifier sig=0 tries=0 work=0\n";
+    assert!(rt; prints(rt.alloc(), ASKED, input.as_bytes(), line, 1));
     Ok(())
 }
 
