@@ -2,7 +2,7 @@
 use Rattle.std.proofs.Common.{◌≡◌, [], ◌∷◌, None, Some, true, false, refl}
 use Rattle.std.specs.Prelude.{codes}
 use Rattle.clap.proofs.OnLiterals.{clap_on_literals}
-use Rattle.jwt_command.specs.Words.{Mac, Verify, order_of}
+use Rattle.jwt_command.specs.Words.{Mac, Verify, Version, order_of}
 
 pub key_alone : order_of (codes "jwt" ∷ codes "mac" ∷ codes "--k" ∷ codes "AA" ∷ []) ≡ Some (Mac (codes "AA") 8192)
 unfolding clap_on_literals
@@ -79,3 +79,15 @@ public_keys_twice = refl
 pub public_keys_of_a_value : order_of (codes "jwt" ∷ codes "verify" ∷ codes "--now" ∷ codes "7" ∷ codes "--public-keys=true" ∷ []) ≡ None
 unfolding clap_on_literals
 public_keys_of_a_value = refl
+
+pub version : order_of (codes "jwt" ∷ codes "--version" ∷ []) ≡ Some Version
+unfolding clap_on_literals
+version = refl
+
+pub version_and_more : order_of (codes "jwt" ∷ codes "--version" ∷ codes "keys" ∷ []) ≡ None
+unfolding clap_on_literals
+version_and_more = refl
+
+pub version_of_a_command : order_of (codes "jwt" ∷ codes "keys" ∷ codes "--version" ∷ []) ≡ None
+unfolding clap_on_literals
+version_of_a_command = refl

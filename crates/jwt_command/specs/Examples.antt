@@ -1,6 +1,6 @@
 -- What some words ask for.
 use Rattle.std.specs.Prelude.{◌≡◌, [], ◌∷◌, None, Some, true, false, codes}
-use Rattle.jwt_command.specs.Words.{Mac, Verify, order_of}
+use Rattle.jwt_command.specs.Words.{Mac, Verify, Version, order_of}
 
 pub record Examples : Type 0 where
   pub key_alone : order_of (codes "jwt" ∷ codes "mac" ∷ codes "--k" ∷ codes "AA" ∷ []) ≡ Some (Mac (codes "AA") 8192)
@@ -22,3 +22,6 @@ pub record Examples : Type 0 where
   pub public_keys_behind : order_of (codes "jwt" ∷ codes "verify" ∷ codes "--now" ∷ codes "1300819379" ∷ codes "--public-keys" ∷ []) ≡ Some (Verify 1300819379 true)
   pub public_keys_twice : order_of (codes "jwt" ∷ codes "verify" ∷ codes "--now" ∷ codes "7" ∷ codes "--public-keys" ∷ codes "--public-keys" ∷ []) ≡ None
   pub public_keys_of_a_value : order_of (codes "jwt" ∷ codes "verify" ∷ codes "--now" ∷ codes "7" ∷ codes "--public-keys=true" ∷ []) ≡ None
+  pub version : order_of (codes "jwt" ∷ codes "--version" ∷ []) ≡ Some Version
+  pub version_and_more : order_of (codes "jwt" ∷ codes "--version" ∷ codes "keys" ∷ []) ≡ None
+  pub version_of_a_command : order_of (codes "jwt" ∷ codes "keys" ∷ codes "--version" ∷ []) ≡ None

@@ -78,6 +78,7 @@ pub data Order : Type 0 where
   Show : ℕ → Order
   Verify : ℕ → Bool → Order
   Issue : Alg → Option Text → Form → Order
+  Version : Order
 
 -- the numbers of an order are in their ranges
 abbrev pub HasLimits : Order → Type 0
@@ -86,6 +87,7 @@ HasLimits Keys = Unit {0}
 HasLimits (Show limit) = (1 ≤ limit) × (limit ≤ 1048576)
 HasLimits (Verify now public_keys) = now ≤ 9223372036854775807
 HasLimits (Issue alg typ form) = Unit {0}
+HasLimits Version = Unit {0}
 
 -- the most octets of an order's input; that of `verify` is a policy of 65,536 octets, a key set of 4,194,304 and a token of
 -- 1,048,576, with the two octets 10 between them, and that of `issue` a key set and claims of 1,048,576
@@ -95,6 +97,7 @@ input_limit Keys = 4194304
 input_limit (Show limit) = limit
 input_limit (Verify now public_keys) = 5308418
 input_limit (Issue alg typ form) = 5242881
+input_limit Version = 0
 
 -- the number that an option has, where its parser takes it
 abbrev pub number_in : ValueParser → Option Text → Option ℕ
@@ -144,6 +147,17 @@ abbrev pub order_under : Kinds → Option (Text × List Row) → Option Order
 order_under [] matches = option_and_then (λ m. order_in m.0 m.1) matches
 order_under (fault ∷ faults) matches = None
 
--- what the words ask for, where `clap` accepts them
+-- what the words ask for by `clap`, where it accepts them
+abbrev pub clap_order : List Text → Option Order
+clap_order words = order_under (fault_of jwt_app words) (subcommand_of jwt_app words)
+
+-- behind the name of the program stands `--version` alone
+abbrev pub asks_version : List Text → Bool
+asks_version [] = false
+asks_version (program ∷ []) = false
+asks_version (program ∷ word ∷ []) = bytes_eq word (codes "--version")
+asks_version (program ∷ word ∷ more ∷ words) = false
+
+-- what the words ask for
 abbrev pub order_of : List Text → Option Order
-order_of words = order_under (fault_of jwt_app words) (subcommand_of jwt_app words)
+order_of words = if asks_version words then Some Version else clap_order words

@@ -1,13 +1,13 @@
 //! The command, over any source and sink.
 ghost use Rattle.std.specs.Prelude.{◌≡◌, ◌+◌, ◌⊎◌, ℕ, List, [], None, Some, map, true, IfOk, IfSome};
-ghost use Rattle.jwt_command.specs.Answered.{answer_of};
+ghost use Rattle.jwt_command.specs.Answered.{answer_of, version_answer};
 ghost use Rattle.jwt_command.specs.Mac.{key_refused, key_spelled};
 ghost use Rattle.jwt_command.specs.Input.{TakesAtMost};
 ghost use Rattle.jwt_command.specs.Printed.{Gives, GivesWrongWords, Prints, out_of_memory};
 ghost use Rattle.jwt_command.specs.Views.{reply_view};
 ghost use Rattle.jwt_command.specs.Stops.{most_taken};
 ghost use Rattle.jwt_command.specs.Verify.{asked_for};
-ghost use Rattle.jwt_command.specs.Words.{Mac, Order as Asked, input_limit, order_of};
+ghost use Rattle.jwt_command.specs.Words.{Mac, Order as Asked, Version, input_limit, order_of};
 
 use crate::issue::{Wanted, issue};
 use crate::keys::keys;
@@ -52,6 +52,12 @@ pub fn run<R: Source, W: Sink>(alloc: Global, words: &[&str], r: &mut R, w: &mut
         → order_of (map (λ word. word.now) words.now) ≡ Some (Mac key limit)
         → key_spelled key ≡ None → r.new ≡ r.old }
 
+    // The version, of every source; and nothing is read.
+    ensures version { order_of (map (λ word. word.now) words.now) ≡ Some Version
+        → Gives version_answer (W.contents w.old) (W.contents w.new) (W.failed w.new) result }
+    ensures unread_version { order_of (map (λ word. word.now) words.now) ≡ Some Version
+        → r.new ≡ r.old }
+
     // Words that `clap` refuses, and help words.
     ensures wrong { order_of (map (λ word. word.now) words.now) ≡ None
         → GivesWrongWords (W.contents w.old) (W.contents w.new) (W.failed w.new) result }
@@ -94,6 +100,12 @@ pub fn run_with<R: Source, W: Sink>(
         → order_of (map (λ word. word.now) words.now) ≡ Some (Mac key limit)
         → key_spelled key ≡ None → r.new ≡ r.old }
 
+    // The version, of every source; and nothing is read.
+    ensures version { order_of (map (λ word. word.now) words.now) ≡ Some Version
+        → Gives version_answer (W.contents w.old) (W.contents w.new) (W.failed w.new) result }
+    ensures unread_version { order_of (map (λ word. word.now) words.now) ≡ Some Version
+        → r.new ≡ r.old }
+
     // Words that `clap` refuses, and help words.
     ensures wrong { order_of (map (λ word. word.now) words.now) ≡ None
         → GivesWrongWords (W.contents w.old) (W.contents w.new) (W.failed w.new) result }
@@ -114,12 +126,24 @@ pub fn lack_memory<W: Sink>(w: &mut W) -> u8
 
 // Sends a whole answer.
 fn send<W: Sink>(w: &mut W, text: &[u8], status: u8) -> u8
-    ensures { Prints (record { text = text.now; status = status }) (W.contents w.old) (W.contents w.new) (W.failed w.new) result }
+    ensures { Prints (record { text = text.now; status = status })
+        (W.contents w.old) (W.contents w.new) (W.failed w.new) result }
 {
     match write_out(w, text) {
         Ok(()) => status,
         Err(_) => 3,
     }
+}
+
+// The line of the version.
+fn version_line(alloc: Global) -> Result<Reply, AllocError>
+    ensures { IfOk result (λ a. reply_view a ≡ version_answer) }
+{
+    Reply::line(
+        alloc,
+        "jwt 0.1.0, proved with rattle-kit-13b logic dac8208d650f15bf",
+        0,
+    )
 }
 
 // The verifiers for public keys, where they are asked for.
@@ -155,6 +179,10 @@ fn reply_to<R: Source>(
     ensures unread_key { (key : List ℕ) (limit : ℕ)
         → order_of (map (λ word. word.now) words.now) ≡ Some (Mac key limit)
         → key_spelled key ≡ None → r.new ≡ r.old }
+    ensures version { order_of (map (λ word. word.now) words.now) ≡ Some Version
+        → IfOk result (λ a. reply_view a ≡ version_answer) }
+    ensures unread_version { order_of (map (λ word. word.now) words.now) ≡ Some Version
+        → r.new ≡ r.old }
     ensures wrong { order_of (map (λ word. word.now) words.now) ≡ None
         → IfOk result (λ a. a.status ≡ 2) }
     ensures unread { order_of (map (λ word. word.now) words.now) ≡ None → r.new ≡ r.old }
@@ -167,6 +195,7 @@ fn reply_to<R: Source>(
             verify(alloc, asked_for(public_keys, built_in), now, r)
         }
         Ok(Order::Issue { alg, typ, form }) => issue(alloc, Wanted { alg, typ, form }, r),
+        Ok(Order::Version) => version_line(alloc),
         Err(WordsFault::Wrong(text)) => Ok(Reply {
             text: text.into_bytes(),
             status: 2,

@@ -57,7 +57,8 @@ fn fault_line(
 
 // The line of a report. Where memory was refused there is none.
 fn report_line(alloc: Global, report: &Report<'_>, work: u64) -> Result<Reply, AllocError>
-    ensures line { IfOk result (λ a. reply_view a ≡ verify_line report.now.verdict (length report.now.tries.items) work) }
+    ensures line { IfOk result (λ a. reply_view a
+        ≡ verify_line report.now.verdict (length report.now.tries.items) work) }
     ensures memory { IfOk result (λ a. FoundMemory report.now.verdict) }
 {
     let tries = report.tries.len();
@@ -112,7 +113,8 @@ fn on_keys<R: Source>(
 ) -> Result<Reply, AllocError>
     requires { now ≤ 9223372036854775807 }
     ensures line { IfSome (R.remaining r.old) (λ x. IfOk result (λ a. reply_view a
-        ≡ unless_failed (R.failed r.new) (keys_answer (map meaning verifiers.now) now policy.now x))) }
+        ≡ unless_failed (R.failed r.new)
+        (keys_answer (map meaning verifiers.now) now policy.now x))) }
     ensures taken { IfSome (R.remaining r.old) (λ x. (R.failed r.new ≡ true)
         ⊎ TakesAtMost 5242882 x (R.remaining r.new)) }
     ensures stops { IfSome (R.remaining r.old) (λ x. (R.failed r.new ≡ true)

@@ -3,7 +3,7 @@ ghost use Rattle.std.specs.Prelude.{◌≡◌, ◌≤◌, IfOk, IfErr, IfSome, N
 ghost use Rattle.clap.specs.Words.{app_of, found_of, one_of, rows_of, rule_of, subcommand_rows_of};
 ghost use Rattle.clap.specs.declared.builder.command.Command.TheViews.{out-Command as fields_of};
 ghost use Rattle.clap.specs.declared.builder.ValueParser.TheVariants.{Unsigned};
-ghost use Rattle.jwt_command.specs.Words.{HasLimits, alg_in, alg_rule, form_in, form_named, form_rule, issue_app, issue_order, jwt_app, key_rule, keys_app, limit_rule, mac_app, mac_order, now_rule, number_in, order_in, order_of, public_keys_in, public_keys_rule, show_app, show_order, typ_rule, verify_app, verify_order};
+ghost use Rattle.jwt_command.specs.Words.{HasLimits, alg_in, alg_rule, form_in, form_named, form_rule, asks_version, clap_order, issue_app, issue_order, jwt_app, key_rule, keys_app, limit_rule, mac_app, mac_order, now_rule, number_in, order_in, order_of, public_keys_in, public_keys_rule, show_app, show_order, typ_rule, verify_app, verify_order};
 ghost use Rattle.jwt_command.specs.Examples.{Examples};
 ghost use Rattle.jwt_command.specs.Seen.{IsWrong, seen};
 
@@ -34,6 +34,7 @@ pub enum Order<'a> {
         typ: Option<&'a str>,
         form: Form,
     },
+    Version,
 }
 
 fn key_option<'a>(alloc: Global) -> Arg<'a>
@@ -168,6 +169,7 @@ pub fn command<'a>(alloc: Global) -> Result<Command<'a>, AllocError>
 {
     Command::new(alloc, "jwt")
         .about("Validates, issues and explains JSON Web Tokens")
+        .after_help("'jwt --version' prints the version.")
         .subcommand_required(true)
         .subcommand(mac_command(alloc)?)?
         .subcommand(keys_command(alloc))?
@@ -198,11 +200,34 @@ impl From<AllocError> for WordsFault {
     }
 }
 
+// Whether `--version` stands alone behind the name of the program.
+fn asks_version(words: &[&str]) -> bool
+    ensures { result ≡ asks_version (map (λ w. w.now) words.now) }
+{
+    match words {
+        [_, word] => *word == "--version",
+        _ => false,
+    }
+}
+
 /// What the words ask for.
 pub fn read_words<'a>(alloc: Global, words: &'a [&'a str]) -> Result<Order<'a>, WordsFault>
     ensures limits { IfOk result (λ o. HasLimits (seen o)) }
     ensures ok { IfOk result (λ o. order_of (map (λ w. w.now) words.now) ≡ Some (seen o)) }
     ensures err { IfErr result (λ f. IsWrong f → order_of (map (λ w. w.now) words.now) ≡ None) }
+{
+    if asks_version(words) {
+        Ok(Order::Version)
+    } else {
+        read_by_clap(alloc, words)
+    }
+}
+
+// What the words ask for by `clap`.
+fn read_by_clap<'a>(alloc: Global, words: &'a [&'a str]) -> Result<Order<'a>, WordsFault>
+    ensures limits { IfOk result (λ o. HasLimits (seen o)) }
+    ensures ok { IfOk result (λ o. clap_order (map (λ w. w.now) words.now) ≡ Some (seen o)) }
+    ensures err { IfErr result (λ f. IsWrong f → clap_order (map (λ w. w.now) words.now) ≡ None) }
 {
     match command(alloc)?.try_get_matches_from(words) {
         Ok(matches) => match chosen(&matches) {

@@ -273,6 +273,17 @@ fn wrong_words_print_what_clap_says(rt: HostRuntime) -> Result<(), Fail> {
 }
 
 #[test]
+fn the_version_is_printed_and_nothing_read(rt: HostRuntime) -> Result<(), Fail> {
+    let mut source = Drip::new(TOKEN_A.as_bytes(), 0);
+    let (out, status) = dripped(rt.alloc(), &["jwt", "--version"], &mut source);
+    let line = "jwt 0.1.0, proved with rattle-kit-13b logic dac8208d650f15bf\n";
+    assert_eq!(rt; out.as_slice(), line.as_bytes());
+    assert_eq!(rt; status, 0);
+    assert!(rt; !source.failed);
+    Ok(())
+}
+
+#[test]
 fn keys_prints_a_line_an_entry(rt: HostRuntime) -> Result<(), Fail> {
     // RFC 7638, section 3.1, and RFC 8037, appendix A.3.
     let rsa =

@@ -1,5 +1,5 @@
 use Rattle.std.proofs.Common.{inr, map}
-use Rattle.jwt_command.specs.Answered.{answer_of}
+use Rattle.jwt_command.specs.Answered.{answer_of, version_answer}
 use Rattle.jwt_command.specs.Mac.{key_refused}
 use Rattle.jwt_command.specs.Views.{reply_view}
 use Rattle.jwt_command.proofs.Printing.{gives_answer, gives_memory, gives_one}
@@ -23,3 +23,10 @@ returns-in-Ok-clause-refused_key g c = λ key limit asked none.
 
 pub returns-in-Err-clause-refused_key : goal.returns-in-Err-clause-refused_key
 returns-in-Err-clause-refused_key g c = λ key limit asked none. inr c.lack_memory.ensures
+
+pub returns-in-Ok-clause-version : goal.returns-in-Ok-clause-version
+returns-in-Ok-clause-version g c = λ asked.
+    gives_one (reply_view c.in-Ok.reply) version_answer _ _ _ _ (c.in-Ok.ensures.version asked) (rw c.as_slice.ensures.value at c.send.ensures)
+
+pub returns-in-Err-clause-version : goal.returns-in-Err-clause-version
+returns-in-Err-clause-version g c = λ asked. inr c.lack_memory.ensures

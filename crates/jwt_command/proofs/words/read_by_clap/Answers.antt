@@ -3,7 +3,7 @@ use Rattle.std.specs.Borrow.{Bor}
 use Rattle.clap.specs.Words.{App, HasKind, Text, app_of, fault_of, is_simple, is_simple_and_free, kind_of, subcommand_of, subcommand_rows_of}
 use Rattle.jwt_command.specs.Words.{jwt_app}
 use Rattle.jwt_command.proofs.Orders.{jwt_is_free, jwt_is_simple, order_accepted, order_refused}
-use Rattle.jwt_command.proofs.words.read_words.Goals as goal
+use Rattle.jwt_command.proofs.words.read_by_clap.Goals as goal
 
 pub returns-in-Some-clause-ok : goal.returns-in-Some-clause-ok
 returns-in-Some-clause-ok c =
