@@ -251,7 +251,8 @@ fn wrong_words_print_what_clap_says(rt: HostRuntime) -> Result<(), Fail> {
         range.as_bytes()
     );
     // The words are looked at before the key.
-    let cases: [&[&str]; 9] = [
+    let cases: [&[&str]; 10] = [
+        &["jwt", "verify"],
         &["jwt", "mac", "--k", "AA==", "--limit", "0"],
         &["jwt"],
         &["jwt", "--help"],
@@ -527,8 +528,17 @@ fn verify_prints_the_verdict(rt: HostRuntime) -> Result<(), Fail> {
     Ok(())
 }
 
-// What a run with a verifier of RSA signatures at hand prints, and its status.
-fn printed_with_rsa(alloc: Global, words: &[&str], input: &[u8]) -> Result<(Vec<u8>, u8), Fail> {
+// What a run with a verifier of RSA signatures at hand, and by this clock, prints, and its status.
+fn printed_with(
+    alloc: Global,
+    words: &[&str],
+    clock: Option<u32>,
+    input: &[u8],
+) -> Result<(Vec<u8>, u8), Fail> {
+    let clock = match clock {
+        Some(moment) => Some(moment as u64),
+        None => None,
+    };
     let mut built_in: Vec<Box<dyn Verifier>> = Vec::new(alloc);
     built_in.push(Box::new(alloc, Rsa)?)?;
     let mut out: Vec<u8> = Vec::new(alloc);
@@ -536,16 +546,19 @@ fn printed_with_rsa(alloc: Global, words: &[&str], input: &[u8]) -> Result<(Vec<
         alloc,
         words,
         &built_in,
+        clock,
         &mut Reader::new(input),
         &mut Writer::new(&mut out),
     );
     Ok((out, status))
 }
 
-/// The words of `verify` without and with public keys, and with them a second later.
+/// The words of `verify` without and with public keys, without a moment, and with both a second later.
 const WITHOUT: &[&str] = &["jwt", "verify", "--now", MOMENT];
 
 const ASKED: &[&str] = &["jwt", "verify", "--now", MOMENT, "--public-keys"];
+
+const CLOCK: &[&str] = &["jwt", "verify"];
 
 const ASKED_LATER: &[&str] = &["jwt", "verify", "--public-keys", "--now", "1300819380"];
 
@@ -609,10 +622,36 @@ fn public_keys_verify_where_they_are_asked_for(rt: HostRuntime) -> Result<(), Fa
     for (words, policy, keys, token, line, status) in cases {
         let text = format!(in alloc; "{policy}\n{keys}\n{token}")?;
         let input = filled(alloc, &text)?;
-        let (out, code) = printed_with_rsa(alloc, words, input.as_bytes())?;
+        let (out, code) = printed_with(alloc, words, None, input.as_bytes())?;
         assert_eq!(rt; out.as_slice(), line.as_bytes());
         assert_eq!(rt; code, status);
     }
+    Ok(())
+}
+
+// The clock counts only where no moment is given; without a clock one has to be.
+#[test]
+fn the_clock_stands_in_for_the_moment(rt: HostRuntime) -> Result<(), Fail> {
+    let alloc = rt.alloc();
+    let input = filled(alloc, VERIFY_INPUT)?;
+    let accepted = "accepted sig=0 key=0 tries=1 work=295\n";
+    let expired = "refused Expired tries=1 work=295\n";
+    let cases: [(&[&str], u32, &str, u8); 4] = [
+        (CLOCK, 1_300_819_379, accepted, 0),
+        (CLOCK, 1_300_819_380, expired, 1),
+        (WITHOUT, 1_300_819_380, accepted, 0),
+        (ASKED_LATER, 1_300_819_379, expired, 1),
+    ];
+    for (words, clock, line, status) in cases {
+        let (out, code) = printed_with(alloc, words, Some(clock), input.as_bytes())?;
+        assert_eq!(rt; out.as_slice(), line.as_bytes());
+        assert_eq!(rt; code, status);
+    }
+    let (out, code) = printed_with(alloc, CLOCK, None, input.as_bytes())?;
+    assert_eq!(rt; code, 2);
+    let missing: &[u8] =
+        b"error: the following required arguments were not provided:\n  --now <N>\n";
+    assert!(rt; out.as_slice().starts_with(missing));
     Ok(())
 }
 
