@@ -181,10 +181,6 @@ pub fn command<'a>(alloc: Global, has_clock: bool) -> Result<Command<'a>, AllocE
         .subcommand(issue_command(alloc)?)
 }
 
-// What is said where `clap` accepts the words and they ask for nothing: of `--alg` and `--form` it takes any text.
-const UNKNOWN_NAME: &str =
-    "error: invalid value for '--alg <A>' or '--form <F>'\n\nFor more information, try '--help'.\n";
-
 /// Why the words ask for nothing.
 #[derive(Debug, Drop)]
 pub enum WordsFault {
@@ -247,13 +243,43 @@ fn read_by_clap<'a>(
     match command(alloc, clock.is_some())?.try_get_matches_from(words) {
         Ok(matches) => match chosen(&matches, clock) {
             Some(order) => Ok(order),
-            None => Err(WordsFault::Wrong(String::from_str(alloc, UNKNOWN_NAME)?)),
+            None => Err(WordsFault::Wrong(unknown_name(alloc, &matches)?)),
         },
         Err(error) => match error.kind() {
             ErrorKind::OutOfMemory => Err(WordsFault::OutOfMemory),
             _ => Err(WordsFault::Wrong(format!(in alloc; "{error}")?)),
         },
     }
+}
+
+// What is said where `clap` accepts the words and they ask for nothing: of `--alg` and `--form` it takes any text.
+fn unknown_name(alloc: Global, matches: &ArgMatches<'_>) -> Result<String, AllocError> {
+    match matches.subcommand() {
+        Some((_, options)) => unknown_option(alloc, options),
+        None => unknown_option(alloc, matches),
+    }
+}
+
+fn unknown_option(alloc: Global, options: &ArgMatches<'_>) -> Result<String, AllocError> {
+    let alg = options.get_str("alg").unwrap_or("");
+    if Alg::from_text(alg).is_none() {
+        unknown_value(alloc, "--alg <A>", alg, "HS256, HS384, HS512")
+    } else {
+        let form = options.get_str("form").unwrap_or("");
+        unknown_value(alloc, "--form <F>", form, "compact, json, flattened")
+    }
+}
+
+// The text of a value that an option doesn't know, as `clap` words it.
+fn unknown_value(
+    alloc: Global,
+    option: &str,
+    value: &str,
+    known: &str,
+) -> Result<String, AllocError> {
+    format!(in alloc;
+        "error: invalid value '{value}' for '{option}'\n  [possible values: {known}]\n\nFor more information, try '--help'.\n"
+    )
 }
 
 fn chosen<'a>(matches: &ArgMatches<'a>, clock: Option<u64>) -> Option<Order<'a>>

@@ -1,8 +1,9 @@
 //! The command, over sources and sinks in memory.
 use super::cases::{KEYS_A, KEYS_Z, KEYS_ZA, tables};
 use super::reports::Case;
-use super::rsa::{KEYS_A2, TOKEN_A2};
-use super::support::{Drip, Endless, HS256, KEY_A, NOW, Narrow, TOKEN_A, filled};
+use super::support::{
+    Drip, Endless, HS256, KEY_A, KEYS_A2, NOW, Narrow, TOKEN_A, TOKEN_A2, filled,
+};
 use jwt_command::run::{lack_memory, run, run_with};
 use jwt_command::take_line::{LineFault, line};
 use jwt_mac::Verifier;
@@ -713,14 +714,14 @@ fn issue_prints_the_token_or_the_first_refusal(rt: HostRuntime) -> Result<(), Fa
             &["jwt", "issue", "--alg", "none"],
             KEYS_Z,
             "{}",
-            "error: invalid value for '--alg <A>' or '--form <F>'\n\nFor more information, try '--help'.\n",
+            "error: invalid value 'none' for '--alg <A>'\n  [possible values: HS256, HS384, HS512]\n\nFor more information, try '--help'.\n",
             2,
         ),
         (
             &["jwt", "issue", "--alg", "HS256", "--form", "general"],
             KEYS_Z,
             "{}",
-            "error: invalid value for '--alg <A>' or '--form <F>'\n\nFor more information, try '--help'.\n",
+            "error: invalid value 'general' for '--form <F>'\n  [possible values: compact, json, flattened]\n\nFor more information, try '--help'.\n",
             2,
         ),
     ];
