@@ -2,6 +2,7 @@
 use Rattle.std.proofs.Common.{◌≡◌, ◌≢◌, ◌≤◌, ◌<◌, ◌⊎◌, inl, inr, ℕ, ◌+◌, Bool, true, false, List, length, drop, Option, Some, Result, Ok, Err, IfOk, refl, sym, ap, subst, ◌∙◌, drop_at, drop-drop, arith, nat_lt, true≢false, IfSome}
 use Rattle.std.proofs.lemmas.Bool.Decides.{nat_tests}
 use Rattle.std.specs.Option.{option_map_or}
+use Rattle.jwt_mac.specs.Verifying.{Meaning}
 use Rattle.jwt_keys.specs.KeySets.{key_set_of}
 use Rattle.jwt_keys.specs.declared.fault.KeysFault.TheVariants as keys
 use Rattle.jwt_policy.specs.Document.{policy_of}
@@ -87,15 +88,15 @@ pub policy_too_long : (z : List ℕ) → 65536 < length z → policy_of z ≡ Er
 unfolding policy_of
 policy_too_long z long = let is : nat_lt 65536 (length z) ≡ true = grind (arith, nat_tests, long) in rw is refl
 
-pub keys_line_too_long : (now : ℕ) (p : Settings) (x : List ℕ) (failed : Bool) → failed ≡ false → 4194304 < length (first_line x)
-    → keys_refused keys.TooLong ≡ unless_failed failed (keys_answer now p x)
-keys_line_too_long now p x failed works long =
-    sym (ap (λ f. unless_failed f (keys_answer now p x)) works ∙ ap (λ k. under_keys now p k (after_line x)) (keys_too_long (first_line x) long))
+pub keys_line_too_long : (vs : List Meaning) (now : ℕ) (p : Settings) (x : List ℕ) (failed : Bool) → failed ≡ false → 4194304 < length (first_line x)
+    → keys_refused keys.TooLong ≡ unless_failed failed (keys_answer vs now p x)
+keys_line_too_long vs now p x failed works long =
+    sym (ap (λ f. unless_failed f (keys_answer vs now p x)) works ∙ ap (λ k. under_keys vs now p k (after_line x)) (keys_too_long (first_line x) long))
 
-pub policy_line_too_long : (now : ℕ) (x : List ℕ) (failed : Bool) → failed ≡ false → 65536 < length (first_line x)
-    → policy_refused policy.TooLong ≡ verify_answer now failed x
-policy_line_too_long now x failed works long =
-    sym (ap (λ f. verify_answer now f x) works ∙ ap (λ k. under_policy now k (after_line x)) (policy_too_long (first_line x) long))
+pub policy_line_too_long : (vs : List Meaning) (now : ℕ) (x : List ℕ) (failed : Bool) → failed ≡ false → 65536 < length (first_line x)
+    → policy_refused policy.TooLong ≡ verify_answer vs now failed x
+policy_line_too_long vs now x failed works long =
+    sym (ap (λ f. verify_answer vs now f x) works ∙ ap (λ k. under_policy vs now k (after_line x)) (policy_too_long (first_line x) long))
 
 pub set_too_long : (x : List ℕ) (failed : Bool) → failed ≡ false → 4194304 < length x → keys_refused keys.TooLong ≡ keys_answer_alone failed x
 set_too_long x failed works long = sym (ap (λ f. keys_answer_alone f x) works ∙ ap listed (keys_too_long x long))

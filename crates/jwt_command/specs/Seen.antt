@@ -1,6 +1,6 @@
 -- What a clause sees of the crate's own types.
 use Rattle.std.specs.Prelude.{option_map}
-use Rattle.jwt_command.specs.Words.{Issue, Keys, Mac, Order, Show, Verify}
+use Rattle.jwt_command.specs.Words.{Issue, Keys, Mac, Order, Show, Verify, Version}
 use Rattle.jwt_command.specs.declared.words.Order.{Order as Asked}
 use Rattle.jwt_command.specs.declared.words.Order.TheVariants as asked
 use Rattle.jwt_command.specs.declared.words.WordsFault.{WordsFault}
@@ -10,8 +10,9 @@ abbrev pub seen : Asked → Order
 seen (asked.Mac key limit) = Mac key.now limit
 seen asked.Keys = Keys
 seen (asked.Show limit) = Show limit
-seen (asked.Verify now) = Verify now
+seen (asked.Verify now public_keys) = Verify now public_keys
 seen (asked.Issue alg typ form) = Issue alg (option_map (λ t. t.now) typ) form
+seen asked.Version = Version
 
 -- the words are wrong, and memory was there
 abbrev pub IsWrong : WordsFault → Type 0

@@ -6,7 +6,7 @@ use Rattle.jwt_policy.specs.Document.{policy_of}
 use Rattle.jwt_policy.specs.Settings.{Settings}
 use Rattle.jwt_policy.specs.declared.policy_fault.PolicyFault.{PolicyFault}
 use Rattle.jwt_command.specs.TakenLines.{after_line, first_line, line_most}
-use Rattle.jwt_command.specs.Words.{Order, Issue, Verify, input_limit}
+use Rattle.jwt_command.specs.Words.{Order, Issue, Verify, Version, input_limit}
 
 -- behind the line of a key set, of so many octets at most
 abbrev pub behind_keys : ℕ → Result KeyList KeysFault → ℕ
@@ -26,6 +26,7 @@ abbrev pub verify_most : List ℕ → ℕ
 verify_most x = line_most 65536 x + behind_policy (policy_of (first_line x)) (after_line x)
 
 abbrev pub most_taken : Order → List ℕ → ℕ
-most_taken (Verify now) x = verify_most x
+most_taken (Verify now public_keys) x = verify_most x
 most_taken (Issue alg typ form) x = keys_most 1048577 x
+most_taken Version x = 0
 most_taken order x = input_limit order + 1

@@ -1,6 +1,7 @@
 -- What `jwt verify` answers.
 use Rattle.std.specs.Prelude.{ℕ, Bool, true, false, List, [], ◌∷◌, length, pos, Result, Ok, Err, codes}
 use Rattle.std.specs.Fmt.{decimal}
+use Rattle.jwt_mac.specs.Verifying.{Meaning}
 use Rattle.jwt_keys.specs.KeySets.{KeyList, key_set_of}
 use Rattle.jwt_keys.specs.declared.fault.KeysFault.{KeysFault}
 use Rattle.jwt_policy.specs.Document.{policy_of}
@@ -38,9 +39,14 @@ verify_line (Refused fault) tries work = fault_line fault tries work
 
 -- ---- the token, behind the lines of the policy and of the key set
 
--- a key set, without verifiers for public keys
-abbrev pub terms : ℕ → Settings → KeyList → Terms
-terms now p set = record { policy = p; keys = set.keys; now = pos now; verifiers = [] }
+-- the verifiers for public keys, where they are asked for
+abbrev pub asked_for : Bool → List Meaning → List Meaning
+asked_for true verifiers = verifiers
+asked_for false verifiers = []
+
+-- a key set, with verifiers for public keys
+abbrev pub terms : List Meaning → ℕ → Settings → KeyList → Terms
+terms verifiers now p set = record { policy = p; keys = set.keys; now = pos now; verifiers = verifiers }
 
 -- the tries that the policy's `work` and `max_calls` pay
 abbrev pub paid_tries : Terms → List ℕ → List Try
@@ -52,20 +58,20 @@ token_answer q x = verify_line (verdict_of q x q.policy.run.work) (length (paid_
 abbrev pub keys_refused : KeysFault → Answer
 keys_refused fault = line (codes "refused Keys " ∷ keys_fault_name fault ∷ []) 1
 
-abbrev pub under_keys : ℕ → Settings → Result KeyList KeysFault → List ℕ → Answer
-under_keys now p (Ok set) x = token_answer (terms now p set) x
-under_keys now p (Err fault) x = keys_refused fault
+abbrev pub under_keys : List Meaning → ℕ → Settings → Result KeyList KeysFault → List ℕ → Answer
+under_keys verifiers now p (Ok set) x = token_answer (terms verifiers now p set) x
+under_keys verifiers now p (Err fault) x = keys_refused fault
 
 -- the key set is the first line of x
-abbrev pub keys_answer : ℕ → Settings → List ℕ → Answer
-keys_answer now p x = under_keys now p (key_set_of (first_line x)) (after_line x)
+abbrev pub keys_answer : List Meaning → ℕ → Settings → List ℕ → Answer
+keys_answer verifiers now p x = under_keys verifiers now p (key_set_of (first_line x)) (after_line x)
 
 abbrev pub policy_refused : PolicyFault → Answer
 policy_refused fault = line (codes "refused Policy " ∷ joined_parts (policy_fault_parts fault) ∷ []) 1
 
-abbrev pub under_policy : ℕ → Result Settings PolicyFault → List ℕ → Answer
-under_policy now (Ok p) x = keys_answer now p x
-under_policy now (Err fault) x = policy_refused fault
+abbrev pub under_policy : List Meaning → ℕ → Result Settings PolicyFault → List ℕ → Answer
+under_policy verifiers now (Ok p) x = keys_answer verifiers now p x
+under_policy verifiers now (Err fault) x = policy_refused fault
 
 -- ---- the answer
 
@@ -73,6 +79,6 @@ abbrev pub unless_failed : Bool → Answer → Answer
 unless_failed true a = read_failed
 unless_failed false a = a
 
--- at a moment, of an input whose first line is the policy, by a reader that has failed or not
-abbrev pub verify_answer : ℕ → Bool → List ℕ → Answer
-verify_answer now failed x = unless_failed failed (under_policy now (policy_of (first_line x)) (after_line x))
+-- by verifiers for public keys, at a moment, of an input whose first line is the policy, by a reader that has failed or not
+abbrev pub verify_answer : List Meaning → ℕ → Bool → List ℕ → Answer
+verify_answer verifiers now failed x = unless_failed failed (under_policy verifiers now (policy_of (first_line x)) (after_line x))

@@ -1,5 +1,6 @@
 -- The words of the command `jwt`, over `clap`'s own definitions of what a command takes.
-use Rattle.std.specs.Prelude.{◌≤◌, ℕ, true, false, List, [], ◌∷◌, Option, Some, None, if◌then◌else◌, codes, option_and_then, option_map}
+use Rattle.std.specs.Prelude.{◌≤◌, ℕ, Bool, true, false, not, List, [], ◌∷◌, Option, Some, None, is_some, if◌then◌else◌, codes, option_and_then, option_map}
+use Rattle.std.specs.Option.{option_map_or}
 use Rattle.std.specs.Str.{bytes_eq}
 use Rattle.std.specs.Str.Parse.{digits_value, without_leading_plus}
 use Rattle.clap.specs.Words.{App, Kinds, Row, Rule, Text, fault_of, first_of, new_app, new_rule, one_of, subcommand_of, with_rule, with_subcommand}
@@ -8,6 +9,7 @@ use Rattle.jwt_mac.specs.declared.algorithm.Alg.{Alg}
 use Rattle.jwt_jws.specs.declared.fault.Form.{Form}
 use Rattle.jwt_jws.specs.declared.fault.Form.TheVariants.{Compact, Flattened, General}
 use Rattle.clap.specs.ValueTests.{accepts}
+use Rattle.clap.specs.declared.builder.action.ArgAction.TheVariants.{SetTrue}
 use Rattle.clap.specs.declared.builder.value_parser.ValueParser.{ValueParser}
 use Rattle.clap.specs.declared.builder.value_parser.ValueParser.TheVariants as vp
 
@@ -29,8 +31,13 @@ key_rule = record (option (codes "k")) { required = true }
 abbrev pub limit_rule : Rule
 limit_rule = record (option (codes "limit")) { parser = Some limit_range; defaults = codes "8192" ∷ [] }
 
-abbrev pub now_rule : Rule
-now_rule = record (option (codes "now")) { parser = Some now_range; required = true }
+-- `--now` may be left out where there is a clock
+abbrev pub now_rule : Bool → Rule
+now_rule has_clock = record (option (codes "now")) { parser = Some now_range; required = not has_clock }
+
+-- a flag `--public-keys`
+abbrev pub public_keys_rule : Rule
+public_keys_rule = record (new_rule (codes "public-keys")) { long = Some (codes "public-keys"); action = Some SetTrue }
 
 abbrev pub alg_rule : Rule
 alg_rule = record (option (codes "alg")) { required = true }
@@ -52,8 +59,8 @@ keys_app = new_app (codes "keys")
 abbrev pub show_app : App
 show_app = with_rule (new_app (codes "show")) limit_rule
 
-abbrev pub verify_app : App
-verify_app = with_rule (new_app (codes "verify")) now_rule
+abbrev pub verify_app : Bool → App
+verify_app has_clock = with_rule (with_rule (new_app (codes "verify")) (now_rule has_clock)) public_keys_rule
 
 abbrev pub issue_app : App
 issue_app = with_rule (with_rule (with_rule (new_app (codes "issue")) alg_rule) typ_rule) form_rule
@@ -61,8 +68,8 @@ issue_app = with_rule (with_rule (with_rule (new_app (codes "issue")) alg_rule) 
 abbrev pub top_app : App
 top_app = record (new_app (codes "jwt")) { top = record (new_app (codes "jwt")).top { subcommand_required = true } }
 
-abbrev pub jwt_app : App
-jwt_app = with_subcommand (with_subcommand (with_subcommand (with_subcommand (with_subcommand top_app mac_app.top) keys_app.top) show_app.top) verify_app.top) issue_app.top
+abbrev pub jwt_app : Bool → App
+jwt_app has_clock = with_subcommand (with_subcommand (with_subcommand (with_subcommand (with_subcommand top_app mac_app.top) keys_app.top) show_app.top) (verify_app has_clock).top) issue_app.top
 
 -- ---- what the words ask for
 
@@ -70,16 +77,18 @@ pub data Order : Type 0 where
   Mac : Text → ℕ → Order
   Keys : Order
   Show : ℕ → Order
-  Verify : ℕ → Order
+  Verify : ℕ → Bool → Order
   Issue : Alg → Option Text → Form → Order
+  Version : Order
 
 -- the numbers of an order are in their ranges
 abbrev pub HasLimits : Order → Type 0
 HasLimits (Mac key limit) = (1 ≤ limit) × (limit ≤ 1048576)
 HasLimits Keys = Unit {0}
 HasLimits (Show limit) = (1 ≤ limit) × (limit ≤ 1048576)
-HasLimits (Verify now) = now ≤ 9223372036854775807
+HasLimits (Verify now public_keys) = now ≤ 9223372036854775807
 HasLimits (Issue alg typ form) = Unit {0}
+HasLimits Version = Unit {0}
 
 -- the most octets of an order's input; that of `verify` is a policy of 65,536 octets, a key set of 4,194,304 and a token of
 -- 1,048,576, with the two octets 10 between them, and that of `issue` a key set and claims of 1,048,576
@@ -87,8 +96,9 @@ abbrev pub input_limit : Order → ℕ
 input_limit (Mac key limit) = limit
 input_limit Keys = 4194304
 input_limit (Show limit) = limit
-input_limit (Verify now) = 5308418
+input_limit (Verify now public_keys) = 5308418
 input_limit (Issue alg typ form) = 5242881
+input_limit Version = 0
 
 -- the number that an option has, where its parser takes it
 abbrev pub number_in : ValueParser → Option Text → Option ℕ
@@ -100,8 +110,16 @@ mac_order rows = option_and_then (λ key. option_map (λ limit. Mac key limit) (
 abbrev pub show_order : List Row → Option Order
 show_order rows = option_map (λ limit. Show limit) (number_in limit_range (one_of (codes "limit") rows))
 
-abbrev pub verify_order : List Row → Option Order
-verify_order rows = option_map (λ now. Verify now) (number_in now_range (one_of (codes "now") rows))
+-- a flag has the value `true` where it is used, and else `false`
+abbrev pub public_keys_in : List Row → Bool
+public_keys_in rows = option_map_or (λ t. bytes_eq t (codes "true")) (first_of (codes "public-keys") rows) false
+
+-- the moment that `--now` names, else the clock's
+abbrev pub moment_in : Option ℕ → List Row → Option ℕ
+moment_in clock rows = if is_some (first_of (codes "now") rows) then number_in now_range (one_of (codes "now") rows) else clock
+
+abbrev pub verify_order : Option ℕ → List Row → Option Order
+verify_order clock rows = option_map (λ now. Verify now (public_keys_in rows)) (moment_in clock rows)
 
 -- the form of a token that a text names
 abbrev pub form_named : Text → Option Form
@@ -120,20 +138,31 @@ form_in rows = option_and_then form_named (first_of (codes "form") rows)
 abbrev pub issue_order : List Row → Option Order
 issue_order rows = option_and_then (λ alg. option_map (λ form. Issue alg (first_of (codes "typ") rows) form) (form_in rows)) (alg_in rows)
 
-abbrev pub order_in : Text → List Row → Option Order
-order_in name rows =
+abbrev pub order_in : Option ℕ → Text → List Row → Option Order
+order_in clock name rows =
     if bytes_eq name (codes "mac") then mac_order rows
     else if bytes_eq name (codes "keys") then Some Keys
     else if bytes_eq name (codes "show") then show_order rows
-    else if bytes_eq name (codes "verify") then verify_order rows
+    else if bytes_eq name (codes "verify") then verify_order clock rows
     else if bytes_eq name (codes "issue") then issue_order rows
     else None
 
 -- what a subcommand with its matches asks for, where `clap` has no fault
-abbrev pub order_under : Kinds → Option (Text × List Row) → Option Order
-order_under [] matches = option_and_then (λ m. order_in m.0 m.1) matches
-order_under (fault ∷ faults) matches = None
+abbrev pub order_under : Option ℕ → Kinds → Option (Text × List Row) → Option Order
+order_under clock [] matches = option_and_then (λ m. order_in clock m.0 m.1) matches
+order_under clock (fault ∷ faults) matches = None
 
--- what the words ask for, where `clap` accepts them
-abbrev pub order_of : List Text → Option Order
-order_of words = order_under (fault_of jwt_app words) (subcommand_of jwt_app words)
+-- what the words ask for by `clap`, where it accepts them
+abbrev pub clap_order : Option ℕ → List Text → Option Order
+clap_order clock words = let app = jwt_app (is_some clock) in order_under clock (fault_of app words) (subcommand_of app words)
+
+-- behind the name of the program stands `--version` alone
+abbrev pub asks_version : List Text → Bool
+asks_version [] = false
+asks_version (program ∷ []) = false
+asks_version (program ∷ word ∷ []) = bytes_eq word (codes "--version")
+asks_version (program ∷ word ∷ more ∷ words) = false
+
+-- what the words ask for at the moment that a clock says, or without a clock
+abbrev pub order_of : Option ℕ → List Text → Option Order
+order_of clock words = if asks_version words then Some Version else clap_order clock words

@@ -1,15 +1,13 @@
 //! The command, over any source and sink.
-ghost use Rattle.std.specs.Prelude.{◌≡◌, ◌+◌, ◌⊎◌, ℕ, List, None, Some, map, true, IfOk, IfSome};
-ghost use Rattle.jwt_command.specs.Mac.{key_refused, key_spelled, mac_answer};
+ghost use Rattle.std.specs.Prelude.{◌≡◌, ◌≤◌, ◌+◌, ◌⊎◌, ℕ, List, [], None, Some, map, true, IfOk, IfSome};
+ghost use Rattle.jwt_command.specs.Answered.{answer_of, version_answer};
+ghost use Rattle.jwt_command.specs.Mac.{key_refused, key_spelled};
 ghost use Rattle.jwt_command.specs.Input.{TakesAtMost};
 ghost use Rattle.jwt_command.specs.Printed.{Gives, GivesWrongWords, Prints, out_of_memory};
 ghost use Rattle.jwt_command.specs.Views.{reply_view};
-ghost use Rattle.jwt_command.specs.Issue.{TokenAsked, issue_answer};
-ghost use Rattle.jwt_command.specs.Listed.{keys_answer};
-ghost use Rattle.jwt_command.specs.Shown.{show_answer};
 ghost use Rattle.jwt_command.specs.Stops.{most_taken};
-ghost use Rattle.jwt_command.specs.Verify.{verify_answer};
-ghost use Rattle.jwt_command.specs.Words.{Issue, Keys, Mac, Order as Asked, Show, Verify, input_limit, order_of};
+ghost use Rattle.jwt_command.specs.Verify.{asked_for};
+ghost use Rattle.jwt_command.specs.Words.{Mac, Order as Asked, Version, input_limit, order_of};
 
 use crate::issue::{Wanted, issue};
 use crate::keys::keys;
@@ -18,52 +16,107 @@ use crate::reply::Reply;
 use crate::show::show;
 use crate::verify::verify;
 use crate::words::{Order, WordsFault, read_words};
+use jwt_mac::Verifier;
 use jwt_text::{Sink, Source, write_out};
 use std::alloc::{AllocError, Global};
 
 /// Runs the command that `words` ask for on `r`, prints its answer to `w`, and answers its status. The first word is the
-/// program's name.
+/// program's name. No verifiers are at hand: with `--public-keys` the answer is as without. There
+/// is no clock: `verify` has to have `--now`.
 ///
 /// 0: done; 1: refused; 2: wrong words, and `w` has what is said of them, or a refused key of `mac`; 3: a read or a write failed;
 /// 4: want of memory.
 /// The whole answer is in hand before any of it goes out.
 pub fn run<R: Source, W: Sink>(alloc: Global, words: &[&str], r: &mut R, w: &mut W) -> u8
-    // The line of `mac`, where the words ask for it.
-    ensures mac { (key : List ℕ) (limit : ℕ) → order_of (map (λ word. word.now) words.now) ≡ Some (Mac key limit)
-        → IfSome (R.remaining r.old) (λ x. Gives (mac_answer key limit (R.failed r.new) x) (W.contents w.old) (W.contents w.new) (W.failed w.new) result) }
-    // The line of `verify`.
-    ensures verify { (now : ℕ) → order_of (map (λ word. word.now) words.now) ≡ Some (Verify now)
-        → IfSome (R.remaining r.old) (λ x. Gives (verify_answer now (R.failed r.new) x) (W.contents w.old) (W.contents w.new) (W.failed w.new) result) }
-    // The token of `issue`.
-    ensures issue { (wanted : TokenAsked) → order_of (map (λ word. word.now) words.now) ≡ Some (Issue wanted.alg wanted.typ wanted.form)
-        → IfSome (R.remaining r.old) (λ x. Gives (issue_answer wanted (R.failed r.new) x) (W.contents w.old) (W.contents w.new) (W.failed w.new) result) }
-    // The lines of `keys`.
-    ensures keys { order_of (map (λ word. word.now) words.now) ≡ Some Keys
-        → IfSome (R.remaining r.old) (λ x. Gives (keys_answer (R.failed r.new) x) (W.contents w.old) (W.contents w.new) (W.failed w.new) result) }
-    // The lines of `show`.
-    ensures show { (limit : ℕ) → order_of (map (λ word. word.now) words.now) ≡ Some (Show limit)
-        → IfSome (R.remaining r.old) (λ x. Gives (show_answer limit (R.failed r.new) x) (W.contents w.old) (W.contents w.new) (W.failed w.new) result) }
+    // What the words ask for is answered.
+    ensures answer { (order : Asked) → order_of None (map (λ word. word.now) words.now) ≡ Some order
+        → IfSome (R.remaining r.old) (λ x.
+        Gives (answer_of [] order (R.failed r.new) x)
+        (W.contents w.old) (W.contents w.new) (W.failed w.new) result) }
 
     // At most one octet past the limit is taken.
-    ensures taken { (order : Asked) → order_of (map (λ word. word.now) words.now) ≡ Some order
-        → IfSome (R.remaining r.old) (λ x. (R.failed r.new ≡ true) ⊎ TakesAtMost (input_limit order + 1) x (R.remaining r.new)) }
+    ensures taken { (order : Asked) → order_of None (map (λ word. word.now) words.now) ≡ Some order
+        → IfSome (R.remaining r.old) (λ x. (R.failed r.new ≡ true)
+        ⊎ TakesAtMost (input_limit order + 1) x (R.remaining r.new)) }
 
     // Nothing behind a line that is refused.
-    ensures stops { (order : Asked) → order_of (map (λ word. word.now) words.now) ≡ Some order
-        → IfSome (R.remaining r.old) (λ x. (R.failed r.new ≡ true) ⊎ TakesAtMost (most_taken order x) x (R.remaining r.new)) }
+    ensures stops { (order : Asked) → order_of None (map (λ word. word.now) words.now) ≡ Some order
+        → IfSome (R.remaining r.old) (λ x. (R.failed r.new ≡ true)
+        ⊎ TakesAtMost (most_taken order x) x (R.remaining r.new)) }
 
     // Where the key is refused, its line, of every source; and nothing is read.
-    ensures refused_key { (key : List ℕ) (limit : ℕ) → order_of (map (λ word. word.now) words.now) ≡ Some (Mac key limit)
-        → key_spelled key ≡ None → Gives key_refused (W.contents w.old) (W.contents w.new) (W.failed w.new) result }
-    ensures unread_key { (key : List ℕ) (limit : ℕ) → order_of (map (λ word. word.now) words.now) ≡ Some (Mac key limit)
+    ensures refused_key { (key : List ℕ) (limit : ℕ)
+        → order_of None (map (λ word. word.now) words.now) ≡ Some (Mac key limit)
+        → key_spelled key ≡ None
+        → Gives key_refused (W.contents w.old) (W.contents w.new) (W.failed w.new) result }
+    ensures unread_key { (key : List ℕ) (limit : ℕ)
+        → order_of None (map (λ word. word.now) words.now) ≡ Some (Mac key limit)
         → key_spelled key ≡ None → r.new ≡ r.old }
 
+    // The version, of every source; and nothing is read.
+    ensures version { order_of None (map (λ word. word.now) words.now) ≡ Some Version
+        → Gives version_answer (W.contents w.old) (W.contents w.new) (W.failed w.new) result }
+    ensures unread_version { order_of None (map (λ word. word.now) words.now) ≡ Some Version
+        → r.new ≡ r.old }
+
     // Words that `clap` refuses, and help words.
-    ensures wrong { order_of (map (λ word. word.now) words.now) ≡ None
+    ensures wrong { order_of None (map (λ word. word.now) words.now) ≡ None
         → GivesWrongWords (W.contents w.old) (W.contents w.new) (W.failed w.new) result }
-    ensures unread { order_of (map (λ word. word.now) words.now) ≡ None → r.new ≡ r.old }
+    ensures unread { order_of None (map (λ word. word.now) words.now) ≡ None → r.new ≡ r.old }
 {
-    match reply_to(alloc, words, r) {
+    let built_in: [Box<dyn Verifier>; 0] = [];
+    run_with(alloc, words, &built_in, None, r, w)
+}
+
+/// The same as [`run`], with verifiers for public keys at hand, which `verify --public-keys` hands in, and with the moment that a
+/// clock says, where there is one: `verify` takes it where `--now` is left out. It is in seconds since 1970-01-01T00:00:00Z, and at
+/// most 9,223,372,036,854,775,807.
+pub fn run_with<R: Source, W: Sink>(
+    alloc: Global,
+    words: &[&str],
+    built_in: &[Box<dyn Verifier>],
+    clock: Option<u64>,
+    r: &mut R,
+    w: &mut W,
+) -> u8
+    requires { IfSome clock (λ n. n ≤ 9223372036854775807) }
+    // What the words ask for is answered, by these verifiers where it asks for them.
+    ensures answer { (order : Asked) → order_of clock (map (λ word. word.now) words.now) ≡ Some order
+        → IfSome (R.remaining r.old) (λ x.
+        Gives (answer_of (map meaning built_in.now) order (R.failed r.new) x)
+        (W.contents w.old) (W.contents w.new) (W.failed w.new) result) }
+
+    // At most one octet past the limit is taken.
+    ensures taken { (order : Asked) → order_of clock (map (λ word. word.now) words.now) ≡ Some order
+        → IfSome (R.remaining r.old) (λ x. (R.failed r.new ≡ true)
+        ⊎ TakesAtMost (input_limit order + 1) x (R.remaining r.new)) }
+
+    // Nothing behind a line that is refused.
+    ensures stops { (order : Asked) → order_of clock (map (λ word. word.now) words.now) ≡ Some order
+        → IfSome (R.remaining r.old) (λ x. (R.failed r.new ≡ true)
+        ⊎ TakesAtMost (most_taken order x) x (R.remaining r.new)) }
+
+    // Where the key is refused, its line, of every source; and nothing is read.
+    ensures refused_key { (key : List ℕ) (limit : ℕ)
+        → order_of clock (map (λ word. word.now) words.now) ≡ Some (Mac key limit)
+        → key_spelled key ≡ None
+        → Gives key_refused (W.contents w.old) (W.contents w.new) (W.failed w.new) result }
+    ensures unread_key { (key : List ℕ) (limit : ℕ)
+        → order_of clock (map (λ word. word.now) words.now) ≡ Some (Mac key limit)
+        → key_spelled key ≡ None → r.new ≡ r.old }
+
+    // The version, of every source; and nothing is read.
+    ensures version { order_of clock (map (λ word. word.now) words.now) ≡ Some Version
+        → Gives version_answer (W.contents w.old) (W.contents w.new) (W.failed w.new) result }
+    ensures unread_version { order_of clock (map (λ word. word.now) words.now) ≡ Some Version
+        → r.new ≡ r.old }
+
+    // Words that `clap` refuses, and help words.
+    ensures wrong { order_of clock (map (λ word. word.now) words.now) ≡ None
+        → GivesWrongWords (W.contents w.old) (W.contents w.new) (W.failed w.new) result }
+    ensures unread { order_of clock (map (λ word. word.now) words.now) ≡ None → r.new ≡ r.old }
+{
+    match reply_to(alloc, words, built_in, clock, r) {
         Ok(reply) => send(w, reply.text.as_slice(), reply.status),
         Err(_) => lack_memory(w),
     }
@@ -78,7 +131,8 @@ pub fn lack_memory<W: Sink>(w: &mut W) -> u8
 
 // Sends a whole answer.
 fn send<W: Sink>(w: &mut W, text: &[u8], status: u8) -> u8
-    ensures { Prints (record { text = text.now; status = status }) (W.contents w.old) (W.contents w.new) (W.failed w.new) result }
+    ensures { Prints (record { text = text.now; status = status })
+        (W.contents w.old) (W.contents w.new) (W.failed w.new) result }
 {
     match write_out(w, text) {
         Ok(()) => status,
@@ -86,35 +140,69 @@ fn send<W: Sink>(w: &mut W, text: &[u8], status: u8) -> u8
     }
 }
 
-// The answer, before any of it goes out.
-fn reply_to<R: Source>(alloc: Global, words: &[&str], r: &mut R) -> Result<Reply, AllocError>
-    ensures mac { (key : List ℕ) (limit : ℕ) → order_of (map (λ word. word.now) words.now) ≡ Some (Mac key limit)
-        → IfSome (R.remaining r.old) (λ x. IfOk result (λ a. reply_view a ≡ mac_answer key limit (R.failed r.new) x)) }
-    ensures verify { (now : ℕ) → order_of (map (λ word. word.now) words.now) ≡ Some (Verify now)
-        → IfSome (R.remaining r.old) (λ x. IfOk result (λ a. reply_view a ≡ verify_answer now (R.failed r.new) x)) }
-    ensures issue { (wanted : TokenAsked) → order_of (map (λ word. word.now) words.now) ≡ Some (Issue wanted.alg wanted.typ wanted.form)
-        → IfSome (R.remaining r.old) (λ x. IfOk result (λ a. reply_view a ≡ issue_answer wanted (R.failed r.new) x)) }
-    ensures keys { order_of (map (λ word. word.now) words.now) ≡ Some Keys
-        → IfSome (R.remaining r.old) (λ x. IfOk result (λ a. reply_view a ≡ keys_answer (R.failed r.new) x)) }
-    ensures show { (limit : ℕ) → order_of (map (λ word. word.now) words.now) ≡ Some (Show limit)
-        → IfSome (R.remaining r.old) (λ x. IfOk result (λ a. reply_view a ≡ show_answer limit (R.failed r.new) x)) }
-    ensures taken { (order : Asked) → order_of (map (λ word. word.now) words.now) ≡ Some order
-        → IfSome (R.remaining r.old) (λ x. (R.failed r.new ≡ true) ⊎ TakesAtMost (input_limit order + 1) x (R.remaining r.new)) }
-    ensures stops { (order : Asked) → order_of (map (λ word. word.now) words.now) ≡ Some order
-        → IfSome (R.remaining r.old) (λ x. (R.failed r.new ≡ true) ⊎ TakesAtMost (most_taken order x) x (R.remaining r.new)) }
-    ensures refused_key { (key : List ℕ) (limit : ℕ) → order_of (map (λ word. word.now) words.now) ≡ Some (Mac key limit)
-        → key_spelled key ≡ None → IfOk result (λ a. reply_view a ≡ key_refused) }
-    ensures unread_key { (key : List ℕ) (limit : ℕ) → order_of (map (λ word. word.now) words.now) ≡ Some (Mac key limit)
-        → key_spelled key ≡ None → r.new ≡ r.old }
-    ensures wrong { order_of (map (λ word. word.now) words.now) ≡ None → IfOk result (λ a. a.status ≡ 2) }
-    ensures unread { order_of (map (λ word. word.now) words.now) ≡ None → r.new ≡ r.old }
+// The line of the version.
+fn version_line(alloc: Global) -> Result<Reply, AllocError>
+    ensures { IfOk result (λ a. reply_view a ≡ version_answer) }
 {
-    match read_words(alloc, words) {
+    Reply::line(
+        alloc,
+        "jwt 0.1.0, proved with rattle-kit-13b logic dac8208d650f15bf",
+        0,
+    )
+}
+
+// The verifiers for public keys, where they are asked for.
+fn asked_for(public_keys: bool, built_in: &[Box<dyn Verifier>]) -> &[Box<dyn Verifier>]
+    ensures { map meaning result.now ≡ asked_for public_keys (map meaning built_in.now) }
+{
+    if public_keys {
+        built_in
+    } else {
+        &built_in[..0]
+    }
+}
+
+// The answer, before any of it goes out.
+fn reply_to<R: Source>(
+    alloc: Global,
+    words: &[&str],
+    built_in: &[Box<dyn Verifier>],
+    clock: Option<u64>,
+    r: &mut R,
+) -> Result<Reply, AllocError>
+    requires { IfSome clock (λ n. n ≤ 9223372036854775807) }
+    ensures answer { (order : Asked) → order_of clock (map (λ word. word.now) words.now) ≡ Some order
+        → IfSome (R.remaining r.old) (λ x.
+        IfOk result (λ a. reply_view a ≡ answer_of (map meaning built_in.now) order (R.failed r.new) x)) }
+    ensures taken { (order : Asked) → order_of clock (map (λ word. word.now) words.now) ≡ Some order
+        → IfSome (R.remaining r.old) (λ x. (R.failed r.new ≡ true)
+        ⊎ TakesAtMost (input_limit order + 1) x (R.remaining r.new)) }
+    ensures stops { (order : Asked) → order_of clock (map (λ word. word.now) words.now) ≡ Some order
+        → IfSome (R.remaining r.old) (λ x. (R.failed r.new ≡ true)
+        ⊎ TakesAtMost (most_taken order x) x (R.remaining r.new)) }
+    ensures refused_key { (key : List ℕ) (limit : ℕ)
+        → order_of clock (map (λ word. word.now) words.now) ≡ Some (Mac key limit)
+        → key_spelled key ≡ None → IfOk result (λ a. reply_view a ≡ key_refused) }
+    ensures unread_key { (key : List ℕ) (limit : ℕ)
+        → order_of clock (map (λ word. word.now) words.now) ≡ Some (Mac key limit)
+        → key_spelled key ≡ None → r.new ≡ r.old }
+    ensures version { order_of clock (map (λ word. word.now) words.now) ≡ Some Version
+        → IfOk result (λ a. reply_view a ≡ version_answer) }
+    ensures unread_version { order_of clock (map (λ word. word.now) words.now) ≡ Some Version
+        → r.new ≡ r.old }
+    ensures wrong { order_of clock (map (λ word. word.now) words.now) ≡ None
+        → IfOk result (λ a. a.status ≡ 2) }
+    ensures unread { order_of clock (map (λ word. word.now) words.now) ≡ None → r.new ≡ r.old }
+{
+    match read_words(alloc, words, clock) {
         Ok(Order::Mac { key, limit }) => mac(alloc, key, limit, r),
         Ok(Order::Keys) => keys(alloc, r),
         Ok(Order::Show { limit }) => show(alloc, limit, r),
-        Ok(Order::Verify { now }) => verify(alloc, now, r),
+        Ok(Order::Verify { now, public_keys }) => {
+            verify(alloc, asked_for(public_keys, built_in), now, r)
+        }
         Ok(Order::Issue { alg, typ, form }) => issue(alloc, Wanted { alg, typ, form }, r),
+        Ok(Order::Version) => version_line(alloc),
         Err(WordsFault::Wrong(text)) => Ok(Reply {
             text: text.into_bytes(),
             status: 2,

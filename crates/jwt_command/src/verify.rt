@@ -1,5 +1,5 @@
 //! The command `verify`: the verdict on a token by a policy and a key set.
-ghost use Rattle.std.specs.Prelude.{◌≡◌, ◌≤◌, ◌+◌, ◌⊎◌, true, length, IfOk, IfSome};
+ghost use Rattle.std.specs.Prelude.{◌≡◌, ◌≤◌, ◌+◌, ◌⊎◌, true, length, map, IfOk, IfSome};
 ghost use Rattle.jwt_keys.specs.KeySets.{key_set};
 ghost use Rattle.jwt_verify.specs.Reports.{FoundMemory};
 ghost use Rattle.jwt_verify.specs.declared.report.Verdict.TheVariants.{Refused};
@@ -57,7 +57,8 @@ fn fault_line(
 
 // The line of a report. Where memory was refused there is none.
 fn report_line(alloc: Global, report: &Report<'_>, work: u64) -> Result<Reply, AllocError>
-    ensures line { IfOk result (λ a. reply_view a ≡ verify_line report.now.verdict (length report.now.tries.items) work) }
+    ensures line { IfOk result (λ a. reply_view a
+        ≡ verify_line report.now.verdict (length report.now.tries.items) work) }
     ensures memory { IfOk result (λ a. FoundMemory report.now.verdict) }
 {
     let tries = report.tries.len();
@@ -78,6 +79,7 @@ fn report_line(alloc: Global, report: &Report<'_>, work: u64) -> Result<Reply, A
 // The verdict on the token, which is all that is left of the input.
 fn on_token<R: Source>(
     alloc: Global,
+    verifiers: &[Box<dyn Verifier>],
     now: u64,
     policy: &Policy,
     keys: &KeySet,
@@ -85,32 +87,38 @@ fn on_token<R: Source>(
 ) -> Result<Reply, AllocError>
     requires { now ≤ 9223372036854775807 }
     ensures line { IfSome (R.remaining r.old) (λ x. IfOk result (λ a. reply_view a
-        ≡ unless_failed (R.failed r.new) (token_answer (terms now policy.now (key_set keys.now)) x))) }
-    ensures taken { IfSome (R.remaining r.old) (λ x. (R.failed r.new ≡ true) ⊎ TakesAtMost 1048577 x (R.remaining r.new)) }
-    ensures stops { IfSome (R.remaining r.old) (λ x. (R.failed r.new ≡ true) ⊎ TakesAtMost (policy.now.run.limit + 1) x (R.remaining r.new)) }
+        ≡ unless_failed (R.failed r.new)
+        (token_answer (terms (map meaning verifiers.now) now policy.now (key_set keys.now)) x))) }
+    ensures taken { IfSome (R.remaining r.old) (λ x. (R.failed r.new ≡ true)
+        ⊎ TakesAtMost 1048577 x (R.remaining r.new)) }
+    ensures stops { IfSome (R.remaining r.old) (λ x. (R.failed r.new ≡ true)
+        ⊎ TakesAtMost (policy.now.run.limit + 1) x (R.remaining r.new)) }
 {
-    let verifiers: [Box<dyn Verifier>; 0] = [];
     // No policy allows a token of more.
     let limit = policy.limit();
     prove!(limit <= 1_048_576);
     let mut budget = CountDown::new(policy.work());
     tells_reports();
-    let report = validate(alloc, r, keys, policy, now as i64, &verifiers, &mut budget);
+    let report = validate(alloc, r, keys, policy, now as i64, verifiers, &mut budget);
     report_line(alloc, &report, budget.octets())
 }
 
 // The key set's line, and what is behind it.
 fn on_keys<R: Source>(
     alloc: Global,
+    verifiers: &[Box<dyn Verifier>],
     now: u64,
     policy: &Policy,
     r: &mut R,
 ) -> Result<Reply, AllocError>
     requires { now ≤ 9223372036854775807 }
     ensures line { IfSome (R.remaining r.old) (λ x. IfOk result (λ a. reply_view a
-        ≡ unless_failed (R.failed r.new) (keys_answer now policy.now x))) }
-    ensures taken { IfSome (R.remaining r.old) (λ x. (R.failed r.new ≡ true) ⊎ TakesAtMost 5242882 x (R.remaining r.new)) }
-    ensures stops { IfSome (R.remaining r.old) (λ x. (R.failed r.new ≡ true) ⊎ TakesAtMost (keys_most (policy.now.run.limit + 1) x) x (R.remaining r.new)) }
+        ≡ unless_failed (R.failed r.new)
+        (keys_answer (map meaning verifiers.now) now policy.now x))) }
+    ensures taken { IfSome (R.remaining r.old) (λ x. (R.failed r.new ≡ true)
+        ⊎ TakesAtMost 5242882 x (R.remaining r.new)) }
+    ensures stops { IfSome (R.remaining r.old) (λ x. (R.failed r.new ≡ true)
+        ⊎ TakesAtMost (keys_most (policy.now.run.limit + 1) x) x (R.remaining r.new)) }
 {
     let text = match line(alloc, r, 4_194_304) {
         Ok(text) => text,
@@ -119,7 +127,7 @@ fn on_keys<R: Source>(
         Err(LineFault::OutOfMemory) => return Err(AllocError),
     };
     match KeySet::read(alloc, text.as_slice()) {
-        Ok(keys) => on_token(alloc, now, policy, &keys, r),
+        Ok(keys) => on_token(alloc, verifiers, now, policy, &keys, r),
         Err(KeysFault::OutOfMemory) => Err(AllocError),
         Err(fault) => Reply::refused_keys(alloc, keys_fault_name(fault)),
     }
@@ -133,13 +141,21 @@ fn refused_policy(alloc: Global, fault: &PolicyFault) -> Result<Reply, AllocErro
     Reply::around(alloc, "refused Policy ", name.as_slice(), "\n", 1)
 }
 
-/// Runs `jwt verify` at a moment on an input: the line of a policy, the line of a key set, and a token. The policy is read and
-/// refused before the key set is taken, and that before the token.
-pub(crate) fn verify<R: Source>(alloc: Global, now: u64, r: &mut R) -> Result<Reply, AllocError>
+/// Runs `jwt verify` with verifiers for public keys, at a moment, on an input: the line of a policy, the line of a key set, and a
+/// token. The policy is read and refused before the key set is taken, and that before the token.
+pub(crate) fn verify<R: Source>(
+    alloc: Global,
+    verifiers: &[Box<dyn Verifier>],
+    now: u64,
+    r: &mut R,
+) -> Result<Reply, AllocError>
     requires { now ≤ 9223372036854775807 }
-    ensures line { IfSome (R.remaining r.old) (λ x. IfOk result (λ a. reply_view a ≡ verify_answer now (R.failed r.new) x)) }
-    ensures taken { IfSome (R.remaining r.old) (λ x. (R.failed r.new ≡ true) ⊎ TakesAtMost 5308419 x (R.remaining r.new)) }
-    ensures stops { IfSome (R.remaining r.old) (λ x. (R.failed r.new ≡ true) ⊎ TakesAtMost (verify_most x) x (R.remaining r.new)) }
+    ensures line { IfSome (R.remaining r.old) (λ x. IfOk result (λ a. reply_view a
+        ≡ verify_answer (map meaning verifiers.now) now (R.failed r.new) x)) }
+    ensures taken { IfSome (R.remaining r.old) (λ x. (R.failed r.new ≡ true)
+        ⊎ TakesAtMost 5308419 x (R.remaining r.new)) }
+    ensures stops { IfSome (R.remaining r.old) (λ x. (R.failed r.new ≡ true)
+        ⊎ TakesAtMost (verify_most x) x (R.remaining r.new)) }
 {
     let text = match line(alloc, r, 65_536) {
         Ok(text) => text,
@@ -148,7 +164,7 @@ pub(crate) fn verify<R: Source>(alloc: Global, now: u64, r: &mut R) -> Result<Re
         Err(LineFault::OutOfMemory) => return Err(AllocError),
     };
     match Policy::read(alloc, text.as_slice()) {
-        Ok(policy) => on_keys(alloc, now, &policy, r),
+        Ok(policy) => on_keys(alloc, verifiers, now, &policy, r),
         Err(PolicyFault::OutOfMemory) => Err(AllocError),
         Err(fault) => refused_policy(alloc, &fault),
     }

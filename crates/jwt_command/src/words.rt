@@ -3,13 +3,13 @@ ghost use Rattle.std.specs.Prelude.{◌≡◌, ◌≤◌, IfOk, IfErr, IfSome, N
 ghost use Rattle.clap.specs.Words.{app_of, found_of, one_of, rows_of, rule_of, subcommand_rows_of};
 ghost use Rattle.clap.specs.declared.builder.command.Command.TheViews.{out-Command as fields_of};
 ghost use Rattle.clap.specs.declared.builder.ValueParser.TheVariants.{Unsigned};
-ghost use Rattle.jwt_command.specs.Words.{HasLimits, alg_in, alg_rule, form_in, form_named, form_rule, issue_app, issue_order, jwt_app, key_rule, keys_app, limit_rule, mac_app, mac_order, now_rule, number_in, order_in, order_of, show_app, show_order, typ_rule, verify_app, verify_order};
+ghost use Rattle.jwt_command.specs.Words.{HasLimits, alg_in, alg_rule, form_in, form_named, form_rule, asks_version, clap_order, issue_app, issue_order, jwt_app, key_rule, keys_app, limit_rule, mac_app, mac_order, moment_in, now_rule, number_in, order_in, order_of, public_keys_in, public_keys_rule, show_app, show_order, typ_rule, verify_app, verify_order};
 ghost use Rattle.jwt_command.specs.Examples.{Examples};
 ghost use Rattle.jwt_command.specs.Seen.{IsWrong, seen};
 
 use clap::builder::ValueParser;
 use clap::error::ErrorKind;
-use clap::{Arg, ArgMatches, Command, Error};
+use clap::{Arg, ArgAction, ArgMatches, Command, Error};
 use jwt_jws::Form;
 use jwt_mac::Alg;
 use std::alloc::{AllocError, Global};
@@ -27,12 +27,14 @@ pub enum Order<'a> {
     },
     Verify {
         now: u64,
+        public_keys: bool,
     },
     Issue {
         alg: Alg,
         typ: Option<&'a str>,
         form: Form,
     },
+    Version,
 }
 
 fn key_option<'a>(alloc: Global) -> Arg<'a>
@@ -58,16 +60,29 @@ fn limit_option<'a>(alloc: Global) -> Arg<'a>
         .help("The most octets of a token")
 }
 
-fn now_option<'a>(alloc: Global) -> Arg<'a>
-    ensures shape { rule_of result ≡ now_rule }
+// `--now` may be left out where there is a clock.
+fn now_option<'a>(alloc: Global, has_clock: bool) -> Arg<'a>
+    ensures shape { rule_of result ≡ now_rule has_clock }
     ensures local { result.global ≡ false }
 {
     Arg::new(alloc, "now")
         .long("now")
         .value_name("N")
         .value_parser(ValueParser::unsigned(0, 9_223_372_036_854_775_807))
-        .required(true)
-        .help("The moment, in seconds since 1970-01-01T00:00:00Z")
+        .required(!has_clock)
+        .help(
+            "The moment, in seconds since 1970-01-01T00:00:00Z; where it is left out, the clock's",
+        )
+}
+
+fn public_keys_option<'a>(alloc: Global) -> Arg<'a>
+    ensures shape { rule_of result ≡ public_keys_rule }
+    ensures local { result.global ≡ false }
+{
+    Arg::new(alloc, "public-keys")
+        .long("public-keys")
+        .action(ArgAction::SetTrue)
+        .help("Verifies signatures by public keys too: RS256, RS384, RS512, PS256, PS384, PS512")
 }
 
 fn alg_option<'a>(alloc: Global) -> Arg<'a>
@@ -128,15 +143,16 @@ fn show_command<'a>(alloc: Global) -> Result<Command<'a>, AllocError>
         .arg(limit_option(alloc))
 }
 
-fn verify_command<'a>(alloc: Global) -> Result<Command<'a>, AllocError>
-    ensures shape { IfOk result (λ c. app_of c ≡ verify_app) }
+fn verify_command<'a>(alloc: Global, has_clock: bool) -> Result<Command<'a>, AllocError>
+    ensures shape { IfOk result (λ c. app_of c ≡ verify_app has_clock) }
     ensures local { IfOk result (λ c. (fields_of c).has_globals ≡ false) }
 {
     Command::new(alloc, "verify")
         .about(
             "Validates a token; standard input is a line with the policy, one with the key set, then the token",
         )
-        .arg(now_option(alloc))
+        .arg(now_option(alloc, has_clock))?
+        .arg(public_keys_option(alloc))
 }
 
 fn issue_command<'a>(alloc: Global) -> Result<Command<'a>, AllocError>
@@ -150,23 +166,20 @@ fn issue_command<'a>(alloc: Global) -> Result<Command<'a>, AllocError>
         .arg(form_option(alloc))
 }
 
-/// The command line of the program.
-pub fn command<'a>(alloc: Global) -> Result<Command<'a>, AllocError>
-    ensures { IfOk result (λ c. app_of c ≡ jwt_app) }
+/// The command line of the program, where there is a clock or none.
+pub fn command<'a>(alloc: Global, has_clock: bool) -> Result<Command<'a>, AllocError>
+    ensures { IfOk result (λ c. app_of c ≡ jwt_app has_clock) }
 {
     Command::new(alloc, "jwt")
         .about("Validates, issues and explains JSON Web Tokens")
+        .after_help("'jwt --version' prints the version.")
         .subcommand_required(true)
         .subcommand(mac_command(alloc)?)?
         .subcommand(keys_command(alloc))?
         .subcommand(show_command(alloc)?)?
-        .subcommand(verify_command(alloc)?)?
+        .subcommand(verify_command(alloc, has_clock)?)?
         .subcommand(issue_command(alloc)?)
 }
-
-// What is said where `clap` accepts the words and they ask for nothing: of `--alg` and `--form` it takes any text.
-const UNKNOWN_NAME: &str =
-    "error: invalid value for '--alg <A>' or '--form <F>'\n\nFor more information, try '--help'.\n";
 
 /// Why the words ask for nothing.
 #[derive(Debug, Drop)]
@@ -186,16 +199,51 @@ impl From<AllocError> for WordsFault {
     }
 }
 
-/// What the words ask for.
-pub fn read_words<'a>(alloc: Global, words: &'a [&'a str]) -> Result<Order<'a>, WordsFault>
-    ensures limits { IfOk result (λ o. HasLimits (seen o)) }
-    ensures ok { IfOk result (λ o. order_of (map (λ w. w.now) words.now) ≡ Some (seen o)) }
-    ensures err { IfErr result (λ f. IsWrong f → order_of (map (λ w. w.now) words.now) ≡ None) }
+// Whether `--version` stands alone behind the name of the program.
+fn asks_version(words: &[&str]) -> bool
+    ensures { result ≡ asks_version (map (λ w. w.now) words.now) }
 {
-    match command(alloc)?.try_get_matches_from(words) {
-        Ok(matches) => match chosen(&matches) {
+    match words {
+        [_, word] => *word == "--version",
+        _ => false,
+    }
+}
+
+/// What the words ask for at the moment that a clock says, or without a clock.
+pub fn read_words<'a>(
+    alloc: Global,
+    words: &'a [&'a str],
+    clock: Option<u64>,
+) -> Result<Order<'a>, WordsFault>
+    requires { IfSome clock (λ n. n ≤ 9223372036854775807) }
+    ensures limits { IfOk result (λ o. HasLimits (seen o)) }
+    ensures ok { IfOk result (λ o. order_of clock (map (λ w. w.now) words.now) ≡ Some (seen o)) }
+    ensures err { IfErr result (λ f. IsWrong f
+        → order_of clock (map (λ w. w.now) words.now) ≡ None) }
+{
+    if asks_version(words) {
+        Ok(Order::Version)
+    } else {
+        read_by_clap(alloc, words, clock)
+    }
+}
+
+// What the words ask for by `clap`.
+fn read_by_clap<'a>(
+    alloc: Global,
+    words: &'a [&'a str],
+    clock: Option<u64>,
+) -> Result<Order<'a>, WordsFault>
+    requires { IfSome clock (λ n. n ≤ 9223372036854775807) }
+    ensures limits { IfOk result (λ o. HasLimits (seen o)) }
+    ensures ok { IfOk result (λ o. clap_order clock (map (λ w. w.now) words.now) ≡ Some (seen o)) }
+    ensures err { IfErr result (λ f. IsWrong f
+        → clap_order clock (map (λ w. w.now) words.now) ≡ None) }
+{
+    match command(alloc, clock.is_some())?.try_get_matches_from(words) {
+        Ok(matches) => match chosen(&matches, clock) {
             Some(order) => Ok(order),
-            None => Err(WordsFault::Wrong(String::from_str(alloc, UNKNOWN_NAME)?)),
+            None => Err(WordsFault::Wrong(unknown_name(alloc, &matches)?)),
         },
         Err(error) => match error.kind() {
             ErrorKind::OutOfMemory => Err(WordsFault::OutOfMemory),
@@ -204,17 +252,48 @@ pub fn read_words<'a>(alloc: Global, words: &'a [&'a str]) -> Result<Order<'a>, 
     }
 }
 
-fn chosen<'a>(matches: &ArgMatches<'a>) -> Option<Order<'a>>
+// What is said where `clap` accepts the words and they ask for nothing: of `--alg` and `--form` it takes any text.
+fn unknown_name(alloc: Global, matches: &ArgMatches<'_>) -> Result<String, AllocError> {
+    match matches.subcommand() {
+        Some((_, options)) => unknown_option(alloc, options),
+        None => unknown_option(alloc, matches),
+    }
+}
+
+fn unknown_option(alloc: Global, options: &ArgMatches<'_>) -> Result<String, AllocError> {
+    let alg = options.get_str("alg").unwrap_or("");
+    if Alg::from_text(alg).is_none() {
+        unknown_value(alloc, "--alg <A>", alg, "HS256, HS384, HS512")
+    } else {
+        let form = options.get_str("form").unwrap_or("");
+        unknown_value(alloc, "--form <F>", form, "compact, json, flattened")
+    }
+}
+
+// The text of a value that an option doesn't know, as `clap` words it.
+fn unknown_value(
+    alloc: Global,
+    option: &str,
+    value: &str,
+    known: &str,
+) -> Result<String, AllocError> {
+    format!(in alloc;
+        "error: invalid value '{value}' for '{option}'\n  [possible values: {known}]\n\nFor more information, try '--help'.\n"
+    )
+}
+
+fn chosen<'a>(matches: &ArgMatches<'a>, clock: Option<u64>) -> Option<Order<'a>>
+    requires { IfSome clock (λ n. n ≤ 9223372036854775807) }
     ensures limits { IfSome result (λ o. HasLimits (seen o)) }
     ensures order { option_map seen result
-        ≡ option_and_then (λ p. order_in p.0 p.1) (subcommand_rows_of matches.now) }
+        ≡ option_and_then (λ p. order_in clock p.0 p.1) (subcommand_rows_of matches.now) }
 {
     let (name, options) = matches.subcommand()?;
     match name {
         "mac" => chosen_mac(options),
         "keys" => Some(Order::Keys),
         "show" => chosen_show(options),
-        "verify" => chosen_verify(options),
+        "verify" => chosen_verify(options, clock),
         "issue" => chosen_issue(options),
         _ => None,
     }
@@ -237,12 +316,36 @@ fn chosen_show<'a>(options: &ArgMatches<'a>) -> Option<Order<'a>>
     Some(Order::Show { limit })
 }
 
-fn chosen_verify<'a>(options: &ArgMatches<'a>) -> Option<Order<'a>>
-    ensures limits { IfSome result (λ o. HasLimits (seen o)) }
-    ensures order { option_map seen result ≡ verify_order (rows_of (found_of options.now)) }
+// Whether the verifiers for public keys are asked for.
+fn chosen_public_keys(options: &ArgMatches<'_>) -> bool
+    ensures { result ≡ public_keys_in (rows_of (found_of options.now)) }
 {
-    let now = number(options, "now", 0, 9_223_372_036_854_775_807)?;
-    Some(Order::Verify { now })
+    match options.get_str("public-keys") {
+        Some(text) => text == "true",
+        None => false,
+    }
+}
+
+// The moment that `--now` names, or else the clock's.
+fn chosen_moment(options: &ArgMatches<'_>, clock: Option<u64>) -> Option<u64>
+    requires { IfSome clock (λ n. n ≤ 9223372036854775807) }
+    ensures limits { IfSome result (λ n. n ≤ 9223372036854775807) }
+    ensures moment { result ≡ moment_in clock (rows_of (found_of options.now)) }
+{
+    match options.get_str("now") {
+        Some(_) => number(options, "now", 0, 9_223_372_036_854_775_807),
+        None => clock,
+    }
+}
+
+fn chosen_verify<'a>(options: &ArgMatches<'a>, clock: Option<u64>) -> Option<Order<'a>>
+    requires { IfSome clock (λ n. n ≤ 9223372036854775807) }
+    ensures limits { IfSome result (λ o. HasLimits (seen o)) }
+    ensures order { option_map seen result ≡ verify_order clock (rows_of (found_of options.now)) }
+{
+    let now = chosen_moment(options, clock)?;
+    let public_keys = chosen_public_keys(options);
+    Some(Order::Verify { now, public_keys })
 }
 
 // The algorithm of a token.

@@ -1,9 +1,13 @@
 //! The command, over sources and sinks in memory.
 use super::cases::{KEYS_A, KEYS_Z, KEYS_ZA, tables};
 use super::reports::Case;
-use super::support::{Drip, Endless, HS256, KEY_A, NOW, Narrow, TOKEN_A, filled};
-use jwt_command::run::{lack_memory, run};
+use super::support::{
+    Drip, Endless, HS256, KEY_A, KEYS_A2, NOW, Narrow, TOKEN_A, TOKEN_A2, filled,
+};
+use jwt_command::run::{lack_memory, run, run_with};
 use jwt_command::take_line::{LineFault, line};
+use jwt_mac::Verifier;
+use jwt_rsa::Rsa;
 use jwt_text::{Reader, Writer};
 use std::alloc::Global;
 use std::test::Fail;
@@ -248,7 +252,8 @@ fn wrong_words_print_what_clap_says(rt: HostRuntime) -> Result<(), Fail> {
         range.as_bytes()
     );
     // The words are looked at before the key.
-    let cases: [&[&str]; 9] = [
+    let cases: [&[&str]; 10] = [
+        &["jwt", "verify"],
         &["jwt", "mac", "--k", "AA==", "--limit", "0"],
         &["jwt"],
         &["jwt", "--help"],
@@ -266,6 +271,17 @@ fn wrong_words_print_what_clap_says(rt: HostRuntime) -> Result<(), Fail> {
         assert!(rt; !out.is_empty());
         assert!(rt; !source.failed);
     }
+    Ok(())
+}
+
+#[test]
+fn the_version_is_printed_and_nothing_read(rt: HostRuntime) -> Result<(), Fail> {
+    let mut source = Drip::new(TOKEN_A.as_bytes(), 0);
+    let (out, status) = dripped(rt.alloc(), &["jwt", "--version"], &mut source);
+    let line = "jwt 0.1.0, proved with rattle-kit-13b logic dac8208d650f15bf\n";
+    assert_eq!(rt; out.as_slice(), line.as_bytes());
+    assert_eq!(rt; status, 0);
+    assert!(rt; !source.failed);
     Ok(())
 }
 
@@ -513,6 +529,142 @@ fn verify_prints_the_verdict(rt: HostRuntime) -> Result<(), Fail> {
     Ok(())
 }
 
+// What a run with a verifier of RSA signatures at hand, and by this clock, prints, and its status.
+fn printed_with(
+    alloc: Global,
+    words: &[&str],
+    clock: Option<u32>,
+    input: &[u8],
+) -> Result<(Vec<u8>, u8), Fail> {
+    let clock = match clock {
+        Some(moment) => Some(moment as u64),
+        None => None,
+    };
+    let mut built_in: Vec<Box<dyn Verifier>> = Vec::new(alloc);
+    built_in.push(Box::new(alloc, Rsa)?)?;
+    let mut out: Vec<u8> = Vec::new(alloc);
+    let status = run_with(
+        alloc,
+        words,
+        &built_in,
+        clock,
+        &mut Reader::new(input),
+        &mut Writer::new(&mut out),
+    );
+    Ok((out, status))
+}
+
+/// The words of `verify` without and with public keys, without a moment, and with both a second later.
+const WITHOUT: &[&str] = &["jwt", "verify", "--now", MOMENT];
+
+const ASKED: &[&str] = &["jwt", "verify", "--now", MOMENT, "--public-keys"];
+
+const CLOCK: &[&str] = &["jwt", "verify"];
+
+const ASKED_LATER: &[&str] = &["jwt", "verify", "--public-keys", "--now", "1300819380"];
+
+const RS256: &str = r#"{"algs":["RS256"]}"#;
+
+// RFC 7515, appendix A.2, with a verifier at hand.
+#[test]
+fn public_keys_verify_where_they_are_asked_for(rt: HostRuntime) -> Result<(), Fail> {
+    let alloc = rt.alloc();
+    let changed = TOKEN_A2.replace(alloc, ".cC4h", ".cC4i")?;
+    let cases: [(&[&str], &str, &str, &str, &str, u8); 6] = [
+        (
+            ASKED,
+            RS256,
+            KEYS_A2,
+            TOKEN_A2,
+            "accepted sig=0 key=0 tries=1 work=0\n",
+            0,
+        ),
+        (
+            WITHOUT,
+            RS256,
+            KEYS_A2,
+            TOKEN_A2,
+            "refused NoVerifier sig=0 tries=0 work=0\n",
+            1,
+        ),
+        (
+            ASKED,
+            RS256,
+            KEYS_A2,
+            changed.as_str(),
+            "refused BadSignature sig=0 tries=1 work=0\n",
+            1,
+        ),
+        (
+            ASKED_LATER,
+            RS256,
+            KEYS_A2,
+            TOKEN_A2,
+            "refused Expired tries=1 work=0\n",
+            1,
+        ),
+        (
+            ASKED,
+            RS256,
+            KEYS_A,
+            TOKEN_A2,
+            "refused NoKey sig=0 tries=0 work=0\n",
+            1,
+        ),
+        (
+            ASKED,
+            HS256,
+            KEYS_A,
+            TOKEN_A,
+            "accepted sig=0 key=0 tries=1 work=295\n",
+            0,
+        ),
+    ];
+    for (words, policy, keys, token, line, status) in cases {
+        let text = format!(in alloc; "{policy}\n{keys}\n{token}")?;
+        let input = filled(alloc, &text)?;
+        let (out, code) = printed_with(alloc, words, None, input.as_bytes())?;
+        assert_eq!(rt; out.as_slice(), line.as_bytes());
+        assert_eq!(rt; code, status);
+    }
+    Ok(())
+}
+
+// The clock counts only where no moment is given; without a clock one has to be.
+#[test]
+fn the_clock_stands_in_for_the_moment(rt: HostRuntime) -> Result<(), Fail> {
+    let alloc = rt.alloc();
+    let input = filled(alloc, VERIFY_INPUT)?;
+    let accepted = "accepted sig=0 key=0 tries=1 work=295\n";
+    let expired = "refused Expired tries=1 work=295\n";
+    let cases: [(&[&str], u32, &str, u8); 4] = [
+        (CLOCK, 1_300_819_379, accepted, 0),
+        (CLOCK, 1_300_819_380, expired, 1),
+        (WITHOUT, 1_300_819_380, accepted, 0),
+        (ASKED_LATER, 1_300_819_379, expired, 1),
+    ];
+    for (words, clock, line, status) in cases {
+        let (out, code) = printed_with(alloc, words, Some(clock), input.as_bytes())?;
+        assert_eq!(rt; out.as_slice(), line.as_bytes());
+        assert_eq!(rt; code, status);
+    }
+    let (out, code) = printed_with(alloc, CLOCK, None, input.as_bytes())?;
+    assert_eq!(rt; code, 2);
+    let missing: &[u8] =
+        b"error: the following required arguments were not provided:\n  --now <N>\n";
+    assert!(rt; out.as_slice().starts_with(missing));
+    Ok(())
+}
+
+// `run` has none at hand.
+#[test]
+fn public_keys_verify_nothing_where_none_are_at_hand(rt: HostRuntime) -> Result<(), Fail> {
+    let input = format!(in rt.alloc(); "{RS256}\n{KEYS_A2}\n{TOKEN_A2}")?;
+    let line = "refused NoVerifier sig=0 tries=0 work=0\n";
+    assert!(rt; prints(rt.alloc(), ASKED, input.as_bytes(), line, 1));
+    Ok(())
+}
+
 // What `issue` prints of words, a key set and claims, and its status.
 fn issued(alloc: Global, words: &[&str], keys: &str, claims: &str) -> Result<(Vec<u8>, u8), Fail> {
     let text = format!(in alloc; "{keys}\n{claims}")?;
@@ -562,14 +714,14 @@ fn issue_prints_the_token_or_the_first_refusal(rt: HostRuntime) -> Result<(), Fa
             &["jwt", "issue", "--alg", "none"],
             KEYS_Z,
             "{}",
-            "error: invalid value for '--alg <A>' or '--form <F>'\n\nFor more information, try '--help'.\n",
+            "error: invalid value 'none' for '--alg <A>'\n  [possible values: HS256, HS384, HS512]\n\nFor more information, try '--help'.\n",
             2,
         ),
         (
             &["jwt", "issue", "--alg", "HS256", "--form", "general"],
             KEYS_Z,
             "{}",
-            "error: invalid value for '--alg <A>' or '--form <F>'\n\nFor more information, try '--help'.\n",
+            "error: invalid value 'general' for '--form <F>'\n  [possible values: compact, json, flattened]\n\nFor more information, try '--help'.\n",
             2,
         ),
     ];

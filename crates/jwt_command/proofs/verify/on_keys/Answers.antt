@@ -1,4 +1,4 @@
-use Rattle.std.proofs.Common.{rules, ◌≡◌, ◌+◌, inr, arith, subst, IfOk}
+use Rattle.std.proofs.Common.{rules, ◌≡◌, ◌+◌, inr, arith, map, subst, IfOk}
 use Rattle.std.proofs.lemmas.Option.{IfSome_then}
 use Rattle.jwt_command.specs.Printed.{Answer}
 use Rattle.jwt_keys.specs.KeySets.{key_set_of}
@@ -13,7 +13,7 @@ pub returns-in-Err-TooLong-clause-line : goal.returns-in-Err-TooLong-clause-line
 returns-in-Err-TooLong-clause-line g c =
     IfSome_then (g.R.Source.remaining c.args.r.now) c.in-Err-TooLong.ensures.fails
     (λ x h. let long = rw c.in-Err-TooLong.field-0-is at h in
-    subst (λ (a : Answer). IfOk c.refused_keys.result (λ r. reply_view r ≡ a)) (keys_line_too_long c.args.now c.args.policy.now x _ long.2 long.0) c.refused_keys.ensures)
+    subst (λ (a : Answer). IfOk c.refused_keys.result (λ r. reply_view r ≡ a)) (keys_line_too_long (map (λ b. (goal.Verifier-dyn g (b.vtable, b.value)).meaning b.value) c.args.verifiers.now) c.args.now c.args.policy.now x _ long.2 long.0) c.refused_keys.ensures)
 
 pub returns-in-Err-TooLong-clause-taken : goal.returns-in-Err-TooLong-clause-taken
 returns-in-Err-TooLong-clause-taken g c = IfSome_then (g.R.Source.remaining c.args.r.now) c.in-Err-TooLong.ensures.taken (λ x h. line_bounded 4194304 5242882 (omega arith) x _ _ h)

@@ -1,4 +1,4 @@
-use Rattle.std.proofs.Common.{◌≡◌, ◌+◌, ◌∙◌, [], pos, subst, arith, to_z, w64}
+use Rattle.std.proofs.Common.{◌≡◌, ◌+◌, ◌∙◌, pos, map, subst, arith, to_z, w64}
 use Rattle.std.proofs.lemmas.Int.{to_z_pos}
 use Rattle.jwt_verify.specs.Reports.{IsReport, terms as terms_at}
 use Rattle.std.proofs.lemmas.Option.{IfSome_then}
@@ -20,12 +20,13 @@ returns-clause-stops g c =
 
 pub returns-clause-line : goal.returns-clause-line
 returns-clause-line g c =
-    let q = terms c.args.now c.args.policy.now (key_set c.args.keys.now) in
+    let vs = map (λ b. (goal.Verifier-dyn g (b.vtable, b.value)).meaning b.value) c.args.verifiers.now in
+    let q = terms vs c.args.now c.args.policy.now (key_set c.args.keys.now) in
     let r = c.validate-report.result in
     let z : to_z w64 c.args.now ≡ pos c.args.now = to_z_pos w64 c.args.now (omega arith) in
     IfSome_then (g.R.Source.remaining c.args.r.now) c.validate-report.ensures.report
     (λ x report. both_ok c.report_line.result c.report_line.ensures.line c.report_line.ensures.memory
     (λ a line found. answered q x c.tells_reports.ensures _ r c.octets.result
     (λ n. subst (λ w. IsReport q x w r) (c.new-budget.ensures.ceiling ∙ c.work.ensures.value)
-    (subst (λ m. IsReport (terms_at c.args.policy.now c.args.keys.now m []) x c.new-budget.result.ceiling r) z (report n)))
+    (subst (λ m. IsReport (terms_at c.args.policy.now c.args.keys.now m vs) x c.new-budget.result.ceiling r) z (report n)))
     c.validate-report.ensures.failed c.validate-report.ensures.read (c.octets.ensures ∙ c.validate-report.ensures.octets) found (reply_view a) line))

@@ -15,5 +15,5 @@ returns c =
     let two = c.in_ok-subcommand-2.ensures.shape c.keys_command.ensures.local ∙ ap₂ more one c.keys_command.ensures.shape in
     let three = c.in_ok-subcommand-3.ensures.shape c.in_ok-show_command.ensures.local ∙ ap₂ more two c.in_ok-show_command.ensures.shape in
     let four = c.in_ok-subcommand-4.ensures.shape c.in_ok-verify_command.ensures.local ∙ ap₂ more three c.in_ok-verify_command.ensures.shape in
-    IfOk-weaker c.subcommand-5.result _ (λ r. app_of r ≡ jwt_app)
+    IfOk-weaker c.subcommand-5.result _ (λ r. app_of r ≡ jwt_app c.args.has_clock)
     (λ r adds. adds.shape c.in_ok-issue_command.ensures.local ∙ ap₂ more four c.in_ok-issue_command.ensures.shape) c.subcommand-5.ensures

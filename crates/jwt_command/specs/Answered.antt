@@ -1,0 +1,23 @@
+-- What the command answers to what its words ask for.
+use Rattle.std.specs.Prelude.{ℕ, Bool, List, [], ◌∷◌, codes}
+use Rattle.jwt_mac.specs.Verifying.{Meaning}
+use Rattle.jwt_command.specs.Issue.{issue_answer}
+use Rattle.jwt_command.specs.Listed.{keys_answer}
+use Rattle.jwt_command.specs.Mac.{mac_answer}
+use Rattle.jwt_command.specs.Printed.{Answer, line}
+use Rattle.jwt_command.specs.Shown.{show_answer}
+use Rattle.jwt_command.specs.Verify.{asked_for, verify_answer}
+use Rattle.jwt_command.specs.Words.{Issue, Keys, Mac, Order, Show, Verify, Version}
+
+-- the program, and the kit that proved it
+abbrev pub version_answer : Answer
+version_answer = line (codes "jwt 0.1.0, proved with rattle-kit-13b logic dac8208d650f15bf" ∷ []) 0
+
+-- with these verifiers at hand, of an input, by a reader that has failed or not
+abbrev pub answer_of : List Meaning → Order → Bool → List ℕ → Answer
+answer_of built_in (Mac key limit) failed x = mac_answer key limit failed x
+answer_of built_in Keys failed x = keys_answer failed x
+answer_of built_in (Show limit) failed x = show_answer limit failed x
+answer_of built_in (Verify now public_keys) failed x = verify_answer (asked_for public_keys built_in) now failed x
+answer_of built_in (Issue alg typ form) failed x = issue_answer (record { alg = alg; typ = typ; form = form }) failed x
+answer_of built_in Version failed x = version_answer
