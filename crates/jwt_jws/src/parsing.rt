@@ -13,11 +13,15 @@ use crate::signature::Signature;
 use crate::signed::Signed;
 use crate::signing::{make_signature, octets_of};
 use crate::unprotected::Unprotected;
-use jwt_text::Part;
+use jwt_text::{Part, Scratch};
 use std::alloc::Global;
 
 #[tactic(auto, unfolding(crate::specs::Forms::signed_of))]
-fn compact_signed<'a>(alloc: Global, segments: &CompactTexts<'a>) -> Result<Signed<'a>, FormFault>
+fn compact_signed<'a>(
+    alloc: Global,
+    segments: &CompactTexts<'a>,
+    scratch: &mut Scratch,
+) -> Result<Signed<'a>, FormFault>
     ensures value { Answers FormFault.OutOfMemory token result (signed_of (compact_view segments.now)) }
     ensures lent { IfOk result AreLent }
 {
@@ -29,6 +33,7 @@ fn compact_signed<'a>(alloc: Global, segments: &CompactTexts<'a>) -> Result<Sign
         Part::Slice(segments.protected),
         &Unprotected::Absent,
         segments.signature,
+        scratch,
     )?;
     let mut signatures = Vec::new(alloc);
     signatures.push(signature)?;
@@ -45,17 +50,27 @@ fn owned_signature<'a>(
     form: Form,
     i: u32,
     spelled: &SpelledSignature<'_>,
+    scratch: &mut Scratch,
 ) -> Result<Signature<'a>, FormFault>
     ensures { Answers FormFault.OutOfMemory parts result (signature_of form i (spelled_view spelled.now)) }
 {
     let text = Part::Owned(Vec::from_slice(alloc, spelled.protected)?);
-    make_signature(alloc, form, i, text, &spelled.header, spelled.signature)
+    make_signature(
+        alloc,
+        form,
+        i,
+        text,
+        &spelled.header,
+        spelled.signature,
+        scratch,
+    )
 }
 
 fn owned_signatures<'a>(
     alloc: Global,
     form: Form,
     spelled: &[SpelledSignature<'_>],
+    scratch: &mut Scratch,
 ) -> Result<Vec<Signature<'a>>, FormFault>
     requires { length spelled.now ≤ 32 }
     ensures value { Answers FormFault.OutOfMemory (λ v. map parts v.items) result (each (signature_of form) 0 (map spelled_view spelled.now)) }
@@ -63,20 +78,24 @@ fn owned_signatures<'a>(
 {
     let mut signatures = Vec::new(alloc);
     for (i, signature) in spelled.iter().enumerate() {
-        let made = owned_signature(alloc, form, i as u32, signature)?;
+        let made = owned_signature(alloc, form, i as u32, signature, scratch)?;
         signatures.push(made)?;
     }
     Ok(signatures)
 }
 
 #[tactic(auto, unfolding(crate::specs::Forms::signed_of))]
-fn json_signed<'a>(alloc: Global, spelled: &SpelledJson<'_>) -> Result<Signed<'a>, FormFault>
+fn json_signed<'a>(
+    alloc: Global,
+    spelled: &SpelledJson<'_>,
+    scratch: &mut Scratch,
+) -> Result<Signed<'a>, FormFault>
     requires some { 0 < length spelled.now.signatures.items }
     requires few { length spelled.now.signatures.items ≤ 32 }
     ensures { Answers FormFault.OutOfMemory token result (signed_of (json_view spelled.now)) }
 {
     let payload = octets_of(alloc, spelled.payload, Place::Payload)?;
-    let signatures = owned_signatures(alloc, spelled.form, spelled.signatures.as_slice())?;
+    let signatures = owned_signatures(alloc, spelled.form, spelled.signatures.as_slice(), scratch)?;
     let text = Vec::from_slice(alloc, spelled.payload)?;
     Ok(Signed {
         form: spelled.form,
@@ -90,7 +109,6 @@ fn json_signed<'a>(alloc: Global, spelled: &SpelledJson<'_>) -> Result<Signed<'a
 ///
 /// Refused with the first cause that holds, as [`FormFault`] lists them, or with `FormFault::OutOfMemory`. In compact form no
 /// octet of the signing input is copied. Nothing is verified.
-#[tactic(auto, unfolding(crate::specs::Forms::form_of, crate::specs::Forms::spelled_token))]
 pub fn parse<'a>(
     alloc: Global,
     octets: &'a [u8],
@@ -105,16 +123,35 @@ pub fn parse<'a>(
     ensures memory { result ≡ Err FormFault.OutOfMemory → (opens_object octets.now ≡ true)
         ⊎ ((h p g : List ℕ) × IsCompact octets.now h p g) }
 {
+    let mut scratch = Scratch::new(alloc);
+    parse_with(alloc, octets, max_signatures, &mut scratch)
+}
+
+/// The same as [`parse`], with memory that was made before, and that serves for token after token.
+#[tactic(auto, unfolding(crate::specs::Forms::form_of, crate::specs::Forms::spelled_token))]
+pub fn parse_with<'a>(
+    alloc: Global,
+    octets: &'a [u8],
+    max_signatures: u32,
+    scratch: &mut Scratch,
+) -> Result<Signed<'a>, FormFault>
+    requires least { 0 < max_signatures }
+    requires most { max_signatures ≤ 32 }
+    ensures value { Answers FormFault.OutOfMemory token result (form_of max_signatures octets.now) }
+    ensures lent { opens_object octets.now ≡ false → IfOk result AreLent }
+    ensures memory { result ≡ Err FormFault.OutOfMemory → (opens_object octets.now ≡ true)
+        ⊎ ((h p g : List ℕ) × IsCompact octets.now h p g) }
+{
     compact_form();
     if octets.is_empty() {
         return Err(FormFault::Empty);
     }
     if opens_object(octets) {
-        let object = json_object(alloc, octets)?;
+        let object = json_object(alloc, octets, scratch)?;
         let spelled = spelled_json(alloc, max_signatures, &object.lend())?;
-        json_signed(alloc, &spelled)
+        json_signed(alloc, &spelled, scratch)
     } else {
         let segments = segments_of(octets)?;
-        compact_signed(alloc, &segments)
+        compact_signed(alloc, &segments, scratch)
     }
 }

@@ -12,7 +12,7 @@ use crate::crit::crit_repeats;
 use crate::fault::{Form, FormFault, Place};
 use crate::signature::Signature;
 use crate::unprotected::Unprotected;
-use jwt_text::{Object, Part, TextFault};
+use jwt_text::{Object, Part, Scratch, TextFault, object_with};
 use std::alloc::Global;
 
 /// The octets that a text of the token spells.
@@ -26,10 +26,15 @@ pub(crate) fn octets_of(alloc: Global, text: &[u8], place: Place) -> Result<Vec<
     }
 }
 
-fn header_of(alloc: Global, octets: &[u8], i: u32) -> Result<Object, FormFault>
+fn header_of(
+    alloc: Global,
+    octets: &[u8],
+    i: u32,
+    scratch: &mut Scratch,
+) -> Result<Object, FormFault>
     ensures { Answers FormFault.OutOfMemory (λ o. o) result (or_fault (Header i) (object_of octets.now)) }
 {
-    match jwt_text::object(alloc, octets) {
+    match object_with(alloc, octets, scratch) {
         Ok(object) => Ok(object),
         Err(TextFault::OutOfMemory) => Err(FormFault::OutOfMemory),
         Err(_) => Err(FormFault::Header(i)),
@@ -37,14 +42,20 @@ fn header_of(alloc: Global, octets: &[u8], i: u32) -> Result<Object, FormFault>
 }
 
 #[tactic(auto, unfolding(crate::specs::Forms::protected_of))]
-fn protected_header(alloc: Global, form: Form, i: u32, text: &[u8]) -> Result<Object, FormFault>
+fn protected_header(
+    alloc: Global,
+    form: Form,
+    i: u32,
+    text: &[u8],
+    scratch: &mut Scratch,
+) -> Result<Object, FormFault>
     ensures { Answers FormFault.OutOfMemory (λ o. o) result (protected_of form i text.now) }
 {
     if form != Form::Compact && text.is_empty() {
         return Ok(Object::empty(alloc));
     }
     let octets = octets_of(alloc, text, Place::Protected(i))?;
-    header_of(alloc, octets.as_slice(), i)
+    header_of(alloc, octets.as_slice(), i, scratch)
 }
 
 fn unprotected_header(
@@ -82,12 +93,13 @@ pub(crate) fn make_signature<'a>(
     protected_text: Part<'a>,
     header: &Unprotected<'_>,
     signature: &[u8],
+    scratch: &mut Scratch,
 ) -> Result<Signature<'a>, FormFault>
     ensures value { Answers FormFault.OutOfMemory parts result (signature_of form i
         (record { protected = part_octets protected_text.entry; header = header_view header.now; signature = signature.now })) }
     ensures same_text { IfOk result (λ s. s.protected_text ≡ protected_text.entry) }
 {
-    let protected = protected_header(alloc, form, i, protected_text.octets())?;
+    let protected = protected_header(alloc, form, i, protected_text.octets(), scratch)?;
     let unprotected = unprotected_header(alloc, i, header)?;
     if names_overlap(&protected, &unprotected) {
         return Err(FormFault::NamesOverlap(i));

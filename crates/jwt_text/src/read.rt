@@ -27,19 +27,31 @@ pub fn object(alloc: Global, octets: &[u8]) -> Result<Object, TextFault>
     ensures text { IfOk result (IsObjectText octets.now) }
     ensures answer { ¬ IsErrOf result TextFault.OutOfMemory → result ≡ object_of octets.now }
 {
-    match object_in(alloc, octets) {
+    let mut scratch = Scratch::new(alloc);
+    object_with(alloc, octets, &mut scratch)
+}
+
+/// The same as [`object`], with memory that was made before, and that serves for text after text.
+pub fn object_with(
+    alloc: Global,
+    octets: &[u8],
+    scratch: &mut Scratch,
+) -> Result<Object, TextFault>
+    ensures text { IfOk result (IsObjectText octets.now) }
+    ensures answer { ¬ IsErrOf result TextFault.OutOfMemory → result ≡ object_of octets.now }
+{
+    match object_in(alloc, octets, scratch) {
         Some(object) => Ok(object),
         None => Err(fault_in(alloc, octets)),
     }
 }
 
 /// The object that the octets are the text of; `None` where there is none, or where it can't be held.
-fn object_in(alloc: Global, octets: &[u8]) -> Option<Object>
+fn object_in(alloc: Global, octets: &[u8], scratch: &mut Scratch) -> Option<Object>
     ensures { IfSome result (IsObjectText octets.now) }
 {
     let text = std::str::from_utf8(octets).ok()?;
-    let mut scratch = Scratch::new(alloc);
-    object_in_text(alloc, text, &mut scratch)
+    object_in_text(alloc, text, scratch)
 }
 
 /// The same, of text.
