@@ -16,6 +16,9 @@ use crate::unprotected::Unprotected;
 use jwt_text::{Part, Scratch};
 use std::alloc::Global;
 
+/// The room that is made first for reading the texts of a token, in octets: those of most tokens fit.
+const FIRST_ROOM: usize = 4096;
+
 #[tactic(auto, unfolding(crate::specs::Forms::signed_of))]
 fn compact_signed<'a>(
     alloc: Global,
@@ -26,6 +29,7 @@ fn compact_signed<'a>(
     ensures lent { IfOk result AreLent }
 {
     let payload = octets_of(alloc, segments.payload, Place::Payload)?;
+    scratch.reserve(payload.len().min(FIRST_ROOM))?;
     let signature = make_signature(
         alloc,
         Form::Compact,
@@ -35,7 +39,7 @@ fn compact_signed<'a>(
         segments.signature,
         scratch,
     )?;
-    let mut signatures = Vec::new(alloc);
+    let mut signatures = Vec::with_capacity(alloc, 1)?;
     signatures.push(signature)?;
     Ok(Signed {
         form: Form::Compact,
@@ -76,7 +80,7 @@ fn owned_signatures<'a>(
     ensures value { Answers FormFault.OutOfMemory (λ v. map parts v.items) result (each (signature_of form) 0 (map spelled_view spelled.now)) }
     ensures count { IfOk result (λ v. length v.items ≡ length spelled.now) }
 {
-    let mut signatures = Vec::new(alloc);
+    let mut signatures = Vec::with_capacity(alloc, spelled.len())?;
     for (i, signature) in spelled.iter().enumerate() {
         let made = owned_signature(alloc, form, i as u32, signature, scratch)?;
         signatures.push(made)?;

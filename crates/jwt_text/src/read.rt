@@ -62,7 +62,7 @@ fn object_in_text(alloc: Global, text: &str, scratch: &mut Scratch) -> Option<Ob
     let Token::BeginObject = reader.next()? else {
         return None;
     };
-    let mut store = Store::new(alloc);
+    let mut store = Store::with_room(alloc, text.len())?;
     let entries = read_members(alloc, &mut reader, BELOW, &mut store)?;
     if reader.next().is_some() {
         return None;

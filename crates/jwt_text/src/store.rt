@@ -40,6 +40,15 @@ impl Store {
         }
     }
 
+    /// A store that holds nothing, with room for so many octets of text; `None` where it can't be had.
+    pub(crate) fn with_room(alloc: Global, octets: usize) -> Option<Store> {
+        Some(Store {
+            text: Vec::with_capacity(alloc, octets).ok()?,
+            nodes: Vec::new(alloc),
+            entries: Vec::new(alloc),
+        })
+    }
+
     /// Adds a text; `None` where it can't be held.
     #[inline(always)]
     pub(crate) fn add_text(&mut self, text: &str) -> Option<Span>

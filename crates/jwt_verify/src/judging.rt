@@ -28,7 +28,11 @@ use jwt_keys::KeySet;
 use jwt_mac::{Budget, Verifier};
 use jwt_policy::{Policy, SigFault, bar};
 use jwt_text::{Intake, Scratch, Source, TextFault};
+use smallvec::SmallVec;
 use std::alloc::{AllocError, Global};
+
+/// So many bars stand in place, and more in an allocation.
+const NEAR: usize = 4;
 
 /// The bar of each signature.
 fn bars_of(
@@ -36,11 +40,11 @@ fn bars_of(
     signed: &Signed<'_>,
     policy: &Policy,
     verifiers: &[Box<dyn Verifier>],
-) -> Result<Vec<Option<SigFault>>, AllocError>
+) -> Result<SmallVec<Option<SigFault>, NEAR>, AllocError>
     ensures { IfOk result (λ v. v.items
         ≡ map (λ s. bar_of policy.now s (map meaning verifiers.now)) (token signed.now).signatures) }
 {
-    let mut bars = Vec::new(alloc);
+    let mut bars = SmallVec::new(alloc);
     'signatures: for i in 0..signed.count() {
         if let Some(signature) = signed.signature(i) {
             bars.push(bar(policy, signature, verifiers))?;
