@@ -2,7 +2,7 @@
 ghost use Rattle.std.specs.Prelude.{◌≡◌, ◌<◌, ◌≤◌, ◌⊎◌, ℕ, List, true, false, length, map, IfOk};
 ghost use Rattle.jwt_text.specs.Answers.{Answers, each};
 ghost use Rattle.jwt_jws.specs.CompactForm.{IsCompact};
-ghost use Rattle.jwt_jws.specs.Forms.{signed_of, signature_of, form_of, opens_object};
+ghost use Rattle.jwt_jws.specs.Forms.{signed_of, signature_of, form_of, token_in, opens_object};
 ghost use Rattle.jwt_jws.specs.Views.{token, parts, spelled_view, json_view, compact_view, AreLent};
 
 use crate::compact::{CompactTexts, segments_of};
@@ -13,7 +13,7 @@ use crate::signature::Signature;
 use crate::signed::Signed;
 use crate::signing::{make_signature, octets_of};
 use crate::unprotected::Unprotected;
-use jwt_text::{Part, Scratch};
+use jwt_text::{ObjectRef, Part, Scratch};
 use std::alloc::Global;
 
 /// The room that is made first for reading the texts of a token, in octets: those of most tokens fit.
@@ -109,6 +109,21 @@ fn json_signed<'a>(
     })
 }
 
+/// The token whose object this is.
+fn object_signed<'a>(
+    alloc: Global,
+    most: u32,
+    object: &ObjectRef<'_>,
+    scratch: &mut Scratch,
+) -> Result<Signed<'a>, FormFault>
+    requires least { 0 < most }
+    requires most { most ≤ 32 }
+    ensures { Answers FormFault.OutOfMemory token result (token_in most object.now) }
+{
+    let spelled = spelled_json(alloc, most, object)?;
+    json_signed(alloc, &spelled, scratch)
+}
+
 /// Reads a signed token, in compact or in JSON form (RFC 7515, section 7), with at most `max_signatures` signatures, 1 to 32.
 ///
 /// Refused with the first cause that holds, as [`FormFault`] lists them, or with `FormFault::OutOfMemory`. In compact form no
@@ -152,8 +167,7 @@ pub fn parse_with<'a>(
     }
     if opens_object(octets) {
         let object = json_object(alloc, octets, scratch)?;
-        let spelled = spelled_json(alloc, max_signatures, &object.lend())?;
-        json_signed(alloc, &spelled, scratch)
+        object_signed(alloc, max_signatures, &object.lend(), scratch)
     } else {
         let segments = segments_of(octets)?;
         compact_signed(alloc, &segments, scratch)

@@ -6,15 +6,13 @@ ghost use Rattle.jwt_text.specs.ObjectText.{reading, object_of, IsObjectText};
 use crate::TextFault;
 use crate::colons::count_colons;
 use crate::entries::take_members;
+use crate::node::BELOW;
 use crate::owned::Object;
 use crate::reading::read_members;
 use crate::store::Store;
 use json::{Reader, Scratch, Token};
 use serde_json::{Map, Value};
 use std::alloc::Global;
-
-/// How deep a member of an object text may nest.
-const BELOW: usize = 126;
 
 /// The object that the octets are the text of (RFC 8259), read in one pass. Only where there is none, or where memory was refused,
 /// they are read once more, for the fault.
@@ -32,11 +30,7 @@ pub fn object(alloc: Global, octets: &[u8]) -> Result<Object, TextFault>
 }
 
 /// The same as [`object`], with memory that was made before, and that serves for text after text.
-pub fn object_with(
-    alloc: Global,
-    octets: &[u8],
-    scratch: &mut Scratch,
-) -> Result<Object, TextFault>
+pub fn object_with(alloc: Global, octets: &[u8], scratch: &mut Scratch) -> Result<Object, TextFault>
     ensures text { IfOk result (IsObjectText octets.now) }
     ensures answer { ¬ IsErrOf result TextFault.OutOfMemory → result ≡ object_of octets.now }
 {
