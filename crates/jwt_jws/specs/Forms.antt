@@ -139,6 +139,10 @@ signed_of t = do
   signatures ← each (signature_of t.form) 0 t.signatures
   Ok (record { form = t.form; payload_text = t.payload; payload = payload; signatures = signatures })
 
+-- the token in JSON form that an object is, with at most so many signatures
+abbrev pub token_in : ℕ → Members → Result Token FormFault
+token_in most m = json_of most m >>= signed_of
+
 -- ---- the whole
 
 -- JSON white space (RFC 8259, section 2)

@@ -12,7 +12,7 @@ ghost use Rattle.jwt_jws.specs.Views.{spelled_view, json_view, header_view};
 
 use crate::fault::{Form, FormFault};
 use crate::unprotected::Unprotected;
-use jwt_text::{Object, ObjectRef, TextFault};
+use jwt_text::{Object, ObjectRef, Scratch, TextFault, object_with};
 use std::alloc::Global;
 
 /// A signature as it is spelled, lent by the object that it stands in.
@@ -164,10 +164,14 @@ pub(crate) fn spelled_json<'a>(
 }
 
 /// The object that a token in JSON form is the text of.
-pub(crate) fn json_object(alloc: Global, octets: &[u8]) -> Result<Object, FormFault>
+pub(crate) fn json_object(
+    alloc: Global,
+    octets: &[u8],
+    scratch: &mut Scratch,
+) -> Result<Object, FormFault>
     ensures { Answers FormFault.OutOfMemory (λ o. o) result (read_as (object_of octets.now)) }
 {
-    match jwt_text::object(alloc, octets) {
+    match object_with(alloc, octets, scratch) {
         Ok(object) => Ok(object),
         Err(TextFault::OutOfMemory) => Err(FormFault::OutOfMemory),
         Err(TextFault::NameTwice) => Err(FormFault::NameTwice),

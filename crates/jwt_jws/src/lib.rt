@@ -17,6 +17,6 @@ mod unprotected;
 
 pub use compact::{CompactTexts, compact_texts};
 pub use fault::{Form, FormFault, Place};
-pub use parsing::parse;
+pub use parsing::{parse, parse_with};
 pub use signature::Signature;
 pub use signed::Signed;

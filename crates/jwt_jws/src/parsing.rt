@@ -2,7 +2,7 @@
 ghost use Rattle.std.specs.Prelude.{◌≡◌, ◌<◌, ◌≤◌, ◌⊎◌, ℕ, List, true, false, length, map, IfOk};
 ghost use Rattle.jwt_text.specs.Answers.{Answers, each};
 ghost use Rattle.jwt_jws.specs.CompactForm.{IsCompact};
-ghost use Rattle.jwt_jws.specs.Forms.{signed_of, signature_of, form_of, opens_object};
+ghost use Rattle.jwt_jws.specs.Forms.{signed_of, signature_of, form_of, token_in, opens_object};
 ghost use Rattle.jwt_jws.specs.Views.{token, parts, spelled_view, json_view, compact_view, AreLent};
 
 use crate::compact::{CompactTexts, segments_of};
@@ -13,15 +13,23 @@ use crate::signature::Signature;
 use crate::signed::Signed;
 use crate::signing::{make_signature, octets_of};
 use crate::unprotected::Unprotected;
-use jwt_text::Part;
+use jwt_text::{ObjectRef, Part, Scratch};
 use std::alloc::Global;
 
+/// The room that is made first for reading the texts of a token, in octets: those of most tokens fit.
+const FIRST_ROOM: usize = 4096;
+
 #[tactic(auto, unfolding(crate::specs::Forms::signed_of))]
-fn compact_signed<'a>(alloc: Global, segments: &CompactTexts<'a>) -> Result<Signed<'a>, FormFault>
+fn compact_signed<'a>(
+    alloc: Global,
+    segments: &CompactTexts<'a>,
+    scratch: &mut Scratch,
+) -> Result<Signed<'a>, FormFault>
     ensures value { Answers FormFault.OutOfMemory token result (signed_of (compact_view segments.now)) }
     ensures lent { IfOk result AreLent }
 {
     let payload = octets_of(alloc, segments.payload, Place::Payload)?;
+    scratch.reserve(payload.len().min(FIRST_ROOM))?;
     let signature = make_signature(
         alloc,
         Form::Compact,
@@ -29,8 +37,9 @@ fn compact_signed<'a>(alloc: Global, segments: &CompactTexts<'a>) -> Result<Sign
         Part::Slice(segments.protected),
         &Unprotected::Absent,
         segments.signature,
+        scratch,
     )?;
-    let mut signatures = Vec::new(alloc);
+    let mut signatures = Vec::with_capacity(alloc, 1)?;
     signatures.push(signature)?;
     Ok(Signed {
         form: Form::Compact,
@@ -45,38 +54,52 @@ fn owned_signature<'a>(
     form: Form,
     i: u32,
     spelled: &SpelledSignature<'_>,
+    scratch: &mut Scratch,
 ) -> Result<Signature<'a>, FormFault>
     ensures { Answers FormFault.OutOfMemory parts result (signature_of form i (spelled_view spelled.now)) }
 {
     let text = Part::Owned(Vec::from_slice(alloc, spelled.protected)?);
-    make_signature(alloc, form, i, text, &spelled.header, spelled.signature)
+    make_signature(
+        alloc,
+        form,
+        i,
+        text,
+        &spelled.header,
+        spelled.signature,
+        scratch,
+    )
 }
 
 fn owned_signatures<'a>(
     alloc: Global,
     form: Form,
     spelled: &[SpelledSignature<'_>],
+    scratch: &mut Scratch,
 ) -> Result<Vec<Signature<'a>>, FormFault>
     requires { length spelled.now ≤ 32 }
     ensures value { Answers FormFault.OutOfMemory (λ v. map parts v.items) result (each (signature_of form) 0 (map spelled_view spelled.now)) }
     ensures count { IfOk result (λ v. length v.items ≡ length spelled.now) }
 {
-    let mut signatures = Vec::new(alloc);
+    let mut signatures = Vec::with_capacity(alloc, spelled.len())?;
     for (i, signature) in spelled.iter().enumerate() {
-        let made = owned_signature(alloc, form, i as u32, signature)?;
+        let made = owned_signature(alloc, form, i as u32, signature, scratch)?;
         signatures.push(made)?;
     }
     Ok(signatures)
 }
 
 #[tactic(auto, unfolding(crate::specs::Forms::signed_of))]
-fn json_signed<'a>(alloc: Global, spelled: &SpelledJson<'_>) -> Result<Signed<'a>, FormFault>
+fn json_signed<'a>(
+    alloc: Global,
+    spelled: &SpelledJson<'_>,
+    scratch: &mut Scratch,
+) -> Result<Signed<'a>, FormFault>
     requires some { 0 < length spelled.now.signatures.items }
     requires few { length spelled.now.signatures.items ≤ 32 }
     ensures { Answers FormFault.OutOfMemory token result (signed_of (json_view spelled.now)) }
 {
     let payload = octets_of(alloc, spelled.payload, Place::Payload)?;
-    let signatures = owned_signatures(alloc, spelled.form, spelled.signatures.as_slice())?;
+    let signatures = owned_signatures(alloc, spelled.form, spelled.signatures.as_slice(), scratch)?;
     let text = Vec::from_slice(alloc, spelled.payload)?;
     Ok(Signed {
         form: spelled.form,
@@ -86,11 +109,25 @@ fn json_signed<'a>(alloc: Global, spelled: &SpelledJson<'_>) -> Result<Signed<'a
     })
 }
 
+/// The token whose object this is.
+fn object_signed<'a>(
+    alloc: Global,
+    most: u32,
+    object: &ObjectRef<'_>,
+    scratch: &mut Scratch,
+) -> Result<Signed<'a>, FormFault>
+    requires least { 0 < most }
+    requires most { most ≤ 32 }
+    ensures { Answers FormFault.OutOfMemory token result (token_in most object.now) }
+{
+    let spelled = spelled_json(alloc, most, object)?;
+    json_signed(alloc, &spelled, scratch)
+}
+
 /// Reads a signed token, in compact or in JSON form (RFC 7515, section 7), with at most `max_signatures` signatures, 1 to 32.
 ///
 /// Refused with the first cause that holds, as [`FormFault`] lists them, or with `FormFault::OutOfMemory`. In compact form no
 /// octet of the signing input is copied. Nothing is verified.
-#[tactic(auto, unfolding(crate::specs::Forms::form_of, crate::specs::Forms::spelled_token))]
 pub fn parse<'a>(
     alloc: Global,
     octets: &'a [u8],
@@ -105,16 +142,34 @@ pub fn parse<'a>(
     ensures memory { result ≡ Err FormFault.OutOfMemory → (opens_object octets.now ≡ true)
         ⊎ ((h p g : List ℕ) × IsCompact octets.now h p g) }
 {
+    let mut scratch = Scratch::new(alloc);
+    parse_with(alloc, octets, max_signatures, &mut scratch)
+}
+
+/// The same as [`parse`], with memory that was made before, and that serves for token after token.
+#[tactic(auto, unfolding(crate::specs::Forms::form_of, crate::specs::Forms::spelled_token))]
+pub fn parse_with<'a>(
+    alloc: Global,
+    octets: &'a [u8],
+    max_signatures: u32,
+    scratch: &mut Scratch,
+) -> Result<Signed<'a>, FormFault>
+    requires least { 0 < max_signatures }
+    requires most { max_signatures ≤ 32 }
+    ensures value { Answers FormFault.OutOfMemory token result (form_of max_signatures octets.now) }
+    ensures lent { opens_object octets.now ≡ false → IfOk result AreLent }
+    ensures memory { result ≡ Err FormFault.OutOfMemory → (opens_object octets.now ≡ true)
+        ⊎ ((h p g : List ℕ) × IsCompact octets.now h p g) }
+{
     compact_form();
     if octets.is_empty() {
         return Err(FormFault::Empty);
     }
     if opens_object(octets) {
-        let object = json_object(alloc, octets)?;
-        let spelled = spelled_json(alloc, max_signatures, &object.lend())?;
-        json_signed(alloc, &spelled)
+        let object = json_object(alloc, octets, scratch)?;
+        object_signed(alloc, max_signatures, &object.lend(), scratch)
     } else {
         let segments = segments_of(octets)?;
-        compact_signed(alloc, &segments)
+        compact_signed(alloc, &segments, scratch)
     }
 }

@@ -12,7 +12,7 @@ use crate::crit::crit_repeats;
 use crate::fault::{Form, FormFault, Place};
 use crate::signature::Signature;
 use crate::unprotected::Unprotected;
-use jwt_text::{Object, Part, TextFault};
+use jwt_text::{Object, Part, Scratch, TextFault, object_with};
 use std::alloc::Global;
 
 /// The octets that a text of the token spells.
@@ -26,25 +26,49 @@ pub(crate) fn octets_of(alloc: Global, text: &[u8], place: Place) -> Result<Vec<
     }
 }
 
-fn header_of(alloc: Global, octets: &[u8], i: u32) -> Result<Object, FormFault>
+/// The same, into a buffer in place of what it holds.
+fn octets_into(text: &[u8], place: Place, buffer: &mut Vec<u8>) -> Result<(), FormFault>
+    ensures { Answers FormFault.OutOfMemory (λ _. buffer.new.items) result (or_fault (Base64 place) (spelled text.now)) }
+{
+    match jwt_text::decode_into(text, buffer) {
+        Ok(()) => Ok(()),
+        Err(TextFault::OutOfMemory) => Err(FormFault::OutOfMemory),
+        Err(_) => Err(FormFault::Base64(place)),
+    }
+}
+
+fn header_of(
+    alloc: Global,
+    octets: &[u8],
+    i: u32,
+    scratch: &mut Scratch,
+) -> Result<Object, FormFault>
     ensures { Answers FormFault.OutOfMemory (λ o. o) result (or_fault (Header i) (object_of octets.now)) }
 {
-    match jwt_text::object(alloc, octets) {
+    match object_with(alloc, octets, scratch) {
         Ok(object) => Ok(object),
         Err(TextFault::OutOfMemory) => Err(FormFault::OutOfMemory),
         Err(_) => Err(FormFault::Header(i)),
     }
 }
 
+// The buffer is for the octets that the text spells.
 #[tactic(auto, unfolding(crate::specs::Forms::protected_of))]
-fn protected_header(alloc: Global, form: Form, i: u32, text: &[u8]) -> Result<Object, FormFault>
+fn protected_header(
+    alloc: Global,
+    form: Form,
+    i: u32,
+    text: &[u8],
+    buffer: &mut Vec<u8>,
+    scratch: &mut Scratch,
+) -> Result<Object, FormFault>
     ensures { Answers FormFault.OutOfMemory (λ o. o) result (protected_of form i text.now) }
 {
     if form != Form::Compact && text.is_empty() {
         return Ok(Object::empty(alloc));
     }
-    let octets = octets_of(alloc, text, Place::Protected(i))?;
-    header_of(alloc, octets.as_slice(), i)
+    octets_into(text, Place::Protected(i), buffer)?;
+    header_of(alloc, buffer.as_slice(), i, scratch)
 }
 
 fn unprotected_header(
@@ -73,7 +97,8 @@ fn names_overlap(protected: &Object, unprotected: &Option<Object>) -> bool
     }
 }
 
-/// Signature `i`, from its three members as they are spelled.
+/// Signature `i`, from its three members as they are spelled. The octets of its protected header and then its own are in one
+/// buffer.
 #[tactic(auto, unfolding(crate::specs::Forms::signature_of))]
 pub(crate) fn make_signature<'a>(
     alloc: Global,
@@ -82,17 +107,26 @@ pub(crate) fn make_signature<'a>(
     protected_text: Part<'a>,
     header: &Unprotected<'_>,
     signature: &[u8],
+    scratch: &mut Scratch,
 ) -> Result<Signature<'a>, FormFault>
     ensures value { Answers FormFault.OutOfMemory parts result (signature_of form i
         (record { protected = part_octets protected_text.entry; header = header_view header.now; signature = signature.now })) }
     ensures same_text { IfOk result (λ s. s.protected_text ≡ protected_text.entry) }
 {
-    let protected = protected_header(alloc, form, i, protected_text.octets())?;
+    let mut octets = Vec::with_capacity(alloc, protected_text.octets().len().max(signature.len()))?;
+    let protected = protected_header(
+        alloc,
+        form,
+        i,
+        protected_text.octets(),
+        &mut octets,
+        scratch,
+    )?;
     let unprotected = unprotected_header(alloc, i, header)?;
     if names_overlap(&protected, &unprotected) {
         return Err(FormFault::NamesOverlap(i));
     }
-    let octets = octets_of(alloc, signature, Place::Signature(i))?;
+    octets_into(signature, Place::Signature(i), &mut octets)?;
     let repeats = crit_repeats(alloc, &protected)?;
     Ok(Signature {
         protected_text,

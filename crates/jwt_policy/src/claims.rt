@@ -7,7 +7,7 @@ ghost use Rattle.jwt_policy.specs.Audiences.{audience_data, aud_at};
 
 use crate::claim_fault::{Claim, ClaimFault};
 use crate::texts::is_no_text;
-use jwt_text::{List, Object, ObjectRef, TextFault, object};
+use jwt_text::{List, Object, ObjectRef, Scratch, TextFault, object_with};
 use std::alloc::Global;
 use std::marker::Model;
 
@@ -52,11 +52,23 @@ impl Claims {
     /// The first that holds of `ClaimsShape`, the octets are no object text; then, claim by claim, in the order `iss`, `sub`,
     /// `aud`, `exp`, `nbf`, `iat`, `jti`: `ClaimKind`, the claim is there and has another kind; `ClaimDate`, a date is a number
     /// and no whole number within 64 signed bits. `OutOfMemory` comes where a growth was refused, in place of any other answer.
-    #[tactic(auto, unfolding(crate::specs::ClaimKinds::claims_of))]
     pub fn read(alloc: Global, payload: &[u8]) -> Result<Claims, ClaimFault<'static>>
         ensures { ¬ IsErrOf result ClaimFault.OutOfMemory → result ≡ claims_of payload.now }
     {
-        let members = match object(alloc, payload) {
+        let mut scratch = Scratch::new(alloc);
+        Claims::read_with(alloc, payload, &mut scratch)
+    }
+
+    /// The same as [`Claims::read`], with memory that was made before, and that serves for text after text.
+    #[tactic(auto, unfolding(crate::specs::ClaimKinds::claims_of))]
+    pub fn read_with(
+        alloc: Global,
+        payload: &[u8],
+        scratch: &mut Scratch,
+    ) -> Result<Claims, ClaimFault<'static>>
+        ensures { ¬ IsErrOf result ClaimFault.OutOfMemory → result ≡ claims_of payload.now }
+    {
+        let members = match object_with(alloc, payload, scratch) {
             Ok(members) => members,
             Err(TextFault::OutOfMemory) => return Err(ClaimFault::OutOfMemory),
             Err(_) => return Err(ClaimFault::ClaimsShape),

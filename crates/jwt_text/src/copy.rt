@@ -3,13 +3,11 @@ ghost use Rattle.std.specs.Prelude.{◌≡◌, IfSome};
 ghost use Rattle.jwt_text.specs.Flat.{AreEntries, Each, IsNode, members_data, most};
 ghost use Rattle.jwt_text.specs.Copies.{CopiesNode, CopiesNodes, CopiesEntries};
 
-use crate::node::{Entry, Node};
+use crate::node::{BELOW, Entries, Entry, Node, Nodes};
 use crate::owned::Object;
 use crate::store::Store;
+use smallvec::SmallVec;
 use std::alloc::Global;
-
-/// How deep a member may nest.
-const BELOW: usize = 126;
 
 /// The object of these entries, with what belongs to it and nothing else; `None` where memory was refused.
 pub(crate) fn copy_object(alloc: Global, from: &Store, entries: &[Entry]) -> Option<Object>
@@ -59,11 +57,11 @@ fn copy_nodes(
     nodes: &[Node],
     depth: usize,
     to: &mut Store,
-) -> Option<Vec<Node>>
+) -> Option<Nodes>
     requires { Each (IsNode depth from.now) nodes.now }
     ensures { IfSome result (λ ns. CopiesNodes depth from.now nodes.now to.old to.new ns.items) }
 {
-    let mut copies = Vec::new(alloc);
+    let mut copies: Nodes = SmallVec::new(alloc);
     'nodes: for place in 0..nodes.len() {
         let node = copy_node(alloc, from, nodes[place], depth, to)?;
         if copies.push(node).is_err() {
@@ -81,12 +79,12 @@ fn copy_entries(
     entries: &[Entry],
     depth: usize,
     to: &mut Store,
-) -> Option<Vec<Entry>>
+) -> Option<Entries>
     requires { AreEntries (IsNode depth from.now) from.now entries.now }
     ensures { IfSome result
         (λ es. CopiesEntries depth from.now entries.now to.old to.new es.items) }
 {
-    let mut copies = Vec::new(alloc);
+    let mut copies: Entries = SmallVec::new(alloc);
     'entries: for place in 0..entries.len() {
         let entry = entries[place];
         let name = to.add_text(from.text(entry.name))?;

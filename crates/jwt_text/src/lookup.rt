@@ -38,7 +38,7 @@ fn member_near(store: &Store, entries: &[Entry], name: &[u8]) -> Option<Node>
     ensures holds { IfSome result (IsNode most store.now) }
 {
     for entry in entries {
-        if name == store.octets(entry.name) {
+        if store.holds_at(entry.name, name) {
             return Some(entry.node);
         }
     }

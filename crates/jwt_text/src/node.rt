@@ -2,16 +2,22 @@
 ghost use Rattle.std.specs.Prelude.{◌≡◌};
 ghost use Rattle.jwt_text.specs.Kinds.{as_flag, as_whole, is_numeric, as_text, as_list, as_entries};
 
+use smallvec::SmallVec;
+
+/// How deep a member of an object may nest.
+pub(crate) const BELOW: usize = 126;
+
 /// A run of elements: `len` from `start` on.
-#[derive(Clone, Copy, Drop)]
+#[derive(Clone, Copy, Default, Drop)]
 pub(crate) struct Span {
     pub(crate) start: u32,
     pub(crate) len: u32,
 }
 
 /// A JSON value. A text is a run of octets, a list a run of nodes, an object a run of entries.
-#[derive(Clone, Copy, Drop)]
+#[derive(Clone, Copy, Default, Drop)]
 pub(crate) enum Node {
+    #[default]
     Null,
     Bool(bool),
     Unsigned(u64),
@@ -23,11 +29,17 @@ pub(crate) enum Node {
 }
 
 /// A member of an object.
-#[derive(Clone, Copy, Drop)]
+#[derive(Clone, Copy, Default, Drop)]
 pub(crate) struct Entry {
     pub(crate) name: Span,
     pub(crate) node: Node,
 }
+
+/// The elements of a list. A few stand in place, and more in an allocation.
+pub(crate) type Nodes = SmallVec<Node, 4>;
+
+/// The members of an object. A few stand in place, and more in an allocation.
+pub(crate) type Entries = SmallVec<Entry, 4>;
 
 pub(crate) fn as_flag(node: Node) -> Option<bool>
     ensures { result ≡ as_flag node }

@@ -5,8 +5,9 @@ ghost use Rattle.jwt_text.specs.Members.{has, text_at, is_number_at, whole_at, f
 
 use crate::TextFault;
 use crate::lent::{List, ObjectRef};
-use crate::node::Entry;
+use crate::node::Entries;
 use crate::store::Store;
+use smallvec::SmallVec;
 use std::alloc::Global;
 use std::marker::Model;
 
@@ -16,7 +17,7 @@ use std::marker::Model;
 #[derive(Drop)]
 pub struct Object {
     pub(crate) store: Store,
-    pub(crate) entries: Vec<Entry>,
+    pub(crate) entries: Entries,
 }
 
 impl Model for Object {
@@ -41,7 +42,7 @@ impl Object {
     {
         Object {
             store: Store::new(alloc),
-            entries: Vec::new(alloc),
+            entries: SmallVec::new(alloc),
         }
     }
 

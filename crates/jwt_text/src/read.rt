@@ -6,15 +6,13 @@ ghost use Rattle.jwt_text.specs.ObjectText.{reading, object_of, IsObjectText};
 use crate::TextFault;
 use crate::colons::count_colons;
 use crate::entries::take_members;
+use crate::node::BELOW;
 use crate::owned::Object;
 use crate::reading::read_members;
 use crate::store::Store;
 use json::{Reader, Scratch, Token};
 use serde_json::{Map, Value};
 use std::alloc::Global;
-
-/// How deep a member of an object text may nest.
-const BELOW: usize = 126;
 
 /// The object that the octets are the text of (RFC 8259), read in one pass. Only where there is none, or where memory was refused,
 /// they are read once more, for the fault.
@@ -27,19 +25,27 @@ pub fn object(alloc: Global, octets: &[u8]) -> Result<Object, TextFault>
     ensures text { IfOk result (IsObjectText octets.now) }
     ensures answer { ¬ IsErrOf result TextFault.OutOfMemory → result ≡ object_of octets.now }
 {
-    match object_in(alloc, octets) {
+    let mut scratch = Scratch::new(alloc);
+    object_with(alloc, octets, &mut scratch)
+}
+
+/// The same as [`object`], with memory that was made before, and that serves for text after text.
+pub fn object_with(alloc: Global, octets: &[u8], scratch: &mut Scratch) -> Result<Object, TextFault>
+    ensures text { IfOk result (IsObjectText octets.now) }
+    ensures answer { ¬ IsErrOf result TextFault.OutOfMemory → result ≡ object_of octets.now }
+{
+    match object_in(alloc, octets, scratch) {
         Some(object) => Ok(object),
         None => Err(fault_in(alloc, octets)),
     }
 }
 
 /// The object that the octets are the text of; `None` where there is none, or where it can't be held.
-fn object_in(alloc: Global, octets: &[u8]) -> Option<Object>
+fn object_in(alloc: Global, octets: &[u8], scratch: &mut Scratch) -> Option<Object>
     ensures { IfSome result (IsObjectText octets.now) }
 {
     let text = std::str::from_utf8(octets).ok()?;
-    let mut scratch = Scratch::new(alloc);
-    object_in_text(alloc, text, &mut scratch)
+    object_in_text(alloc, text, scratch)
 }
 
 /// The same, of text.
@@ -50,7 +56,7 @@ fn object_in_text(alloc: Global, text: &str, scratch: &mut Scratch) -> Option<Ob
     let Token::BeginObject = reader.next()? else {
         return None;
     };
-    let mut store = Store::new(alloc);
+    let mut store = Store::with_room(alloc, text.len())?;
     let entries = read_members(alloc, &mut reader, BELOW, &mut store)?;
     if reader.next().is_some() {
         return None;

@@ -3,10 +3,11 @@ ghost use Rattle.std.specs.Prelude.{◌≡◌, IfSome, OnSome};
 ghost use Rattle.jwt_text.specs.Reads.{ReadsNode, ReadsItems, ReadsMembers};
 
 use crate::arrange::arrange;
-use crate::node::{Entry, Node, Span};
+use crate::node::{Entries, Entry, Node, Nodes, Span};
 use crate::number::{node_of, parse_number};
 use crate::store::Store;
 use json::{Reader, Token};
+use smallvec::SmallVec;
 use std::alloc::Global;
 
 /// The value at the front, which nests at most so deep; `None` where it can't be had.
@@ -48,7 +49,7 @@ fn read_items(
 ) -> Option<Span>
     ensures { IfSome result (ReadsItems depth reader.old reader.new store.old store.new) }
 {
-    let mut built = Vec::new(alloc);
+    let mut built: Nodes = SmallVec::new(alloc);
     'items: while !reader.take_end_array() {
         let node = read(alloc, reader, depth, store)?;
         if built.push(node).is_err() {
@@ -66,11 +67,11 @@ pub(crate) fn read_members(
     reader: &mut Reader<'_>,
     depth: usize,
     store: &mut Store,
-) -> Option<Vec<Entry>>
+) -> Option<Entries>
     ensures { IfSome result
         (λ es. ReadsMembers depth reader.old reader.new store.old store.new es.items) }
 {
-    let mut built = Vec::new(alloc);
+    let mut built: Entries = SmallVec::new(alloc);
     'members: while let Some(key) = reader.next_key().ok()? {
         let name = store.add_text(key)?;
         let node = read(alloc, reader, depth, store)?;
@@ -78,7 +79,7 @@ pub(crate) fn read_members(
             return None;
         }
     }
-    if arrange(store, &mut built) {
+    if arrange(alloc, store, &mut built) {
         Some(built)
     } else {
         None

@@ -1,7 +1,7 @@
 ghost use Rattle.std.specs.Prelude.{◌≡◌, ◌+◌, ◌≤◌, length, map, option_map, IfSome};
 ghost use Rattle.serde_json.specs.Find.{as_str, as_array, as_object};
 ghost use Rattle.jwt_text.specs.Members.{elements};
-ghost use Rattle.std.specs.Str.{IsUtf8};
+ghost use Rattle.std.specs.Str.{IsUtf8, bytes_eq};
 ghost use Rattle.jwt_text.specs.Flat.{text_of, piece, IsText, IsNode, node_data, members_data, AreEntries, Each, most};
 ghost use Rattle.jwt_text.specs.Growth.{AddsText, AddsNodes, AddsEntries};
 
@@ -38,6 +38,15 @@ impl Store {
             nodes: Vec::new(alloc),
             entries: Vec::new(alloc),
         }
+    }
+
+    /// A store that holds nothing, with room for so many octets of text; `None` where it can't be had.
+    pub(crate) fn with_room(alloc: Global, octets: usize) -> Option<Store> {
+        Some(Store {
+            text: Vec::with_capacity(alloc, octets).ok()?,
+            nodes: Vec::new(alloc),
+            entries: Vec::new(alloc),
+        })
     }
 
     /// Adds a text; `None` where it can't be held.
@@ -85,6 +94,20 @@ impl Store {
         let rest = &self.text[start..];
         let len = (span.len as usize).min(rest.len());
         &rest[..len]
+    }
+
+    /// Whether the text of a span is this. Their lengths are compared first.
+    #[inline(always)]
+    pub(crate) fn holds_at(&self, span: Span, octets: &[u8]) -> bool
+        requires { IsText self.now span }
+        ensures { result ≡ bytes_eq octets.now (text_of self.now span) }
+    {
+        let len = span.len as usize;
+        if octets.len() != len {
+            return false;
+        }
+        let start = span.start as usize;
+        octets == &self.text[start..start + len]
     }
 
     /// The text of a span.

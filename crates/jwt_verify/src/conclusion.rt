@@ -11,6 +11,7 @@ ghost use Rattle.jwt_verify.specs.Steps.{key_in, fault_in, signing_by};
 use crate::report::{Fault, SigState, Verdict};
 use crate::tries::End;
 use jwt_policy::{ClaimFault, Claims, Mode, Policy, SigFault, check};
+use jwt_text::Scratch;
 use std::alloc::Global;
 
 /// The key that verifies a signature in this state.
@@ -69,10 +70,11 @@ fn claim<'p>(
     payload: &[u8],
     policy: &'p Policy,
     now: i64,
+    scratch: &mut Scratch,
 ) -> Verdict<'p>
     ensures { result ≢ Refused OutOfMemory → result ≡ claimed policy.now now signature key (claims_of payload.now) }
 {
-    match Claims::read(alloc, payload) {
+    match Claims::read_with(alloc, payload, scratch) {
         Err(ClaimFault::OutOfMemory) => Verdict::Refused(Fault::OutOfMemory),
         Err(fault) => Verdict::Refused(Fault::Claim(fault)),
         Ok(claims) => match check(policy, &claims, now) {
@@ -93,13 +95,14 @@ fn conclude<'p>(
     payload: &[u8],
     policy: &'p Policy,
     now: i64,
+    scratch: &mut Scratch,
 ) -> Verdict<'p>
     requires { length states.now ≤ 32 }
     ensures { result ≢ Refused OutOfMemory → result ≡ concluded policy.now now payload.now (signing_by policy.now.run.mode states.now) }
 {
     match (policy.mode(), first_verified(states), first_fault(states)) {
-        (Mode::Any, Some((i, j)), _) => claim(alloc, i, j, payload, policy, now),
-        (Mode::All, Some((i, j)), None) => claim(alloc, i, j, payload, policy, now),
+        (Mode::Any, Some((i, j)), _) => claim(alloc, i, j, payload, policy, now, scratch),
+        (Mode::All, Some((i, j)), None) => claim(alloc, i, j, payload, policy, now, scratch),
         (_, _, Some((i, fault))) => Verdict::Refused(Fault::Signature(i, fault)),
         // A signed token has a signature, so this doesn't come.
         (_, None, None) => Verdict::Refused(Fault::Signature(0, SigFault::NoKey)),
@@ -114,13 +117,14 @@ pub(crate) fn verdict_after<'p>(
     payload: &[u8],
     policy: &'p Policy,
     now: i64,
+    scratch: &mut Scratch,
 ) -> Verdict<'p>
     requires { length states.now ≤ 32 }
     ensures { result ≢ Refused OutOfMemory
         → result ≡ ended end (concluded policy.now now payload.now (signing_by policy.now.run.mode states.now)) }
 {
     match end {
-        End::Done => conclude(alloc, states, payload, policy, now),
+        End::Done => conclude(alloc, states, payload, policy, now, scratch),
         End::WorkExceeded(i, j) => Verdict::Refused(Fault::WorkExceeded(i, j)),
         End::CallsExceeded(i, j) => Verdict::Refused(Fault::CallsExceeded(i, j)),
         End::VerifierMemory(_, _) => Verdict::Refused(Fault::VerifierMemory),

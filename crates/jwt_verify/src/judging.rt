@@ -23,12 +23,16 @@ use crate::conclusion::verdict_after;
 use crate::laws::reports_in_words;
 use crate::report::{Fault, InputFault, Report, SigState, Try, Verdict};
 use crate::tries::{End, run};
-use jwt_jws::{FormFault, Signed, parse};
+use jwt_jws::{FormFault, Signed, parse_with};
 use jwt_keys::KeySet;
 use jwt_mac::{Budget, Verifier};
 use jwt_policy::{Policy, SigFault, bar};
-use jwt_text::{Intake, Source, TextFault};
+use jwt_text::{Intake, Scratch, Source, TextFault};
+use smallvec::SmallVec;
 use std::alloc::{AllocError, Global};
+
+/// So many bars stand in place, and more in an allocation.
+const NEAR: usize = 4;
 
 /// The bar of each signature.
 fn bars_of(
@@ -36,11 +40,11 @@ fn bars_of(
     signed: &Signed<'_>,
     policy: &Policy,
     verifiers: &[Box<dyn Verifier>],
-) -> Result<Vec<Option<SigFault>>, AllocError>
+) -> Result<SmallVec<Option<SigFault>, NEAR>, AllocError>
     ensures { IfOk result (λ v. v.items
         ≡ map (λ s. bar_of policy.now s (map meaning verifiers.now)) (token signed.now).signatures) }
 {
-    let mut bars = Vec::new(alloc);
+    let mut bars = SmallVec::new(alloc);
     'signatures: for i in 0..signed.count() {
         if let Some(signature) = signed.signature(i) {
             bars.push(bar(policy, signature, verifiers))?;
@@ -66,6 +70,7 @@ fn read_token<'a, 'p>(
     alloc: Global,
     octets: &'a [u8],
     policy: &'p Policy,
+    scratch: &mut Scratch,
 ) -> Result<Signed<'a>, Fault<'p>>
     ensures { Answers Fault.OutOfMemory token result (token_of policy.now octets.now) }
 {
@@ -73,7 +78,7 @@ fn read_token<'a, 'p>(
         return Err(Fault::Text(InputFault::TooLong));
     }
     let token = without_line_feed(octets, policy.line_feed());
-    match parse(alloc, token, policy.max_signatures()) {
+    match parse_with(alloc, token, policy.max_signatures(), scratch) {
         Ok(signed) => Ok(signed),
         Err(FormFault::OutOfMemory) => Err(Fault::OutOfMemory),
         Err(fault) => Err(Fault::Form(fault)),
@@ -125,6 +130,7 @@ fn judge_token<'p, B: Budget>(
     now: i64,
     verifiers: &[Box<dyn Verifier>],
     b: &mut B,
+    scratch: &mut Scratch,
 ) -> Report<'p>
     requires no_octets { B.octets b.old ≡ 0 }
     requires no_calls { B.calls b.old ≡ 0 }
@@ -156,7 +162,15 @@ fn judge_token<'p, B: Budget>(
         &mut states,
     );
     let verdict = match run {
-        Ok(end) => verdict_after(alloc, end, states.as_slice(), signed.payload(), policy, now),
+        Ok(end) => verdict_after(
+            alloc,
+            end,
+            states.as_slice(),
+            signed.payload(),
+            policy,
+            now,
+            scratch,
+        ),
         Err(_) => Verdict::Refused(Fault::OutOfMemory),
     };
     Report {
@@ -188,6 +202,7 @@ fn judge_octets<'p, B: Budget>(
     now: i64,
     verifiers: &[Box<dyn Verifier>],
     b: &mut B,
+    scratch: &mut Scratch,
 ) -> Report<'p>
     requires no_octets { B.octets b.old ≡ 0 }
     requires no_calls { B.calls b.old ≡ 0 }
@@ -206,8 +221,8 @@ fn judge_octets<'p, B: Budget>(
     ensures calls { B.calls b.new ≡ length result.tries.items }
     ensures ceiling { B.ceiling b.new ≡ B.ceiling b.old }
 {
-    match read_token(alloc, octets, policy) {
-        Ok(signed) => judge_token(alloc, &signed, keys, policy, now, verifiers, b),
+    match read_token(alloc, octets, policy, scratch) {
+        Ok(signed) => judge_token(alloc, &signed, keys, policy, now, verifiers, b, scratch),
         Err(fault) => refused(alloc, fault),
     }
 }
@@ -264,7 +279,8 @@ pub fn judge<'p, B: Budget>(
     ensures ceiling { B.ceiling b.new ≡ B.ceiling b.old }
 {
     reports_in_words();
-    judge_octets(alloc, octets, keys, policy, now, verifiers, b)
+    let mut scratch = Scratch::new(alloc);
+    judge_octets(alloc, octets, keys, policy, now, verifiers, b, &mut scratch)
 }
 
 /// The octets of the source, as far as they are looked at: all, or one more than the limit.

@@ -12,7 +12,7 @@ use Rattle.jwt_jws.proofs.parsing.owned_signatures.Goals as goal
 
 pub returns-in_err-made-clause-value : goal.returns-in_err-made-clause-value
 returns-in_err-made-clause-value c =
-    let p = err_from_is_err_and c.from_residual.result c.from_residual.ensures.1 in
+    let p = err_from_is_err_and c.from_residual-in_err-made.result c.from_residual-in_err-made.ensures.1 in
     let xs = c.args.spelled.now in
     let i = c.loop-i.i in
     let x = c.index-spelled-i.result in

@@ -13,5 +13,5 @@ returns c =
     let first : tokens c.args.text.now ≡ begin_object ∷ c.next.new.self = sym all ∙ front ∙ ap (λ k. token_of k ∷ c.next.new.self) c.in-BeginObject.is in
     let end : c.read_members.new.reader ≡ [] = grind arith in
     let es = c.in_ok-entries.entries.items in
-    object_text c.args.text.now c.utf8.text c.next.new.self c.new-store.result c.read_members.new.store es first
-    (subst (λ r. ReadsMembers 126 c.next.new.self r c.new-store.result c.read_members.new.store es) end c.in_ok-entries.ensures)
+    object_text c.args.text.now c.utf8.text c.next.new.self c.in_ok-store.store c.read_members.new.store es first
+    (subst (λ r. ReadsMembers 126 c.next.new.self r c.in_ok-store.store c.read_members.new.store es) end c.in_ok-entries.ensures)

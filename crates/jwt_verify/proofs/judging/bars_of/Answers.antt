@@ -12,6 +12,6 @@ signatures-preserved g c =
     let l : c.signatures.i < length xs = omega (arith, c.signatures-test.true, c.count-i-end.ensures.count) in
     elim c.match-signature.branch [
       | in-Some+in_ok-push w ↦ (let e = rw w.in-Some.is at c.signature.ensures in
-          rw (w.bars-is, w.in_ok-push.ensures.items, w.bar.ensures, c.signatures.invariant) (sym (map_more (λ s. bar_of c.args.policy.now s v) xs c.signatures.i (parts w.in-Some.signature.now) (sym e))))
+          rw (w.bars-is, w.in_ok-push.ensures.ok, w.bar.ensures, c.signatures.invariant) (sym (map_more (λ s. bar_of c.args.policy.now s v) xs c.signatures.i (parts w.in-Some.signature.now) (sym e))))
       | in_default w ↦ (let e = rw w.in_default.is at c.signature.ensures in absurd (slice_within xs c.signatures.i l (sym e)))
     ]
