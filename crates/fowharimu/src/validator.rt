@@ -26,6 +26,9 @@ use std::alloc::Global;
 /// let validator = Validator { policy, keys, verifiers };
 /// let report = validator.validate(alloc, &mut source, now, &mut validator.policy.budget());
 /// ```
+///
+/// A function that makes a verifier mustn't hand it out: the one that fills `verifiers` lends the validator to others. A clause of
+/// a caller has their meanings as `map (λ v. meaning (v.vtable, v.value)) validator.now.verifiers.items`.
 #[derive(Drop)]
 pub struct Validator {
     /// What it asks of tokens.

@@ -22,15 +22,15 @@ pub enum Form {
 #[derive(Clone, Copy, Debug, PartialEq, Eq, Error)]
 pub enum Place {
     /// The payload text.
-    #[error("the payload")]
+    #[error("the payload text")]
     Payload,
 
     /// The protected text of this signature.
-    #[error("the protected header of signature {0}")]
+    #[error("the protected text of signature {0}")]
     Protected(u32),
 
     /// The signature text of this signature.
-    #[error("the octets of signature {0}")]
+    #[error("the text of signature {0}")]
     Signature(u32),
 }
 
