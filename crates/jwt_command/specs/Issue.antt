@@ -11,6 +11,7 @@ use Rattle.jwt_jws.specs.declared.fault.Form.TheVariants.{Compact, Flattened, Ge
 use Rattle.jwt_policy.specs.declared.claim_fault.ClaimFault.{ClaimFault}
 use Rattle.jwt_issue.specs.ClaimSets.{claim_set_of}
 use Rattle.jwt_issue.specs.Issued.{PairParts, compact_of, flattened_of, general_of}
+use Rattle.jwt_issue.specs.FaultNames.{issue_fault_name}
 use Rattle.jwt_issue.specs.declared.fault.IssueFault.{IssueFault}
 use Rattle.jwt_issue.specs.declared.fault.IssueFault.TheVariants as issue
 use Rattle.jwt_command.specs.Faults.{claim_fault_parts, joined_parts}
@@ -21,14 +22,14 @@ use Rattle.jwt_command.specs.Verify.{keys_refused, unless_failed}
 
 -- ---- the token
 
+abbrev pub issue_fault_place : IssueFault → List (List ℕ)
+issue_fault_place (issue.AlgNotHmac i) = codes " sig=" ∷ decimal i ∷ []
+issue_fault_place (issue.KeyUnfit i) = codes " sig=" ∷ decimal i ∷ []
+issue_fault_place (issue.Spent i) = codes " sig=" ∷ decimal i ∷ []
+issue_fault_place _ = []
+
 abbrev pub issue_fault_parts : IssueFault → List (List ℕ)
-issue_fault_parts issue.OutOfMemory = codes "OutOfMemory" ∷ []
-issue_fault_parts issue.NoKey = codes "NoKey" ∷ []
-issue_fault_parts issue.TooManySignatures = codes "TooManySignatures" ∷ []
-issue_fault_parts (issue.AlgNotHmac i) = codes "AlgNotHmac sig=" ∷ decimal i ∷ []
-issue_fault_parts (issue.KeyUnfit i) = codes "KeyUnfit sig=" ∷ decimal i ∷ []
-issue_fault_parts issue.TooLong = codes "TooLong" ∷ []
-issue_fault_parts (issue.Spent i) = codes "Spent sig=" ∷ decimal i ∷ []
+issue_fault_parts f = issue_fault_name f ∷ issue_fault_place f
 
 -- how a token is to be issued
 pub record TokenAsked : Type 0 where

@@ -6,11 +6,10 @@ use Rattle.std.specs.Option.{option_map_or}
 use Rattle.json.specs.Print.{quoted as quoted_text}
 use Rattle.jwt_mac.specs.Verifying.{KeyOctets, OctKey, RsaKey, EcKey, OkpKey}
 use Rattle.jwt_keys.specs.Keys.{KeyParts}
+use Rattle.jwt_keys.specs.FaultNames.{reason_name}
 use Rattle.jwt_keys.specs.KeySets.{KeyList, key_set_of}
 use Rattle.jwt_keys.specs.declared.fault.KeysFault.{KeysFault}
 use Rattle.jwt_keys.specs.declared.skip.Skip.{Skip}
-use Rattle.jwt_keys.specs.declared.skip.SkipReason.{SkipReason}
-use Rattle.jwt_keys.specs.declared.skip.SkipReason.TheVariants.{NotObject, MemberMissing, MemberKind, KtyUnknown, CrvUnknown, Base64, Length}
 use Rattle.jwt_command.specs.Printed.{Answer, joined}
 use Rattle.jwt_command.specs.Verify.{keys_refused, unless_failed}
 
@@ -36,15 +35,6 @@ key_line number k = joined (
     codes "key=" ∷ decimal number ∷ codes " place=" ∷ decimal k.place ∷ codes " kty=" ∷ kty_of k.octets ∷ codes " kid=" ∷ quoted_or_dash k.kid
     ∷ codes " alg=" ∷ quoted_or_dash k.alg ∷ codes " size=" ∷ decimal (length (sized_by k.octets)) ∷ codes " thumbprint=" ∷ k.thumbprint ∷ []
     )
-
-abbrev pub reason_name : SkipReason → List ℕ
-reason_name NotObject = codes "NotObject"
-reason_name MemberMissing = codes "MemberMissing"
-reason_name MemberKind = codes "MemberKind"
-reason_name KtyUnknown = codes "KtyUnknown"
-reason_name CrvUnknown = codes "CrvUnknown"
-reason_name Base64 = codes "Base64"
-reason_name Length = codes "Length"
 
 abbrev pub skip_line : Skip → List ℕ
 skip_line skip = joined (codes "skip place=" ∷ decimal skip.place ∷ codes " " ∷ reason_name skip.reason ∷ [])

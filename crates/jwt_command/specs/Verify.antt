@@ -3,6 +3,7 @@ use Rattle.std.specs.Prelude.{ℕ, Bool, true, false, List, [], ◌∷◌, lengt
 use Rattle.std.specs.Fmt.{decimal}
 use Rattle.jwt_mac.specs.Verifying.{Meaning}
 use Rattle.jwt_keys.specs.KeySets.{KeyList, key_set_of}
+use Rattle.jwt_keys.specs.FaultNames.{keys_fault_name}
 use Rattle.jwt_keys.specs.declared.fault.KeysFault.{KeysFault}
 use Rattle.jwt_policy.specs.Document.{policy_of}
 use Rattle.jwt_policy.specs.Settings.{Settings}
@@ -15,7 +16,7 @@ use Rattle.jwt_verify.specs.declared.report.Fault.TheVariants.{OutOfMemory, Veri
 use Rattle.jwt_verify.specs.declared.report.Try.{Try}
 use Rattle.jwt_verify.specs.declared.report.Verdict.{Verdict}
 use Rattle.jwt_verify.specs.declared.report.Verdict.TheVariants.{Accepted, Refused}
-use Rattle.jwt_command.specs.Faults.{fault_parts, joined_parts, keys_fault_name, policy_fault_parts}
+use Rattle.jwt_command.specs.Faults.{fault_parts, joined_parts, policy_fault_parts}
 use Rattle.jwt_command.specs.Printed.{Answer, line, out_of_memory, read_failed}
 use Rattle.jwt_command.specs.TakenLines.{after_line, first_line}
 

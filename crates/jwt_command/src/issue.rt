@@ -12,7 +12,7 @@ ghost use Rattle.jwt_command.specs.Printed.{refused};
 ghost use Rattle.jwt_command.specs.Verify.{unless_failed};
 ghost use Rattle.jwt_command.specs.Views.{reply_view, wanted_view};
 
-use crate::faults::{claim_fault_text, keys_fault_name};
+use crate::faults::claim_fault_text;
 use crate::input::{read_input, without_line_feed};
 use crate::reply::Reply;
 use crate::take_line::{LineFault, line};
@@ -78,14 +78,12 @@ fn issued(
 fn issue_fault_text(alloc: Global, fault: IssueFault) -> Result<String, AllocError>
     ensures { IfOk result (λ s. string_bytes s ≡ joined_parts (issue_fault_parts fault)) }
 {
+    let name = fault.name();
     match fault {
-        IssueFault::OutOfMemory => String::from_str(alloc, "OutOfMemory"),
-        IssueFault::NoKey => String::from_str(alloc, "NoKey"),
-        IssueFault::TooManySignatures => String::from_str(alloc, "TooManySignatures"),
-        IssueFault::AlgNotHmac(i) => format!(in alloc; "AlgNotHmac sig={i}"),
-        IssueFault::KeyUnfit(i) => format!(in alloc; "KeyUnfit sig={i}"),
-        IssueFault::TooLong => String::from_str(alloc, "TooLong"),
-        IssueFault::Spent(i) => format!(in alloc; "Spent sig={i}"),
+        IssueFault::AlgNotHmac(i) | IssueFault::KeyUnfit(i) | IssueFault::Spent(i) => {
+            format!(in alloc; "{name} sig={i}")
+        }
+        _ => String::from_str(alloc, name),
     }
 }
 
@@ -172,6 +170,6 @@ pub(crate) fn issue<R: Source>(
     match KeySet::read(alloc, text.as_slice()) {
         Ok(keys) => on_claims(alloc, wanted, &keys, r),
         Err(KeysFault::OutOfMemory) => Err(AllocError),
-        Err(fault) => Reply::refused_keys(alloc, keys_fault_name(fault)),
+        Err(fault) => Reply::refused_keys(alloc, fault.name()),
     }
 }

@@ -5,14 +5,13 @@ ghost use Rattle.jwt_mac.specs.Verifying.{key_octets};
 ghost use Rattle.jwt_keys.specs.KeySets.{key_set};
 ghost use Rattle.jwt_keys.specs.Views.{key_parts};
 ghost use Rattle.jwt_command.specs.Input.{TakesAtMost};
-ghost use Rattle.jwt_command.specs.Listed.{before, key_line, keys_answer, kty_of, reason_name, set_lines, sized_by, skip_line};
+ghost use Rattle.jwt_command.specs.Listed.{before, key_line, keys_answer, kty_of, set_lines, sized_by, skip_line};
 ghost use Rattle.jwt_command.specs.Views.{reply_view};
 
-use crate::faults::keys_fault_name;
 use crate::input::read_input;
 use crate::pieces::{put_labelled, quoted_or_dash};
 use crate::reply::Reply;
-use jwt_keys::{Key, KeySet, KeysFault, Skip, SkipReason};
+use jwt_keys::{Key, KeySet, KeysFault, Skip};
 use jwt_mac::KeyView;
 use jwt_text::{GREATEST_LIMIT, Source, TextFault};
 use std::alloc::{AllocError, Global};
@@ -57,25 +56,11 @@ fn put_key(alloc: Global, out: &mut Vec<u8>, number: u32, key: &Key) -> Result<(
     Ok(())
 }
 
-fn reason_name(reason: SkipReason) -> &'static str
-    ensures { result.now ≡ reason_name reason }
-{
-    match reason {
-        SkipReason::NotObject => "NotObject",
-        SkipReason::MemberMissing => "MemberMissing",
-        SkipReason::MemberKind => "MemberKind",
-        SkipReason::KtyUnknown => "KtyUnknown",
-        SkipReason::CrvUnknown => "CrvUnknown",
-        SkipReason::Base64 => "Base64",
-        SkipReason::Length => "Length",
-    }
-}
-
 fn put_skip(alloc: Global, out: &mut Vec<u8>, skip: &Skip) -> Result<(), AllocError>
     ensures { IfOk result (λ _. out.new.items ≡ out.old.items ++ skip_line skip.now) }
 {
     let place = skip.place;
-    let reason = reason_name(skip.reason);
+    let reason = skip.reason.name();
     let line = format!(in alloc; "skip place={place} {reason}\n")?;
     out.extend_from_slice(line.as_bytes())
 }
@@ -139,6 +124,6 @@ pub(crate) fn keys<R: Source>(alloc: Global, r: &mut R) -> Result<Reply, AllocEr
             status: 0,
         }),
         Err(KeysFault::OutOfMemory) => Err(AllocError),
-        Err(fault) => Reply::refused_keys(alloc, keys_fault_name(fault)),
+        Err(fault) => Reply::refused_keys(alloc, fault.name()),
     }
 }

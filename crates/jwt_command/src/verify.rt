@@ -8,7 +8,7 @@ ghost use Rattle.jwt_command.specs.Stops.{keys_most, verify_most};
 ghost use Rattle.jwt_command.specs.Verify.{fault_line, keys_answer, named_line, policy_refused, terms, token_answer, unless_failed, verify_answer, verify_line};
 ghost use Rattle.jwt_command.specs.Views.{reply_view};
 
-use crate::faults::{fault_text, keys_fault_name, policy_fault_text};
+use crate::faults::{fault_text, policy_fault_text};
 use crate::reply::Reply;
 use crate::take_line::{LineFault, line};
 use jwt_keys::{KeySet, KeysFault};
@@ -129,7 +129,7 @@ fn on_keys<R: Source>(
     match KeySet::read(alloc, text.as_slice()) {
         Ok(keys) => on_token(alloc, verifiers, now, policy, &keys, r),
         Err(KeysFault::OutOfMemory) => Err(AllocError),
-        Err(fault) => Reply::refused_keys(alloc, keys_fault_name(fault)),
+        Err(fault) => Reply::refused_keys(alloc, fault.name()),
     }
 }
 

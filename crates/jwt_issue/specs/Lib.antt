@@ -1,4 +1,5 @@
 pub mod ClaimSets
+pub mod FaultNames
 pub mod Issued
 pub mod Paying
 pub mod Signed

@@ -1,5 +1,6 @@
 pub mod CompactForm
 pub mod Crit
+pub mod FaultNames
 pub mod FormFaults
 pub mod Forms
 pub mod SignedToken

@@ -8,3 +8,4 @@ pub mod KeySets
 pub mod Numbers
 pub mod Views
 pub mod Laws
+pub mod FaultNames

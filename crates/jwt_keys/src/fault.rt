@@ -30,6 +30,24 @@ pub enum KeysFault {
     TooLong,
 }
 
+impl KeysFault {
+    ghost use Rattle.jwt_keys.specs.FaultNames.{keys_fault_name};
+
+    /// The name of the fault, that of its variant, as the program `jwt` prints it.
+    pub fn name(self) -> &'static str
+        ensures { result.now ≡ keys_fault_name self }
+    {
+        match self {
+            KeysFault::OutOfMemory => "OutOfMemory",
+            KeysFault::Json => "Json",
+            KeysFault::NotKeySet => "NotKeySet",
+            KeysFault::NameTwice => "NameTwice",
+            KeysFault::TooManyKeys => "TooManyKeys",
+            KeysFault::TooLong => "TooLong",
+        }
+    }
+}
+
 /// Why an entry that is an object gives no key.
 #[derive(Clone, Copy, Debug, PartialEq, Eq)]
 pub(crate) enum EntryFault {

@@ -8,4 +8,5 @@ pub mod Audiences
 pub mod Checks
 pub mod MemberKinds
 pub mod Document
+pub mod FaultNames
 pub mod Laws

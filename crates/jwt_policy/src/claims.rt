@@ -9,6 +9,7 @@ use crate::claim_fault::{Claim, ClaimFault};
 use crate::texts::is_no_text;
 use jwt_text::{List, Object, ObjectRef, Scratch, TextFault, object_with};
 use std::alloc::Global;
+use std::fmt;
 use std::marker::Model;
 
 /// The claims of a payload. The registered ones, where they are there, have their kinds (RFC 7519, section 4.1): `iss`, `sub`
@@ -33,6 +34,15 @@ impl Model for Claims {
     ghost view = { λ c. c.members };
 
     ghost invariant = { λ c. kind_fault c.members ≡ None };
+}
+
+// It tells how many claims there are and none of them: what a token says of a person isn't printed by accident.
+impl fmt::Debug for Claims {
+    fn fmt<W: fmt::Write>(&self, f: &mut fmt::Formatter<W>) -> fmt::Result {
+        f.debug_struct("Claims")
+            .field("count", &self.members.lend().member_count())
+            .finish()
+    }
 }
 
 /// The claim `aud` (RFC 7519, section 4.1.3), lent.

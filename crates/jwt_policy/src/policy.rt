@@ -3,7 +3,7 @@
 ghost use Rattle.std.specs.Prelude.{◌≡◌, ◌≤◌, IfSome, length, map, option_map, string_bytes};
 
 use crate::mode::Mode;
-use jwt_mac::Alg;
+use jwt_mac::{Alg, Budget, CountDown};
 use std::marker::Model;
 
 /// How a run goes.
@@ -134,13 +134,22 @@ impl Policy {
     }
 
     /// The ceiling for the octets that HMAC may hash in a run, at most 1,000,000,000,000. By default 1,048,576. It is for the
-    /// caller, who makes the budget of a run, as by `CountDown::new(policy.work())`; nothing else looks at it.
+    /// caller, who makes the budget of a run, as by [`budget`](Policy::budget); nothing else looks at it.
     pub fn work(&self) -> u64
         ensures value { result ≡ self.now.run.work }
         ensures range { self.now.run.work ≤ 1000000000000 }
     {
         let run = &self.run;
         run.work
+    }
+
+    /// A new budget for one run, with the ceiling [`work`](Policy::work): nothing is fed yet, and nothing was tried.
+    pub fn budget(&self) -> CountDown
+        ensures octets { ⟦<CountDown as Budget>⟧.octets result ≡ 0 }
+        ensures calls { ⟦<CountDown as Budget>⟧.calls result ≡ 0 }
+        ensures ceiling { ⟦<CountDown as Budget>⟧.ceiling result ≡ self.now.run.work }
+    {
+        CountDown::new(self.work())
     }
 
     /// The greatest number of signatures of a token, 1 to 32. By default 8.

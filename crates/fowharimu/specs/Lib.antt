@@ -1,0 +1,30 @@
+-- What the contracts of the calls that this crate names cite: a crate above writes Rattle.fowharimu.specs and the name here.
+pub use Rattle.jwt_text.specs.Answers
+pub use Rattle.jwt_text.specs.Members
+pub use Rattle.jwt_mac.specs.Algorithm
+pub use Rattle.jwt_mac.specs.Verifying
+pub use Rattle.jwt_rsa.specs.Meanings
+pub use Rattle.jwt_keys.specs.Keys
+pub use Rattle.jwt_keys.specs.KeySets
+pub use Rattle.jwt_jws.specs.Forms
+pub use Rattle.jwt_jws.specs.Token
+pub use Rattle.jwt_jws.specs.Views as TokenViews
+pub use Rattle.jwt_policy.specs.Audiences
+pub use Rattle.jwt_policy.specs.Checks
+pub use Rattle.jwt_policy.specs.ClaimKinds
+pub use Rattle.jwt_policy.specs.Document
+pub use Rattle.jwt_policy.specs.Laws as PolicyLaws
+pub use Rattle.jwt_policy.specs.Settings
+pub use Rattle.jwt_verify.specs.Accepted
+pub use Rattle.jwt_verify.specs.Asks
+pub use Rattle.jwt_verify.specs.Laws
+pub use Rattle.jwt_verify.specs.Paying
+pub use Rattle.jwt_verify.specs.Reports
+pub use Rattle.jwt_verify.specs.Table
+pub use Rattle.jwt_verify.specs.Verdict
+pub use Rattle.jwt_verify.specs.declared.report.Fault.TheVariants as FaultVariants
+pub use Rattle.jwt_verify.specs.declared.report.InputFault.TheVariants as InputFaultVariants
+pub use Rattle.jwt_verify.specs.declared.report.Verdict.TheVariants as VerdictVariants
+pub use Rattle.jwt_issue.specs.ClaimSets
+pub use Rattle.jwt_issue.specs.Issued
+pub use Rattle.jwt_issue.specs.Views as IssueViews

@@ -1,0 +1,45 @@
+//! All that a service needs which takes JSON Web Tokens, from one crate.
+//!
+//! ```rust
+//! use fowharimu::{KeySet, Policy, Reader, Validator};
+//!
+//! let policy = Policy::read(alloc, b"{\"algs\":[\"HS256\"],\"audiences\":[\"api\"],\"required\":[\"aud\",\"exp\"]}")?;
+//! let keys = KeySet::read(alloc, document)?;
+//! let validator = Validator { policy, keys, verifiers: Vec::new(alloc) };
+//! let report = validator.validate(alloc, &mut Reader::new(stream), now, &mut validator.policy.budget());
+//! ```
+//!
+//! A [`Validator`] is made once and judges each token that comes. Its verifiers are for public keys: [`Rsa`] is one, and a caller's
+//! own is a [`Verifier`]. The [`Report`] has the [`Verdict`], what became of each signature, and each try of a key with its cost.
+//!
+//! Each name here is that of one of the libraries below: `jwt_text`, `jwt_mac`, `jwt_keys`, `jwt_jws`, `jwt_policy`, `jwt_verify`,
+//! `jwt_issue` and `jwt_rsa`.
+#![tactic(auto)]
+
+mod validator;
+
+// Judging a token.
+pub use jwt_keys::{Key, KeySet, KeysFault, Skip, SkipReason};
+pub use jwt_mac::{Alg, Budget, CountDown, CountUp};
+pub use jwt_policy::{
+    Audience, Claim, ClaimFault, ClaimName, Claims, MemberName, Mode, Policy, PolicyFault, SigFault,
+};
+pub use jwt_text::{List, ObjectRef, Reader, Source};
+pub use jwt_verify::{Fault, InputFault, Report, SigState, Try, Verdict, judge, validate};
+pub use validator::Validator;
+
+// Verifiers of signatures by public keys.
+pub use jwt_mac::{Answer, Curve, EdCurve, KeyView, Message, Verifier};
+pub use jwt_rsa::{Pkcs1, Pss, Rsa};
+
+// Showing a token without trusting it.
+pub use jwt_jws::{Form, FormFault, Place, Signature, Signed, parse};
+
+// Issuing tokens.
+pub use jwt_issue::{
+    BuildFault, Builder, ClaimSet, IssueFault, issue_compact, issue_flat, issue_json,
+};
+
+// What follows from the definitions, to be called in a proof.
+pub use jwt_issue::laws as token_laws;
+pub use jwt_verify::laws as verdict_laws;

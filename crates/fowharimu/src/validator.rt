@@ -1,0 +1,161 @@
+//! A policy, keys and verifiers, kept for many tokens.
+
+ghost use Rattle.std.specs.Prelude.{◌≡◌, ◌≢◌, ◌≤◌, ◌+◌, ℕ, List, Some, true, map, length, drop, [], IfSome};
+ghost use Rattle.std.specs.List.{AllPairs};
+ghost use Rattle.jwt_verify.specs.Table.{work};
+ghost use Rattle.jwt_verify.specs.Accepted.{IsVerdict};
+ghost use Rattle.jwt_verify.specs.Laws.{IsBefore};
+ghost use Rattle.jwt_verify.specs.Paying.{IsWithin};
+ghost use Rattle.jwt_verify.specs.Reports.{FoundMemory, IsReport, AreEligible, IsBounded, Failed, TakesAtMost, terms};
+ghost use Rattle.jwt_verify.specs.declared.report.InputFault.TheVariants.{Read};
+ghost use Rattle.jwt_verify.specs.declared.report.Fault.TheVariants.{OutOfMemory, Text};
+ghost use Rattle.jwt_verify.specs.declared.report.Verdict.TheVariants.{Refused};
+
+use jwt_keys::KeySet;
+use jwt_mac::{Budget, Verifier};
+use jwt_policy::Policy;
+use jwt_text::Source;
+use jwt_verify::{Report, judge, validate};
+use std::alloc::Global;
+
+/// What a service judges tokens by: made once, and asked about each token that comes.
+///
+/// ```rust
+/// let mut verifiers: Vec<Box<dyn Verifier>> = Vec::new(alloc);
+/// verifiers.push(Box::new(alloc, Rsa)?)?;
+/// let validator = Validator { policy, keys, verifiers };
+/// let report = validator.validate(alloc, &mut source, now, &mut validator.policy.budget());
+/// ```
+///
+/// A function that makes a verifier mustn't hand it out: the one that fills `verifiers` lends the validator to others. A clause of
+/// a caller has their meanings as `map (λ v. meaning (v.vtable, v.value)) validator.now.verifiers.items`.
+#[derive(Drop)]
+pub struct Validator {
+    /// What it asks of tokens.
+    pub policy: Policy,
+    /// The keys of their issuer.
+    pub keys: KeySet,
+    /// Verifiers of signatures by public keys; the first that names an algorithm decides. None is needed for HMAC.
+    pub verifiers: Vec<Box<dyn Verifier>>,
+}
+
+impl Validator {
+    /// The verdict on octets in hand, with what became of each signature and each try that was paid: as [`judge`] says it of this
+    /// policy, these keys and these verifiers.
+    ///
+    /// `now` is in seconds since 1970-01-01T00:00:00Z. The condition: the budget is new. Its ceiling alone is looked at, and
+    /// [`Policy::budget`] makes one with the policy's `work`.
+    ///
+    /// # Refused
+    /// As [`judge`] refuses.
+    pub fn judge<'v, B: Budget>(
+        &'v self,
+        alloc: Global,
+        octets: &[u8],
+        now: i64,
+        budget: &mut B,
+    ) -> Report<'v>
+        requires no_octets { B.octets budget.old ≡ 0 }
+        requires no_calls { B.calls budget.old ≡ 0 }
+
+        // The verdict is that on the octets, unless memory was refused; and what else the report holds.
+        ensures verdict { FoundMemory result.verdict
+            → IsVerdict
+            (terms self.now.policy self.now.keys now (map meaning self.now.verifiers.items))
+            octets.now (B.ceiling budget.old) result.verdict }
+        ensures report { IsReport
+            (terms self.now.policy self.now.keys now (map meaning self.now.verifiers.items))
+            octets.now (B.ceiling budget.old) result }
+        ensures read { result.verdict ≢ Refused (Text Read) }
+
+        // No pair is tried twice, and each is eligible; the octets are within the bound, the calls within the policy's ceiling.
+        ensures once { AllPairs IsBefore result.tries.items }
+        ensures eligible { AreEligible
+            (terms self.now.policy self.now.keys now (map meaning self.now.verifiers.items))
+            octets.now result.tries.items }
+        ensures bound { IsBounded
+            (terms self.now.policy self.now.keys now (map meaning self.now.verifiers.items))
+            octets.now result.tries.items (B.octets budget.new) }
+        ensures within { IsWithin self.now.policy.max_calls (B.calls budget.new) }
+
+        // The budget agrees with the tries.
+        ensures octets { B.octets budget.new ≡ work result.tries.items }
+        ensures calls { B.calls budget.new ≡ length result.tries.items }
+        ensures ceiling { B.ceiling budget.new ≡ B.ceiling budget.old }
+    {
+        let Validator {
+            policy,
+            keys,
+            verifiers,
+        } = self;
+        let verifiers = verifiers.as_slice();
+        judge(alloc, octets, keys, policy, now, verifiers, budget)
+    }
+
+    /// The verdict on what a source gives, as [`validate`] says it of this policy, these keys and these verifiers. At most one
+    /// octet more than the policy's `limit` is taken, and nothing after that one.
+    ///
+    /// `now` is in seconds since 1970-01-01T00:00:00Z. The condition: the budget is new. Its ceiling alone is looked at, and
+    /// [`Policy::budget`] makes one with the policy's `work`.
+    ///
+    /// # Refused
+    /// As [`validate`] refuses.
+    pub fn validate<'v, R: Source, B: Budget>(
+        &'v self,
+        alloc: Global,
+        source: &mut R,
+        now: i64,
+        budget: &mut B,
+    ) -> Report<'v>
+        requires no_octets { B.octets budget.old ≡ 0 }
+        requires no_calls { B.calls budget.old ≡ 0 }
+
+        // Of a source that tells its octets, unless a read failed: the verdict is that on them, unless memory was refused; what
+        // else the report holds; and what was taken.
+        ensures verdict { IfSome (R.remaining source.old) (λ x. result.verdict ≢ Refused (Text Read)
+            → FoundMemory result.verdict
+            → IsVerdict
+            (terms self.now.policy self.now.keys now (map meaning self.now.verifiers.items))
+            x (B.ceiling budget.old) result.verdict) }
+        ensures report { IfSome (R.remaining source.old) (λ x. result.verdict ≢ Refused (Text Read)
+            → IsReport
+            (terms self.now.policy self.now.keys now (map meaning self.now.verifiers.items))
+            x (B.ceiling budget.old) result) }
+        ensures eligible { IfSome (R.remaining source.old) (λ x.
+            AreEligible
+            (terms self.now.policy self.now.keys now (map meaning self.now.verifiers.items))
+            x result.tries.items) }
+        ensures bound { IfSome (R.remaining source.old) (λ x.
+            IsBounded
+            (terms self.now.policy self.now.keys now (map meaning self.now.verifiers.items))
+            x result.tries.items (B.octets budget.new)) }
+        ensures taken { IfSome (R.remaining source.old) (λ x. result.verdict ≢ Refused (Text Read)
+            → result.verdict ≢ Refused OutOfMemory
+            → R.remaining source.new ≡ Some (drop (self.now.policy.run.limit + 1) x)) }
+        ensures most { IfSome (R.remaining source.old) (λ x. result.verdict ≢ Refused (Text Read)
+            → TakesAtMost (self.now.policy.run.limit + 1) x (R.remaining source.new)) }
+
+        // Of every source, also of one that doesn't tell its octets: unless a read failed, some octets have this report.
+        ensures some { result.verdict ≢ Refused (Text Read)
+            → (x : List ℕ) × (length x ≤ self.now.policy.run.limit + 1)
+            × IsReport
+            (terms self.now.policy self.now.keys now (map meaning self.now.verifiers.items))
+            x (B.ceiling budget.old) result }
+        ensures once { AllPairs IsBefore result.tries.items }
+        ensures within { IsWithin self.now.policy.max_calls (B.calls budget.new) }
+        ensures failed { R.failed source.new ≡ true → Failed result.verdict result.tries.items }
+        ensures read { result.verdict ≡ Refused (Text Read) → R.failed source.new ≡ true }
+        ensures unread { result.verdict ≡ Refused (Text Read) → result.states.items ≡ [] }
+        ensures octets { B.octets budget.new ≡ work result.tries.items }
+        ensures calls { B.calls budget.new ≡ length result.tries.items }
+        ensures ceiling { B.ceiling budget.new ≡ B.ceiling budget.old }
+    {
+        let Validator {
+            policy,
+            keys,
+            verifiers,
+        } = self;
+        let verifiers = verifiers.as_slice();
+        validate(alloc, source, keys, policy, now, verifiers, budget)
+    }
+}
