@@ -110,7 +110,7 @@ impl Validator {
         requires no_octets { B.octets budget.old ≡ 0 }
         requires no_calls { B.calls budget.old ≡ 0 }
 
-        // Of a source that tells its octets, unless a read failed: the verdict is that on them, unless memory was refused; what
+        // Of a source whose octets are known, unless a read failed: the verdict is that on them, unless memory was refused; what
         // else the report holds; and what was taken.
         ensures verdict { IfSome (R.remaining source.old) (λ x. result.verdict ≢ Refused (Text Read)
             → FoundMemory result.verdict
@@ -135,7 +135,7 @@ impl Validator {
         ensures most { IfSome (R.remaining source.old) (λ x. result.verdict ≢ Refused (Text Read)
             → TakesAtMost (self.now.policy.run.limit + 1) x (R.remaining source.new)) }
 
-        // Of every source, also of one that doesn't tell its octets: unless a read failed, some octets have this report.
+        // Of every source, also of one whose octets aren't known: unless a read failed, some octets have this report.
         ensures some { result.verdict ≢ Refused (Text Read)
             → (x : List ℕ) × (length x ≤ self.now.policy.run.limit + 1)
             × IsReport

@@ -1,7 +1,7 @@
 -- The three parts of the input.
 use Rattle.std.specs.Prelude.{ℕ, ◌+◌, ◌==◌, List, take, drop, position, Option, option_map, option_and_then}
 
--- the octets before the first octet 10, and those behind it
+-- the octets before the first line feed, and those behind it
 abbrev pub line_of : List ℕ → Option (List ℕ × List ℕ)
 line_of x = option_map (λ at. (take at x, drop (at + 1) x)) (position (λ octet. octet == 10) x)
 

@@ -5,7 +5,7 @@ use std::alloc::AllocError;
 /// Why nothing was run, or not all.
 #[derive(Clone, Copy, Debug, PartialEq, Eq)]
 pub(crate) enum RunFault {
-    /// A growth was refused.
+    /// An allocation was refused.
     OutOfMemory,
 
     /// A source failed.

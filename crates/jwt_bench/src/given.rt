@@ -11,7 +11,7 @@ pub(crate) struct Given<'a> {
     pub(crate) token: &'a [u8],
 }
 
-// The place of the first octet 10.
+// The place of the first line feed.
 fn first_feed(octets: &[u8]) -> Option<usize>
     ensures place { result ≡ position (λ octet. octet == 10) octets.now }
     ensures within { IfSome result (λ at. at < length octets.now) }
@@ -19,7 +19,7 @@ fn first_feed(octets: &[u8]) -> Option<usize>
     octets.iter().position(|octet| *octet == b'\n')
 }
 
-// The octets before the first octet 10, and those behind it.
+// The octets before the first line feed, and those behind it.
 fn line(octets: &[u8]) -> Option<(&[u8], &[u8])>
     ensures { option_map line_view result ≡ line_of octets.now }
 {
@@ -29,7 +29,7 @@ fn line(octets: &[u8]) -> Option<(&[u8], &[u8])>
     }
 }
 
-/// The first line, the second, and the rest. `None` where there are fewer than two octets 10.
+/// The first line, the second, and the rest. `None` where there are fewer than two line feeds.
 pub(crate) fn split(octets: &[u8]) -> Option<Given<'_>>
     ensures { option_map given_view result ≡ given_of octets.now }
 {

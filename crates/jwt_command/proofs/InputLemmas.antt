@@ -1,4 +1,4 @@
--- What a reading took and gave, where the source tells its octets.
+-- What a reading took and gave, where the source's octets are known.
 use Rattle.std.proofs.Common.{◌≡◌, ◌≤◌, ◌⊎◌, inl, inr, ℕ, ◌+◌, ◌-◌, Bool, true, false, List, [], length, drop, Option, None, Some, Ok, Err, IfSome, refl, sym, ap, subst, ◌∙◌, drop_at, arith}
 use Rattle.std.proofs.lemmas.List.{drop_all}
 use Rattle.jwt_text.specs.Intake.{Bounded, Reads}

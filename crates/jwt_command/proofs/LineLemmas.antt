@@ -10,7 +10,7 @@ use Rattle.jwt_command.specs.declared.take_line.LineFault.TheVariants.{TooLong}
 abbrev HasNoFeed : List ℕ → Type 0
 HasNoFeed octets = list_any (λ octet. octet == 10) octets ≡ false
 
--- ---- the first line of octets without an octet 10, and what follows
+-- ---- the first line of octets without a line feed, and what follows
 
 no_feed_more : (b : Bool) (rest : Bool) → (b || rest) ≡ false → (b ≡ false) × (rest ≡ false)
 no_feed_more true rest e = absurd (cc e)
@@ -52,7 +52,7 @@ line_at_end limit (Some x) (Some m) (Some y) octets keeps consumes at_end none w
     let after : after_line x ≡ [] = ap after_line (sym all) ∙ after_line_more octets [] none in
     record { line = sym line; unread = ap Some (at_end ∙ sym after); within = subst (λ (l : List ℕ). length l ≤ limit) (sym line) within }
 
--- an octet 10 came
+-- a line feed came
 pub line_at_feed : (limit : ℕ) (told mid rest : Option (List ℕ)) (octets : List ℕ) → Keeps told (prepend_known octets mid) → Consumes mid rest (10 ∷ [])
     → HasNoFeed octets → length octets ≤ limit → IfSome told (λ x. TakesLine limit x octets rest)
 line_at_feed limit None mid rest octets keeps consumes none within = tt
@@ -64,7 +64,7 @@ line_at_feed limit (Some x) (Some m) (Some y) octets keeps consumes none within 
     let after : after_line x ≡ y = ap after_line (sym all) ∙ after_line_more octets (10 ∷ y) none in
     record { line = sym line; unread = ap Some (sym after); within = subst (λ (l : List ℕ). length l ≤ limit) (sym line) within }
 
--- a growth was refused
+-- an allocation was refused
 pub line_without_memory : (limit : ℕ) (told mid rest : Option (List ℕ)) (octets : List ℕ) (c : ℕ) → Keeps told (prepend_known octets mid) → Consumes mid rest (c ∷ [])
     → HasNoFeed octets → length octets ≤ limit → IfSome told (λ x. TakesAtMost (line_most limit x) x rest)
 line_without_memory limit None mid rest octets c keeps consumes none within = tt

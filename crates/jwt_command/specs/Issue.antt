@@ -61,7 +61,7 @@ abbrev pub of_claims : TokenAsked → List KeyParts → Result (List ℕ) ClaimF
 of_claims w keys (Ok claims) = token_answer (issued w keys claims)
 of_claims w keys (Err fault) = refused (joined_parts (claim_fault_parts fault))
 
--- of the claims x, without one octet 10 at their end
+-- of the claims x, without one line feed at their end
 abbrev pub claims_answer : TokenAsked → List KeyParts → List ℕ → Answer
 claims_answer w keys x = if nat_lt 1048576 (length x) then refused (codes "TooLong") else of_claims w keys (claim_set_of (without_line_feed x))
 

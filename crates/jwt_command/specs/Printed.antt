@@ -24,16 +24,16 @@ abbrev pub refused : List ℕ → Answer
 refused name = line (codes "refused " ∷ name ∷ []) 1
 
 -- From what had gone out to what has gone out: the whole text went out, the writer hasn't failed, unless there was nothing to be
--- written, and the status is the answer's; or the writer has failed, a front of the text went out, and the status is 3.
+-- written, and the status is the answer's; or the writer has failed, a prefix of the text went out, and the status is 3.
 abbrev pub Prints : Answer → Option (List ℕ) → Option (List ℕ) → Bool → ℕ → Type 0
 Prints a before after failed status = (Appends before after a.text × (0 < length a.text → failed ≡ false) × (status ≡ a.status))
     ⊎ ((failed ≡ true) × ((n : ℕ) × Appends before after (take n a.text)) × (status ≡ 3))
 
--- the answer is given, or a growth was refused
+-- the answer is given, or an allocation was refused
 abbrev pub Gives : Answer → Option (List ℕ) → Option (List ℕ) → Bool → ℕ → Type 0
 Gives a before after failed status = Prints a before after failed status ⊎ Prints out_of_memory before after failed status
 
--- wrong words: some text with the status 2, or a growth was refused
+-- wrong words: some text with the status 2, or an allocation was refused
 abbrev pub GivesWrongWords : Option (List ℕ) → Option (List ℕ) → Bool → ℕ → Type 0
 GivesWrongWords before after failed status = ((text : List ℕ) × Prints (record { text = text; status = 2 }) before after failed status)
     ⊎ Prints out_of_memory before after failed status

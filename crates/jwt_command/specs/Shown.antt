@@ -82,7 +82,7 @@ abbrev pub shown : Result Token FormFault → Answer
 shown (Ok t) = record { text = token_lines t; status = 0 }
 shown (Err fault) = refused (joined_parts (form_fault_parts fault))
 
--- of a token of at most so many octets, with one octet 10 behind it or none
+-- of a token of at most so many octets, with one line feed behind it or none
 abbrev pub show_on : ℕ → List ℕ → Answer
 show_on limit x = if nat_lt limit (length x) then refused (codes "TooLong") else shown (form_of 32 (without_line_feed x))
 

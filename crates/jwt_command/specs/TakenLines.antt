@@ -4,12 +4,12 @@ use Rattle.jwt_command.specs.Input.{TakesAtMost}
 use Rattle.jwt_command.specs.declared.take_line.LineFault.{LineFault}
 use Rattle.jwt_command.specs.declared.take_line.LineFault.TheVariants.{OutOfMemory, Read, TooLong}
 
--- the octets before the first octet 10, or all where there is none
+-- the octets before the first line feed, or all where there is none
 abbrev pub first_line : List ℕ → List ℕ
 first_line [] = []
 first_line (c ∷ cs) = if c == 10 then [] else c ∷ first_line cs
 
--- the octets behind the first octet 10
+-- the octets behind the first line feed
 abbrev pub after_line : List ℕ → List ℕ
 after_line [] = []
 after_line (c ∷ cs) = if c == 10 then cs else after_line cs
@@ -20,11 +20,11 @@ pub record TakesLine (limit : ℕ) (x octets : List ℕ) (rest : Option (List �
   pub unread : rest ≡ Some (after_line x)
   pub within : length (first_line x) ≤ limit
 
--- how many octets of a line are taken at most: as far as its octet 10, or one past the limit
+-- how many octets of a line are taken at most: as far as its line feed, or one past the limit
 abbrev pub line_most : ℕ → List ℕ → ℕ
 line_most limit x = min (limit + 1) (length (first_line x) + 1)
 
--- one octet past the limit was taken; or a read failed; or a growth was refused
+-- one octet past the limit was taken; or a read failed; or an allocation was refused
 abbrev pub LineFails : ℕ → Bool → List ℕ → Option (List ℕ) → LineFault → Type 0
 LineFails limit failed x rest TooLong = (limit < length (first_line x)) × (rest ≡ Some (drop (limit + 1) x)) × (failed ≡ false)
 LineFails limit failed x rest Read = failed ≡ true

@@ -91,7 +91,7 @@ HasLimits (Issue alg typ form) = Unit {0}
 HasLimits Version = Unit {0}
 
 -- the most octets of an order's input; that of `verify` is a policy of 65,536 octets, a key set of 4,194,304 and a token of
--- 1,048,576, with the two octets 10 between them, and that of `issue` a key set and claims of 1,048,576
+-- 1,048,576, with the two line feeds between them, and that of `issue` a key set and claims of 1,048,576
 abbrev pub input_limit : Order → ℕ
 input_limit (Mac key limit) = limit
 input_limit Keys = 4194304

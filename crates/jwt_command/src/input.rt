@@ -24,7 +24,7 @@ pub(crate) fn read_input<R: Source>(
     }
 }
 
-/// The octets without one octet 10 at their end.
+/// The octets without one line feed at their end.
 pub(crate) fn without_line_feed(octets: &[u8]) -> &[u8]
     ensures value { result.now ≡ without_line_feed octets.now }
     ensures short { length result.now ≤ length octets.now }

@@ -150,7 +150,7 @@ fn on_claims<R: Source>(
     }
 }
 
-/// Runs `jwt issue` on an input: the line of a key set, and claims with one octet 10 behind them or none. The key set is read
+/// Runs `jwt issue` on an input: the line of a key set, and claims with one line feed behind them or none. The key set is read
 /// and refused before the claims are taken.
 pub(crate) fn issue<R: Source>(
     alloc: Global,

@@ -178,7 +178,7 @@ fn key_octets(alloc: Global, text: &str) -> Result<Option<Vec<u8>>, AllocError>
     }
 }
 
-/// Runs `jwt mac` on an input: a token in compact form, and one octet 10 behind it or none. A key text that spells no 1 to
+/// Runs `jwt mac` on an input: a token in compact form, and one line feed behind it or none. A key text that spells no 1 to
 /// 4,096 octets is refused before anything is read.
 pub(crate) fn mac<R: Source>(
     alloc: Global,

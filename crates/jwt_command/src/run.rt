@@ -122,7 +122,7 @@ pub fn run_with<R: Source, W: Sink>(
     }
 }
 
-/// Prints that a growth was refused, and answers the status 4, or 3 where a write fails.
+/// Prints that an allocation was refused, and answers the status 4, or 3 where a write fails.
 pub fn lack_memory<W: Sink>(w: &mut W) -> u8
     ensures { Prints out_of_memory (W.contents w.old) (W.contents w.new) (W.failed w.new) result }
 {

@@ -167,7 +167,7 @@ fn token_lines(alloc: Global, signed: &Signed<'_>) -> Result<Vec<u8>, AllocError
     Ok(out)
 }
 
-/// Runs `jwt show` on an input: a token in any form, of at most 32 signatures, and one octet 10 behind it or none.
+/// Runs `jwt show` on an input: a token in any form, of at most 32 signatures, and one line feed behind it or none.
 pub(crate) fn show<R: Source>(alloc: Global, limit: u64, r: &mut R) -> Result<Reply, AllocError>
     requires least { 1 ≤ limit }
     requires most { limit ≤ 1048576 }

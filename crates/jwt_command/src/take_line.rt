@@ -9,13 +9,13 @@ use std::alloc::{AllocFailed, Global};
 /// Why a line wasn't taken.
 #[derive(Clone, Copy, Debug, PartialEq, Eq)]
 pub enum LineFault {
-    /// A growth was refused. At most one octet past the limit was taken, and nothing behind the line.
+    /// An allocation was refused. At most one octet past the limit was taken, and nothing behind the line.
     OutOfMemory,
 
     /// The source failed.
     Read,
 
-    /// One octet past the limit was taken, and no octet 10 is among them.
+    /// One octet past the limit was taken, and no line feed is among them.
     TooLong,
 }
 
@@ -29,7 +29,7 @@ impl From<AllocFailed<u8>> for LineFault {
     }
 }
 
-/// Takes the octets before the first octet 10 or the end, and that octet 10, which is dropped. They are read one by one, so
+/// Takes the octets before the first line feed or the end, and that line feed, which is dropped. They are read one by one, so
 /// that nothing behind the line is taken. The limit is at least 1.
 ///
 /// Refused with `OutOfMemory`, with `TooLong` where one octet past the limit was taken, none of them 10, and with `Read` where the

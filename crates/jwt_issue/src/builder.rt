@@ -25,7 +25,7 @@ use std::marker::Model;
 /// let claims = builder.finish()?;
 /// ```
 ///
-/// Each addition answers `NameTwice` exactly where a claim of the name is there, and `OutOfMemory` where a growth was refused,
+/// Each addition answers `NameTwice` exactly where a claim of the name is there, and `OutOfMemory` where an allocation was refused,
 /// and then leaves the builder as it was. The kinds of the registered claims are looked at by [`Builder::finish`].
 #[derive(Drop)]
 pub struct Builder {
@@ -96,7 +96,7 @@ impl Builder {
     ///
     /// # Errors
     /// Those of [`ClaimSet::from_octets`] on that text: `ClaimKind` where a registered claim has another kind. `OutOfMemory`
-    /// comes where a growth was refused, in place of any other answer.
+    /// comes where an allocation was refused, in place of any other answer.
     pub fn finish(self) -> Result<ClaimSet, ClaimFault<'static>>
         ensures answer { Answers ClaimFault.OutOfMemory (λ c. c) result (claim_set_of (compact_text (object self))) }
         ensures order { AreInOrder (names self) }

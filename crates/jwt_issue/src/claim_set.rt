@@ -31,7 +31,7 @@ impl ClaimSet {
     ///
     /// # Errors
     /// Those of [`Claims::read`]: the first that holds of `ClaimsShape`, the octets are no object text; then, claim by
-    /// claim, `ClaimKind` and `ClaimDate`. `OutOfMemory` comes where a growth was refused, in place of any other answer.
+    /// claim, `ClaimKind` and `ClaimDate`. `OutOfMemory` comes where an allocation was refused, in place of any other answer.
     pub fn from_octets(alloc: Global, octets: Vec<u8>) -> Result<ClaimSet, ClaimFault<'static>>
         ensures { Answers ClaimFault.OutOfMemory (λ c. c) result (claim_set_of octets.items) }
     {

@@ -65,9 +65,9 @@ fn compact_token<B: Budget>(
 ///
 /// # Errors
 /// The first that holds of `AlgNotHmac(0)` and `KeyUnfit(0)`, the pair may not sign; `TooLong`, the token would have more than
-/// 1,048,576 octets; `Spent(0)`, the HMAC costs more than the budget has left. `OutOfMemory` comes where a growth was refused, in
-/// place of any other answer. The budget is as before after each but `OutOfMemory`, and after that it is as before, or has the
-/// HMAC paid where a token was due.
+/// 1,048,576 octets; `Spent(0)`, the HMAC costs more than the budget has left. `OutOfMemory` comes where an allocation was
+/// refused, in place of any other answer. The budget is as before after each but `OutOfMemory`, and after that it is as before,
+/// or has the HMAC paid where a token was due.
 #[tactic(auto, unfolding(crate::specs::Issued::compact_of))]
 pub fn issue_compact<B: Budget>(
     alloc: Global,

@@ -8,7 +8,7 @@ use thiserror::Error;
 /// Why a claim wasn't added. The builder is as before.
 #[derive(Clone, Copy, Debug, PartialEq, Eq, Error)]
 pub enum BuildFault {
-    /// A growth of memory was refused.
+    /// An allocation of memory was refused.
     #[error("out of memory")]
     OutOfMemory,
 
@@ -35,7 +35,7 @@ impl BuildFault {
 /// `AlgNotHmac` and `KeyUnfit`, `TooLong`, `Spent`. Pairs of an algorithm and a key are numbered from 0.
 #[derive(Clone, Copy, Debug, PartialEq, Eq, Error)]
 pub enum IssueFault {
-    /// A growth of memory was refused. It may stand in place of any other answer.
+    /// An allocation of memory was refused. It may stand in place of any other answer.
     #[error("out of memory")]
     OutOfMemory,
 

@@ -143,7 +143,7 @@ fn general_token<B: Budget>(
 /// # Errors
 /// The first that holds of `NoKey`, there is no pair; `TooManySignatures`, there are more than 32; for each pair i `AlgNotHmac(i)`
 /// and `KeyUnfit(i)`, it may not sign; `TooLong`, the token would have more than 1,048,576 octets; `Spent(i)`, the HMAC of pair i
-/// costs more than the budget has left after those before it. `OutOfMemory` comes where a growth was refused, in place of any
+/// costs more than the budget has left after those before it. `OutOfMemory` comes where an allocation was refused, in place of any
 /// other answer. After `Spent(i)` the first i HMACs are paid, after `OutOfMemory` some first ones, and no more than without
 /// that want of memory; after any other refusal, and after `Spent(0)`, the budget is as before.
 #[tactic(auto, unfolding(crate::specs::Issued::general_of))]

@@ -39,7 +39,7 @@ pub enum Place {
 /// signature, numbered from 0.
 #[derive(Clone, Copy, Debug, PartialEq, Eq, Error)]
 pub enum FormFault {
-    /// A growth of memory was refused. It may stand in place of any other answer.
+    /// An allocation of memory was refused. It may stand in place of any other answer.
     #[error("out of memory")]
     OutOfMemory,
 

@@ -10,7 +10,7 @@ use thiserror::Error;
 /// Why a key set is refused.
 #[derive(Clone, Copy, Debug, PartialEq, Eq, Error)]
 pub enum KeysFault {
-    /// A growth was refused.
+    /// An allocation was refused.
     #[error("out of memory")]
     OutOfMemory,
     /// The octets are no JSON text in UTF-8.

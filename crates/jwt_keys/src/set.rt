@@ -40,7 +40,7 @@ impl KeySet {
     /// # Errors
     /// The first that holds of `TooLong`, more octets; `Json`, no JSON text; `NotKeySet`, no object; `NameTwice`, a
     /// name that stands twice in one object, at any depth; `NotKeySet`, no list `keys`; `TooManyKeys`, more entries.
-    /// `OutOfMemory` comes where a growth was refused, in place of any other answer but `TooLong`.
+    /// `OutOfMemory` comes where an allocation was refused, in place of any other answer but `TooLong`.
     #[tactic(auto, unfolding(crate::specs::KeySets::key_set_of))]
     pub fn read(alloc: Global, octets: &[u8]) -> Result<KeySet, KeysFault>
         ensures answer { Answers KeysFault.OutOfMemory key_set result (key_set_of octets.now) }

@@ -4,7 +4,7 @@ use Rattle.jwt_mac.specs.declared.algorithm.Alg.{Alg}
 use Rattle.jwt_policy.specs.declared.mode.Mode.{Mode}
 
 -- how a run goes: the version of the document, the allowed algorithms, which signatures must verify, the octets of a
--- token, the ceiling for the caller's budget, the signatures of a token, whether one final octet 10 is dropped
+-- token, the ceiling for the caller's budget, the signatures of a token, whether one final line feed is dropped
 pub record RunSettings : Type 0 where
   pub version : ℕ
   pub algs : List Alg

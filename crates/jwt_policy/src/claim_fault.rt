@@ -58,7 +58,7 @@ impl<'a> ClaimName<'a> {
 /// [`check`](crate::check) under a policy, at a moment, in the order of the variants.
 #[derive(Debug, Drop, Error)]
 pub enum ClaimFault<'a> {
-    /// A growth of memory was refused.
+    /// An allocation of memory was refused.
     #[error("out of memory")]
     OutOfMemory,
     /// The payload is no object text.

@@ -61,7 +61,8 @@ impl Claims {
     /// # Errors
     /// The first that holds of `ClaimsShape`, the octets are no object text; then, claim by claim, in the order `iss`, `sub`,
     /// `aud`, `exp`, `nbf`, `iat`, `jti`: `ClaimKind`, the claim is there and has another kind; `ClaimDate`, a date is a number
-    /// and no whole number within 64 signed bits. `OutOfMemory` comes where a growth was refused, in place of any other answer.
+    /// and no whole number within 64 signed bits. `OutOfMemory` comes where an allocation was refused, in place of any other
+    /// answer.
     pub fn read(alloc: Global, payload: &[u8]) -> Result<Claims, ClaimFault<'static>>
         ensures { ¬ IsErrOf result ClaimFault.OutOfMemory → result ≡ claims_of payload.now }
     {

@@ -43,8 +43,8 @@ impl Policy {
     /// The first that holds of `TooLong`, more octets; `Json`, no JSON text or no object; `NameTwice`, a name that stands twice in
     /// one object, at any depth; `Member` with the first name, in byte order, that isn't in this table, as `max_calls` isn't unless
     /// `version` is the whole number 2; then, member by member in the order of this table, `Member` where the kind is another, and
-    /// `Range` where the value is; for `algs`, `NoAlgorithm` where it is absent or empty. `OutOfMemory` comes where a growth was
-    /// refused, in place of any other answer but `TooLong`.
+    /// `Range` where the value is; for `algs`, `NoAlgorithm` where it is absent or empty. `OutOfMemory` comes where an
+    /// allocation was refused, in place of any other answer but `TooLong`.
     #[tactic(auto, unfolding(crate::specs::Document::policy_of))]
     pub fn read(alloc: Global, document: &[u8]) -> Result<Policy, PolicyFault>
         ensures answer { ¬ IsErrOf result PolicyFault.OutOfMemory → result ≡ policy_of document.now }

@@ -1,5 +1,5 @@
 //! Members of a policy document by kind and range. Each function answers the value, or its default where the member is absent;
-//! `Member` where its kind is another, `Range` where its value is out of range, and `OutOfMemory` where a growth was refused.
+//! `Member` where its kind is another, `Range` where its value is out of range, and `OutOfMemory` where an allocation was refused.
 
 ghost use Rattle.std.specs.Prelude.{◌≡◌, ◌≤◌, ◌<◌, ◌^◌, IsErrOf, IfOk, IfSome, length, map, option_map, string_bytes, ◌||◌};
 ghost use Rattle.std.specs.List.{list_any};

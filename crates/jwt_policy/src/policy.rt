@@ -75,8 +75,8 @@ impl Model for ClaimPart {
 /// No setting switches the check of signatures off, and none allows the algorithm `none`.
 ///
 /// ```rust
-/// let policy = Policy::read(alloc, b"{\"algs\":[\"HS256\"],\"issuers\":[\"https://id.example\"],\"audiences\":[\"api\"],\"required\":[\"aud\",\"exp\"]}")?;
-/// ```
+/// let policy = Policy::read(alloc,
+/// b"{\"algs\":[\"HS256\"],\"issuers\":[\"https://id.example\"],\"audiences\":[\"api\"],\"required\":[\"aud\",\"exp\"]}")?; ```
 #[derive(Drop)]
 pub struct Policy {
     pub(crate) run: RunPart,
@@ -161,7 +161,7 @@ impl Policy {
         run.max_signatures
     }
 
-    /// Whether one final octet 10 of the input is dropped before the token is read. By default it isn't, and such a token in
+    /// Whether one final line feed of the input is dropped before the token is read. By default it isn't, and such a token in
     /// compact form is refused.
     pub fn line_feed(&self) -> bool
         ensures { result ≡ self.now.run.line_feed }

@@ -22,7 +22,7 @@ impl Model for MemberName {
 }
 
 impl MemberName {
-    /// This name. Refused where a growth was.
+    /// This name. Refused where an allocation was.
     fn new(alloc: Global, text: &str) -> Result<MemberName, AllocError>
         ensures { IfOk result (λ n. n ≡ text.now) }
     {
@@ -41,7 +41,7 @@ impl MemberName {
 /// Why a policy document is refused.
 #[derive(Debug, Drop, Error)]
 pub enum PolicyFault {
-    /// A growth of memory was refused.
+    /// An allocation of memory was refused.
     #[error("out of memory")]
     OutOfMemory,
     /// The octets are no JSON text in UTF-8, or its value is no object.

@@ -68,7 +68,7 @@ fn mac_prints_the_tag_or_the_first_refusal(rt: HostRuntime) -> Result<(), Fail> 
             "mac 9cc1314256f15e4916a3638c684d12a99f5305296274d3de9e34f775572a0f43748ee5a204ac9b69dfd015bc28956b62d234a0a23bca6b82ca40d47a2c711431 equal\n",
             0,
         ),
-        // The empty signature is the front of every tag.
+        // The empty signature is the prefix of every tag.
         (
             key_b,
             "eyJhbGciOiJIUzI1NiJ9.e30.",

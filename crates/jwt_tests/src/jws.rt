@@ -245,7 +245,7 @@ fn names_are_looked_up_in_both_headers(rt: HostRuntime) -> Result<(), Fail> {
     Ok(())
 }
 
-// `refused-growths` refuses each growth of this test in turn.
+// `refused-growths` refuses each allocation of this test in turn.
 #[test]
 fn a_refused_growth_is_out_of_memory(rt: HostRuntime) -> Result<(), Fail> {
     let general =

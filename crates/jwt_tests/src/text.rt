@@ -210,7 +210,8 @@ fn spells_octets_in_one_way(rt: HostRuntime) -> Result<(), Fail> {
     Ok(())
 }
 
-// `rt try --test --fail-alloc N` refuses the Nth growth: what came stays held, and the same call made again takes what is missing.
+// `rt try --test --fail-alloc N` refuses the Nth allocation: what came stays held, and the same call made again takes what is
+// missing.
 #[test]
 fn a_refused_growth_loses_no_octets(rt: HostRuntime) -> Result<(), Fail> {
     let mut all = [0u8; 9000];
@@ -490,7 +491,7 @@ fn written(alloc: Global) -> Result<Vec<u8>, TextFault> {
     }
 }
 
-// `rt try --test --fail-alloc N` refuses the Nth growth: every other answer, and the text that is written, stay the same.
+// `rt try --test --fail-alloc N` refuses the Nth allocation: every other answer, and the text that is written, stay the same.
 #[test]
 fn a_refused_growth_changes_no_later_answer(rt: HostRuntime) -> Result<(), Fail> {
     let alloc = rt.alloc();

@@ -40,8 +40,8 @@ fn each_ceiling_of_four_keys_gets_its_report(rt: HostRuntime) -> Result<(), Fail
     Ok(())
 }
 
-/// What a run counts for that says this where a growth may be refused: 1 where one was, with the tries so far counted, and 2 where
-/// it says otherwise.
+/// What a run counts for that says this where an allocation may be refused: 1 where one was, with the tries so far counted, and
+/// 2 where it says otherwise.
 fn weight(said: Option<&str>, want: &str) -> usize {
     match said {
         None => 1,
@@ -67,7 +67,7 @@ fn two_runs(alloc: Global, case: &Case) -> usize {
     weight(said.as_deref(), case.gives).saturating_add(weight(read.as_deref(), case.gives))
 }
 
-// `refused-growths` refuses each growth of this test in turn.
+// `refused-growths` refuses each allocation of this test in turn.
 #[test]
 fn a_refused_growth_changes_no_report(rt: HostRuntime) -> Result<(), Fail> {
     let mut refused = 0usize;

@@ -22,7 +22,7 @@ take_front zero xs ys h = refl
 take_front (suc n) [] ys h = absurd (omega arith)
 take_front (suc n) (x ∷ xs) ys h = ap (λ l. x ∷ l) (take_front n xs ys (omega arith))
 
--- a run of a front of a list
+-- a run of a prefix of a list
 pub piece_front : {A : Type 0} (start len : ℕ) (xs ys : List A) → start + len ≤ length xs → take len (drop start (xs ++ ys)) ≡ take len (drop start xs)
 piece_front zero len xs ys h = take_front len xs ys (omega arith)
 piece_front (suc start) len [] ys h = absurd (omega arith)

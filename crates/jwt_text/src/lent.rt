@@ -158,7 +158,7 @@ impl<'a> ObjectRef<'a> {
 
     /// The compact JSON text of a member that is a text or a list of texts, and `None` for any other or none.
     ///
-    /// `OutOfMemory` where a growth was refused, and no other fault.
+    /// `OutOfMemory` where an allocation was refused, and no other fault.
     pub fn compact(&self, alloc: Global, name: &str) -> Result<Option<Vec<u8>>, TextFault>
         ensures ok { IfOk result
             (λ o. option_map (λ v. v.items) o ≡ compact_at name.now self.now) }
@@ -172,7 +172,7 @@ impl<'a> ObjectRef<'a> {
 
     /// A copy of the object, which lends nothing.
     ///
-    /// `OutOfMemory` where a growth was refused, and no other fault.
+    /// `OutOfMemory` where an allocation was refused, and no other fault.
     pub fn to_object(&self, alloc: Global) -> Result<Object, TextFault>
         ensures ok { IfOk result (λ o. o ≡ self.now) }
         ensures err { IsOkUnless result TextFault.OutOfMemory }

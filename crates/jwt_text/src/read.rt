@@ -19,8 +19,8 @@ use std::alloc::Global;
 ///
 /// The faults, by the first cause that holds: `Json` where the octets aren't one JSON text in UTF-8 that nests at most 127 deep,
 /// `NotObject` where the text is another value, `NameTwice` where some object in it, at any depth, has a name twice
-/// (RFC 7515, section 4; RFC 7519, section 4). `OutOfMemory` may come in place of any answer, where a growth was refused or the
-/// text has 4 GiB or more.
+/// (RFC 7515, section 4; RFC 7519, section 4). `OutOfMemory` may come in place of any answer, where an allocation was refused
+/// or the text has 4 GiB or more.
 pub fn object(alloc: Global, octets: &[u8]) -> Result<Object, TextFault>
     ensures text { IfOk result (IsObjectText octets.now) }
     ensures answer { ¬ IsErrOf result TextFault.OutOfMemory → result ≡ object_of octets.now }

@@ -153,7 +153,7 @@ pub outcome_is : (t : Table) (i : ℕ) (bar : Option SigFault) (seen : Bool) (fo
 unfolding outcome
 outcome_is t i bar seen found b f s = rw (b, f, s) refl
 
--- a run's tries are a front of what is paid
+-- a run's tries are a prefix of what is paid
 pub run_front : (t : Table) {fed called ceiling : ℕ} {calls : Option ℕ} {es : List Try} → IsCounted fed called ceiling calls es → IsFront t es → (more : List Try) × (paid t ceiling calls ≡ es ++ more)
 run_front t {fed} {called} {ceiling} {calls} {es} c f = paid_front t ceiling calls es f.0 f.1 c.fits c.within
 

@@ -81,7 +81,7 @@ module _ (t : Table) (octets : ℕ) (calls : Option ℕ) where
   fits_number : ℕ
   fits_number = prefix_len (affords t octets calls) (range_with_len 1 (length (tries t)))
 
-  -- what is within the ceilings is a front of what is paid
+  -- what is within the ceilings is a prefix of what is paid
   pub paid_front : (es rest : List Try) → tries t ≡ es ++ rest → work es ≤ octets → is_within calls (length es) ≡ true → (more : List Try) × (paid t octets calls ≡ es ++ more)
   unfolding paid fits_number
   paid_front es rest e w c =
@@ -101,7 +101,7 @@ module _ (t : Table) (octets : ℕ) (calls : Option ℕ) where
       get_or_affords : (m len : ℕ) → m < length es → length es ≤ len → affords t octets calls (get_or (range_with_len 1 len) m 0) ≡ affords t octets calls (1 + m)
       get_or_affords m len l k = ap (affords t octets calls) (get_or-range_with_len 1 len m 0 (omega arith))
 
-  -- what is paid is a front of the tries, within both ceilings
+  -- what is paid is a prefix of the tries, within both ceilings
   pub paid_rest : (rest : List Try) × (tries t ≡ paid t octets calls ++ rest)
   unfolding paid fits_number
   paid_rest = (drop fits_number (tries t), sym (take-append-drop fits_number (tries t)))

@@ -35,7 +35,7 @@ use Rattle.jwt_verify.proofs.Allowing.{are_paid, paid_only, paid_allowed}
 use Rattle.jwt_verify.proofs.Pinning.{the_table}
 use Rattle.jwt_verify.proofs.Words.{Laws, token_asks, asks_token, tells_in_words}
 
--- ---- a front of the tries
+-- ---- a prefix of the tries
 
 front_of : {X : Type 0} (xs es rest : List X) → xs ≡ es ++ rest → take (length es) xs ≡ es
 front_of xs es rest e = ap (take (length es)) e ∙ take_at es rest (length es) refl

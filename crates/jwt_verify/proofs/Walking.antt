@@ -222,7 +222,7 @@ rows_front t i l =
     let q = grows (rows t) (λ n. row t n t.keys) (rows-more t) i (t.signatures - i) in
     (q.0, tries_are_rows t ∙ ap (rows t) (sym f) ∙ q.1)
 
--- the tries before a pair are a front of the tries
+-- the tries before a pair are a prefix of the tries
 pub at_front : {t : Table} {i j : ℕ} {es : List Try} → IsAt t i j es → i < t.signatures → j ≤ t.keys → IsFront t es
 at_front {t} {i} {j} {es} a l m =
     let e : j + (t.keys - j) ≡ t.keys = omega arith in

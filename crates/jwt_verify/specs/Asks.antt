@@ -51,7 +51,7 @@ pub record IsTable (q : Terms) (token : Token) (t : Table) : Type 0 where
   pub may_lack : (i j : ℕ) → (t.may_lack i j ≡ true) ↔ AtPair token q.keys i j (λ s key. MayLack q.verifiers (message_of token s) s key)
   pub cost : (i j : ℕ) → t.cost i j ≡ at_pair (λ s key. cost_by (message_of token s) s key) 0 token q.keys i j
 
--- x isn't too long and, without one octet 10 at its end where the policy drops it, is this signed token (RFC 7515, section 7)
+-- x isn't too long and, without one line feed at its end where the policy drops it, is this signed token (RFC 7515, section 7)
 abbrev pub IsToken : Terms → List ℕ → Token → Type 0
 IsToken q x token = (length x ≤ q.policy.run.limit) × IsSignedToken q.policy.run.max_signatures (without_line_feed q.policy.run.line_feed x) token
 

@@ -3,7 +3,7 @@ use Rattle.std.specs.Prelude.{ℕ, ◌≡◌, ◌≤◌, List, ◌++◌, ◌∷�
 use Rattle.jwt_verify.specs.declared.report.Try.{Try}
 use Rattle.jwt_verify.specs.Table.{Table, tries, work}
 
--- es is a front of the tries
+-- es is a prefix of the tries
 abbrev pub IsFront : Table → List Try → Type 0
 IsFront t es = (rest : List Try) × (tries t ≡ es ++ rest)
 
@@ -19,7 +19,7 @@ IsWithin calls n = (most : ℕ) → calls ≡ Some most → n ≤ most
 abbrev pub AreAllowed : ℕ → Option ℕ → List Try → Type 0
 AreAllowed octets calls es = (work es ≤ octets) × IsWithin calls (length es)
 
--- the paid tries: the longest front of the tries that both ceilings allow
+-- the paid tries: the longest prefix of the tries that both ceilings allow
 pub record ArePaid (t : Table) (octets : ℕ) (calls : Option ℕ) (es : List Try) : Type 0 where
   pub front : IsFront t es
   pub allowed : AreAllowed octets calls es

@@ -39,7 +39,7 @@ IsComplete t w calls es sts (Refused VerifierMemory) =
     (before : List Try) × (e : Try) × (es ≡ before ++ e ∷ []) × (t.may_lack e.signature e.key ≡ true) × (sts ≡ states_at t (Some e))
 IsComplete t w calls es sts _ = ArePaid t w calls es × (sts ≡ states_at t (slice_get (tries t) (length es)))
 
--- the report of a run over the table: the tries listed are a front of the tries, and both ceilings allow them
+-- the report of a run over the table: the tries listed are a prefix of the tries, and both ceilings allow them
 pub record IsRunReport (t : Table) (w : ℕ) (calls : Option ℕ) (r : Report) : Type 0 where
   pub front : IsFront t r.tries.items
   pub allowed : AreAllowed w calls r.tries.items

@@ -38,7 +38,7 @@ pub record Terms : Type 0 where
 
 -- ---- the token
 
--- x without one octet 10 at its end, where that is to be dropped
+-- x without one line feed at its end, where that is to be dropped
 abbrev pub without_line_feed : Bool → List ℕ → List ℕ
 without_line_feed drops x = if drops && option_map_or (λ octet. octet == 10) (slice_get x (length x - 1)) false then take (length x - 1) x else x
 

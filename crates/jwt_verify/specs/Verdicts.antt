@@ -16,7 +16,7 @@ use Rattle.jwt_verify.specs.Asks.{IsToken, IsAsking}
 use Rattle.jwt_verify.specs.Accepted.{IsVerdict}
 use Rattle.jwt_verify.specs.Laws.{AreAmong, with_keys, kind_of, without_key, common_cost, longest_input, with_valid, verdict_by}
 
--- what is paid is the longest front of the tries that both ceilings allow, and nothing else is
+-- what is paid is the longest prefix of the tries that both ceilings allow, and nothing else is
 abbrev pub PaidIsLongest : Type 0
 PaidIsLongest = (t : Table) (octets : ℕ) (calls : Option ℕ) → ArePaid t octets calls (paid t octets calls) × ((es : List Try) → ArePaid t octets calls es → es ≡ paid t octets calls)
 

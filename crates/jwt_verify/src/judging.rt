@@ -53,7 +53,7 @@ fn bars_of(
     Ok(bars)
 }
 
-/// The octets without one octet 10 at their end, where that is to be dropped.
+/// The octets without one line feed at their end, where that is to be dropped.
 fn without_line_feed(octets: &[u8], drops: bool) -> &[u8]
     ensures { result.now ≡ without_line_feed drops octets.now }
 {
@@ -229,7 +229,7 @@ fn judge_octets<'p, B: Budget>(
 
 /// The verdict on octets in hand, with what became of each signature and each try that was paid.
 ///
-/// The octets, without one final octet 10 where the policy has `line_feed`, are read as a signed token (RFC 7515, section 7). The
+/// The octets, without one final line feed where the policy has `line_feed`, are read as a signed token (RFC 7515, section 7). The
 /// signatures are gone through in order, and for each the eligible keys in ascending order until one verifies it (RFC 7515,
 /// section 5.2). In mode `any` the run ends at the first verified signature, in mode `all` at the first that isn't. Once the
 /// signatures are verified, the claims are held against the policy at the moment `now`, in seconds since
@@ -243,8 +243,8 @@ fn judge_octets<'p, B: Budget>(
 /// With the first that holds of `Text(TooLong)`, more octets than the policy's `limit`; `Form`; `CallsExceeded` or `WorkExceeded`,
 /// at the first pair that would pass the policy's `max_calls` or the budget's ceiling, calls before work, and that pair isn't
 /// tried; `Signature`; `Claim`. `VerifierMemory` comes where a verifier that was asked lacked memory, and ends the run.
-/// `OutOfMemory` comes where a growth was refused, in place of any other verdict. After each of them the budget agrees with the
-/// tries of the report.
+/// `OutOfMemory` comes where an allocation was refused, in place of any other verdict. After each of them the budget agrees
+/// with the tries of the report.
 pub fn judge<'p, B: Budget>(
     alloc: Global,
     octets: &[u8],
@@ -324,7 +324,7 @@ fn take_in<'p, R: Source>(alloc: Global, r: &mut R, limit: u32) -> Result<Intake
 /// The condition: the budget is new.
 ///
 /// # Refused
-/// As [`judge`] refuses, and with `Text(Read)` exactly where the source has failed and no growth was refused. Then nothing was
+/// As [`judge`] refuses, and with `Text(Read)` exactly where the source has failed and no allocation was refused. Then nothing was
 /// tried.
 pub fn validate<'p, R: Source, B: Budget>(
     alloc: Global,
@@ -338,7 +338,7 @@ pub fn validate<'p, R: Source, B: Budget>(
     requires no_octets { B.octets b.old ≡ 0 }
     requires no_calls { B.calls b.old ≡ 0 }
 
-    // Of a source that tells its octets, unless a read failed: the verdict is that on them, unless memory was refused; what else
+    // Of a source whose octets are known, unless a read failed: the verdict is that on them, unless memory was refused; what else
     // the report holds; and what was taken.
     ensures verdict { IfSome (R.remaining r.old) (λ x. result.verdict ≢ Refused (Text Read)
         → FoundMemory result.verdict
@@ -359,7 +359,7 @@ pub fn validate<'p, R: Source, B: Budget>(
     ensures most { IfSome (R.remaining r.old) (λ x. result.verdict ≢ Refused (Text Read)
         → TakesAtMost (policy.now.run.limit + 1) x (R.remaining r.new)) }
 
-    // Of every source, also of one that doesn't tell its octets: unless a read failed, some octets have this report.
+    // Of every source, also of one whose octets aren't known: unless a read failed, some octets have this report.
     ensures some { result.verdict ≢ Refused (Text Read)
         → (x : List ℕ) × (length x ≤ policy.now.run.limit + 1)
         × IsReport (terms policy.now keys.now now (map meaning verifiers.now))

@@ -132,7 +132,7 @@ pub(crate) fn reports_in_words()
     claims_hold();
 }
 
-/// What is paid is the longest front of the tries that both ceilings allow.
+/// What is paid is the longest prefix of the tries that both ceilings allow.
 pub fn paid_is_longest()
     ensures { PaidIsLongest }
 {}
@@ -181,8 +181,8 @@ pub fn greatest_work()
     claims_hold();
 }
 
-/// More keys never refuse, where no ceiling stops the run with them: what is accepted with some keys is accepted with more, with the
-/// same claims.
+/// More keys never refuse, where no ceiling stops the run with them: what is accepted with some keys is accepted with more,
+/// with the same claims.
 pub fn more_keys_accept()
     ensures { MoreKeysAccept }
 {

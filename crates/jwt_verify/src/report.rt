@@ -63,7 +63,7 @@ impl InputFault {
 /// `WorkExceeded`, then `Signature`, then `Claim`. The name in a claim fault is lent by the policy.
 #[derive(Debug, Drop, Error)]
 pub enum Fault<'p> {
-    /// A growth of memory was refused. It may stand in place of any other verdict.
+    /// An allocation of memory was refused. It may stand in place of any other verdict.
     #[error("out of memory")]
     OutOfMemory,
     /// The source failed, or gave more octets than the policy's `limit`.

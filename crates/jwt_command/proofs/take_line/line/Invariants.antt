@@ -3,7 +3,7 @@ use Rattle.std.specs.List.{list_any}
 use Rattle.std.specs.Io.KnownBytes.{Keeps, prepend_known}
 use Rattle.jwt_command.proofs.take_line.line.Given as goal
 
--- what was taken, and behind it what is still to come, stays the same; and no octet 10 was taken
+-- what was taken, and behind it what is still to come, stays the same; and no line feed was taken
 abbrev pub invariant-octets : goal.invariant-octets
 invariant-octets g l = record {
   unread : Keeps (g.R.Source.remaining l.fn.r) (prepend_known l.octets.items (g.R.Source.remaining l.r));
