@@ -16,9 +16,6 @@ use crate::unprotected::Unprotected;
 use jwt_text::{ObjectRef, Part, Scratch};
 use std::alloc::Global;
 
-/// The room that is made first for reading the texts of a token, in octets: those of most tokens fit.
-const FIRST_ROOM: usize = 4096;
-
 #[tactic(auto, unfolding(crate::specs::Forms::signed_of))]
 fn compact_signed<'a>(
     alloc: Global,
@@ -29,7 +26,8 @@ fn compact_signed<'a>(
     ensures lent { IfOk result AreLent }
 {
     let payload = octets_of(alloc, segments.payload, Place::Payload)?;
-    scratch.reserve(payload.len().min(FIRST_ROOM))?;
+    // The claims are read with it too: got once, it never grows.
+    scratch.reserve(payload.len())?;
     let signature = make_signature(
         alloc,
         Form::Compact,
