@@ -7,6 +7,8 @@ mod cases;
 #[cfg(test)]
 mod command;
 #[cfg(test)]
+mod door;
+#[cfg(test)]
 mod issue;
 #[cfg(test)]
 mod jws;
