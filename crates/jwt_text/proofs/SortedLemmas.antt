@@ -1,14 +1,13 @@
 -- The members of an object are the same in whatever order they came, where no name stands twice.
-use Rattle.std.proofs.Common.{◌≡◌, ℕ, zero, suc, Bool, true, false, List, [], ◌∷◌, ◌++◌, length, take, drop, Option, Some, None, is_some, bytes_eq, is_eq, nat_cmp, Ordering, Less, Equal, Greater, refl, sym, ap, ◌∙◌, subst, arith}
+use Rattle.std.proofs.Common.{◌≡◌, ℕ, zero, suc, Bool, true, false, List, [], ◌∷◌, Option, Some, None, is_some, bytes_eq, is_eq, nat_cmp, Ordering, Less, Equal, Greater, refl, sym, ap, ◌∙◌, subst, arith}
 use Rattle.std.proofs.lemmas.Bool.{true≢false, false≢true}
 use Rattle.std.proofs.lemmas.Cmp.{nat_list_cmp_total}
-use Rattle.std.proofs.lemmas.List.Sorted.{All-permutation, IsPermutation-sym, length_permutation, sum_by-IsPermutation}
+use Rattle.std.proofs.lemmas.List.Sorted.{All-permutation, IsPermutation-sym, sum_by-IsPermutation}
 use Rattle.std.proofs.lemmas.List.Sums.{sum_by-cons}
 use Rattle.std.proofs.lemmas.Map.Text.{is_eq-slice_cmp}
 use Rattle.std.proofs.lemmas.Slice.Eq.{bytes_eq-Decides}
 use Rattle.std.specs.Cmp.Lexicographic.{slice_cmp}
-use Rattle.std.proofs.Math.Seq.{take-append_seam}
-use Rattle.std.specs.List.{All, AllByRecursion, refill, sum_by}
+use Rattle.std.specs.List.{All, AllByRecursion, sum_by}
 use Rattle.std.specs.List.Sorted.{IsStrictlySortedBy, IsPermutation}
 use Rattle.std.specs.Ordering.{match_ordering}
 use Rattle.serde_json.specs.Data.{Data, Members, no_members, member, put}
@@ -225,7 +224,3 @@ entries_moved ps qs moved = entries_sum qs ∙ sum_by-IsPermutation (λ (p : Pai
 pub entries_from : (qs : List Pair) → members_entries (members_from qs) ≡ entries_of qs
 entries_from [] = refl
 entries_from (q ∷ qs) = omega (arith, entries_from qs)
-
--- elements over which the same ones are written in another order are those
-pub rearranged : {X : Type 0} (xs ys : List X) → IsPermutation xs ys → refill (length xs) xs ys ≡ ys
-rearranged xs ys p = subst (λ n. take n (ys ++ drop (length ys) xs) ≡ ys) (length_permutation xs ys p) (take-append_seam ys (drop (length ys) xs))

@@ -3,7 +3,7 @@ ghost use Rattle.std.specs.Prelude.{◌≡◌, IfSome};
 ghost use Rattle.jwt_text.specs.Flat.{AreEntries, Each, IsNode, members_data, most};
 ghost use Rattle.jwt_text.specs.Copies.{CopiesNode, CopiesNodes, CopiesEntries};
 
-use crate::node::{BELOW, Entries, Entry, Node, Nodes};
+use crate::node::{BELOW, Entry, Node, Nodes};
 use crate::owned::Object;
 use crate::store::Store;
 use smallvec::SmallVec;
@@ -79,12 +79,12 @@ fn copy_entries(
     entries: &[Entry],
     depth: usize,
     to: &mut Store,
-) -> Option<Entries>
+) -> Option<Vec<Entry>>
     requires { AreEntries (IsNode depth from.now) from.now entries.now }
     ensures { IfSome result
         (λ es. CopiesEntries depth from.now entries.now to.old to.new es.items) }
 {
-    let mut copies: Entries = SmallVec::new(alloc);
+    let mut copies = Vec::new(alloc);
     'entries: for place in 0..entries.len() {
         let entry = entries[place];
         let name = to.add_text(from.text(entry.name))?;

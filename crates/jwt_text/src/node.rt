@@ -29,7 +29,7 @@ pub(crate) enum Node {
 }
 
 /// A member of an object.
-#[derive(Clone, Copy, Default, Drop)]
+#[derive(Clone, Copy, Drop)]
 pub(crate) struct Entry {
     pub(crate) name: Span,
     pub(crate) node: Node,
@@ -37,9 +37,6 @@ pub(crate) struct Entry {
 
 /// The elements of a list. A few stand in place, and more in an allocation.
 pub(crate) type Nodes = SmallVec<Node, 4>;
-
-/// The members of an object. A few stand in place, and more in an allocation.
-pub(crate) type Entries = SmallVec<Entry, 4>;
 
 pub(crate) fn as_flag(node: Node) -> Option<bool>
     ensures { result ≡ as_flag node }

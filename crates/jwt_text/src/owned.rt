@@ -5,9 +5,8 @@ ghost use Rattle.jwt_text.specs.Members.{has, text_at, is_number_at, whole_at, f
 
 use crate::TextFault;
 use crate::lent::{List, ObjectRef};
-use crate::node::Entries;
+use crate::node::Entry;
 use crate::store::Store;
-use smallvec::SmallVec;
 use std::alloc::Global;
 use std::marker::Model;
 
@@ -17,7 +16,7 @@ use std::marker::Model;
 #[derive(Drop)]
 pub struct Object {
     pub(crate) store: Store,
-    pub(crate) entries: Entries,
+    pub(crate) entries: Vec<Entry>,
 }
 
 impl Model for Object {
@@ -42,7 +41,7 @@ impl Object {
     {
         Object {
             store: Store::new(alloc),
-            entries: SmallVec::new(alloc),
+            entries: Vec::new(alloc),
         }
     }
 

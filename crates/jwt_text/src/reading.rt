@@ -3,7 +3,7 @@ ghost use Rattle.std.specs.Prelude.{◌≡◌, IfSome, OnSome};
 ghost use Rattle.jwt_text.specs.Reads.{ReadsNode, ReadsItems, ReadsMembers};
 
 use crate::arrange::arrange;
-use crate::node::{Entries, Entry, Node, Nodes, Span};
+use crate::node::{Entry, Node, Nodes, Span};
 use crate::number::{node_of, parse_number};
 use crate::store::Store;
 use json::{Reader, Token};
@@ -67,11 +67,11 @@ pub(crate) fn read_members(
     reader: &mut Reader<'_>,
     depth: usize,
     store: &mut Store,
-) -> Option<Entries>
+) -> Option<Vec<Entry>>
     ensures { IfSome result
         (λ es. ReadsMembers depth reader.old reader.new store.old store.new es.items) }
 {
-    let mut built: Entries = SmallVec::new(alloc);
+    let mut built = Vec::new(alloc);
     'members: while let Some(key) = reader.next_key().ok()? {
         let name = store.add_text(key)?;
         let node = read(alloc, reader, depth, store)?;
@@ -79,7 +79,7 @@ pub(crate) fn read_members(
             return None;
         }
     }
-    if arrange(alloc, store, &mut built) {
+    if arrange(store, &mut built) {
         Some(built)
     } else {
         None

@@ -1,12 +1,11 @@
-use Rattle.std.proofs.Common.{IsPermutation, ◌≡◌, [], ◌∷◌, ◌++◌, Some, None, sym, ap, ◌∙◌, subst, arith}
+use Rattle.std.proofs.Common.{◌≡◌, [], ◌∷◌, ◌++◌, Some, None, sym, ap, ◌∙◌, subst, arith}
 use Rattle.json.specs.Json.{after_end_array, read_key}
 use Rattle.json.specs.Reads.{token_of}
-use Rattle.jwt_text.specs.Reads.{ReadsNode, ReadsMembers, ItemsSoFar, MembersSoFar}
+use Rattle.jwt_text.specs.Reads.{ReadsNode, ItemsSoFar, MembersSoFar}
 use Rattle.jwt_text.specs.declared.node.Entry.{Entry}
 use Rattle.jwt_text.specs.Growth.{AddsNodes, AddsEntries}
 use Rattle.jwt_text.proofs.ReadValues.{text_read, null_read, flag_read, number_read, list_read, object_read, members_are_read}
 use Rattle.jwt_text.proofs.ReadTurns.{items_begin, items_go_on, items_are_read, if_some, members_begin, members_go_on}
-use Rattle.jwt_text.proofs.SortedLemmas.{rearranged}
 use Rattle.jwt_text.proofs.reading.+read.Goals as goal
 
 pub read-returns-in_ok-add_text-in-String : goal.read-returns-in_ok-add_text-in-String
@@ -40,7 +39,7 @@ read-returns-in_ok-add_entries-in-BeginObject t c =
     let first : c.args.reader.now ≡ token_of c.in_ok-text.field-0 ∷ c.next.new.self = grind arith in
     let es = c.in_ok-entries-in-BeginObject.entries.items in
     let adds : AddsEntries c.read_members.new.store c.add_entries.new.self es c.in_ok-add_entries-in-BeginObject.field-0 =
-    subst (λ l. AddsEntries c.read_members.new.store c.add_entries.new.self l c.in_ok-add_entries-in-BeginObject.field-0) c.deref.ensures c.in_ok-add_entries-in-BeginObject.ensures in
+    subst (λ l. AddsEntries c.read_members.new.store c.add_entries.new.self l c.in_ok-add_entries-in-BeginObject.field-0) c.deref.ensures.value c.in_ok-add_entries-in-BeginObject.ensures in
     object_read c.args.depth _ c.next.new.self _ _ c.read_members.new.store _ es _ (omega (arith, c.if-depth-eq0-2.false)) (first ∙ ap (λ k. token_of k ∷ c.next.new.self) c.in-BeginObject.is) c.in_ok-entries-in-BeginObject.ensures adds
 
 pub read_items-items-init : goal.read_items-items-init
@@ -78,8 +77,5 @@ read_members-members-preserved t c =
 pub read_members-returns-then-arrange : goal.read_members-returns-then-arrange
 read_members-returns-then-arrange t c =
     let l = c.members in
-    let es = c.arrange.new.entries in
     let over : read_key l.reader ≡ Some (None, c.next_key.new.self) = grind arith in
-    let same : IsPermutation l.built.items es = subst (λ xs. IsPermutation xs es) c.deref_mut.ensures.value c.arrange.ensures.permutation in
-    subst (ReadsMembers c.args.depth c.args.reader.now c.next_key.new.self c.args.store.now l.store) (sym (rearranged l.built.items es same))
-    (members_are_read c.args.depth c.args.reader.now l.reader c.args.store.now l.store l.built.items l.invariant c.next_key.new.self es over same (c.arrange.ensures.order c.if-arrange.true))
+    members_are_read c.args.depth c.args.reader.now l.reader c.args.store.now l.store l.built.items l.invariant c.next_key.new.self c.arrange.new.entries.items over c.arrange.ensures.permutation (c.arrange.ensures.order c.if-arrange.true)
