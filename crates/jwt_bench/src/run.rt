@@ -1,5 +1,5 @@
 //! The command, over any source and sink.
-ghost use Rattle.std.specs.Prelude.{◌≡◌, ◌≢◌, ◌≤◌, Ok, IfOk, IfSome, map};
+ghost use Rattle.std.specs.Prelude.{◌≡◌, ◌≢◌, ◌≤◌, ◌⊎◌, Ok, IfOk, OnErr, IfSome, map};
 ghost use Rattle.jwt_bench.specs.Printed.{PrintsRuns};
 ghost use Rattle.jwt_bench.specs.Words.{Asks};
 ghost use Rattle.jwt_bench.specs.declared.words.Order.{Order as Asked};
@@ -21,7 +21,8 @@ fn run_order<R: Source, W: Sink>(
 ) -> Result<u8, RunFault>
     requires { order.count ≤ 10000000 }
     ensures done { IfSome (R.remaining r.old) (λ x. result ≡ Ok 0 → PrintsRuns (map meaning built_in.now) order x (W.contents w.old) (W.contents w.new)) }
-    ensures not_wrong { IfOk result (λ status. status ≢ 2) }
+    ensures status { IfOk result (λ status. (status ≡ 0) ⊎ (status ≡ 3)) }
+    ensures unsent { OnErr result (w.new ≡ w.old) }
 {
     let line = totals(alloc, order, built_in, r)?.line(alloc)?;
     match write_out(w, line.as_bytes()) {
@@ -49,6 +50,9 @@ pub(crate) fn run<R: Source, W: Sink>(
     // Wrong words, and no others.
     ensures asked { (order : Asked) → Asks (map (λ word. word.now) words.now) order → result ≢ 2 }
     ensures wrong { ((order : Asked) → ¬ Asks (map (λ word. word.now) words.now) order) → result ≡ 2 }
+
+    // Nothing is printed unless it is done, or a write failed.
+    ensures unsent { result ≢ 0 → result ≢ 3 → w.new ≡ w.old }
     ensures unread { ((order : Asked) → ¬ Asks (map (λ word. word.now) words.now) order) → (r.new ≡ r.old) × (w.new ≡ w.old) }
 {
     let Some(order) = read_words(words) else {
