@@ -1,4 +1,4 @@
-/* Refuses one growth: the one whose number the environment gives, counted from 1, and says so on standard error. It includes
+/* Refuses one allocation: the one whose number the environment gives, counted from 1, and says so on standard error. It includes
    nothing, so that the kit's own compiler makes it. */
 typedef unsigned long size;
 

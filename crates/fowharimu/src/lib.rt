@@ -12,8 +12,8 @@
 //! A [`Validator`] is made once and judges each token that comes. Its verifiers are for public keys: [`Rsa`] is one, and a caller's
 //! own is a [`Verifier`]. The [`Report`] has the [`Verdict`], what became of each signature, and each try of a key with its cost.
 //!
-//! Each name here is that of one of the libraries below: `jwt_text`, `jwt_mac`, `jwt_keys`, `jwt_jws`, `jwt_policy`, `jwt_verify`,
-//! `jwt_issue` and `jwt_rsa`.
+//! Each other name here is that of one of the libraries below: `jwt_text`, `jwt_mac`, `jwt_keys`, `jwt_jws`, `jwt_policy`,
+//! `jwt_verify`, `jwt_issue` and `jwt_rsa`. Their modules `laws` stand here as `token_laws`, of issuing, and `verdict_laws`.
 #![tactic(auto)]
 
 mod validator;

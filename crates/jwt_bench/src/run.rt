@@ -35,7 +35,8 @@ fn run_order<R: Source, W: Sink>(
 /// `built_in` are the verifiers of the workload `public`.
 ///
 /// 0: done; 1: the input is no policy, key set and signed token with claims; 2: wrong words; 3: a read or a write failed; 4: want
-/// of memory. Only where it is done is anything printed, unless a write failed.
+/// of memory. Only where it is done is anything printed, unless a write failed. The clauses speak of 0 and of 2; the others are
+/// tested.
 pub(crate) fn run<R: Source, W: Sink>(
     alloc: Global,
     words: &[&str],

@@ -1,3 +1,4 @@
+//! Each workload once, and inputs that are refused.
 use crate::run::run;
 use jwt_mac::Verifier;
 use jwt_text::{Reader, Writer};

@@ -21,12 +21,11 @@ use jwt_text::{Sink, Source, write_out};
 use std::alloc::{AllocError, Global};
 
 /// Runs the command that `words` ask for on `r`, prints its answer to `w`, and answers its status. The first word is the
-/// program's name. No verifiers are at hand: with `--public-keys` the answer is as without. There
-/// is no clock: `verify` has to have `--now`.
+/// program's name. No verifiers are at hand: with `--public-keys` the answer is as without. There is no clock: `verify` has to have
+/// `--now`.
 ///
 /// 0: done; 1: refused; 2: wrong words, and `w` has what is said of them, or a refused key of `mac`; 3: a read or a write failed;
-/// 4: want of memory.
-/// The whole answer is in hand before any of it goes out.
+/// 4: want of memory. The whole answer is in hand before any of it goes out.
 pub fn run<R: Source, W: Sink>(alloc: Global, words: &[&str], r: &mut R, w: &mut W) -> u8
     // What the words ask for is answered.
     ensures answer { (order : Asked) → order_of None (map (λ word. word.now) words.now) ≡ Some order

@@ -32,8 +32,8 @@ impl From<AllocFailed<u8>> for LineFault {
 /// Takes the octets before the first line feed or the end, and that line feed, which is dropped. They are read one by one, so
 /// that nothing behind the line is taken. The limit is at least 1.
 ///
-/// Refused with `OutOfMemory`, with `TooLong` where one octet past the limit was taken, none of them 10, and with `Read` where the
-/// source failed.
+/// Refused with `OutOfMemory`, with `TooLong` where one octet past the limit was taken and no line feed is among them, and with
+/// `Read` where the source failed.
 pub fn line<R: Source>(alloc: Global, r: &mut R, limit: u32) -> Result<Vec<u8>, LineFault>
     requires least { 1 ≤ limit }
     requires greatest { limit ≤ GREATEST_LIMIT }

@@ -1,3 +1,5 @@
+//! Which signatures of a token have to be verified.
+
 /// Which signatures of a token must be verified. RFC 7515, section 5.2, leaves this to the application.
 #[derive(Clone, Copy, Debug, PartialEq, Eq)]
 pub enum Mode {

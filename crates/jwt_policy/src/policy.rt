@@ -75,8 +75,9 @@ impl Model for ClaimPart {
 /// No setting switches the check of signatures off, and none allows the algorithm `none`.
 ///
 /// ```rust
-/// let policy = Policy::read(alloc,
-/// b"{\"algs\":[\"HS256\"],\"issuers\":[\"https://id.example\"],\"audiences\":[\"api\"],\"required\":[\"aud\",\"exp\"]}")?; ```
+/// let document = b"{\"algs\":[\"HS256\"],\"issuers\":[\"joe\"],\"audiences\":[\"api\"],\"required\":[\"aud\",\"exp\"]}";
+/// let policy = Policy::read(alloc, document)?;
+/// ```
 #[derive(Drop)]
 pub struct Policy {
     pub(crate) run: RunPart,

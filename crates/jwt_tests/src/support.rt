@@ -161,7 +161,7 @@ impl Source for Drip<'_> {
     }
 }
 
-/// A source that never ends, fills each buffer, tells nothing and counts the pulls and the octets.
+/// A source that never ends and fills each buffer, and whose octets aren't known. It counts the pulls and the octets.
 #[derive(Drop)]
 pub(crate) struct Endless {
     pub(crate) pulls: usize,

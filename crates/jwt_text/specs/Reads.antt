@@ -15,7 +15,8 @@ use Rattle.jwt_text.specs.declared.node.Node.{Node}
 use Rattle.jwt_text.specs.declared.node.Span.{Span}
 use Rattle.jwt_text.specs.declared.store.Store.{Store}
 
--- Of the tokens `old`, the value at the front, which nests at most so deep, was read into the node n, and `new` are left. It has as many entries as names are written.
+-- Of the tokens `old`, the first value, which nests at most so deep, was read into the node n, and `new` are left. It has as many
+-- entries as names are written.
 pub record ReadsNode (depth : ℕ) (old new : List Token) (before after : Store) (n : Node) : Type 0 where
   pub tree : json.Json
   pub parsed : value depth old ≡ Some (tree, new)

@@ -1,3 +1,4 @@
+//! Objects and lists that another value lends.
 ghost use Rattle.std.specs.Prelude.{◌≡◌, ◌↔◌, [], length, slice_get, option_map, option_and_then, IfOk, IsOkUnless, IsTrue};
 ghost use Rattle.std.specs.List.{list_any};
 ghost use Rattle.serde_json.specs.Find.{as_str, as_object};

@@ -1,3 +1,4 @@
+//! An object that was read.
 ghost use Rattle.std.specs.Prelude.{◌≡◌, length, slice_get, option_map, IfOk, IsOkUnless};
 ghost use Rattle.serde_json.specs.Data.{no_members};
 ghost use Rattle.serde_json.specs.Events.{members_len};

@@ -1,3 +1,4 @@
+//! Reading an object text, or telling why there is none.
 ghost use Rattle.std.specs.Prelude.{◌≡◌, ◌≢◌, Some, None, Err, IfOk, IfErr, IfSome, IsErrOf, option_map};
 ghost use Rattle.serde_json.specs.Find.{as_object};
 ghost use Rattle.serde_json.specs.View.{view, members_view};

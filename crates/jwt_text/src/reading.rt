@@ -10,7 +10,7 @@ use json::{Reader, Token};
 use smallvec::SmallVec;
 use std::alloc::Global;
 
-/// The value at the front, which nests at most so deep; `None` where it can't be had.
+/// The value that comes next, which nests at most so deep; `None` where it can't be had.
 #[cycle(read)]
 #[inline(always)]
 fn read(alloc: Global, reader: &mut Reader<'_>, depth: usize, store: &mut Store) -> Option<Node>

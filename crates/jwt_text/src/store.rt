@@ -1,3 +1,4 @@
+//! The three flat lists that an object stands in: octets, values and members.
 ghost use Rattle.std.specs.Prelude.{◌≡◌, ◌+◌, ◌≤◌, length, map, option_map, IfSome};
 ghost use Rattle.serde_json.specs.Find.{as_str, as_array, as_object};
 ghost use Rattle.jwt_text.specs.Members.{elements};

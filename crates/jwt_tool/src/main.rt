@@ -27,7 +27,8 @@ fn main(rt: HostRuntime) -> ExitCode {
     }
 }
 
-// The moment that the system's clock says, in seconds since 1970-01-01T00:00:00Z; none where it can't be read or is set before.
+// The moment that the system's clock says, in seconds since 1970-01-01T00:00:00Z; none where it can't be read, or is set before
+// that or later than a command can name.
 fn moment(rt: &HostRuntime) -> Option<u64>
     ensures { IfSome result (λ n. n ≤ 9223372036854775807) }
 {

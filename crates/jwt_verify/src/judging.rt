@@ -31,7 +31,7 @@ use jwt_text::{Intake, Scratch, Source, TextFault};
 use smallvec::SmallVec;
 use std::alloc::{AllocError, Global};
 
-/// So many bars stand in place, and more in an allocation.
+/// As many bars stand in place; more take an allocation.
 const NEAR: usize = 4;
 
 /// The bar of each signature.
