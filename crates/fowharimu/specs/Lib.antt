@@ -2,21 +2,30 @@
 pub use Rattle.jwt_text.specs.Answers
 pub use Rattle.jwt_text.specs.Members
 pub use Rattle.jwt_mac.specs.Algorithm
+pub use Rattle.jwt_mac.specs.Hmac
 pub use Rattle.jwt_mac.specs.Verifying
 pub use Rattle.jwt_rsa.specs.Meanings
+pub use Rattle.jwt_keys.specs.FaultNames as KeysFaultNames
 pub use Rattle.jwt_keys.specs.Keys
 pub use Rattle.jwt_keys.specs.KeySets
+pub use Rattle.jwt_keys.specs.Views as KeyViews
+pub use Rattle.jwt_jws.specs.CompactForm
+pub use Rattle.jwt_jws.specs.Crit
+pub use Rattle.jwt_jws.specs.FaultNames as FormFaultNames
 pub use Rattle.jwt_jws.specs.Forms
+pub use Rattle.jwt_jws.specs.SignedToken
 pub use Rattle.jwt_jws.specs.Token
 pub use Rattle.jwt_jws.specs.Views as TokenViews
 pub use Rattle.jwt_policy.specs.Audiences
 pub use Rattle.jwt_policy.specs.Checks
 pub use Rattle.jwt_policy.specs.ClaimKinds
 pub use Rattle.jwt_policy.specs.Document
+pub use Rattle.jwt_policy.specs.FaultNames as PolicyFaultNames
 pub use Rattle.jwt_policy.specs.Laws as PolicyLaws
 pub use Rattle.jwt_policy.specs.Settings
 pub use Rattle.jwt_verify.specs.Accepted
 pub use Rattle.jwt_verify.specs.Asks
+pub use Rattle.jwt_verify.specs.FaultNames
 pub use Rattle.jwt_verify.specs.Laws
 pub use Rattle.jwt_verify.specs.Paying
 pub use Rattle.jwt_verify.specs.Reports
@@ -26,5 +35,6 @@ pub use Rattle.jwt_verify.specs.declared.report.Fault.TheVariants as FaultVarian
 pub use Rattle.jwt_verify.specs.declared.report.InputFault.TheVariants as InputFaultVariants
 pub use Rattle.jwt_verify.specs.declared.report.Verdict.TheVariants as VerdictVariants
 pub use Rattle.jwt_issue.specs.ClaimSets
+pub use Rattle.jwt_issue.specs.FaultNames as IssueFaultNames
 pub use Rattle.jwt_issue.specs.Issued
 pub use Rattle.jwt_issue.specs.Views as IssueViews

@@ -24,7 +24,7 @@ pub use jwt_mac::{Alg, Budget, CountDown, CountUp};
 pub use jwt_policy::{
     Audience, Claim, ClaimFault, ClaimName, Claims, MemberName, Mode, Policy, PolicyFault, SigFault,
 };
-pub use jwt_text::{List, ObjectRef, Reader, Source};
+pub use jwt_text::{List, Object, ObjectRef, Reader, Source, TextFault};
 pub use jwt_verify::{Fault, InputFault, Report, SigState, Try, Verdict, judge, validate};
 pub use validator::Validator;
 

@@ -20,7 +20,8 @@ fn run_order<R: Source, W: Sink>(
     w: &mut W,
 ) -> Result<u8, RunFault>
     requires { order.count ≤ 10000000 }
-    ensures done { IfSome (R.remaining r.old) (λ x. result ≡ Ok 0 → PrintsRuns (map meaning built_in.now) order x (W.contents w.old) (W.contents w.new)) }
+    ensures done { IfSome (R.remaining r.old) (λ x. result ≡ Ok 0
+        → PrintsRuns (map meaning built_in.now) order x (W.contents w.old) (W.contents w.new)) }
     ensures status { IfOk result (λ status. (status ≡ 0) ⊎ (status ≡ 3)) }
     ensures unsent { OnErr result (w.new ≡ w.old) }
 {
@@ -35,8 +36,8 @@ fn run_order<R: Source, W: Sink>(
 /// `built_in` are the verifiers of the workload `public`.
 ///
 /// 0: done; 1: the input is no policy, key set and signed token with claims; 2: wrong words; 3: a read or a write failed; 4: want
-/// of memory. Only where it is done is anything printed, unless a write failed. The clauses speak of 0 and of 2; the others are
-/// tested.
+/// of memory. Only where it is done is anything printed, unless a write failed. Which of 1, 3 and 4 it is, where it is neither 0 nor
+/// 2, no clause says: that is tested.
 pub(crate) fn run<R: Source, W: Sink>(
     alloc: Global,
     words: &[&str],
@@ -46,7 +47,8 @@ pub(crate) fn run<R: Source, W: Sink>(
 ) -> u8
     // What is printed, where the status is 0.
     ensures done { IfSome (R.remaining r.old) (λ x. result ≡ 0
-        → (order : Asked) × Asks (map (λ word. word.now) words.now) order × PrintsRuns (map meaning built_in.now) order x (W.contents w.old) (W.contents w.new)) }
+        → (order : Asked) × Asks (map (λ word. word.now) words.now) order
+        × PrintsRuns (map meaning built_in.now) order x (W.contents w.old) (W.contents w.new)) }
 
     // Wrong words, and no others.
     ensures asked { (order : Asked) → Asks (map (λ word. word.now) words.now) order → result ≢ 2 }
@@ -54,7 +56,8 @@ pub(crate) fn run<R: Source, W: Sink>(
 
     // Nothing is printed unless it is done, or a write failed.
     ensures unsent { result ≢ 0 → result ≢ 3 → w.new ≡ w.old }
-    ensures unread { ((order : Asked) → ¬ Asks (map (λ word. word.now) words.now) order) → (r.new ≡ r.old) × (w.new ≡ w.old) }
+    ensures unread { ((order : Asked) → ¬ Asks (map (λ word. word.now) words.now) order)
+        → (r.new ≡ r.old) × (w.new ≡ w.old) }
 {
     let Some(order) = read_words(words) else {
         return 2;
