@@ -8,11 +8,15 @@ _jwt() {
         case ${COMP_WORDS[1]}:$before in
         issue:--alg) choices="HS256 HS384 HS512" ;;
         issue:--form) choices="compact json flattened" ;;
+        verify:--policy | verify:--keys | verify:--token)
+            mapfile -t COMPREPLY < <(compgen -f -- "$word")
+            return
+            ;;
         # The values of these aren't known here.
         issue:--typ | mac:--k | mac:--limit | show:--limit | verify:--now) ;;
         mac:*) choices="--k --limit" ;;
         show:*) choices="--limit" ;;
-        verify:*) choices="--now --public-keys" ;;
+        verify:*) choices="--now --public-keys --policy --keys --token" ;;
         issue:*) choices="--alg --typ --form" ;;
         esac
     fi

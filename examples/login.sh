@@ -1,6 +1,6 @@
 #!/usr/bin/env bash
-# Issues a token for a name, ann where none is given, with ten minutes to live, and validates it, by the clock, as the shop would that
-# the login is for; then as it would eleven minutes later. For ann it prints what stands in login.out.
+# Issues a token for a name, ann where none is given, with ten minutes to live, and validates it, by the clock, as the shop would
+# that the login is for; then as it would eleven minutes later. For ann it prints what stands in login.out.
 set -eu -o pipefail
 cd "$(dirname -- "$(readlink -f -- "${BASH_SOURCE[0]}")")"
 

@@ -1,5 +1,5 @@
 //! The command `issue`: a token of some claims by a key set.
-ghost use Rattle.std.specs.Prelude.{◌≡◌, ◌⊎◌, true, map, string_bytes, IfOk, IfSome};
+ghost use Rattle.std.specs.Prelude.{◌≡◌, ◌⊎◌, None, true, map, string_bytes, IfOk, IfSome};
 ghost use Rattle.jwt_text.specs.Answers.{Answers};
 ghost use Rattle.jwt_keys.specs.KeySets.{key_set};
 ghost use Rattle.jwt_issue.specs.Views.{pair_parts, text_of};
@@ -159,7 +159,7 @@ pub(crate) fn issue<R: Source>(
 ) -> Result<Reply, AllocError>
     ensures line { IfSome (R.remaining r.old) (λ x. IfOk result (λ a. reply_view a ≡ issue_answer (wanted_view wanted.entry) (R.failed r.new) x)) }
     ensures taken { IfSome (R.remaining r.old) (λ x. (R.failed r.new ≡ true) ⊎ TakesAtMost 5242882 x (R.remaining r.new)) }
-    ensures stops { IfSome (R.remaining r.old) (λ x. (R.failed r.new ≡ true) ⊎ TakesAtMost (keys_most 1048577 x) x (R.remaining r.new)) }
+    ensures stops { IfSome (R.remaining r.old) (λ x. (R.failed r.new ≡ true) ⊎ TakesAtMost (keys_most 1048577 None x) x (R.remaining r.new)) }
 {
     let text = match line(alloc, r, 4_194_304) {
         Ok(text) => text,

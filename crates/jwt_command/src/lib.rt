@@ -5,6 +5,7 @@
 //! [`line`](take_line::line) takes one line of an input, and nothing behind it.
 #![tactic(auto)]
 
+pub mod documents;
 mod faults;
 mod input;
 mod issue;
@@ -16,4 +17,4 @@ pub mod run;
 mod show;
 pub mod take_line;
 mod verify;
-mod words;
+pub mod words;
