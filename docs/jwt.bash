@@ -8,7 +8,7 @@ _jwt() {
         case ${COMP_WORDS[1]}:$before in
         issue:--alg) choices="HS256 HS384 HS512" ;;
         issue:--form) choices="compact json flattened" ;;
-        verify:--policy | verify:--keys | verify:--token)
+        verify:--policy | verify:--keys | verify:--token | issue:--keys)
             mapfile -t COMPREPLY < <(compgen -f -- "$word")
             return
             ;;
@@ -17,7 +17,7 @@ _jwt() {
         mac:*) choices="--k --limit" ;;
         show:*) choices="--limit" ;;
         verify:*) choices="--now --public-keys --policy --keys --token" ;;
-        issue:*) choices="--alg --typ --form" ;;
+        issue:*) choices="--alg --typ --form --keys" ;;
         esac
     fi
     mapfile -t COMPREPLY < <(compgen -W "$choices" -- "$word")

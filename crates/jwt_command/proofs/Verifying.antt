@@ -151,10 +151,10 @@ policy_line_too_long vs now h x failed works long =
 pub set_too_long : (x : List ℕ) (failed : Bool) → failed ≡ false → 4194304 < length x → keys_refused keys.TooLong ≡ keys_answer_alone failed x
 set_too_long x failed works long = sym (ap (λ f. keys_answer_alone f x) works ∙ ap listed (keys_too_long x long))
 
-pub issue_line_too_long : (asked : TokenAsked) (x : List ℕ) (failed : Bool) → failed ≡ false → 4194304 < length (first_line x)
-    → keys_refused keys.TooLong ≡ issue_answer asked failed x
-issue_line_too_long asked x failed works long =
-    sym (ap (λ f. issue_answer asked f x) works ∙ ap (λ k. issue_under asked k (after_line x)) (keys_too_long (first_line x) long))
+pub issue_line_too_long : (asked : TokenAsked) (held : Option (List ℕ)) (x : List ℕ) (failed : Bool) → failed ≡ false → 4194304 < length (document held x)
+    → keys_refused keys.TooLong ≡ issue_answer asked held failed x
+issue_line_too_long asked held x failed works long =
+    sym (ap (λ f. issue_answer asked held f x) works ∙ ap (λ k. issue_under asked k (behind held x)) (keys_too_long (document held x) long))
 
 -- ---- the line of a verdict
 

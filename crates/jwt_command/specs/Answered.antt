@@ -20,7 +20,7 @@ answer_with built_in held (Mac key limit) failed x = mac_answer key limit failed
 answer_with built_in held Keys failed x = keys_answer failed x
 answer_with built_in held (Show limit) failed x = show_answer limit failed x
 answer_with built_in held (Verify now public_keys files) failed x = unless_unread (unread files held) (verify_answer (asked_for public_keys built_in) now held failed x)
-answer_with built_in held (Issue alg typ form) failed x = issue_answer (record { alg = alg; typ = typ; form = form }) failed x
+answer_with built_in held (Issue alg typ form files) failed x = unless_unread (unread files held) (issue_answer (record { alg = alg; typ = typ; form = form }) held.keys failed x)
 answer_with built_in held Version failed x = version_answer
 
 -- with no document in hand

@@ -15,7 +15,7 @@ seen (asked.Mac key limit) = Mac key.now limit
 seen asked.Keys = Keys
 seen (asked.Show limit) = Show limit
 seen (asked.Verify now public_keys files) = Verify now public_keys (files_view files)
-seen (asked.Issue alg typ form) = Issue alg (option_map (λ t. t.now) typ) form
+seen (asked.Issue alg typ form files) = Issue alg (option_map (λ t. t.now) typ) form (files_view files)
 seen asked.Version = Version
 
 -- the words are wrong, and memory was there

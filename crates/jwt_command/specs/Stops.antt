@@ -1,5 +1,5 @@
 -- How much is taken of an input of several lines: nothing behind a line that is refused.
-use Rattle.std.specs.Prelude.{◌+◌, ℕ, List, Option, None, Result, Ok, Err}
+use Rattle.std.specs.Prelude.{◌+◌, ℕ, List, Option, Result, Ok, Err}
 use Rattle.jwt_keys.specs.KeySets.{KeyList, key_set_of}
 use Rattle.jwt_keys.specs.declared.fault.KeysFault.{KeysFault}
 use Rattle.jwt_policy.specs.Document.{policy_of}
@@ -28,7 +28,7 @@ verify_most held x = document_most 65536 held.policy x + behind_policy held (pol
 -- with these documents in hand
 abbrev pub most_taken_with : Held → Order → List ℕ → ℕ
 most_taken_with held (Verify now public_keys files) x = most_unless_unread (unread files held) (verify_most held x)
-most_taken_with held (Issue alg typ form) x = keys_most 1048577 None x
+most_taken_with held (Issue alg typ form files) x = most_unless_unread (unread files held) (keys_most 1048577 held.keys x)
 most_taken_with held Version x = 0
 most_taken_with held order x = input_limit order + 1
 

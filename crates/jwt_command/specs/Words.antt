@@ -77,7 +77,7 @@ abbrev pub verify_app : Bool → App
 verify_app has_clock = with_rule (with_rule (with_rule (verify_on_input has_clock) policy_rule) keys_rule) token_rule
 
 abbrev pub issue_app : App
-issue_app = with_rule (with_rule (with_rule (new_app (codes "issue")) alg_rule) typ_rule) form_rule
+issue_app = with_rule (with_rule (with_rule (with_rule (new_app (codes "issue")) alg_rule) typ_rule) form_rule) keys_rule
 
 abbrev pub top_app : App
 top_app = record (new_app (codes "jwt")) { top = record (new_app (codes "jwt")).top { subcommand_required = true } }
@@ -101,7 +101,7 @@ pub data Order : Type 0 where
   Keys : Order
   Show : ℕ → Order
   Verify : ℕ → Bool → Files → Order
-  Issue : Alg → Option Text → Form → Order
+  Issue : Alg → Option Text → Form → Files → Order
   Version : Order
 
 -- the numbers of an order are in their ranges
@@ -110,7 +110,7 @@ HasLimits (Mac key limit) = (1 ≤ limit) × (limit ≤ 1048576)
 HasLimits Keys = Unit {0}
 HasLimits (Show limit) = (1 ≤ limit) × (limit ≤ 1048576)
 HasLimits (Verify now public_keys files) = now ≤ 9223372036854775807
-HasLimits (Issue alg typ form) = Unit {0}
+HasLimits (Issue alg typ form files) = Unit {0}
 HasLimits Version = Unit {0}
 
 -- the most octets of an order's input; that of `verify` is a policy of 65,536 octets, a key set of 4,194,304 and a token of
@@ -120,7 +120,7 @@ input_limit (Mac key limit) = limit
 input_limit Keys = 4194304
 input_limit (Show limit) = limit
 input_limit (Verify now public_keys files) = 5308418
-input_limit (Issue alg typ form) = 5242881
+input_limit (Issue alg typ form files) = 5242881
 input_limit Version = 0
 
 -- the number that an option has, where its parser takes it
@@ -161,8 +161,11 @@ alg_in rows = option_and_then alg_named (first_of (codes "alg") rows)
 abbrev pub form_in : List Row → Option Form
 form_in rows = option_and_then form_named (first_of (codes "form") rows)
 
+abbrev pub keys_file_in : List Row → Files
+keys_file_in rows = record { policy = None; keys = first_of (codes "keys") rows; token = None }
+
 abbrev pub issue_order : List Row → Option Order
-issue_order rows = option_and_then (λ alg. option_map (λ form. Issue alg (first_of (codes "typ") rows) form) (form_in rows)) (alg_in rows)
+issue_order rows = option_and_then (λ alg. option_map (λ form. Issue alg (first_of (codes "typ") rows) form (keys_file_in rows)) (form_in rows)) (alg_in rows)
 
 abbrev pub order_in : Option ℕ → Text → List Row → Option Order
 order_in clock name rows =
@@ -196,6 +199,7 @@ order_of clock words = if asks_version words then Some Version else clap_order c
 -- the files that an order names
 abbrev pub files_in_order : Order → Files
 files_in_order (Verify now public_keys files) = files
+files_in_order (Issue alg typ form files) = files
 files_in_order order = no_files
 
 -- the files that words name

@@ -2,12 +2,13 @@
 ghost use Rattle.std.specs.Prelude.{◌≡◌, ◌≤◌, ◌+◌, ◌⊎◌, ℕ, List, [], None, Some, map, true, IfOk, IfSome};
 ghost use Rattle.jwt_command.specs.Answered.{answer_of, answer_with, version_answer};
 ghost use Rattle.jwt_command.specs.Documents.{most_unless_unread, unless_unread, unread};
+ghost use Rattle.jwt_command.specs.Issue.{issue_answer};
 ghost use Rattle.jwt_command.specs.Mac.{key_refused, key_spelled};
 ghost use Rattle.jwt_command.specs.Input.{TakesAtMost};
 ghost use Rattle.jwt_command.specs.Printed.{Gives, GivesWrongWords, Prints, out_of_memory};
 ghost use Rattle.jwt_command.specs.Seen.{files_view};
-ghost use Rattle.jwt_command.specs.Views.{held_view, reply_view};
-ghost use Rattle.jwt_command.specs.Stops.{most_taken, most_taken_with, verify_most};
+ghost use Rattle.jwt_command.specs.Views.{held_view, reply_view, wanted_view};
+ghost use Rattle.jwt_command.specs.Stops.{keys_most, most_taken, most_taken_with, verify_most};
 ghost use Rattle.jwt_command.specs.Verify.{asked_for, verify_answer};
 ghost use Rattle.jwt_command.specs.Words.{Mac, Order as Asked, Version, input_limit, order_of};
 
@@ -122,8 +123,8 @@ pub fn run_with<R: Source, W: Sink>(
     run_files(alloc, words, built_in, clock, Held::none(), r, w)
 }
 
-/// The same as [`run_with`], with the documents in hand that were read from files: `verify` takes them in the place of those in the
-/// input. Where a file is named and its document isn't in hand, the answer is that it can't be read, and nothing is read.
+/// The same as [`run_with`], with the documents in hand that were read from files: `verify` and `issue` take them in the place of
+/// those in the input. Where a file is named and its document isn't in hand, the answer is that it can't be read, and nothing is read.
 pub fn run_files<R: Source, W: Sink>(
     alloc: Global,
     words: &[&str],
@@ -241,6 +242,29 @@ fn verify_named<R: Source>(
     }
 }
 
+// The answer of `issue`, where the key set that a file is named for is in hand.
+fn issue_named<R: Source>(
+    alloc: Global,
+    wanted: Wanted<'_>,
+    files: Files<'_>,
+    held: Held<'_>,
+    r: &mut R,
+) -> Result<Reply, AllocError>
+    ensures line { IfSome (R.remaining r.old) (λ x. IfOk result (λ a. reply_view a
+        ≡ unless_unread (unread (files_view files.entry) (held_view held.entry))
+        (issue_answer (wanted_view wanted.entry) (held_view held.entry).keys (R.failed r.new) x))) }
+    ensures taken { IfSome (R.remaining r.old) (λ x. (R.failed r.new ≡ true)
+        ⊎ TakesAtMost 5242882 x (R.remaining r.new)) }
+    ensures stops { IfSome (R.remaining r.old) (λ x. (R.failed r.new ≡ true)
+        ⊎ TakesAtMost (most_unless_unread (unread (files_view files.entry) (held_view held.entry))
+        (keys_most 1048577 (held_view held.entry).keys x)) x (R.remaining r.new)) }
+{
+    match unread(files, held) {
+        Some(name) => file_failed(alloc, name),
+        None => issue(alloc, wanted, held.keys, r),
+    }
+}
+
 // The answer, before any of it goes out.
 fn reply_to<R: Source>(
     alloc: Global,
@@ -286,7 +310,14 @@ fn reply_to<R: Source>(
                 files,
             },
         ) => verify_named(alloc, asked_for(public_keys, built_in), now, files, held, r),
-        Ok(Order::Issue { alg, typ, form }) => issue(alloc, Wanted { alg, typ, form }, r),
+        Ok(
+            Order::Issue {
+                alg,
+                typ,
+                form,
+                files,
+            },
+        ) => issue_named(alloc, Wanted { alg, typ, form }, files, held, r),
         Ok(Order::Version) => version_line(alloc),
         Err(WordsFault::Wrong(text)) => Ok(Reply {
             text: text.into_bytes(),

@@ -3,7 +3,7 @@ ghost use Rattle.std.specs.Prelude.{◌≡◌, ◌≤◌, IfOk, IfErr, IfSome, N
 ghost use Rattle.clap.specs.Words.{app_of, found_of, one_of, rows_of, rule_of, subcommand_rows_of};
 ghost use Rattle.clap.specs.declared.builder.command.Command.TheViews.{out-Command as fields_of};
 ghost use Rattle.clap.specs.declared.builder.ValueParser.TheVariants.{Unsigned};
-ghost use Rattle.jwt_command.specs.Words.{HasLimits, alg_in, alg_rule, form_in, form_named, form_rule, asks_version, clap_order, files_in, files_of, issue_app, issue_order, jwt_app, key_rule, keys_app, keys_rule, limit_rule, mac_app, mac_order, moment_in, now_rule, number_in, order_in, order_of, policy_rule, public_keys_in, public_keys_rule, show_app, show_order, token_rule, typ_rule, verify_app, verify_on_input, verify_order};
+ghost use Rattle.jwt_command.specs.Words.{HasLimits, alg_in, alg_rule, form_in, form_named, form_rule, asks_version, clap_order, files_in, files_of, issue_app, issue_order, jwt_app, key_rule, keys_app, keys_file_in, keys_rule, limit_rule, mac_app, mac_order, moment_in, now_rule, number_in, order_in, order_of, policy_rule, public_keys_in, public_keys_rule, show_app, show_order, token_rule, typ_rule, verify_app, verify_on_input, verify_order};
 ghost use Rattle.jwt_command.specs.Examples.{Examples};
 ghost use Rattle.jwt_command.specs.Seen.{IsWrong, files_view, seen};
 
@@ -42,6 +42,7 @@ pub enum Order<'a> {
         alg: Alg,
         typ: Option<&'a str>,
         form: Form,
+        files: Files<'a>,
     },
     Version,
 }
@@ -213,7 +214,8 @@ fn issue_command<'a>(alloc: Global) -> Result<Command<'a>, AllocError>
         .about("Issues a token; standard input is a line with the key set, then the claims")
         .arg(alg_option(alloc))?
         .arg(typ_option(alloc))?
-        .arg(form_option(alloc))
+        .arg(form_option(alloc))?
+        .arg(keys_option(alloc))
 }
 
 /// The command line of the program, where there is a clock or none.
@@ -442,6 +444,18 @@ fn chosen_form(options: &ArgMatches<'_>) -> Option<Form>
     form_named(options.get_str("form")?)
 }
 
+// The file of the key set alone.
+fn chosen_keys_file<'a>(options: &ArgMatches<'a>) -> Files<'a>
+    ensures { files_view result ≡ keys_file_in (rows_of (found_of options.now)) }
+{
+    let keys = options.get_str("keys");
+    Files {
+        policy: None,
+        keys,
+        token: None,
+    }
+}
+
 fn chosen_issue<'a>(options: &ArgMatches<'a>) -> Option<Order<'a>>
     ensures limits { IfSome result (λ o. HasLimits (seen o)) }
     ensures order { option_map seen result ≡ issue_order (rows_of (found_of options.now)) }
@@ -449,7 +463,13 @@ fn chosen_issue<'a>(options: &ArgMatches<'a>) -> Option<Order<'a>>
     let alg = chosen_alg(options)?;
     let form = chosen_form(options)?;
     let typ = options.get_str("typ");
-    Some(Order::Issue { alg, typ, form })
+    let files = chosen_keys_file(options);
+    Some(Order::Issue {
+        alg,
+        typ,
+        form,
+        files,
+    })
 }
 
 // `clap` has refused a number out of its range; its contract says so of the words and not of the
@@ -472,7 +492,7 @@ pub fn files_named<'a>(
     ensures { IfOk result (λ f. files_view f ≡ files_of clock (map (λ w. w.now) words.now)) }
 {
     match read_words(alloc, words, clock) {
-        Ok(Order::Verify { files, .. }) => Ok(files),
+        Ok(Order::Verify { files, .. } | Order::Issue { files, .. }) => Ok(files),
         Ok(_) | Err(WordsFault::Wrong(_)) => Ok(Files {
             policy: None,
             keys: None,

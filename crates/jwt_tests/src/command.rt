@@ -817,6 +817,33 @@ fn issue_prints_the_token_or_the_first_refusal(rt: HostRuntime) -> Result<(), Fa
 }
 
 #[test]
+fn issue_takes_a_key_set_in_hand(rt: HostRuntime) -> Result<(), Fail> {
+    let alloc = rt.alloc();
+    let claims = r#"{"sub":"ann"}"#;
+    let words = ["jwt", "issue", "--alg", "HS256", "--keys", "k"];
+    let none = "failed Read file=\"k\"\n";
+    let (token, _) = issued(alloc, &words[..4], KEYS_A, claims)?;
+    for (keys, text, status) in [
+        (Some(KEYS_A), token.as_slice(), 0),
+        (Some("{}"), b"refused Keys NotKeySet\n", 1),
+        (None, none.as_bytes(), 3),
+    ] {
+        let held = Held {
+            policy: None,
+            keys: keys.map(|it| it.as_bytes()),
+            token: None,
+        };
+        let mut out: Vec<u8> = Vec::new(alloc);
+        let mut r = Reader::new(claims.as_bytes());
+        let mut w = Writer::new(&mut out);
+        let code = run_files(alloc, &words, &[], None, held, &mut r, &mut w);
+        assert_eq!(rt; out.as_slice(), text);
+        assert_eq!(rt; code, status);
+    }
+    Ok(())
+}
+
+#[test]
 fn what_issue_prints_verify_accepts(rt: HostRuntime) -> Result<(), Fail> {
     let alloc = rt.alloc();
     let forms: [(&str, &str); 3] = [
