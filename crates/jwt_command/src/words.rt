@@ -17,8 +17,13 @@ use std::alloc::{AllocError, Global};
 /// The files that are named, in the place of standard input.
 #[derive(Clone, Copy)]
 pub struct Files<'a> {
+    /// The file of the policy.
     pub policy: Option<&'a str>,
+
+    /// The file of the key set.
     pub keys: Option<&'a str>,
+
+    /// The file of the token.
     pub token: Option<&'a str>,
 }
 
@@ -482,7 +487,8 @@ fn number(options: &ArgMatches<'_>, id: &str, low: u64, high: u64) -> Option<u64
     if low <= n && n <= high { Some(n) } else { None }
 }
 
-/// The files that the words name. Where they are wrong, they name none.
+/// The files that the words name, at the moment that a clock says or without a clock. Where the words are wrong, they name none.
+/// `AllocError` comes where an allocation was refused.
 pub fn files_named<'a>(
     alloc: Global,
     words: &'a [&'a str],

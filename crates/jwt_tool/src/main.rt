@@ -4,8 +4,8 @@
 ghost use Rattle.std.specs.Prelude.{◌≤◌, IfSome};
 
 use jwt_command::documents::{Held, read_document};
+use jwt_command::files_named;
 use jwt_command::run::{lack_memory, run_files};
-use jwt_command::words::files_named;
 use jwt_mac::Verifier;
 use jwt_rsa::Rsa;
 use jwt_text::{GREATEST_LIMIT, Intake, Reader, Sink, Source, Writer};
