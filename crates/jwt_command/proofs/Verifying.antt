@@ -1,9 +1,9 @@
 -- What `verify` takes, and its answer where a line is too long.
-use Rattle.std.proofs.Common.{◌≡◌, ◌≢◌, ◌≤◌, ◌<◌, ◌⊎◌, inl, inr, ℕ, ◌+◌, Bool, true, false, List, length, drop, Option, Some, Result, Ok, Err, IfOk, refl, sym, ap, subst, ◌∙◌, drop_at, drop-drop, arith, nat_lt, true≢false, IfSome}
+use Rattle.std.proofs.Common.{◌≡◌, ◌≢◌, ◌≤◌, ◌<◌, ◌⊎◌, inl, inr, ℕ, ◌+◌, Bool, true, false, List, length, drop, Option, None, Some, Result, Ok, Err, IfOk, refl, sym, ap, subst, ◌∙◌, drop_at, drop-drop, arith, nat_lt, true≢false, IfSome}
 use Rattle.std.proofs.lemmas.Bool.Decides.{nat_tests}
 use Rattle.std.specs.Option.{option_map_or}
 use Rattle.jwt_mac.specs.Verifying.{Meaning}
-use Rattle.jwt_keys.specs.KeySets.{key_set_of}
+use Rattle.jwt_keys.specs.KeySets.{KeyList, key_set_of}
 use Rattle.jwt_keys.specs.declared.fault.KeysFault.TheVariants as keys
 use Rattle.jwt_policy.specs.Document.{policy_of}
 use Rattle.jwt_policy.specs.declared.policy_fault.PolicyFault.TheVariants as policy
@@ -18,12 +18,13 @@ use Rattle.jwt_verify.specs.declared.report.Fault.TheVariants.{OutOfMemory, Text
 use Rattle.jwt_verify.specs.declared.report.Verdict.{Verdict}
 use Rattle.jwt_verify.specs.declared.report.Verdict.TheVariants.{Accepted, Refused}
 use Rattle.jwt_policy.specs.Settings.{Settings}
+use Rattle.jwt_command.specs.Documents.{Held, TakesDocument, behind, document, document_most, last_document, last_most}
 use Rattle.jwt_command.specs.Input.{TakesAtMost}
 use Rattle.jwt_command.specs.Issue.{TokenAsked, issue_answer, issue_under}
 use Rattle.jwt_command.specs.Verify.{keys_answer, keys_refused, policy_refused, token_answer, under_keys, under_policy, unless_failed, verify_answer, verify_line}
 use Rattle.jwt_command.specs.Printed.{Answer}
 use Rattle.jwt_command.specs.Listed.{keys_answer as keys_answer_alone, listed}
-use Rattle.jwt_command.specs.Stops.{behind_policy, keys_most, verify_most}
+use Rattle.jwt_command.specs.Stops.{behind_keys, behind_policy, keys_most, verify_most}
 use Rattle.jwt_command.specs.TakenLines.{TakesLine, after_line, first_line, line_most}
 use Rattle.jwt_command.proofs.LineLemmas.{line_taken}
 use Rattle.std.proofs.Math.Nat.{min-le_left}
@@ -43,9 +44,9 @@ then_stops limit more x octets mid rest failed h behind =
     (subst (λ m. TakesAtMost (line_most limit x) x m) h.unread (line_taken limit x octets mid h))
     (subst (λ m. IfSome m (λ y. (failed ≡ true) ⊎ TakesAtMost (more y) y rest)) h.unread behind)
 
-pub under_policy_taken : (x : List ℕ) (p : Settings) (rest : Option (List ℕ)) (failed : Bool) → policy_of (first_line x) ≡ Ok p
-    → (failed ≡ true) ⊎ TakesAtMost (line_most 65536 x + keys_most (p.run.limit + 1) (after_line x)) x rest → (failed ≡ true) ⊎ TakesAtMost (verify_most x) x rest
-under_policy_taken x p rest failed is h = subst (λ r. (failed ≡ true) ⊎ TakesAtMost (line_most 65536 x + behind_policy r (after_line x)) x rest) (sym is) h
+pub under_policy_taken : (h : Held) (x : List ℕ) (p : Settings) (rest : Option (List ℕ)) (failed : Bool) → policy_of (document h.policy x) ≡ Ok p
+    → (failed ≡ true) ⊎ TakesAtMost (document_most 65536 h.policy x + keys_most (last_most (p.run.limit + 1) h.token) h.keys (behind h.policy x)) x rest → (failed ≡ true) ⊎ TakesAtMost (verify_most h x) x rest
+under_policy_taken h x p rest failed is t = subst (λ r. (failed ≡ true) ⊎ TakesAtMost (document_most 65536 h.policy x + behind_policy h r (behind h.policy x)) x rest) (sym is) t
 
 pub most_is : (n most : ℕ) (x : List ℕ) (rest : Option (List ℕ)) (failed : Bool) → n ≤ most → (failed ≡ true) ⊎ TakesAtMost n x rest → (failed ≡ true) ⊎ TakesAtMost most x rest
 most_is n most x rest failed within (inl is) = inl is
@@ -66,6 +67,55 @@ pub then_bounded : (limit second most : ℕ) → limit + 1 + second ≤ most →
     → TakesLine limit x octets mid → IfSome mid (λ y. (failed ≡ true) ⊎ TakesAtMost second y rest) → (failed ≡ true) ⊎ TakesAtMost most x rest
 then_bounded limit second most within x octets mid rest failed h more =
     most_is (line_most limit x + second) most x rest failed (omega (arith, line_within limit x, within)) (then_stops limit (λ y. second) x octets mid rest failed h more)
+
+-- ---- documents
+
+-- nothing is taken
+pub none_taken : (most : ℕ) (told : Option (List ℕ)) (failed : Bool) → IfSome told (λ x. (failed ≡ true) ⊎ TakesAtMost most x told)
+none_taken most None failed = tt
+none_taken most (Some x) failed = inr (0, omega arith, refl)
+
+pub document_within : (limit : ℕ) (held : Option (List ℕ)) (x : List ℕ) → document_most limit held x ≤ limit + 1
+document_within limit (Some octets) x = omega arith
+document_within limit None x = line_within limit x
+
+pub document_bounded : (limit most : ℕ) → limit + 1 ≤ most → (held : Option (List ℕ)) (x : List ℕ) (rest : Option (List ℕ)) (failed : Bool) → (failed ≡ true) ⊎ TakesAtMost (document_most limit held x) x rest → (failed ≡ true) ⊎ TakesAtMost most x rest
+document_bounded limit most within held x rest failed h = most_is (document_most limit held x) most x rest failed (omega (arith, document_within limit held x, within)) h
+
+pub document_stops : (limit more : ℕ) (held : Option (List ℕ)) (x : List ℕ) (rest : Option (List ℕ)) (failed : Bool) → (failed ≡ true) ⊎ TakesAtMost (document_most limit held x) x rest → (failed ≡ true) ⊎ TakesAtMost (document_most limit held x + more) x rest
+document_stops limit more held x rest failed h = most_is (document_most limit held x) (document_most limit held x + more) x rest failed (omega arith) h
+
+-- what is taken by a document and behind it
+pub document_then_stops : (limit : ℕ) (more : List ℕ → ℕ) (held : Option (List ℕ)) (x octets : List ℕ) (mid rest : Option (List ℕ)) (failed : Bool)
+    → TakesDocument limit held x octets mid → IfSome mid (λ y. (failed ≡ true) ⊎ TakesAtMost (more y) y rest) → (failed ≡ true) ⊎ TakesAtMost (document_most limit held x + more (behind held x)) x rest
+document_then_stops limit more held x octets mid rest failed h then =
+    more_taken (document_most limit held x) (more (behind held x)) (document_most limit held x + more (behind held x)) x rest failed (omega arith) (behind held x)
+    (subst (λ m. TakesAtMost (document_most limit held x) x m) h.unread h.taken)
+    (subst (λ m. IfSome m (λ y. (failed ≡ true) ⊎ TakesAtMost (more y) y rest)) h.unread then)
+
+pub document_then_bounded : (limit second most : ℕ) → limit + 1 + second ≤ most → (held : Option (List ℕ)) (x octets : List ℕ) (mid rest : Option (List ℕ)) (failed : Bool)
+    → TakesDocument limit held x octets mid → IfSome mid (λ y. (failed ≡ true) ⊎ TakesAtMost second y rest) → (failed ≡ true) ⊎ TakesAtMost most x rest
+document_then_bounded limit second most within held x octets mid rest failed h more =
+    most_is (document_most limit held x + second) most x rest failed (omega (arith, document_within limit held x, within)) (document_then_stops limit (λ y. second) held x octets mid rest failed h more)
+
+-- of a key set that is read, and behind it
+pub behind_keys_taken : (most : ℕ) (held : Option (List ℕ)) (x octets : List ℕ) (mid rest : Option (List ℕ)) (failed : Bool) (set : KeyList)
+    → TakesDocument 4194304 held x octets mid → key_set_of octets ≡ Ok set → IfSome mid (λ y. (failed ≡ true) ⊎ TakesAtMost most y rest) → (failed ≡ true) ⊎ TakesAtMost (keys_most most held x) x rest
+behind_keys_taken most held x octets mid rest failed set h is then =
+    subst (λ k. (failed ≡ true) ⊎ TakesAtMost (document_most 4194304 held x + behind_keys most k) x rest) (sym is ∙ ap key_set_of h.octets_are)
+    (document_then_stops 4194304 (λ y. most) held x octets mid rest failed h then)
+
+-- the answer under a policy that is read
+pub policy_read : {A E : Type 0} (view : A → Answer) (r : Result A E) (vs : List Meaning) (now : ℕ) (h : Held) (p : Settings) (x octets : List ℕ) (mid : Option (List ℕ)) (failed : Bool)
+    → TakesDocument 65536 h.policy x octets mid → policy_of octets ≡ Ok p → IfSome mid (λ y. IfOk r (λ a. view a ≡ unless_failed failed (keys_answer vs now h p y)))
+    → IfOk r (λ a. view a ≡ verify_answer vs now h failed x)
+policy_read view r vs now h p x octets mid failed d is then =
+    subst (λ k. IfOk r (λ a. view a ≡ unless_failed failed (under_policy vs now h k (behind h.policy x)))) (sym is ∙ ap policy_of d.octets_are)
+    (subst (λ m. IfSome m (λ y. IfOk r (λ a. view a ≡ unless_failed failed (keys_answer vs now h p y)))) d.unread then)
+
+-- a line as a document
+pub line_document : (limit : ℕ) (x octets : List ℕ) (rest : Option (List ℕ)) → TakesLine limit x octets rest → TakesDocument limit None x octets rest
+line_document limit x octets rest h = record { octets_are = h.line; unread = h.unread; taken = line_taken limit x octets rest h }
 
 pub front_taken : (limit most : ℕ) (x : List ℕ) (rest : Option (List ℕ)) (failed : Bool) (v : Verdict) → limit + 1 ≤ most
     → (v ≢ Refused (Text Read) → FrontAtMost (limit + 1) x rest) → (v ≡ Refused (Text Read) → failed ≡ true) → (failed ≡ true) ⊎ TakesAtMost most x rest
@@ -88,23 +138,23 @@ pub policy_too_long : (z : List ℕ) → 65536 < length z → policy_of z ≡ Er
 unfolding policy_of
 policy_too_long z long = let is : nat_lt 65536 (length z) ≡ true = grind (arith, nat_tests, long) in rw is refl
 
-pub keys_line_too_long : (vs : List Meaning) (now : ℕ) (p : Settings) (x : List ℕ) (failed : Bool) → failed ≡ false → 4194304 < length (first_line x)
-    → keys_refused keys.TooLong ≡ unless_failed failed (keys_answer vs now p x)
-keys_line_too_long vs now p x failed works long =
-    sym (ap (λ f. unless_failed f (keys_answer vs now p x)) works ∙ ap (λ k. under_keys vs now p k (after_line x)) (keys_too_long (first_line x) long))
+pub keys_line_too_long : (vs : List Meaning) (now : ℕ) (h : Held) (p : Settings) (x : List ℕ) (failed : Bool) → failed ≡ false → 4194304 < length (document h.keys x)
+    → keys_refused keys.TooLong ≡ unless_failed failed (keys_answer vs now h p x)
+keys_line_too_long vs now h p x failed works long =
+    sym (ap (λ f. unless_failed f (keys_answer vs now h p x)) works ∙ ap (λ k. under_keys vs now p k (last_document h.token (behind h.keys x))) (keys_too_long (document h.keys x) long))
 
-pub policy_line_too_long : (vs : List Meaning) (now : ℕ) (x : List ℕ) (failed : Bool) → failed ≡ false → 65536 < length (first_line x)
-    → policy_refused policy.TooLong ≡ verify_answer vs now failed x
-policy_line_too_long vs now x failed works long =
-    sym (ap (λ f. verify_answer vs now f x) works ∙ ap (λ k. under_policy vs now k (after_line x)) (policy_too_long (first_line x) long))
+pub policy_line_too_long : (vs : List Meaning) (now : ℕ) (h : Held) (x : List ℕ) (failed : Bool) → failed ≡ false → 65536 < length (document h.policy x)
+    → policy_refused policy.TooLong ≡ verify_answer vs now h failed x
+policy_line_too_long vs now h x failed works long =
+    sym (ap (λ f. verify_answer vs now h f x) works ∙ ap (λ k. under_policy vs now h k (behind h.policy x)) (policy_too_long (document h.policy x) long))
 
 pub set_too_long : (x : List ℕ) (failed : Bool) → failed ≡ false → 4194304 < length x → keys_refused keys.TooLong ≡ keys_answer_alone failed x
 set_too_long x failed works long = sym (ap (λ f. keys_answer_alone f x) works ∙ ap listed (keys_too_long x long))
 
-pub issue_line_too_long : (asked : TokenAsked) (x : List ℕ) (failed : Bool) → failed ≡ false → 4194304 < length (first_line x)
-    → keys_refused keys.TooLong ≡ issue_answer asked failed x
-issue_line_too_long asked x failed works long =
-    sym (ap (λ f. issue_answer asked f x) works ∙ ap (λ k. issue_under asked k (after_line x)) (keys_too_long (first_line x) long))
+pub issue_line_too_long : (asked : TokenAsked) (held : Option (List ℕ)) (x : List ℕ) (failed : Bool) → failed ≡ false → 4194304 < length (document held x)
+    → keys_refused keys.TooLong ≡ issue_answer asked held failed x
+issue_line_too_long asked held x failed works long =
+    sym (ap (λ f. issue_answer asked held f x) works ∙ ap (λ k. issue_under asked k (behind held x)) (keys_too_long (document held x) long))
 
 -- ---- the line of a verdict
 
@@ -151,3 +201,11 @@ answered q x tells failed r octets report fails read counted found a line = elim
     working : (failed : Bool) → (failed ≡ true → ⊥) → a ≡ token_answer q x → a ≡ unless_failed failed (token_answer q x)
     working true never same = absurd (never refl)
     working false never same = same
+
+-- the same of a report on octets in hand
+pub answered_in_hand : (q : Terms) (x : List ℕ) → TellsReports → (r : Report) (octets : ℕ) → IsReport q x q.policy.run.work r
+    → octets ≡ work r.tries.items → FoundMemory r.verdict → (a : Answer) → a ≡ verify_line r.verdict (length r.tries.items) octets → a ≡ token_answer q x
+answered_in_hand q x tells r octets report counted found a line =
+    let t = tells q x q.policy.run.work r report found in
+    line ∙ ap (λ n. verify_line r.verdict (length r.tries.items) n) counted ∙ ap (λ v. verify_line v (length r.tries.items) (work r.tries.items)) t.0
+    ∙ ap (λ es. verify_line (verdict_of q x q.policy.run.work) (length es) (work es)) t.1

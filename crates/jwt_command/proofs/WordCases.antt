@@ -2,7 +2,7 @@
 use Rattle.std.proofs.Common.{◌≡◌, [], ◌∷◌, None, Some, true, false, refl}
 use Rattle.std.specs.Prelude.{codes}
 use Rattle.clap.proofs.OnLiterals.{clap_on_literals}
-use Rattle.jwt_command.specs.Words.{Mac, Verify, Version, order_of}
+use Rattle.jwt_command.specs.Words.{Mac, Verify, Version, no_files, order_of}
 
 pub key_alone : order_of None (codes "jwt" ∷ codes "mac" ∷ codes "--k" ∷ codes "AA" ∷ []) ≡ Some (Mac (codes "AA") 8192)
 unfolding clap_on_literals
@@ -56,7 +56,7 @@ pub empty_key : order_of None (codes "jwt" ∷ codes "mac" ∷ codes "--k=" ∷ 
 unfolding clap_on_literals
 empty_key = refl
 
-pub a_moment : order_of None (codes "jwt" ∷ codes "verify" ∷ codes "--now" ∷ codes "1300819379" ∷ []) ≡ Some (Verify 1300819379 false)
+pub a_moment : order_of None (codes "jwt" ∷ codes "verify" ∷ codes "--now" ∷ codes "1300819379" ∷ []) ≡ Some (Verify 1300819379 false no_files)
 unfolding clap_on_literals
 a_moment = refl
 
@@ -64,11 +64,11 @@ pub too_late : order_of None (codes "jwt" ∷ codes "verify" ∷ codes "--now" �
 unfolding clap_on_literals
 too_late = refl
 
-pub public_keys : order_of None (codes "jwt" ∷ codes "verify" ∷ codes "--public-keys" ∷ codes "--now" ∷ codes "1300819379" ∷ []) ≡ Some (Verify 1300819379 true)
+pub public_keys : order_of None (codes "jwt" ∷ codes "verify" ∷ codes "--public-keys" ∷ codes "--now" ∷ codes "1300819379" ∷ []) ≡ Some (Verify 1300819379 true no_files)
 unfolding clap_on_literals
 public_keys = refl
 
-pub public_keys_behind : order_of None (codes "jwt" ∷ codes "verify" ∷ codes "--now" ∷ codes "1300819379" ∷ codes "--public-keys" ∷ []) ≡ Some (Verify 1300819379 true)
+pub public_keys_behind : order_of None (codes "jwt" ∷ codes "verify" ∷ codes "--now" ∷ codes "1300819379" ∷ codes "--public-keys" ∷ []) ≡ Some (Verify 1300819379 true no_files)
 unfolding clap_on_literals
 public_keys_behind = refl
 
@@ -92,11 +92,11 @@ pub version_of_a_command : order_of None (codes "jwt" ∷ codes "keys" ∷ codes
 unfolding clap_on_literals
 version_of_a_command = refl
 
-pub clock_alone : order_of (Some 1300819379) (codes "jwt" ∷ codes "verify" ∷ []) ≡ Some (Verify 1300819379 false)
+pub clock_alone : order_of (Some 1300819379) (codes "jwt" ∷ codes "verify" ∷ []) ≡ Some (Verify 1300819379 false no_files)
 unfolding clap_on_literals
 clock_alone = refl
 
-pub now_before_clock : order_of (Some 7) (codes "jwt" ∷ codes "verify" ∷ codes "--now" ∷ codes "1300819379" ∷ []) ≡ Some (Verify 1300819379 false)
+pub now_before_clock : order_of (Some 7) (codes "jwt" ∷ codes "verify" ∷ codes "--now" ∷ codes "1300819379" ∷ []) ≡ Some (Verify 1300819379 false no_files)
 unfolding clap_on_literals
 now_before_clock = refl
 
@@ -107,3 +107,11 @@ too_late_with_clock = refl
 pub no_moment : order_of None (codes "jwt" ∷ codes "verify" ∷ []) ≡ None
 unfolding clap_on_literals
 no_moment = refl
+
+pub files_named : order_of None (codes "jwt" ∷ codes "verify" ∷ codes "--now" ∷ codes "7" ∷ codes "--policy" ∷ codes "p" ∷ codes "--keys=k" ∷ []) ≡ Some (Verify 7 false (record { policy = Some (codes "p"); keys = Some (codes "k"); token = None }))
+unfolding clap_on_literals
+files_named = refl
+
+pub file_named_twice : order_of None (codes "jwt" ∷ codes "verify" ∷ codes "--now" ∷ codes "7" ∷ codes "--token" ∷ codes "t" ∷ codes "--token" ∷ codes "t" ∷ []) ≡ None
+unfolding clap_on_literals
+file_named_twice = refl

@@ -1,6 +1,7 @@
 -- What the command answers to what its words ask for.
 use Rattle.std.specs.Prelude.{ℕ, Bool, List, [], ◌∷◌, codes}
 use Rattle.jwt_mac.specs.Verifying.{Meaning}
+use Rattle.jwt_command.specs.Documents.{Held, none_held, unless_unread, unread}
 use Rattle.jwt_command.specs.Issue.{issue_answer}
 use Rattle.jwt_command.specs.Listed.{keys_answer}
 use Rattle.jwt_command.specs.Mac.{mac_answer}
@@ -13,11 +14,15 @@ use Rattle.jwt_command.specs.Words.{Issue, Keys, Mac, Order, Show, Verify, Versi
 abbrev pub version_answer : Answer
 version_answer = line (codes "jwt 0.1.0, proved with rattle-kit-13b logic dac8208d650f15bf" ∷ []) 0
 
--- with these verifiers at hand, of an input, by a reader that has failed or not
+-- with these verifiers at hand and these documents in hand, of an input, by a reader that has failed or not
+abbrev pub answer_with : List Meaning → Held → Order → Bool → List ℕ → Answer
+answer_with built_in held (Mac key limit) failed x = mac_answer key limit failed x
+answer_with built_in held Keys failed x = keys_answer failed x
+answer_with built_in held (Show limit) failed x = show_answer limit failed x
+answer_with built_in held (Verify now public_keys files) failed x = unless_unread (unread files held) (verify_answer (asked_for public_keys built_in) now held failed x)
+answer_with built_in held (Issue alg typ form files) failed x = unless_unread (unread files held) (issue_answer (record { alg = alg; typ = typ; form = form }) held.keys failed x)
+answer_with built_in held Version failed x = version_answer
+
+-- with no document in hand
 abbrev pub answer_of : List Meaning → Order → Bool → List ℕ → Answer
-answer_of built_in (Mac key limit) failed x = mac_answer key limit failed x
-answer_of built_in Keys failed x = keys_answer failed x
-answer_of built_in (Show limit) failed x = show_answer limit failed x
-answer_of built_in (Verify now public_keys) failed x = verify_answer (asked_for public_keys built_in) now failed x
-answer_of built_in (Issue alg typ form) failed x = issue_answer (record { alg = alg; typ = typ; form = form }) failed x
-answer_of built_in Version failed x = version_answer
+answer_of built_in order failed x = answer_with built_in none_held order failed x

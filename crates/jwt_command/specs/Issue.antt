@@ -17,7 +17,7 @@ use Rattle.jwt_issue.specs.declared.fault.IssueFault.TheVariants as issue
 use Rattle.jwt_command.specs.Faults.{claim_fault_parts, joined_parts}
 use Rattle.jwt_command.specs.Input.{without_line_feed}
 use Rattle.jwt_command.specs.Printed.{Answer, refused}
-use Rattle.jwt_command.specs.TakenLines.{after_line, first_line}
+use Rattle.jwt_command.specs.Documents.{behind, document}
 use Rattle.jwt_command.specs.Verify.{keys_refused, unless_failed}
 
 -- ---- the token
@@ -69,6 +69,6 @@ abbrev pub issue_under : TokenAsked → Result KeyList KeysFault → List ℕ �
 issue_under w (Ok set) x = claims_answer w set.keys x
 issue_under w (Err fault) x = keys_refused fault
 
--- of an input whose first line is the key set, by a reader that has failed or not
-abbrev pub issue_answer : TokenAsked → Bool → List ℕ → Answer
-issue_answer w failed x = unless_failed failed (issue_under w (key_set_of (first_line x)) (after_line x))
+-- of a key set, in hand or the first line of an input, and the claims behind it, by a reader that has failed or not
+abbrev pub issue_answer : TokenAsked → Option (List ℕ) → Bool → List ℕ → Answer
+issue_answer w held failed x = unless_failed failed (issue_under w (key_set_of (document held x)) (behind held x))

@@ -1,4 +1,5 @@
 pub mod Answered
+pub mod Documents
 pub mod Examples
 pub mod Faults
 pub mod Input

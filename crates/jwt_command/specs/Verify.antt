@@ -18,7 +18,7 @@ use Rattle.jwt_verify.specs.declared.report.Verdict.{Verdict}
 use Rattle.jwt_verify.specs.declared.report.Verdict.TheVariants.{Accepted, Refused}
 use Rattle.jwt_command.specs.Faults.{fault_parts, joined_parts, policy_fault_parts}
 use Rattle.jwt_command.specs.Printed.{Answer, line, out_of_memory, read_failed}
-use Rattle.jwt_command.specs.TakenLines.{after_line, first_line}
+use Rattle.jwt_command.specs.Documents.{Held, behind, document, last_document}
 
 -- ---- the line of a verdict, with the number of tries and the octets that they cost
 
@@ -63,16 +63,16 @@ abbrev pub under_keys : List Meaning → ℕ → Settings → Result KeyList Key
 under_keys verifiers now p (Ok set) x = token_answer (terms verifiers now p set) x
 under_keys verifiers now p (Err fault) x = keys_refused fault
 
--- the key set is the first line of x
-abbrev pub keys_answer : List Meaning → ℕ → Settings → List ℕ → Answer
-keys_answer verifiers now p x = under_keys verifiers now p (key_set_of (first_line x)) (after_line x)
+-- the key set is in hand, or the first line of x
+abbrev pub keys_answer : List Meaning → ℕ → Held → Settings → List ℕ → Answer
+keys_answer verifiers now held p x = under_keys verifiers now p (key_set_of (document held.keys x)) (last_document held.token (behind held.keys x))
 
 abbrev pub policy_refused : PolicyFault → Answer
 policy_refused fault = line (codes "refused Policy " ∷ joined_parts (policy_fault_parts fault) ∷ []) 1
 
-abbrev pub under_policy : List Meaning → ℕ → Result Settings PolicyFault → List ℕ → Answer
-under_policy verifiers now (Ok p) x = keys_answer verifiers now p x
-under_policy verifiers now (Err fault) x = policy_refused fault
+abbrev pub under_policy : List Meaning → ℕ → Held → Result Settings PolicyFault → List ℕ → Answer
+under_policy verifiers now held (Ok p) x = keys_answer verifiers now held p x
+under_policy verifiers now held (Err fault) x = policy_refused fault
 
 -- ---- the answer
 
@@ -80,6 +80,7 @@ abbrev pub unless_failed : Bool → Answer → Answer
 unless_failed true a = read_failed
 unless_failed false a = a
 
--- by verifiers for public keys, at a moment, of an input whose first line is the policy, by a reader that has failed or not
-abbrev pub verify_answer : List Meaning → ℕ → Bool → List ℕ → Answer
-verify_answer verifiers now failed x = unless_failed failed (under_policy verifiers now (policy_of (first_line x)) (after_line x))
+-- by verifiers for public keys, at a moment, of the documents in hand and of an input that has the others, by a reader that has
+-- failed or not
+abbrev pub verify_answer : List Meaning → ℕ → Held → Bool → List ℕ → Answer
+verify_answer verifiers now held failed x = unless_failed failed (under_policy verifiers now held (policy_of (document held.policy x)) (behind held.policy x))

@@ -39,6 +39,16 @@ now_rule has_clock = record (option (codes "now")) { parser = Some now_range; re
 abbrev pub public_keys_rule : Rule
 public_keys_rule = record (new_rule (codes "public-keys")) { long = Some (codes "public-keys"); action = Some SetTrue }
 
+-- the file of a document, in the place of standard input
+abbrev pub policy_rule : Rule
+policy_rule = option (codes "policy")
+
+abbrev pub keys_rule : Rule
+keys_rule = option (codes "keys")
+
+abbrev pub token_rule : Rule
+token_rule = option (codes "token")
+
 abbrev pub alg_rule : Rule
 alg_rule = record (option (codes "alg")) { required = true }
 
@@ -59,11 +69,15 @@ keys_app = new_app (codes "keys")
 abbrev pub show_app : App
 show_app = with_rule (new_app (codes "show")) limit_rule
 
+-- `verify` on standard input alone, and with files
+abbrev pub verify_on_input : Bool → App
+verify_on_input has_clock = with_rule (with_rule (new_app (codes "verify")) (now_rule has_clock)) public_keys_rule
+
 abbrev pub verify_app : Bool → App
-verify_app has_clock = with_rule (with_rule (new_app (codes "verify")) (now_rule has_clock)) public_keys_rule
+verify_app has_clock = with_rule (with_rule (with_rule (verify_on_input has_clock) policy_rule) keys_rule) token_rule
 
 abbrev pub issue_app : App
-issue_app = with_rule (with_rule (with_rule (new_app (codes "issue")) alg_rule) typ_rule) form_rule
+issue_app = with_rule (with_rule (with_rule (with_rule (new_app (codes "issue")) alg_rule) typ_rule) form_rule) keys_rule
 
 abbrev pub top_app : App
 top_app = record (new_app (codes "jwt")) { top = record (new_app (codes "jwt")).top { subcommand_required = true } }
@@ -73,12 +87,21 @@ jwt_app has_clock = with_subcommand (with_subcommand (with_subcommand (with_subc
 
 -- ---- what the words ask for
 
+-- the files that are named
+pub record Files : Type 0 where
+  pub policy : Option Text
+  pub keys : Option Text
+  pub token : Option Text
+
+abbrev pub no_files : Files
+no_files = record { policy = None; keys = None; token = None }
+
 pub data Order : Type 0 where
   Mac : Text → ℕ → Order
   Keys : Order
   Show : ℕ → Order
-  Verify : ℕ → Bool → Order
-  Issue : Alg → Option Text → Form → Order
+  Verify : ℕ → Bool → Files → Order
+  Issue : Alg → Option Text → Form → Files → Order
   Version : Order
 
 -- the numbers of an order are in their ranges
@@ -86,8 +109,8 @@ abbrev pub HasLimits : Order → Type 0
 HasLimits (Mac key limit) = (1 ≤ limit) × (limit ≤ 1048576)
 HasLimits Keys = Unit {0}
 HasLimits (Show limit) = (1 ≤ limit) × (limit ≤ 1048576)
-HasLimits (Verify now public_keys) = now ≤ 9223372036854775807
-HasLimits (Issue alg typ form) = Unit {0}
+HasLimits (Verify now public_keys files) = now ≤ 9223372036854775807
+HasLimits (Issue alg typ form files) = Unit {0}
 HasLimits Version = Unit {0}
 
 -- the most octets of an order's input; that of `verify` is a policy of 65,536 octets, a key set of 4,194,304 and a token of
@@ -96,8 +119,8 @@ abbrev pub input_limit : Order → ℕ
 input_limit (Mac key limit) = limit
 input_limit Keys = 4194304
 input_limit (Show limit) = limit
-input_limit (Verify now public_keys) = 5308418
-input_limit (Issue alg typ form) = 5242881
+input_limit (Verify now public_keys files) = 5308418
+input_limit (Issue alg typ form files) = 5242881
 input_limit Version = 0
 
 -- the number that an option has, where its parser takes it
@@ -118,8 +141,11 @@ public_keys_in rows = option_map_or (λ t. bytes_eq t (codes "true")) (first_of 
 abbrev pub moment_in : Option ℕ → List Row → Option ℕ
 moment_in clock rows = if is_some (first_of (codes "now") rows) then number_in now_range (one_of (codes "now") rows) else clock
 
+abbrev pub files_in : List Row → Files
+files_in rows = record { policy = first_of (codes "policy") rows; keys = first_of (codes "keys") rows; token = first_of (codes "token") rows }
+
 abbrev pub verify_order : Option ℕ → List Row → Option Order
-verify_order clock rows = option_map (λ now. Verify now (public_keys_in rows)) (moment_in clock rows)
+verify_order clock rows = option_map (λ now. Verify now (public_keys_in rows) (files_in rows)) (moment_in clock rows)
 
 -- the form of a token that a text names
 abbrev pub form_named : Text → Option Form
@@ -135,8 +161,11 @@ alg_in rows = option_and_then alg_named (first_of (codes "alg") rows)
 abbrev pub form_in : List Row → Option Form
 form_in rows = option_and_then form_named (first_of (codes "form") rows)
 
+abbrev pub keys_file_in : List Row → Files
+keys_file_in rows = record { policy = None; keys = first_of (codes "keys") rows; token = None }
+
 abbrev pub issue_order : List Row → Option Order
-issue_order rows = option_and_then (λ alg. option_map (λ form. Issue alg (first_of (codes "typ") rows) form) (form_in rows)) (alg_in rows)
+issue_order rows = option_and_then (λ alg. option_map (λ form. Issue alg (first_of (codes "typ") rows) form (keys_file_in rows)) (form_in rows)) (alg_in rows)
 
 abbrev pub order_in : Option ℕ → Text → List Row → Option Order
 order_in clock name rows =
@@ -166,3 +195,13 @@ asks_version (program ∷ word ∷ more ∷ words) = false
 -- what the words ask for at the moment that a clock says, or without a clock
 abbrev pub order_of : Option ℕ → List Text → Option Order
 order_of clock words = if asks_version words then Some Version else clap_order clock words
+
+-- the files that an order names
+abbrev pub files_in_order : Order → Files
+files_in_order (Verify now public_keys files) = files
+files_in_order (Issue alg typ form files) = files
+files_in_order order = no_files
+
+-- the files that words name
+abbrev pub files_of : Option ℕ → List Text → Files
+files_of clock words = option_map_or files_in_order (order_of clock words) no_files

@@ -1,5 +1,5 @@
 //! The command `issue`: a token of some claims by a key set.
-ghost use Rattle.std.specs.Prelude.{◌≡◌, ◌⊎◌, true, map, string_bytes, IfOk, IfSome};
+ghost use Rattle.std.specs.Prelude.{◌≡◌, ◌⊎◌, true, map, option_map, string_bytes, IfOk, IfSome};
 ghost use Rattle.jwt_text.specs.Answers.{Answers};
 ghost use Rattle.jwt_keys.specs.KeySets.{key_set};
 ghost use Rattle.jwt_issue.specs.Views.{pair_parts, text_of};
@@ -12,10 +12,11 @@ ghost use Rattle.jwt_command.specs.Printed.{refused};
 ghost use Rattle.jwt_command.specs.Verify.{unless_failed};
 ghost use Rattle.jwt_command.specs.Views.{reply_view, wanted_view};
 
+use crate::documents::document;
 use crate::faults::claim_fault_text;
 use crate::input::{read_input, without_line_feed};
 use crate::reply::Reply;
-use crate::take_line::{LineFault, line};
+use crate::take_line::LineFault;
 use jwt_issue::{ClaimSet, IssueFault, issue_compact, issue_flat, issue_json};
 use jwt_jws::Form;
 use jwt_keys::{Key, KeySet, KeysFault};
@@ -150,24 +151,28 @@ fn on_claims<R: Source>(
     }
 }
 
-/// Runs `jwt issue` on an input: the line of a key set, and claims with one line feed behind them or none. The key set is read
-/// and refused before the claims are taken.
+/// Runs `jwt issue` on an input: the line of a key set, where that isn't in hand, and claims with one line feed behind them or
+/// none. The key set is read and refused before the claims are taken.
 pub(crate) fn issue<R: Source>(
     alloc: Global,
     wanted: Wanted<'_>,
+    keys: Option<&[u8]>,
     r: &mut R,
 ) -> Result<Reply, AllocError>
-    ensures line { IfSome (R.remaining r.old) (λ x. IfOk result (λ a. reply_view a ≡ issue_answer (wanted_view wanted.entry) (R.failed r.new) x)) }
-    ensures taken { IfSome (R.remaining r.old) (λ x. (R.failed r.new ≡ true) ⊎ TakesAtMost 5242882 x (R.remaining r.new)) }
-    ensures stops { IfSome (R.remaining r.old) (λ x. (R.failed r.new ≡ true) ⊎ TakesAtMost (keys_most 1048577 x) x (R.remaining r.new)) }
+    ensures line { IfSome (R.remaining r.old) (λ x. IfOk result (λ a. reply_view a
+        ≡ issue_answer (wanted_view wanted.entry) (option_map (λ t. t.now) keys.entry) (R.failed r.new) x)) }
+    ensures taken { IfSome (R.remaining r.old) (λ x. (R.failed r.new ≡ true)
+        ⊎ TakesAtMost 5242882 x (R.remaining r.new)) }
+    ensures stops { IfSome (R.remaining r.old) (λ x. (R.failed r.new ≡ true)
+        ⊎ TakesAtMost (keys_most 1048577 (option_map (λ t. t.now) keys.entry) x) x (R.remaining r.new)) }
 {
-    let text = match line(alloc, r, 4_194_304) {
+    let text = match document(alloc, keys, r, 4_194_304) {
         Ok(text) => text,
         Err(LineFault::Read) => return Reply::line(alloc, "failed Read", 3),
         Err(LineFault::TooLong) => return Reply::refused_keys(alloc, "TooLong"),
         Err(LineFault::OutOfMemory) => return Err(AllocError),
     };
-    match KeySet::read(alloc, text.as_slice()) {
+    match KeySet::read(alloc, text.octets()) {
         Ok(keys) => on_claims(alloc, wanted, &keys, r),
         Err(KeysFault::OutOfMemory) => Err(AllocError),
         Err(fault) => Reply::refused_keys(alloc, fault.name()),

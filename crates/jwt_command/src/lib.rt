@@ -1,10 +1,13 @@
 //! The command `jwt`, over any source and sink: its words, one input, one answer.
 //!
-//! [`run_with`](run::run_with) is the whole of it; the program gives it the process's words, standard input and standard output,
-//! its clock, and the verifiers for public keys. [`run`](run::run) is the same with no clock and no verifiers.
-//! [`line`](take_line::line) takes one line of an input, and nothing behind it.
+//! [`run_files`](run::run_files) is the whole of it; the program gives it the process's words, standard input and standard output,
+//! its clock, the verifiers for public keys, and the documents of the files that [`files_named`] names, which
+//! [`read_document`](documents::read_document) reads. [`run_with`](run::run_with) is the same with no document in hand, and
+//! [`run`](run::run) with no clock and no verifiers either. [`line`](take_line::line) takes one line of an input, and nothing
+//! behind it.
 #![tactic(auto)]
 
+pub mod documents;
 mod faults;
 mod input;
 mod issue;
@@ -17,3 +20,5 @@ mod show;
 pub mod take_line;
 mod verify;
 mod words;
+
+pub use words::{Files, files_named};

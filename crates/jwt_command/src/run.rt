@@ -1,21 +1,25 @@
 //! The command, over any source and sink.
 ghost use Rattle.std.specs.Prelude.{◌≡◌, ◌≤◌, ◌+◌, ◌⊎◌, ℕ, List, [], None, Some, map, true, IfOk, IfSome};
-ghost use Rattle.jwt_command.specs.Answered.{answer_of, version_answer};
+ghost use Rattle.jwt_command.specs.Answered.{answer_of, answer_with, version_answer};
+ghost use Rattle.jwt_command.specs.Documents.{most_unless_unread, unless_unread, unread};
+ghost use Rattle.jwt_command.specs.Issue.{issue_answer};
 ghost use Rattle.jwt_command.specs.Mac.{key_refused, key_spelled};
 ghost use Rattle.jwt_command.specs.Input.{TakesAtMost};
 ghost use Rattle.jwt_command.specs.Printed.{Gives, GivesWrongWords, Prints, out_of_memory};
-ghost use Rattle.jwt_command.specs.Views.{reply_view};
-ghost use Rattle.jwt_command.specs.Stops.{most_taken};
-ghost use Rattle.jwt_command.specs.Verify.{asked_for};
+ghost use Rattle.jwt_command.specs.Seen.{files_view};
+ghost use Rattle.jwt_command.specs.Views.{held_view, reply_view, wanted_view};
+ghost use Rattle.jwt_command.specs.Stops.{keys_most, most_taken, most_taken_with, verify_most};
+ghost use Rattle.jwt_command.specs.Verify.{asked_for, verify_answer};
 ghost use Rattle.jwt_command.specs.Words.{Mac, Order as Asked, Version, input_limit, order_of};
 
+use crate::documents::{Held, file_failed, unread};
 use crate::issue::{Wanted, issue};
 use crate::keys::keys;
 use crate::mac::mac;
 use crate::reply::Reply;
 use crate::show::show;
 use crate::verify::verify;
-use crate::words::{Order, WordsFault, read_words};
+use crate::words::{Files, Order, WordsFault, read_words};
 use jwt_mac::Verifier;
 use jwt_text::{Sink, Source, write_out};
 use std::alloc::{AllocError, Global};
@@ -69,7 +73,7 @@ pub fn run<R: Source, W: Sink>(alloc: Global, words: &[&str], r: &mut R, w: &mut
 
 /// The same as [`run`], with verifiers for public keys at hand, which `verify --public-keys` hands in, and with the moment that a
 /// clock says, where there is one: `verify` takes it where `--now` is left out. It is in seconds since 1970-01-01T00:00:00Z, and at
-/// most 9,223,372,036,854,775,807.
+/// most 9,223,372,036,854,775,807. No document is in hand: a file that is named can't be read.
 pub fn run_with<R: Source, W: Sink>(
     alloc: Global,
     words: &[&str],
@@ -115,7 +119,58 @@ pub fn run_with<R: Source, W: Sink>(
         → GivesWrongWords (W.contents w.old) (W.contents w.new) (W.failed w.new) result }
     ensures unread { order_of clock (map (λ word. word.now) words.now) ≡ None → r.new ≡ r.old }
 {
-    match reply_to(alloc, words, built_in, clock, r) {
+    run_files(alloc, words, built_in, clock, Held::none(), r, w)
+}
+
+/// The same as [`run_with`], with the documents in hand that were read from files: `verify` and `issue` take them in the place of
+/// those in the input. Where a file is named and its document isn't in hand, the answer is that it can't be read, and nothing is read.
+pub fn run_files<R: Source, W: Sink>(
+    alloc: Global,
+    words: &[&str],
+    built_in: &[Box<dyn Verifier>],
+    clock: Option<u64>,
+    held: Held<'_>,
+    r: &mut R,
+    w: &mut W,
+) -> u8
+    requires { IfSome clock (λ n. n ≤ 9223372036854775807) }
+    // What the words ask for is answered, by these verifiers where it asks for them, and these documents.
+    ensures answer { (order : Asked) → order_of clock (map (λ word. word.now) words.now) ≡ Some order
+        → IfSome (R.remaining r.old) (λ x.
+        Gives (answer_with (map meaning built_in.now) (held_view held.entry) order (R.failed r.new) x)
+        (W.contents w.old) (W.contents w.new) (W.failed w.new) result) }
+
+    // At most one octet past the limit is taken.
+    ensures taken { (order : Asked) → order_of clock (map (λ word. word.now) words.now) ≡ Some order
+        → IfSome (R.remaining r.old) (λ x. (R.failed r.new ≡ true)
+        ⊎ TakesAtMost (input_limit order + 1) x (R.remaining r.new)) }
+
+    // Nothing behind a line that is refused.
+    ensures stops { (order : Asked) → order_of clock (map (λ word. word.now) words.now) ≡ Some order
+        → IfSome (R.remaining r.old) (λ x. (R.failed r.new ≡ true)
+        ⊎ TakesAtMost (most_taken_with (held_view held.entry) order x) x (R.remaining r.new)) }
+
+    // Where the key is refused, its line, of every source; and nothing is read.
+    ensures refused_key { (key : List ℕ) (limit : ℕ)
+        → order_of clock (map (λ word. word.now) words.now) ≡ Some (Mac key limit)
+        → key_spelled key ≡ None
+        → Gives key_refused (W.contents w.old) (W.contents w.new) (W.failed w.new) result }
+    ensures unread_key { (key : List ℕ) (limit : ℕ)
+        → order_of clock (map (λ word. word.now) words.now) ≡ Some (Mac key limit)
+        → key_spelled key ≡ None → r.new ≡ r.old }
+
+    // The version, of every source; and nothing is read.
+    ensures version { order_of clock (map (λ word. word.now) words.now) ≡ Some Version
+        → Gives version_answer (W.contents w.old) (W.contents w.new) (W.failed w.new) result }
+    ensures unread_version { order_of clock (map (λ word. word.now) words.now) ≡ Some Version
+        → r.new ≡ r.old }
+
+    // Words that `clap` refuses, and help words.
+    ensures wrong { order_of clock (map (λ word. word.now) words.now) ≡ None
+        → GivesWrongWords (W.contents w.old) (W.contents w.new) (W.failed w.new) result }
+    ensures unread { order_of clock (map (λ word. word.now) words.now) ≡ None → r.new ≡ r.old }
+{
+    match reply_to(alloc, words, built_in, clock, held, r) {
         Ok(reply) => send(w, reply.text.as_slice(), reply.status),
         Err(_) => lack_memory(w),
     }
@@ -161,24 +216,74 @@ fn asked_for(public_keys: bool, built_in: &[Box<dyn Verifier>]) -> &[Box<dyn Ver
     }
 }
 
+// The answer of `verify`, where each document that a file is named for is in hand.
+fn verify_named<R: Source>(
+    alloc: Global,
+    verifiers: &[Box<dyn Verifier>],
+    now: u64,
+    files: Files<'_>,
+    held: Held<'_>,
+    r: &mut R,
+) -> Result<Reply, AllocError>
+    requires { now ≤ 9223372036854775807 }
+    ensures line { IfSome (R.remaining r.old) (λ x. IfOk result (λ a. reply_view a
+        ≡ unless_unread (unread (files_view files.entry) (held_view held.entry))
+        (verify_answer (map meaning verifiers.now) now (held_view held.entry) (R.failed r.new) x))) }
+    ensures taken { IfSome (R.remaining r.old) (λ x. (R.failed r.new ≡ true)
+        ⊎ TakesAtMost 5308419 x (R.remaining r.new)) }
+    ensures stops { IfSome (R.remaining r.old) (λ x. (R.failed r.new ≡ true)
+        ⊎ TakesAtMost (most_unless_unread (unread (files_view files.entry) (held_view held.entry))
+        (verify_most (held_view held.entry) x)) x (R.remaining r.new)) }
+{
+    match unread(files, held) {
+        Some(name) => file_failed(alloc, name),
+        None => verify(alloc, verifiers, now, held, r),
+    }
+}
+
+// The answer of `issue`, where the key set that a file is named for is in hand.
+fn issue_named<R: Source>(
+    alloc: Global,
+    wanted: Wanted<'_>,
+    files: Files<'_>,
+    held: Held<'_>,
+    r: &mut R,
+) -> Result<Reply, AllocError>
+    ensures line { IfSome (R.remaining r.old) (λ x. IfOk result (λ a. reply_view a
+        ≡ unless_unread (unread (files_view files.entry) (held_view held.entry))
+        (issue_answer (wanted_view wanted.entry) (held_view held.entry).keys (R.failed r.new) x))) }
+    ensures taken { IfSome (R.remaining r.old) (λ x. (R.failed r.new ≡ true)
+        ⊎ TakesAtMost 5242882 x (R.remaining r.new)) }
+    ensures stops { IfSome (R.remaining r.old) (λ x. (R.failed r.new ≡ true)
+        ⊎ TakesAtMost (most_unless_unread (unread (files_view files.entry) (held_view held.entry))
+        (keys_most 1048577 (held_view held.entry).keys x)) x (R.remaining r.new)) }
+{
+    match unread(files, held) {
+        Some(name) => file_failed(alloc, name),
+        None => issue(alloc, wanted, held.keys, r),
+    }
+}
+
 // The answer, before any of it goes out.
 fn reply_to<R: Source>(
     alloc: Global,
     words: &[&str],
     built_in: &[Box<dyn Verifier>],
     clock: Option<u64>,
+    held: Held<'_>,
     r: &mut R,
 ) -> Result<Reply, AllocError>
     requires { IfSome clock (λ n. n ≤ 9223372036854775807) }
     ensures answer { (order : Asked) → order_of clock (map (λ word. word.now) words.now) ≡ Some order
         → IfSome (R.remaining r.old) (λ x.
-        IfOk result (λ a. reply_view a ≡ answer_of (map meaning built_in.now) order (R.failed r.new) x)) }
+        IfOk result (λ a. reply_view a
+        ≡ answer_with (map meaning built_in.now) (held_view held.entry) order (R.failed r.new) x)) }
     ensures taken { (order : Asked) → order_of clock (map (λ word. word.now) words.now) ≡ Some order
         → IfSome (R.remaining r.old) (λ x. (R.failed r.new ≡ true)
         ⊎ TakesAtMost (input_limit order + 1) x (R.remaining r.new)) }
     ensures stops { (order : Asked) → order_of clock (map (λ word. word.now) words.now) ≡ Some order
         → IfSome (R.remaining r.old) (λ x. (R.failed r.new ≡ true)
-        ⊎ TakesAtMost (most_taken order x) x (R.remaining r.new)) }
+        ⊎ TakesAtMost (most_taken_with (held_view held.entry) order x) x (R.remaining r.new)) }
     ensures refused_key { (key : List ℕ) (limit : ℕ)
         → order_of clock (map (λ word. word.now) words.now) ≡ Some (Mac key limit)
         → key_spelled key ≡ None → IfOk result (λ a. reply_view a ≡ key_refused) }
@@ -197,10 +302,21 @@ fn reply_to<R: Source>(
         Ok(Order::Mac { key, limit }) => mac(alloc, key, limit, r),
         Ok(Order::Keys) => keys(alloc, r),
         Ok(Order::Show { limit }) => show(alloc, limit, r),
-        Ok(Order::Verify { now, public_keys }) => {
-            verify(alloc, asked_for(public_keys, built_in), now, r)
-        }
-        Ok(Order::Issue { alg, typ, form }) => issue(alloc, Wanted { alg, typ, form }, r),
+        Ok(
+            Order::Verify {
+                now,
+                public_keys,
+                files,
+            },
+        ) => verify_named(alloc, asked_for(public_keys, built_in), now, files, held, r),
+        Ok(
+            Order::Issue {
+                alg,
+                typ,
+                form,
+                files,
+            },
+        ) => issue_named(alloc, Wanted { alg, typ, form }, files, held, r),
         Ok(Order::Version) => version_line(alloc),
         Err(WordsFault::Wrong(text)) => Ok(Reply {
             text: text.into_bytes(),

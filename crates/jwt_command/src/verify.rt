@@ -1,22 +1,24 @@
 //! The command `verify`: the verdict on a token by a policy and a key set.
-ghost use Rattle.std.specs.Prelude.{◌≡◌, ◌≤◌, ◌+◌, ◌⊎◌, true, length, map, IfOk, IfSome};
+ghost use Rattle.std.specs.Prelude.{◌≡◌, ◌≤◌, ◌+◌, ◌⊎◌, false, true, length, map, option_map, IfOk, IfSome};
 ghost use Rattle.jwt_keys.specs.KeySets.{key_set};
 ghost use Rattle.jwt_verify.specs.Reports.{FoundMemory};
 ghost use Rattle.jwt_verify.specs.declared.report.Verdict.TheVariants.{Refused};
+ghost use Rattle.jwt_command.specs.Documents.{last_document, last_most};
 ghost use Rattle.jwt_command.specs.Input.{TakesAtMost};
 ghost use Rattle.jwt_command.specs.Stops.{keys_most, verify_most};
 ghost use Rattle.jwt_command.specs.Verify.{fault_line, keys_answer, named_line, policy_refused, terms, token_answer, unless_failed, verify_answer, verify_line};
-ghost use Rattle.jwt_command.specs.Views.{reply_view};
+ghost use Rattle.jwt_command.specs.Views.{held_view, reply_view};
 
+use crate::documents::{Held, document};
 use crate::faults::{fault_text, policy_fault_text};
 use crate::reply::Reply;
-use crate::take_line::{LineFault, line};
+use crate::take_line::LineFault;
 use jwt_keys::{KeySet, KeysFault};
 use jwt_mac::{Budget, CountDown, Verifier};
 use jwt_policy::{Policy, PolicyFault};
 use jwt_text::Source;
 use jwt_verify::laws::tells_reports;
-use jwt_verify::{Fault, InputFault, Report, Verdict, validate};
+use jwt_verify::{Fault, InputFault, Report, Verdict, judge, validate};
 use std::alloc::{AllocError, Global};
 
 // The line of a refusal, with the name of the fault.
@@ -103,31 +105,81 @@ fn on_token<R: Source>(
     report_line(alloc, &report, budget.octets())
 }
 
-// The key set's line, and what is behind it.
+// The verdict on a token in hand.
+fn on_octets(
+    alloc: Global,
+    verifiers: &[Box<dyn Verifier>],
+    now: u64,
+    policy: &Policy,
+    keys: &KeySet,
+    token: &[u8],
+) -> Result<Reply, AllocError>
+    requires { now ≤ 9223372036854775807 }
+    ensures { IfOk result (λ a. reply_view a
+        ≡ token_answer (terms (map meaning verifiers.now) now policy.now (key_set keys.now)) token.now) }
+{
+    let mut count = CountDown::new(policy.work());
+    tells_reports();
+    let report = judge(
+        alloc, token, keys, policy, now as i64, verifiers, &mut count,
+    );
+    report_line(alloc, &report, count.octets())
+}
+
+// The verdict on the token: in hand, or all that is left of the input.
+fn on_last<R: Source>(
+    alloc: Global,
+    verifiers: &[Box<dyn Verifier>],
+    now: u64,
+    policy: &Policy,
+    keys: &KeySet,
+    token: Option<&[u8]>,
+    r: &mut R,
+) -> Result<Reply, AllocError>
+    requires moment { now ≤ 9223372036854775807 }
+    requires works { R.failed r.old ≡ false }
+    ensures line { IfSome (R.remaining r.old) (λ x. IfOk result (λ a. reply_view a
+        ≡ unless_failed (R.failed r.new)
+        (token_answer (terms (map meaning verifiers.now) now policy.now (key_set keys.now))
+        (last_document (option_map (λ t. t.now) token.entry) x)))) }
+    ensures taken { IfSome (R.remaining r.old) (λ x. (R.failed r.new ≡ true)
+        ⊎ TakesAtMost 1048577 x (R.remaining r.new)) }
+    ensures stops { IfSome (R.remaining r.old) (λ x. (R.failed r.new ≡ true)
+        ⊎ TakesAtMost (last_most (policy.now.run.limit + 1) (option_map (λ t. t.now) token.entry)) x (R.remaining r.new)) }
+{
+    match token {
+        Some(token) => on_octets(alloc, verifiers, now, policy, keys, token),
+        None => on_token(alloc, verifiers, now, policy, keys, r),
+    }
+}
+
+// The key set, in hand or a line, and what is behind it.
 fn on_keys<R: Source>(
     alloc: Global,
     verifiers: &[Box<dyn Verifier>],
     now: u64,
+    held: Held<'_>,
     policy: &Policy,
     r: &mut R,
 ) -> Result<Reply, AllocError>
     requires { now ≤ 9223372036854775807 }
     ensures line { IfSome (R.remaining r.old) (λ x. IfOk result (λ a. reply_view a
         ≡ unless_failed (R.failed r.new)
-        (keys_answer (map meaning verifiers.now) now policy.now x))) }
+        (keys_answer (map meaning verifiers.now) now (held_view held.entry) policy.now x))) }
     ensures taken { IfSome (R.remaining r.old) (λ x. (R.failed r.new ≡ true)
         ⊎ TakesAtMost 5242882 x (R.remaining r.new)) }
     ensures stops { IfSome (R.remaining r.old) (λ x. (R.failed r.new ≡ true)
-        ⊎ TakesAtMost (keys_most (policy.now.run.limit + 1) x) x (R.remaining r.new)) }
+        ⊎ TakesAtMost (keys_most (last_most (policy.now.run.limit + 1) (held_view held.entry).token)
+        (held_view held.entry).keys x) x (R.remaining r.new)) }
 {
-    let text = match line(alloc, r, 4_194_304) {
+    let text = match document(alloc, held.keys, r, 4_194_304) {
         Ok(text) => text,
         Err(LineFault::Read) => return Reply::line(alloc, "failed Read", 3),
         Err(LineFault::TooLong) => return Reply::refused_keys(alloc, "TooLong"),
         Err(LineFault::OutOfMemory) => return Err(AllocError),
     };
-    match KeySet::read(alloc, text.as_slice()) {
-        Ok(keys) => on_token(alloc, verifiers, now, policy, &keys, r),
+    match KeySet::read(alloc, text.octets()) {
+        Ok(keys) => on_last(alloc, verifiers, now, policy, &keys, held.token, r),
         Err(KeysFault::OutOfMemory) => Err(AllocError),
         Err(fault) => Reply::refused_keys(alloc, fault.name()),
     }
@@ -142,29 +194,30 @@ fn refused_policy(alloc: Global, fault: &PolicyFault) -> Result<Reply, AllocErro
 }
 
 /// Runs `jwt verify` with verifiers for public keys, at a moment, on an input: the line of a policy, the line of a key set, and a
-/// token. The policy is read and refused before the key set is taken, and that before the token.
+/// token, each where it isn't in hand. The policy is read and refused before the key set is taken, and that before the token.
 pub(crate) fn verify<R: Source>(
     alloc: Global,
     verifiers: &[Box<dyn Verifier>],
     now: u64,
+    held: Held<'_>,
     r: &mut R,
 ) -> Result<Reply, AllocError>
     requires { now ≤ 9223372036854775807 }
     ensures line { IfSome (R.remaining r.old) (λ x. IfOk result (λ a. reply_view a
-        ≡ verify_answer (map meaning verifiers.now) now (R.failed r.new) x)) }
+        ≡ verify_answer (map meaning verifiers.now) now (held_view held.entry) (R.failed r.new) x)) }
     ensures taken { IfSome (R.remaining r.old) (λ x. (R.failed r.new ≡ true)
         ⊎ TakesAtMost 5308419 x (R.remaining r.new)) }
     ensures stops { IfSome (R.remaining r.old) (λ x. (R.failed r.new ≡ true)
-        ⊎ TakesAtMost (verify_most x) x (R.remaining r.new)) }
+        ⊎ TakesAtMost (verify_most (held_view held.entry) x) x (R.remaining r.new)) }
 {
-    let text = match line(alloc, r, 65_536) {
+    let text = match document(alloc, held.policy, r, 65_536) {
         Ok(text) => text,
         Err(LineFault::Read) => return Reply::line(alloc, "failed Read", 3),
         Err(LineFault::TooLong) => return Reply::line(alloc, "refused Policy TooLong", 1),
         Err(LineFault::OutOfMemory) => return Err(AllocError),
     };
-    match Policy::read(alloc, text.as_slice()) {
-        Ok(policy) => on_keys(alloc, verifiers, now, &policy, r),
+    match Policy::read(alloc, text.octets()) {
+        Ok(policy) => on_keys(alloc, verifiers, now, held, &policy, r),
         Err(PolicyFault::OutOfMemory) => Err(AllocError),
         Err(fault) => refused_policy(alloc, &fault),
     }

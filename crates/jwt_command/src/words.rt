@@ -3,9 +3,9 @@ ghost use Rattle.std.specs.Prelude.{◌≡◌, ◌≤◌, IfOk, IfErr, IfSome, N
 ghost use Rattle.clap.specs.Words.{app_of, found_of, one_of, rows_of, rule_of, subcommand_rows_of};
 ghost use Rattle.clap.specs.declared.builder.command.Command.TheViews.{out-Command as fields_of};
 ghost use Rattle.clap.specs.declared.builder.ValueParser.TheVariants.{Unsigned};
-ghost use Rattle.jwt_command.specs.Words.{HasLimits, alg_in, alg_rule, form_in, form_named, form_rule, asks_version, clap_order, issue_app, issue_order, jwt_app, key_rule, keys_app, limit_rule, mac_app, mac_order, moment_in, now_rule, number_in, order_in, order_of, public_keys_in, public_keys_rule, show_app, show_order, typ_rule, verify_app, verify_order};
+ghost use Rattle.jwt_command.specs.Words.{HasLimits, alg_in, alg_rule, form_in, form_named, form_rule, asks_version, clap_order, files_in, files_of, issue_app, issue_order, jwt_app, key_rule, keys_app, keys_file_in, keys_rule, limit_rule, mac_app, mac_order, moment_in, now_rule, number_in, order_in, order_of, policy_rule, public_keys_in, public_keys_rule, show_app, show_order, token_rule, typ_rule, verify_app, verify_on_input, verify_order};
 ghost use Rattle.jwt_command.specs.Examples.{Examples};
-ghost use Rattle.jwt_command.specs.Seen.{IsWrong, seen};
+ghost use Rattle.jwt_command.specs.Seen.{IsWrong, files_view, seen};
 
 use clap::builder::ValueParser;
 use clap::error::ErrorKind;
@@ -13,6 +13,19 @@ use clap::{Arg, ArgAction, ArgMatches, Command, Error};
 use jwt_jws::Form;
 use jwt_mac::Alg;
 use std::alloc::{AllocError, Global};
+
+/// The files that are named, in the place of standard input.
+#[derive(Clone, Copy)]
+pub struct Files<'a> {
+    /// The file of the policy.
+    pub policy: Option<&'a str>,
+
+    /// The file of the key set.
+    pub keys: Option<&'a str>,
+
+    /// The file of the token.
+    pub token: Option<&'a str>,
+}
 
 /// What the words ask for.
 #[derive(Clone, Copy)]
@@ -28,11 +41,13 @@ pub enum Order<'a> {
     Verify {
         now: u64,
         public_keys: bool,
+        files: Files<'a>,
     },
     Issue {
         alg: Alg,
         typ: Option<&'a str>,
         form: Form,
+        files: Files<'a>,
     },
     Version,
 }
@@ -83,6 +98,36 @@ fn public_keys_option<'a>(alloc: Global) -> Arg<'a>
         .long("public-keys")
         .action(ArgAction::SetTrue)
         .help("Verifies signatures by public keys too: RS256, RS384, RS512, PS256, PS384, PS512")
+}
+
+fn policy_option<'a>(alloc: Global) -> Arg<'a>
+    ensures shape { rule_of result ≡ policy_rule }
+    ensures local { result.global ≡ false }
+{
+    Arg::new(alloc, "policy")
+        .long("policy")
+        .value_name("FILE")
+        .help("The file of the policy, which standard input then lacks")
+}
+
+fn keys_option<'a>(alloc: Global) -> Arg<'a>
+    ensures shape { rule_of result ≡ keys_rule }
+    ensures local { result.global ≡ false }
+{
+    Arg::new(alloc, "keys")
+        .long("keys")
+        .value_name("FILE")
+        .help("The file of the key set, which standard input then lacks")
+}
+
+fn token_option<'a>(alloc: Global) -> Arg<'a>
+    ensures shape { rule_of result ≡ token_rule }
+    ensures local { result.global ≡ false }
+{
+    Arg::new(alloc, "token")
+        .long("token")
+        .value_name("FILE")
+        .help("The file of the token, which standard input then lacks")
 }
 
 fn alg_option<'a>(alloc: Global) -> Arg<'a>
@@ -143,8 +188,9 @@ fn show_command<'a>(alloc: Global) -> Result<Command<'a>, AllocError>
         .arg(limit_option(alloc))
 }
 
-fn verify_command<'a>(alloc: Global, has_clock: bool) -> Result<Command<'a>, AllocError>
-    ensures shape { IfOk result (λ c. app_of c ≡ verify_app has_clock) }
+// `verify` on standard input alone.
+fn verify_on_input<'a>(alloc: Global, has_clock: bool) -> Result<Command<'a>, AllocError>
+    ensures shape { IfOk result (λ c. app_of c ≡ verify_on_input has_clock) }
     ensures local { IfOk result (λ c. (fields_of c).has_globals ≡ false) }
 {
     Command::new(alloc, "verify")
@@ -155,6 +201,16 @@ fn verify_command<'a>(alloc: Global, has_clock: bool) -> Result<Command<'a>, All
         .arg(public_keys_option(alloc))
 }
 
+fn verify_command<'a>(alloc: Global, has_clock: bool) -> Result<Command<'a>, AllocError>
+    ensures shape { IfOk result (λ c. app_of c ≡ verify_app has_clock) }
+    ensures local { IfOk result (λ c. (fields_of c).has_globals ≡ false) }
+{
+    verify_on_input(alloc, has_clock)?
+        .arg(policy_option(alloc))?
+        .arg(keys_option(alloc))?
+        .arg(token_option(alloc))
+}
+
 fn issue_command<'a>(alloc: Global) -> Result<Command<'a>, AllocError>
     ensures shape { IfOk result (λ c. app_of c ≡ issue_app) }
     ensures local { IfOk result (λ c. (fields_of c).has_globals ≡ false) }
@@ -163,7 +219,8 @@ fn issue_command<'a>(alloc: Global) -> Result<Command<'a>, AllocError>
         .about("Issues a token; standard input is a line with the key set, then the claims")
         .arg(alg_option(alloc))?
         .arg(typ_option(alloc))?
-        .arg(form_option(alloc))
+        .arg(form_option(alloc))?
+        .arg(keys_option(alloc))
 }
 
 /// The command line of the program, where there is a clock or none.
@@ -338,6 +395,20 @@ fn chosen_moment(options: &ArgMatches<'_>, clock: Option<u64>) -> Option<u64>
     }
 }
 
+// The files that are named.
+fn chosen_files<'a>(options: &ArgMatches<'a>) -> Files<'a>
+    ensures { files_view result ≡ files_in (rows_of (found_of options.now)) }
+{
+    let policy = options.get_str("policy");
+    let keys = options.get_str("keys");
+    let token = options.get_str("token");
+    Files {
+        policy,
+        keys,
+        token,
+    }
+}
+
 fn chosen_verify<'a>(options: &ArgMatches<'a>, clock: Option<u64>) -> Option<Order<'a>>
     requires { IfSome clock (λ n. n ≤ 9223372036854775807) }
     ensures limits { IfSome result (λ o. HasLimits (seen o)) }
@@ -345,7 +416,12 @@ fn chosen_verify<'a>(options: &ArgMatches<'a>, clock: Option<u64>) -> Option<Ord
 {
     let now = chosen_moment(options, clock)?;
     let public_keys = chosen_public_keys(options);
-    Some(Order::Verify { now, public_keys })
+    let files = chosen_files(options);
+    Some(Order::Verify {
+        now,
+        public_keys,
+        files,
+    })
 }
 
 // The algorithm of a token.
@@ -373,6 +449,18 @@ fn chosen_form(options: &ArgMatches<'_>) -> Option<Form>
     form_named(options.get_str("form")?)
 }
 
+// The file of the key set alone.
+fn chosen_keys_file<'a>(options: &ArgMatches<'a>) -> Files<'a>
+    ensures { files_view result ≡ keys_file_in (rows_of (found_of options.now)) }
+{
+    let keys = options.get_str("keys");
+    Files {
+        policy: None,
+        keys,
+        token: None,
+    }
+}
+
 fn chosen_issue<'a>(options: &ArgMatches<'a>) -> Option<Order<'a>>
     ensures limits { IfSome result (λ o. HasLimits (seen o)) }
     ensures order { option_map seen result ≡ issue_order (rows_of (found_of options.now)) }
@@ -380,7 +468,13 @@ fn chosen_issue<'a>(options: &ArgMatches<'a>) -> Option<Order<'a>>
     let alg = chosen_alg(options)?;
     let form = chosen_form(options)?;
     let typ = options.get_str("typ");
-    Some(Order::Issue { alg, typ, form })
+    let files = chosen_keys_file(options);
+    Some(Order::Issue {
+        alg,
+        typ,
+        form,
+        files,
+    })
 }
 
 // `clap` has refused a number out of its range; its contract says so of the words and not of the
@@ -391,6 +485,27 @@ fn number(options: &ArgMatches<'_>, id: &str, low: u64, high: u64) -> Option<u64
 {
     let n = options.get_one::<u64>(id)?;
     if low <= n && n <= high { Some(n) } else { None }
+}
+
+/// The files that the words name, at the moment that a clock says or without a clock. Where the words are wrong, they name none.
+/// `AllocError` comes where an allocation was refused.
+pub fn files_named<'a>(
+    alloc: Global,
+    words: &'a [&'a str],
+    clock: Option<u64>,
+) -> Result<Files<'a>, AllocError>
+    requires { IfSome clock (λ n. n ≤ 9223372036854775807) }
+    ensures { IfOk result (λ f. files_view f ≡ files_of clock (map (λ w. w.now) words.now)) }
+{
+    match read_words(alloc, words, clock) {
+        Ok(Order::Verify { files, .. } | Order::Issue { files, .. }) => Ok(files),
+        Ok(_) | Err(WordsFault::Wrong(_)) => Ok(Files {
+            policy: None,
+            keys: None,
+            token: None,
+        }),
+        Err(WordsFault::OutOfMemory) => Err(AllocError),
+    }
 }
 
 /// What some words ask for, by the definitions alone.

@@ -4,7 +4,8 @@ use super::reports::Case;
 use super::support::{
     Drip, Endless, HS256, KEY_A, KEYS_A2, NOW, Narrow, TOKEN_A, TOKEN_A2, filled,
 };
-use jwt_command::run::{lack_memory, run, run_with};
+use jwt_command::documents::Held;
+use jwt_command::run::{lack_memory, run, run_files, run_with};
 use jwt_command::take_line::{LineFault, line};
 use jwt_mac::Verifier;
 use jwt_rsa::Rsa;
@@ -657,6 +658,88 @@ fn the_clock_stands_in_for_the_moment(rt: HostRuntime) -> Result<(), Fail> {
 }
 
 // `run` has none at hand.
+// What `verify` prints with documents in hand, where files are named for all three, and its status.
+fn printed_on(
+    alloc: Global,
+    (policy, keys, token): (Option<&str>, Option<&str>, Option<&str>),
+    input: &str,
+) -> (Vec<u8>, u8) {
+    let words = [
+        "jwt",
+        "verify",
+        "--now",
+        MOMENT,
+        "--policy",
+        "p",
+        "--keys",
+        "a \"k\"",
+        "--token=t",
+    ];
+    let held = Held {
+        policy: policy.map(|it| it.as_bytes()),
+        keys: keys.map(|it| it.as_bytes()),
+        token: token.map(|it| it.as_bytes()),
+    };
+    let mut out: Vec<u8> = Vec::new(alloc);
+    let mut r = Reader::new(input.as_bytes());
+    let status = run_files(
+        alloc,
+        &words,
+        &[],
+        None,
+        held,
+        &mut r,
+        &mut Writer::new(&mut out),
+    );
+    (out, status)
+}
+
+#[test]
+fn verify_takes_documents_in_hand(rt: HostRuntime) -> Result<(), Fail> {
+    let alloc = rt.alloc();
+    let spread = "{\n  \"algs\": [\"HS256\"]\n}\n";
+    let cases = [
+        (
+            (Some(spread), Some(KEYS_A), Some(TOKEN_A)),
+            "accepted sig=0 key=0 tries=1 work=295\n",
+            0,
+        ),
+        (
+            (Some("{}"), Some(KEYS_A), Some(TOKEN_A)),
+            "refused Policy NoAlgorithm\n",
+            1,
+        ),
+        (
+            (Some(spread), Some("{}"), Some(TOKEN_A)),
+            "refused Keys NotKeySet\n",
+            1,
+        ),
+        (
+            (Some(spread), Some(KEYS_A), Some("")),
+            "refused Segments tries=0 work=0\n",
+            1,
+        ),
+        // The first file that can't be read.
+        ((None, None, None), "failed Read file=\"p\"\n", 3),
+        (
+            (Some("{}"), None, None),
+            "failed Read file=\"a \\\"k\\\"\"\n",
+            3,
+        ),
+        (
+            (Some(spread), Some(KEYS_A), None),
+            "failed Read file=\"t\"\n",
+            3,
+        ),
+    ];
+    for (held, line, status) in cases {
+        let (out, code) = printed_on(alloc, held, "no document");
+        assert_eq!(rt; out.as_slice(), line.as_bytes());
+        assert_eq!(rt; code, status);
+    }
+    Ok(())
+}
+
 #[test]
 fn public_keys_verify_nothing_where_none_are_at_hand(rt: HostRuntime) -> Result<(), Fail> {
     let input = format!(in rt.alloc(); "{RS256}\n{KEYS_A2}\n{TOKEN_A2}")?;
@@ -728,6 +811,33 @@ fn issue_prints_the_token_or_the_first_refusal(rt: HostRuntime) -> Result<(), Fa
     for (words, keys, claims, line, status) in cases {
         let (out, code) = issued(alloc, words, keys, claims)?;
         assert_eq!(rt; out.as_slice(), line.as_bytes());
+        assert_eq!(rt; code, status);
+    }
+    Ok(())
+}
+
+#[test]
+fn issue_takes_a_key_set_in_hand(rt: HostRuntime) -> Result<(), Fail> {
+    let alloc = rt.alloc();
+    let claims = r#"{"sub":"ann"}"#;
+    let words = ["jwt", "issue", "--alg", "HS256", "--keys", "k"];
+    let none = "failed Read file=\"k\"\n";
+    let (token, _) = issued(alloc, &words[..4], KEYS_A, claims)?;
+    for (keys, text, status) in [
+        (Some(KEYS_A), token.as_slice(), 0),
+        (Some("{}"), b"refused Keys NotKeySet\n", 1),
+        (None, none.as_bytes(), 3),
+    ] {
+        let held = Held {
+            policy: None,
+            keys: keys.map(|it| it.as_bytes()),
+            token: None,
+        };
+        let mut out: Vec<u8> = Vec::new(alloc);
+        let mut r = Reader::new(claims.as_bytes());
+        let mut w = Writer::new(&mut out);
+        let code = run_files(alloc, &words, &[], None, held, &mut r, &mut w);
+        assert_eq!(rt; out.as_slice(), text);
         assert_eq!(rt; code, status);
     }
     Ok(())

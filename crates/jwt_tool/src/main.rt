@@ -3,16 +3,19 @@
 
 ghost use Rattle.std.specs.Prelude.{◌≤◌, IfSome};
 
-use jwt_command::run::{lack_memory, run_with};
+use jwt_command::documents::{Held, read_document};
+use jwt_command::files_named;
+use jwt_command::run::{lack_memory, run_files};
 use jwt_mac::Verifier;
 use jwt_rsa::Rsa;
-use jwt_text::{Reader, Sink, Source, Writer};
+use jwt_text::{GREATEST_LIMIT, Intake, Reader, Sink, Source, Writer};
+use std::fs::File;
 use std::process::ExitCode;
 use std::time::{SystemTime, UNIX_EPOCH};
 use std::{env, io};
 
 // The clock is read once, before anything else. Standard input is read without a buffer, so that exactly what the contract of
-// `run_with` names is taken.
+// `run_files` names is taken.
 fn main(rt: HostRuntime) -> ExitCode {
     let clock = moment(&rt);
     let mut r = Reader::new(rt.stdin());
@@ -41,6 +44,29 @@ fn moment(rt: &HostRuntime) -> Option<u64>
     }
 }
 
+// The first octets of a file, in pieces; none where none is named or it can't be read.
+fn document(rt: &HostRuntime, name: Option<&str>, limit: u32) -> io::Result<Option<Intake>>
+    requires least { 1 ≤ limit }
+    requires greatest { limit ≤ GREATEST_LIMIT }
+{
+    let Some(name) = name else {
+        return Ok(None);
+    };
+    match File::open(rt, name) {
+        Ok(file) => Ok(read_document(rt.alloc(), limit, &mut Reader::new(file))?),
+        Err(error) if error.kind() == io::ErrorKind::OutOfMemory => Err(error),
+        Err(_) => Ok(None),
+    }
+}
+
+fn octets(document: &Option<Intake>) -> Option<&[u8]> {
+    match document {
+        Some(document) => Some(document.octets()),
+        None => None,
+    }
+}
+
+// Reads the files that the words name, and runs the command with what they hold.
 fn run_words<R: Source, W: Sink>(
     rt: &HostRuntime,
     clock: Option<u64>,
@@ -52,5 +78,14 @@ fn run_words<R: Source, W: Sink>(
     let args: Vec<String> = env::args(rt)?.collect(rt.alloc())?;
     let words: Vec<&str> = args.iter().map(|word| word.as_str()).collect(rt.alloc())?;
     let built_in: [Box<dyn Verifier>; 1] = [Box::new(rt.alloc(), Rsa)?];
-    Ok(run_with(rt.alloc(), words.as_slice(), &built_in, clock, r, w))
+    let files = files_named(rt.alloc(), words.as_slice(), clock)?;
+    let policy = document(rt, files.policy, 65_536)?;
+    let keys = document(rt, files.keys, 4_194_304)?;
+    let token = document(rt, files.token, 1_048_576)?;
+    let held = Held {
+        policy: octets(&policy),
+        keys: octets(&keys),
+        token: octets(&token),
+    };
+    Ok(run_files(rt.alloc(), words.as_slice(), &built_in, clock, held, r, w))
 }

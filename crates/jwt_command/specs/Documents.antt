@@ -1,0 +1,82 @@
+-- The documents of a command: a line of the input each, or what a file holds.
+use Rattle.std.specs.Prelude.{◌≡◌, ◌<◌, ℕ, Bool, true, false, List, [], ◌∷◌, Option, Some, None, length, codes}
+use Rattle.json.specs.Print.{quoted as quoted_text}
+use Rattle.jwt_command.specs.Input.{TakesAtMost}
+use Rattle.jwt_command.specs.Printed.{Answer, line}
+use Rattle.jwt_command.specs.TakenLines.{after_line, first_line, line_most}
+use Rattle.jwt_command.specs.Words.{Files}
+use Rattle.jwt_command.specs.declared.take_line.LineFault.{LineFault}
+use Rattle.jwt_command.specs.declared.take_line.LineFault.TheVariants.{OutOfMemory, Read, TooLong}
+
+-- ---- what is in hand
+
+-- the octets of the documents that were read from files
+pub record Held : Type 0 where
+  pub policy : Option (List ℕ)
+  pub keys : Option (List ℕ)
+  pub token : Option (List ℕ)
+
+abbrev pub none_held : Held
+none_held = record { policy = None; keys = None; token = None }
+
+-- a file that is named and isn't in hand, else the next
+abbrev pub unread_or : Option (List ℕ) → Option (List ℕ) → Option (List ℕ) → Option (List ℕ)
+unread_or (Some name) None next = Some name
+unread_or name held next = next
+
+-- the first file that is named and isn't in hand
+abbrev pub unread : Files → Held → Option (List ℕ)
+unread files held = unread_or files.policy held.policy (unread_or files.keys held.keys (unread_or files.token held.token None))
+
+abbrev pub file_failed : List ℕ → Answer
+file_failed name = line (codes "failed Read file=" ∷ quoted_text name ∷ []) 3
+
+abbrev pub unless_unread : Option (List ℕ) → Answer → Answer
+unless_unread (Some name) a = file_failed name
+unless_unread None a = a
+
+-- ---- what stands where
+
+-- a document: in hand, or the first line of the input
+abbrev pub document : Option (List ℕ) → List ℕ → List ℕ
+document (Some octets) x = octets
+document None x = first_line x
+
+-- what of the input is behind a document
+abbrev pub behind : Option (List ℕ) → List ℕ → List ℕ
+behind (Some octets) x = x
+behind None x = after_line x
+
+-- the last document: in hand, or all of the input
+abbrev pub last_document : Option (List ℕ) → List ℕ → List ℕ
+last_document (Some octets) x = octets
+last_document None x = x
+
+-- ---- what is taken of the input
+
+-- for a document: nothing where it is in hand
+abbrev pub document_most : ℕ → Option (List ℕ) → List ℕ → ℕ
+document_most limit (Some octets) x = 0
+document_most limit None x = line_most limit x
+
+-- for the last document
+abbrev pub last_most : ℕ → Option (List ℕ) → ℕ
+last_most most (Some octets) = 0
+last_most most None = most
+
+-- nothing where a file can't be read
+abbrev pub most_unless_unread : Option (List ℕ) → ℕ → ℕ
+most_unless_unread (Some name) most = 0
+most_unless_unread None most = most
+
+-- the document, and what follows it is still to come
+pub record TakesDocument (limit : ℕ) (held : Option (List ℕ)) (x octets : List ℕ) (rest : Option (List ℕ)) : Type 0 where
+  pub octets_are : octets ≡ document held x
+  pub unread : rest ≡ Some (behind held x)
+  pub taken : TakesAtMost (document_most limit held x) x rest
+
+-- a line that is too long; or a read failed; or an allocation was refused
+abbrev pub DocumentFails : ℕ → Option (List ℕ) → Bool → List ℕ → LineFault → Type 0
+DocumentFails limit held failed x TooLong = (limit < length (document held x)) × (failed ≡ false)
+DocumentFails limit held failed x Read = failed ≡ true
+DocumentFails limit held failed x OutOfMemory = Unit {0}

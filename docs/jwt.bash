@@ -1,0 +1,25 @@
+# Completions of the command jwt for bash. In use after: source docs/jwt.bash
+
+_jwt() {
+    local word=${COMP_WORDS[COMP_CWORD]} before=${COMP_WORDS[COMP_CWORD - 1]} choices=
+    if [ "$COMP_CWORD" -eq 1 ]; then
+        choices="mac show keys verify issue --version"
+    else
+        case ${COMP_WORDS[1]}:$before in
+        issue:--alg) choices="HS256 HS384 HS512" ;;
+        issue:--form) choices="compact json flattened" ;;
+        verify:--policy | verify:--keys | verify:--token | issue:--keys)
+            mapfile -t COMPREPLY < <(compgen -f -- "$word")
+            return
+            ;;
+        # The values of these aren't known here.
+        issue:--typ | mac:--k | mac:--limit | show:--limit | verify:--now) ;;
+        mac:*) choices="--k --limit" ;;
+        show:*) choices="--limit" ;;
+        verify:*) choices="--now --public-keys --policy --keys --token" ;;
+        issue:*) choices="--alg --typ --form --keys" ;;
+        esac
+    fi
+    mapfile -t COMPREPLY < <(compgen -W "$choices" -- "$word")
+}
+complete -F _jwt jwt ./jwt
