@@ -27,4 +27,6 @@ mod support;
 #[cfg(test)]
 mod text;
 #[cfg(test)]
+mod told;
+#[cfg(test)]
 mod verify;

@@ -1,0 +1,132 @@
+//! Tokens judged by what is told of their signatures.
+
+use super::support::{KEYS_A2, NOW, TOKEN_A2};
+use jwt_jws::{Signature, parse};
+use jwt_keys::{Key, KeySet};
+use jwt_mac::{Alg, KeyView};
+use jwt_policy::{Policy, SigFault};
+use jwt_told::{Answers, Question, judge_told};
+use jwt_verify::{Fault, Report, Verdict};
+use std::alloc::Global;
+use std::test::Fail;
+
+/// What is told of the token before it is judged, and the word for what is made of it.
+#[derive(Clone, Copy)]
+struct Case {
+    shows: &'static str,
+    /// Whether the key made the signature; nothing is told where it is `None`.
+    valid: Option<bool>,
+    /// Whether the algorithm, the key and the signature are the token's.
+    alg: Alg,
+    same_key: bool,
+    same_signature: bool,
+    word: &'static str,
+}
+
+/// The case where it is told that the token's key made its signature.
+const TOLD: Case = Case {
+    shows: "told valid",
+    valid: Some(true),
+    alg: Alg::RS256,
+    same_key: true,
+    same_signature: true,
+    word: "accepted",
+};
+
+const CASES: [Case; 6] = [
+    TOLD,
+    Case {
+        shows: "told invalid",
+        valid: Some(false),
+        word: "bad signature",
+        ..TOLD
+    },
+    Case {
+        shows: "nothing told",
+        valid: None,
+        word: "asks",
+        ..TOLD
+    },
+    Case {
+        shows: "told for another key",
+        same_key: false,
+        word: "asks",
+        ..TOLD
+    },
+    Case {
+        shows: "told for another signature",
+        same_signature: false,
+        word: "asks",
+        ..TOLD
+    },
+    Case {
+        shows: "told for another algorithm",
+        alg: Alg::RS384,
+        word: "asks",
+        ..TOLD
+    },
+];
+
+/// The word for what is made of the token.
+fn word_of(judged: &Result<Report<'_>, Question>) -> &'static str {
+    match judged {
+        Ok(report) => match &report.verdict {
+            Verdict::Accepted { .. } => "accepted",
+            Verdict::Refused(Fault::Signature(0, SigFault::BadSignature)) => "bad signature",
+            Verdict::Refused(_) => "another fault",
+        },
+        Err(
+            Question {
+                signature: 0,
+                key: 0,
+            },
+        ) => "asks",
+        Err(_) => "asks about another pair",
+    }
+}
+
+/// This key, or another.
+fn view_of(key: &Key, same: bool) -> KeyView<'_> {
+    if same {
+        key.view()
+    } else {
+        KeyView::Rsa { n: &[1], e: &[3] }
+    }
+}
+
+/// The octets of this signature, or others.
+fn octets_of<'a>(signature: &'a Signature<'_>, same: bool) -> &'a [u8] {
+    if same { signature.octets() } else { &[] }
+}
+
+/// Tells what the case has of the first signature of the token and the first key.
+fn tell(alloc: Global, case: Case, keys: &KeySet, answers: &mut Answers) -> Result<(), Fail> {
+    let signed = parse(alloc, TOKEN_A2.as_bytes(), 1).ok().ok_or("no token")?;
+    let signature = signed.signature(0).ok_or("no signature")?;
+    let message = signed.message(0).ok_or("no message")?;
+    let key = keys.key(0).ok_or("no key")?;
+    let view = view_of(key, case.same_key);
+    let octets = octets_of(signature, case.same_signature);
+    if let Some(valid) = case.valid {
+        answers.tell(alloc, case.alg, &view, message, octets, valid)?;
+    }
+    Ok(())
+}
+
+#[test]
+fn a_token_is_judged_by_what_was_told(rt: HostRuntime) -> Result<(), Fail> {
+    let alloc = rt.alloc();
+    let policy = Policy::read(alloc, br#"{"algs":["RS256"]}"#)
+        .ok()
+        .ok_or("no policy")?;
+    let keys = KeySet::read(alloc, KEYS_A2.as_bytes())?;
+    for case in CASES {
+        let mut answers = Answers::new(alloc);
+        tell(alloc, case, &keys, &mut answers)?;
+        let mut budget = policy.budget();
+        let octets = TOKEN_A2.as_bytes();
+        let judged = judge_told(alloc, octets, &keys, &policy, NOW, &answers, &mut budget);
+        assert_eq!(rt; word_of(&judged), case.word, "{}", case.shows);
+    }
+    Ok(())
+}

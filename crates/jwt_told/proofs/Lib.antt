@@ -1,0 +1,4 @@
+pub mod Blank
+pub mod First
+pub mod Opening
+pub mod Right

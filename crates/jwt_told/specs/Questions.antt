@@ -1,0 +1,49 @@
+-- The questions about a token that no answer was told to.
+use Rattle.std.specs.Prelude.{◌≡◌, ℕ, ℤ, Bool, false, List, [], ◌∷◌, Option, None, Some, Result, Ok, Err}
+use Rattle.std.specs.List.{find}
+use Rattle.jwt_mac.specs.declared.algorithm.Alg.{Alg}
+use Rattle.jwt_mac.specs.Algorithm.{is_hmac_alg}
+use Rattle.jwt_mac.specs.Verifying.{Meaning}
+use Rattle.jwt_jws.specs.Token.{Token, message_of}
+use Rattle.jwt_keys.specs.Keys.{KeyParts}
+use Rattle.jwt_policy.specs.Bars.{alg}
+use Rattle.jwt_policy.specs.Settings.{Settings}
+use Rattle.jwt_verify.specs.declared.report.Try.{Try}
+use Rattle.jwt_verify.specs.declared.report.Fault.{Fault}
+use Rattle.jwt_verify.specs.declared.report.Report.{Report}
+use Rattle.jwt_verify.specs.Trying.{at_pair, may_lack_by}
+use Rattle.jwt_verify.specs.Asks.{AtPair}
+use Rattle.jwt_verify.specs.Accepted.{IsVerdict}
+use Rattle.jwt_verify.specs.Reports.{FoundMemory, IsReport}
+use Rattle.jwt_verify.specs.Verdict.{Terms, token_of}
+use Rattle.jwt_told.specs.Told.{ToldParts, Truth, AreRight, told_meaning, true_meaning, answer_to}
+
+-- key j and signature i of the token raise a question that no answer was told to
+unfoldable pub is_open : List ToldParts → Token → List KeyParts → ℕ → ℕ → Bool
+is_open ts t keys i j = at_pair (λ s k. may_lack_by (told_meaning ts ∷ []) (message_of t s) s k) false t keys i j
+
+-- the question of a try is open
+abbrev pub asks_open : List ToldParts → Token → List KeyParts → Try → Bool
+asks_open ts t keys e = is_open ts t keys e.signature e.key
+
+-- the first of these tries whose question is open
+abbrev pub first_open : List ToldParts → Result Token Fault → List KeyParts → List Try → Option Try
+first_open ts (Ok t) keys es = find (asks_open ts t keys) es
+first_open ts (Err f) keys es = None
+
+-- x is a token, and whether key j verifies signature i is a question that no answer was told to
+abbrev pub IsOpen : List ToldParts → Result Token Fault → List KeyParts → ℕ → ℕ → Type 0
+IsOpen ts (Ok t) keys i j = AtPair t keys i j (λ s k. (a : Alg) × (alg s ≡ Some a) × (is_hmac_alg a ≡ false) × (answer_to ts a k.octets (message_of t s) s.octets ≡ None))
+IsOpen ts (Err f) keys i j = ⊥
+
+-- all that a verdict rests on but the token and the budget's ceiling, where this is the one verifier
+abbrev pub terms_by : Meaning → Settings → List KeyParts → ℤ → Terms
+terms_by m p keys now = record { policy = p; keys = keys; now = now; verifiers = m ∷ [] }
+
+-- Right answers give the true verdict: where each answer is true and no try's question is open, the verdict that rests on what was
+-- told is the verdict that rests on what is true.
+abbrev pub RightAnswers : Type 0
+RightAnswers = (ts : List ToldParts) (truth : Truth) (p : Settings) (keys : List KeyParts) (now : ℤ) (x : List ℕ) (w : ℕ) (r : Report)
+    → AreRight truth ts → IsReport (terms_by (told_meaning ts) p keys now) x w r → FoundMemory r.verdict
+    → first_open ts (token_of p x) keys r.tries.items ≡ None
+    → IsVerdict (terms_by (true_meaning truth) p keys now) x w r.verdict

@@ -1,0 +1,178 @@
+//! Judges a token by what a caller told.
+
+ghost use Rattle.std.specs.Prelude.{◌≡◌, ◌≢◌, ◌∷◌, [], IfOk, IfErr, map, length};
+ghost use Rattle.jwt_keys.specs.KeySets.{key_set};
+ghost use Rattle.jwt_verify.specs.Table.{work};
+ghost use Rattle.jwt_verify.specs.Accepted.{IsVerdict};
+ghost use Rattle.jwt_verify.specs.Paying.{IsWithin};
+ghost use Rattle.jwt_verify.specs.Reports.{FoundMemory, IsReport, terms};
+ghost use Rattle.jwt_verify.specs.Verdict.{token_of};
+ghost use Rattle.jwt_verify.specs.declared.report.Fault.TheVariants.{OutOfMemory};
+ghost use Rattle.jwt_verify.specs.declared.report.Verdict.TheVariants.{Refused};
+ghost use Rattle.jwt_told.specs.Told.{Truth, AreRight, told, told_meaning, true_meaning};
+ghost use Rattle.jwt_told.specs.Questions.{first_open, IsOpen};
+
+use crate::answers::Answers;
+use crate::laws::right_answers;
+use crate::questions::{Question, first_open};
+use jwt_keys::KeySet;
+use jwt_mac::{Budget, CountDown, Verifier};
+use jwt_policy::Policy;
+use jwt_verify::{Fault, Report, Verdict, judge};
+use std::alloc::{AllocError, Global};
+
+/// The same answers, shared, in a box.
+fn boxed(alloc: Global, answers: &Answers) -> Result<Box<Answers>, AllocError>
+    ensures { IfOk result (λ b. told b.value ≡ told answers.now) }
+{
+    let shared = answers.share(alloc)?;
+    Ok(Box::new(alloc, shared)?)
+}
+
+/// A report that memory was refused before anything was tried.
+fn nothing_tried<'p>(alloc: Global) -> Report<'p>
+    ensures verdict { result.verdict ≡ Refused OutOfMemory }
+    ensures tries { result.tries.items ≡ [] }
+{
+    Report {
+        verdict: Verdict::Refused(Fault::OutOfMemory),
+        states: Vec::new(alloc),
+        tries: Vec::new(alloc),
+    }
+}
+
+/// The report with the verdict that memory was refused.
+fn without_memory<'p>(report: Report<'p>) -> Report<'p>
+    ensures verdict { result.verdict ≡ Refused OutOfMemory }
+    ensures tries { result.tries.items ≡ report.entry.tries.items }
+{
+    let Report {
+        verdict: _,
+        states,
+        tries,
+    } = report;
+    Report {
+        verdict: Verdict::Refused(Fault::OutOfMemory),
+        states,
+        tries,
+    }
+}
+
+/// The report on octets in hand by a verifier that means what was told.
+fn judge_under<'p>(
+    alloc: Global,
+    octets: &[u8],
+    keys: &KeySet,
+    policy: &'p Policy,
+    now: i64,
+    answers: &Answers,
+    verifiers: &[Box<dyn Verifier>],
+    budget: &mut CountDown,
+) -> Report<'p>
+    requires one { map meaning verifiers.now ≡ told_meaning (told answers.now) ∷ [] }
+    requires no_octets { ⟦<CountDown as Budget>⟧.octets budget.old ≡ 0 }
+    requires no_calls { ⟦<CountDown as Budget>⟧.calls budget.old ≡ 0 }
+    ensures report { IsReport
+        (terms policy.now keys.now now (told_meaning (told answers.now) ∷ []))
+        octets.now (⟦<CountDown as Budget>⟧.ceiling budget.old) result }
+    ensures within { IsWithin policy.now.max_calls (⟦<CountDown as Budget>⟧.calls budget.new) }
+    ensures octets { ⟦<CountDown as Budget>⟧.octets budget.new ≡ work result.tries.items }
+    ensures calls { ⟦<CountDown as Budget>⟧.calls budget.new ≡ length result.tries.items }
+    ensures ceiling { ⟦<CountDown as Budget>⟧.ceiling budget.new
+        ≡ ⟦<CountDown as Budget>⟧.ceiling budget.old }
+{
+    judge(alloc, octets, keys, policy, now, verifiers, budget)
+}
+
+/// The report on octets in hand, where these answers, shared, are the one verifier.
+#[tactic(auto, unfolding(jwt_verify::specs::Table::work), using(crate::proofs::Blank::nothing))]
+fn judge_by<'p>(
+    alloc: Global,
+    octets: &[u8],
+    keys: &KeySet,
+    policy: &'p Policy,
+    now: i64,
+    answers: &Answers,
+    budget: &mut CountDown,
+) -> Report<'p>
+    requires no_octets { ⟦<CountDown as Budget>⟧.octets budget.old ≡ 0 }
+    requires no_calls { ⟦<CountDown as Budget>⟧.calls budget.old ≡ 0 }
+    ensures report { IsReport
+        (terms policy.now keys.now now (told_meaning (told answers.now) ∷ []))
+        octets.now (⟦<CountDown as Budget>⟧.ceiling budget.old) result }
+    ensures within { IsWithin policy.now.max_calls (⟦<CountDown as Budget>⟧.calls budget.new) }
+    ensures octets { ⟦<CountDown as Budget>⟧.octets budget.new ≡ work result.tries.items }
+    ensures calls { ⟦<CountDown as Budget>⟧.calls budget.new ≡ length result.tries.items }
+    ensures ceiling { ⟦<CountDown as Budget>⟧.ceiling budget.new
+        ≡ ⟦<CountDown as Budget>⟧.ceiling budget.old }
+{
+    let Ok(shared) = boxed(alloc, answers) else {
+        return nothing_tried(alloc);
+    };
+    let verifiers: [Box<dyn Verifier>; 1] = [shared];
+    judge_under(
+        alloc, octets, keys, policy, now, answers, &verifiers, budget,
+    )
+}
+
+/// Judges a token in hand by what was told of signatures by public keys, or asks about a pair of which nothing was told.
+///
+/// It tries what [`judge`] tries, in the same order: a signature by HMAC is verified, and one by another algorithm is looked up
+/// among the answers. `now` is in seconds since 1970-01-01T00:00:00Z. The caller answers a question by [`Answers::tell`], and calls
+/// again with a new budget. Each question is a try that counts as a call, so the policy's `max_calls` bounds them.
+///
+/// Where each answer that was told is true, the verdict is the one that a verifier who knows the truth would have led to, be it an
+/// acceptance or a refusal.
+///
+/// The condition: the budget is new. [`Policy::budget`] makes one with the policy's `work`.
+///
+/// # Refused
+/// As [`judge`] refuses.
+///
+/// # Errors
+/// The first pair that was tried and of which nothing was told.
+pub fn judge_told<'p>(
+    alloc: Global,
+    octets: &[u8],
+    keys: &KeySet,
+    policy: &'p Policy,
+    now: i64,
+    answers: &Answers,
+    budget: &mut CountDown,
+) -> Result<Report<'p>, Question>
+    requires no_octets { ⟦<CountDown as Budget>⟧.octets budget.old ≡ 0 }
+    requires no_calls { ⟦<CountDown as Budget>⟧.calls budget.old ≡ 0 }
+
+    // The report is that of a run by what was told.
+    ensures report { IfOk result (IsReport
+        (terms policy.now keys.now now (told_meaning (told answers.now) ∷ []))
+        octets.now (⟦<CountDown as Budget>⟧.ceiling budget.old)) }
+
+    // Where what was told is true, the verdict is the true one, unless memory was refused.
+    ensures right { IfOk result (λ r. FoundMemory r.verdict
+        → (truth : Truth) → AreRight truth (told answers.now)
+        → IsVerdict
+        (terms policy.now keys.now now (true_meaning truth ∷ []))
+        octets.now (⟦<CountDown as Budget>⟧.ceiling budget.old) r.verdict) }
+
+    // A question is one of which nothing was told.
+    ensures question { IfErr result (λ q. IsOpen (told answers.now)
+        (token_of policy.now octets.now) (key_set keys.now).keys q.signature q.key) }
+
+    // What the budget counts.
+    ensures octets { IfOk result (λ r.
+        ⟦<CountDown as Budget>⟧.octets budget.new ≡ work r.tries.items) }
+    ensures calls { IfOk result (λ r.
+        ⟦<CountDown as Budget>⟧.calls budget.new ≡ length r.tries.items) }
+    ensures within { IsWithin policy.now.max_calls (⟦<CountDown as Budget>⟧.calls budget.new) }
+    ensures ceiling { ⟦<CountDown as Budget>⟧.ceiling budget.new
+        ≡ ⟦<CountDown as Budget>⟧.ceiling budget.old }
+{
+    right_answers();
+    let report = judge_by(alloc, octets, keys, policy, now, answers, budget);
+    match first_open(alloc, octets, keys, policy, answers, &report.tries) {
+        Ok(None) => Ok(report),
+        Ok(Some(open)) => Err(Question::of(open)),
+        Err(_) => Ok(without_memory(report)),
+    }
+}

@@ -1,0 +1,129 @@
+//! The questions about a token that no answer was told to.
+
+ghost use Rattle.std.specs.Prelude.{◌≡◌, IfOk, MatchOption, Ok, IsErr, false, true};
+ghost use Rattle.std.specs.List.{find};
+ghost use Rattle.jwt_keys.specs.KeySets.{key_set};
+ghost use Rattle.jwt_jws.specs.Views.{token};
+ghost use Rattle.jwt_verify.specs.Verdict.{token_of, without_line_feed};
+ghost use Rattle.jwt_told.specs.Told.{told};
+ghost use Rattle.jwt_told.specs.Questions.{is_open, asks_open, first_open};
+
+use crate::answers::Answers;
+use jwt_jws::{FormFault, Signed, parse};
+use jwt_keys::KeySet;
+use jwt_policy::{Policy, known_alg};
+use jwt_verify::Try;
+use std::alloc::{AllocError, Global};
+
+/// The octets without one line feed at their end, where that is to be dropped.
+fn without_line_feed(octets: &[u8], drops: bool) -> &[u8]
+    ensures { result.now ≡ without_line_feed drops octets.now }
+{
+    if drops && octets.len() > 0 && octets[octets.len() - 1] == 10 {
+        &octets[..octets.len() - 1]
+    } else {
+        octets
+    }
+}
+
+/// The signed token that the octets are (RFC 7515, section 7); `None` where they are none.
+#[tactic(auto, unfolding(jwt_verify::specs::Verdict::token_of))]
+fn read_token<'a>(
+    alloc: Global,
+    octets: &'a [u8],
+    policy: &Policy,
+) -> Result<Option<Signed<'a>>, AllocError>
+    ensures { IfOk result (λ o. MatchOption o
+        (IsErr (token_of policy.now octets.now))
+        (λ s. token_of policy.now octets.now ≡ Ok (token s))) }
+{
+    if octets.len() > policy.limit() as usize {
+        return Ok(None);
+    }
+    let text = without_line_feed(octets, policy.line_feed());
+    match parse(alloc, text, policy.max_signatures()) {
+        Ok(signed) => Ok(Some(signed)),
+        Err(FormFault::OutOfMemory) => Err(AllocError),
+        Err(_) => Ok(None),
+    }
+}
+
+/// Whether key `j` and signature `i` raise a question that no answer was told to.
+#[tactic(auto, unfolding(crate::specs::Questions::is_open, jwt_verify::specs::Trying::may_lack_by))]
+fn is_open(answers: &Answers, signed: &Signed<'_>, keys: &KeySet, i: u32, j: u32) -> bool
+    ensures { result
+        ≡ is_open (told answers.now) (token signed.now) (key_set keys.now).keys i j }
+{
+    let Some(signature) = signed.signature(i) else {
+        return false;
+    };
+    let Some(message) = signed.message(i) else {
+        return false;
+    };
+    let Some(key) = keys.key(j) else {
+        return false;
+    };
+    let Some(alg) = known_alg(signature) else {
+        return false;
+    };
+    let octets = signature.octets();
+    !alg.is_hmac() && answers.about(alg, &key.view(), message, octets).is_none()
+}
+
+/// The first of these tries whose question is open.
+fn first_open_of(
+    answers: &Answers,
+    signed: &Signed<'_>,
+    keys: &KeySet,
+    tries: &[Try],
+) -> Option<Try>
+    ensures { result
+        ≡ find (asks_open (told answers.now) (token signed.now) (key_set keys.now).keys) tries.now }
+{
+    for each in tries {
+        if is_open(answers, signed, keys, each.signature, each.key) {
+            return Some(*each);
+        }
+    }
+    None
+}
+
+/// The first of these tries of a token whose question is open.
+pub(crate) fn first_open(
+    alloc: Global,
+    octets: &[u8],
+    keys: &KeySet,
+    policy: &Policy,
+    answers: &Answers,
+    tries: &[Try],
+) -> Result<Option<Try>, AllocError>
+    ensures { IfOk result (λ o. o ≡ first_open (told answers.now)
+        (token_of policy.now octets.now) (key_set keys.now).keys tries.now) }
+{
+    match read_token(alloc, octets, policy)? {
+        Some(signed) => Ok(first_open_of(answers, &signed, keys, tries)),
+        None => Ok(None),
+    }
+}
+
+/// A pair of signature and key whose validity wasn't told.
+#[derive(Clone, Copy, Debug, PartialEq, Eq)]
+pub struct Question {
+    /// The signature's number in the token, from 0.
+    pub signature: u32,
+    /// The key's number in the key set, from 0.
+    pub key: u32,
+}
+
+impl Question {
+    /// The question of a try.
+    pub(crate) fn of(tried: Try) -> Question
+        ensures signature { result.signature ≡ tried.signature }
+        ensures key { result.key ≡ tried.key }
+    {
+        Question {
+            signature: tried.signature,
+            key: tried.key,
+        }
+    }
+}
