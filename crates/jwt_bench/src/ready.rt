@@ -101,7 +101,7 @@ impl Ready<'_> {
         ensures value { IfOk result (λ ran. ran ≡ judged_by (map meaning verifiers.now) (ready_view self.now)) }
         ensures within { IfOk result (λ ran. ran.octets ≤ 1000000000000) }
     {
-        let mut budget = self.policy.budget();
+        let mut budget = CountDown::new(self.policy.work());
         tells_reports();
         let report = judge(
             alloc,
@@ -129,7 +129,7 @@ impl Ready<'_> {
         ensures within { IfOk result (λ ran. ran.octets ≤ 1000000000000) }
     {
         let verifiers: [Box<dyn Verifier>; 0] = [];
-        let mut budget = self.policy.budget();
+        let mut budget = CountDown::new(self.policy.work());
         let mut source = Reader::new(self.given.token);
         tells_reports();
         let report = validate(
@@ -187,7 +187,7 @@ impl Ready<'_> {
         ensures value { IfOk result (λ ran. ran ≡ issued (ready_view self.now)) }
         ensures within { IfOk result (λ ran. ran.octets ≤ 1000000000000) }
     {
-        let mut budget = self.policy.budget();
+        let mut budget = CountDown::new(self.policy.work());
         match issue_compact(alloc, &mut budget, self.alg, self.key, None, self.claims) {
             Ok(_) => Ok(ran(true, &budget)),
             Err(IssueFault::OutOfMemory) => Err(RunFault::OutOfMemory),
@@ -199,7 +199,7 @@ impl Ready<'_> {
         ensures value { result ≡ hashed (ready_view self.now) secret.now }
         ensures within { result.octets ≤ 1000000000000 }
     {
-        let mut budget = self.policy.budget();
+        let mut budget = CountDown::new(self.policy.work());
         if !self.alg.is_hmac() {
             return ran(false, &budget);
         }
