@@ -1,11 +1,10 @@
 //! Tokens judged by what is told of their signatures.
 
 use super::support::{KEYS_A2, NOW, TOKEN_A2};
-use jwt_jws::{Signature, parse};
-use jwt_keys::{Key, KeySet};
+use jwt_keys::KeySet;
 use jwt_mac::{Alg, KeyView};
 use jwt_policy::{Policy, SigFault};
-use jwt_told::{Answers, Question, judge_told};
+use jwt_told::{Answers, Asked, Question, judge_told, read_token};
 use jwt_verify::{Fault, Report, Verdict};
 use std::alloc::Global;
 use std::test::Fail;
@@ -86,30 +85,39 @@ fn word_of(judged: &Result<Report<'_>, Question>) -> &'static str {
 }
 
 /// This key, or another.
-fn view_of(key: &Key, same: bool) -> KeyView<'_> {
+fn key_of<'a>(asked: &Asked<'a>, same: bool) -> KeyView<'a> {
     if same {
-        key.view()
+        asked.key
     } else {
         KeyView::Rsa { n: &[1], e: &[3] }
     }
 }
 
 /// The octets of this signature, or others.
-fn octets_of<'a>(signature: &'a Signature<'_>, same: bool) -> &'a [u8] {
-    if same { signature.octets() } else { &[] }
+fn octets_of<'a>(asked: &Asked<'a>, same: bool) -> &'a [u8] {
+    if same { asked.signature } else { &[] }
 }
 
 /// Tells what the case has of the first signature of the token and the first key.
-fn tell(alloc: Global, case: Case, keys: &KeySet, answers: &mut Answers) -> Result<(), Fail> {
-    let signed = parse(alloc, TOKEN_A2.as_bytes(), 1).ok().ok_or("no token")?;
-    let signature = signed.signature(0).ok_or("no signature")?;
-    let message = signed.message(0).ok_or("no message")?;
-    let key = keys.key(0).ok_or("no key")?;
-    let view = view_of(key, case.same_key);
-    let octets = octets_of(signature, case.same_signature);
-    if let Some(valid) = case.valid {
-        answers.tell(alloc, case.alg, &view, message, octets, valid)?;
-    }
+fn tell(
+    alloc: Global,
+    case: Case,
+    keys: &KeySet,
+    policy: &Policy,
+    answers: &mut Answers,
+) -> Result<(), Fail> {
+    let Some(valid) = case.valid else {
+        return Ok(());
+    };
+    let signed = read_token(alloc, TOKEN_A2.as_bytes(), policy)?.ok_or("no token")?;
+    let first = Question {
+        signature: 0,
+        key: 0,
+    };
+    let asked = first.about(&signed, keys).ok_or("no question")?;
+    let key = key_of(&asked, case.same_key);
+    let octets = octets_of(&asked, case.same_signature);
+    answers.tell(alloc, case.alg, &key, asked.message, octets, valid)?;
     Ok(())
 }
 
@@ -122,7 +130,7 @@ fn a_token_is_judged_by_what_was_told(rt: HostRuntime) -> Result<(), Fail> {
     let keys = KeySet::read(alloc, KEYS_A2.as_bytes())?;
     for case in CASES {
         let mut answers = Answers::new(alloc);
-        tell(alloc, case, &keys, &mut answers)?;
+        tell(alloc, case, &keys, &policy, &mut answers)?;
         let mut budget = policy.budget();
         let octets = TOKEN_A2.as_bytes();
         let judged = judge_told(alloc, octets, &keys, &policy, NOW, &answers, &mut budget);

@@ -1,10 +1,10 @@
 -- The questions about a token that no answer was told to.
-use Rattle.std.specs.Prelude.{◌≡◌, ℕ, ℤ, Bool, false, List, [], ◌∷◌, Option, None, Some, Result, Ok, Err}
+use Rattle.std.specs.Prelude.{◌≡◌, ℕ, ℤ, Bool, false, List, [], ◌∷◌, Option, None, Some, option_map, Result, Ok, Err}
 use Rattle.std.specs.List.{find}
 use Rattle.jwt_mac.specs.declared.algorithm.Alg.{Alg}
 use Rattle.jwt_mac.specs.Algorithm.{is_hmac_alg}
-use Rattle.jwt_mac.specs.Verifying.{Meaning}
-use Rattle.jwt_jws.specs.Token.{Token, message_of}
+use Rattle.jwt_mac.specs.Verifying.{Meaning, KeyOctets, MessageOctets, key_octets, message_octets}
+use Rattle.jwt_jws.specs.Token.{Token, SignatureParts, message_of}
 use Rattle.jwt_keys.specs.Keys.{KeyParts}
 use Rattle.jwt_policy.specs.Bars.{alg}
 use Rattle.jwt_policy.specs.Settings.{Settings}
@@ -16,7 +16,25 @@ use Rattle.jwt_verify.specs.Asks.{AtPair}
 use Rattle.jwt_verify.specs.Accepted.{IsVerdict}
 use Rattle.jwt_verify.specs.Reports.{FoundMemory, IsReport}
 use Rattle.jwt_verify.specs.Verdict.{Terms, token_of}
+use Rattle.jwt_told.specs.declared.questions.Asked.{Asked}
 use Rattle.jwt_told.specs.Told.{ToldParts, Truth, AreRight, told_meaning, true_meaning, answer_to}
+
+-- a question about a signature: whether the key made it over the message by the algorithm
+pub record QuestionParts : Type 0 where
+  pub alg : Alg
+  pub key : KeyOctets
+  pub message : MessageOctets
+  pub signature : List ℕ
+
+abbrev pub question_parts : Asked → QuestionParts
+question_parts a = record { alg = a.alg; key = key_octets a.key; message = message_octets a.message; signature = a.signature.now }
+
+abbrev pub question_of : Token → SignatureParts → KeyParts → Option QuestionParts
+question_of t s k = option_map (λ a. record { alg = a; key = k.octets; message = message_of t s; signature = s.octets }) (alg s)
+
+-- the question whether key j made signature i of the token; none where one of them isn't there, or the algorithm isn't known
+unfoldable pub question_at : Token → List KeyParts → ℕ → ℕ → Option QuestionParts
+question_at t keys i j = at_pair (question_of t) None t keys i j
 
 -- key j and signature i of the token raise a question that no answer was told to
 unfoldable pub is_open : List ToldParts → Token → List KeyParts → ℕ → ℕ → Bool

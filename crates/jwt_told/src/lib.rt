@@ -2,15 +2,18 @@
 //! [`Verifier`](jwt_mac::Verifier), such as a library in another language.
 //!
 //! ```rust
-//! use jwt_told::{Answers, Question, judge_told};
+//! use jwt_told::{Answers, judge_told, read_token};
 //!
 //! let mut answers = Answers::new(alloc);
 //! loop {
-//!     match judge_told(alloc, token, &keys, &policy, now, &answers, &mut policy.budget()) {
-//!         Ok(report) => return Ok(report.verdict),
-//!         Err(Question { signature, key }) => {
-//!             // (the caller finds out, by its own cryptography, whether that key made that signature)
-//!             answers.tell(alloc, alg, &key_view, message, octets, valid)?;
+//!     match judge_told(alloc, octets, &keys, &policy, now, &answers, &mut policy.budget()) {
+//!         Ok(report) => return Ok(report),
+//!         Err(question) => {
+//!             let signed = read_token(alloc, octets, &policy)?.ok_or(NoToken)?;
+//!             let asked = question.about(&signed, &keys).ok_or(NoToken)?;
+//!             // (by the caller's own cryptography)
+//!             let valid = verify(asked.alg, asked.key, asked.message, asked.signature)?;
+//!             answers.tell(alloc, asked.alg, &asked.key, asked.message, asked.signature, valid)?;
 //!         }
 //!     }
 //! }
@@ -23,7 +26,7 @@
 
 pub use answers::Answers;
 pub use judging::judge_told;
-pub use questions::Question;
+pub use questions::{Asked, Question, read_token};
 
 pub mod answers;
 mod judging;

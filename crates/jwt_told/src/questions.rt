@@ -1,19 +1,74 @@
 //! The questions about a token that no answer was told to.
 
-ghost use Rattle.std.specs.Prelude.{◌≡◌, IfOk, MatchOption, Ok, IsErr, false, true};
+ghost use Rattle.std.specs.Prelude.{option_map, ◌≡◌, IfOk, MatchOption, Ok, IsErr, false, true};
 ghost use Rattle.std.specs.List.{find};
 ghost use Rattle.jwt_keys.specs.KeySets.{key_set};
 ghost use Rattle.jwt_jws.specs.Views.{token};
 ghost use Rattle.jwt_verify.specs.Verdict.{token_of, without_line_feed};
 ghost use Rattle.jwt_told.specs.Told.{told};
-ghost use Rattle.jwt_told.specs.Questions.{is_open, asks_open, first_open};
+ghost use Rattle.jwt_told.specs.Questions.{question_parts, question_at, is_open, asks_open, first_open};
 
 use crate::answers::Answers;
 use jwt_jws::{FormFault, Signed, parse};
 use jwt_keys::KeySet;
+use jwt_mac::{Alg, KeyView, Message};
 use jwt_policy::{Policy, known_alg};
 use jwt_verify::Try;
 use std::alloc::{AllocError, Global};
+
+/// A pair of signature and key whose validity wasn't told.
+#[derive(Clone, Copy, Debug, PartialEq, Eq)]
+pub struct Question {
+    /// The signature's number in the token, from 0.
+    pub signature: u32,
+    /// The key's number in the key set, from 0.
+    pub key: u32,
+}
+
+impl Question {
+    /// The question of a try.
+    pub(crate) fn of(tried: Try) -> Question
+        ensures signature { result.signature ≡ tried.signature }
+        ensures key { result.key ≡ tried.key }
+    {
+        Question {
+            signature: tried.signature,
+            key: tried.key,
+        }
+    }
+
+    /// What it asks, lent by the token and the key set; `None` where the signature or the key isn't there, or the protected header
+    /// names no algorithm that [`Alg`] knows. It takes no memory.
+    #[tactic(auto, unfolding(crate::specs::Questions::question_at))]
+    pub fn about<'a>(self, signed: &'a Signed<'_>, keys: &'a KeySet) -> Option<Asked<'a>>
+        ensures { option_map question_parts result
+            ≡ question_at (token signed.now) (key_set keys.now).keys self.signature self.key }
+    {
+        let signature = signed.signature(self.signature)?;
+        let message = signed.message(self.signature)?;
+        let key = keys.key(self.key)?;
+        let alg = known_alg(signature)?;
+        Some(Asked {
+            alg,
+            key: key.view(),
+            message,
+            signature: signature.octets(),
+        })
+    }
+}
+
+/// What a question asks: whether the key made the signature over the message by the algorithm.
+#[derive(Clone, Copy)]
+pub struct Asked<'a> {
+    /// The algorithm.
+    pub alg: Alg,
+    /// The key.
+    pub key: KeyView<'a>,
+    /// The two texts of the signing input.
+    pub message: Message<'a>,
+    /// The signature's octets.
+    pub signature: &'a [u8],
+}
 
 /// The octets without one line feed at their end, where that is to be dropped.
 fn without_line_feed(octets: &[u8], drops: bool) -> &[u8]
@@ -26,9 +81,12 @@ fn without_line_feed(octets: &[u8], drops: bool) -> &[u8]
     }
 }
 
-/// The signed token that the octets are (RFC 7515, section 7); `None` where they are none.
+/// The signed token that the octets are, as a run under the policy reads it (RFC 7515, section 7); `None` where they are none.
+///
+/// # Errors
+/// Where an allocation was refused.
 #[tactic(auto, unfolding(jwt_verify::specs::Verdict::token_of))]
-fn read_token<'a>(
+pub fn read_token<'a>(
     alloc: Global,
     octets: &'a [u8],
     policy: &Policy,
@@ -49,25 +107,23 @@ fn read_token<'a>(
 }
 
 /// Whether key `j` and signature `i` raise a question that no answer was told to.
-#[tactic(auto, unfolding(crate::specs::Questions::is_open, jwt_verify::specs::Trying::may_lack_by))]
+#[tactic(auto, unfolding(crate::specs::Questions::is_open, crate::specs::Questions::question_at, jwt_verify::specs::Trying::may_lack_by))]
 fn is_open(answers: &Answers, signed: &Signed<'_>, keys: &KeySet, i: u32, j: u32) -> bool
     ensures { result
         ≡ is_open (told answers.now) (token signed.now) (key_set keys.now).keys i j }
 {
-    let Some(signature) = signed.signature(i) else {
-        return false;
-    };
-    let Some(message) = signed.message(i) else {
-        return false;
-    };
-    let Some(key) = keys.key(j) else {
-        return false;
-    };
-    let Some(alg) = known_alg(signature) else {
-        return false;
-    };
-    let octets = signature.octets();
-    !alg.is_hmac() && answers.about(alg, &key.view(), message, octets).is_none()
+    match (Question {
+        signature: i,
+        key: j,
+    })
+    .about(signed, keys)
+    {
+        Some(asked) => {
+            let told = answers.about(asked.alg, &asked.key, asked.message, asked.signature);
+            !asked.alg.is_hmac() && told.is_none()
+        }
+        None => false,
+    }
 }
 
 /// The first of these tries whose question is open.
@@ -103,27 +159,5 @@ pub(crate) fn first_open(
     match read_token(alloc, octets, policy)? {
         Some(signed) => Ok(first_open_of(answers, &signed, keys, tries)),
         None => Ok(None),
-    }
-}
-
-/// A pair of signature and key whose validity wasn't told.
-#[derive(Clone, Copy, Debug, PartialEq, Eq)]
-pub struct Question {
-    /// The signature's number in the token, from 0.
-    pub signature: u32,
-    /// The key's number in the key set, from 0.
-    pub key: u32,
-}
-
-impl Question {
-    /// The question of a try.
-    pub(crate) fn of(tried: Try) -> Question
-        ensures signature { result.signature ≡ tried.signature }
-        ensures key { result.key ≡ tried.key }
-    {
-        Question {
-            signature: tried.signature,
-            key: tried.key,
-        }
     }
 }
