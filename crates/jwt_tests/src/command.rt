@@ -717,7 +717,7 @@ fn verify_takes_documents_in_hand(rt: HostRuntime) -> Result<(), Fail> {
         ),
         (
             (Some(spread), Some(keys_a.as_str()), Some("")),
-            "refused Segments tries=0 work=0\n",
+            "refused Empty tries=0 work=0\n",
             1,
         ),
         // The first file that can't be read.
