@@ -697,15 +697,16 @@ fn printed_on(
 #[test]
 fn verify_takes_documents_in_hand(rt: HostRuntime) -> Result<(), Fail> {
     let alloc = rt.alloc();
+    let keys_a = filled(alloc, KEYS_A)?;
     let spread = "{\n  \"algs\": [\"HS256\"]\n}\n";
     let cases = [
         (
-            (Some(spread), Some(KEYS_A), Some(TOKEN_A)),
+            (Some(spread), Some(keys_a.as_str()), Some(TOKEN_A)),
             "accepted sig=0 key=0 tries=1 work=295\n",
             0,
         ),
         (
-            (Some("{}"), Some(KEYS_A), Some(TOKEN_A)),
+            (Some("{}"), Some(keys_a.as_str()), Some(TOKEN_A)),
             "refused Policy NoAlgorithm\n",
             1,
         ),
@@ -715,8 +716,8 @@ fn verify_takes_documents_in_hand(rt: HostRuntime) -> Result<(), Fail> {
             1,
         ),
         (
-            (Some(spread), Some(KEYS_A), Some("")),
-            "refused Segments tries=0 work=0\n",
+            (Some(spread), Some(keys_a.as_str()), Some("")),
+            "refused Empty tries=0 work=0\n",
             1,
         ),
         // The first file that can't be read.
@@ -727,7 +728,7 @@ fn verify_takes_documents_in_hand(rt: HostRuntime) -> Result<(), Fail> {
             3,
         ),
         (
-            (Some(spread), Some(KEYS_A), None),
+            (Some(spread), Some(keys_a.as_str()), None),
             "failed Read file=\"t\"\n",
             3,
         ),
@@ -819,12 +820,13 @@ fn issue_prints_the_token_or_the_first_refusal(rt: HostRuntime) -> Result<(), Fa
 #[test]
 fn issue_takes_a_key_set_in_hand(rt: HostRuntime) -> Result<(), Fail> {
     let alloc = rt.alloc();
+    let keys_a = filled(alloc, KEYS_A)?;
     let claims = r#"{"sub":"ann"}"#;
     let words = ["jwt", "issue", "--alg", "HS256", "--keys", "k"];
     let none = "failed Read file=\"k\"\n";
     let (token, _) = issued(alloc, &words[..4], KEYS_A, claims)?;
     for (keys, text, status) in [
-        (Some(KEYS_A), token.as_slice(), 0),
+        (Some(keys_a.as_str()), token.as_slice(), 0),
         (Some("{}"), b"refused Keys NotKeySet\n", 1),
         (None, none.as_bytes(), 3),
     ] {
