@@ -9,19 +9,19 @@ use thiserror::Error;
 #[derive(Clone, Copy, Debug, PartialEq, Eq, Error)]
 pub enum SigFault {
     /// The protected header has no `alg`, or it is no text (RFC 7515, section 4.1.1).
-    #[error("the header has no text \"alg\"")]
+    #[error("the protected header has no text \"alg\"")]
     AlgMissing,
     /// `alg` is `none` (RFC 8725, section 3.2).
-    #[error("the header has \"alg\" with \"none\"")]
+    #[error("\"alg\" of the protected header is \"none\"")]
     AlgNone,
     /// `alg` is no name that [`Alg`](jwt_mac::Alg) knows.
-    #[error("\"alg\" of the header is unknown")]
+    #[error("\"alg\" of the protected header is unknown")]
     AlgUnknown,
     /// `alg` isn't among the policy's `algs` (RFC 8725, section 3.1).
-    #[error("\"alg\" of the header is not allowed")]
+    #[error("\"alg\" of the protected header is not allowed")]
     AlgNotAllowed,
     /// `alg` isn't HMAC, and no handed-in verifier names it.
-    #[error("no verifier is there for \"alg\" of the header")]
+    #[error("no verifier is there for \"alg\" of the protected header")]
     NoVerifier,
     /// The header has `jku` or `x5u` (RFC 8725, section 3.10).
     #[error("the header has \"jku\" or \"x5u\"")]
@@ -34,16 +34,16 @@ pub enum SigFault {
     Unencoded,
     /// `crit` stands in the unprotected header, or it is no list, an empty one, or one that holds something that is no text, a
     /// name twice, a name of RFC 7515, section 4.1, or a name that the header lacks (RFC 7515, section 4.1.11).
-    #[error("\"crit\" of the header has another shape")]
+    #[error("\"crit\" has another shape, or stands in the unprotected header")]
     CritShape,
     /// A name in `crit` isn't among the policy's `understood`.
-    #[error("\"crit\" of the header has a name that is not understood")]
+    #[error("\"crit\" of the protected header has a name that is not understood")]
     CritUnknown,
     /// `typ` or `cty` of the protected header is no text (RFC 7515, sections 4.1.9 and 4.1.10).
-    #[error("\"typ\" or \"cty\" of the header is no text")]
+    #[error("\"typ\" or \"cty\" of the protected header is no text")]
     TypShape,
     /// The policy has `typ`, and that of the protected header is absent or another media type (RFC 8725, section 3.11).
-    #[error("\"typ\" of the header is not the one that is asked for")]
+    #[error("\"typ\" of the protected header is not the one that is asked for")]
     TypMismatch,
     /// `cty` of the protected header is the media type `application/jwt`: the payload is a token again (RFC 7519, section 5.2).
     #[error("the payload is a token again")]
