@@ -1,0 +1,88 @@
+# The library for C, its part over OpenSSL, and the program, from what rt proves and builds.
+#
+#   make                             builds all in build/
+#   make test                        runs the tests of each language that is installed
+#   make install PREFIX= DESTDIR=    installs libraries, headers, pkg-config, the manual page and the program
+#   make deb                         makes build/fowharimu_VERSION_ARCHITECTURE.deb
+PREFIX ?= /usr/local
+LIBDIR ?= $(PREFIX)/lib
+VERSION = 0.1.0
+CFLAGS ?= -O2 -g
+WARNINGS = -std=c11 -Wall -Wextra -Werror -pedantic
+BUILD = build
+# What the archive of rt needs of C's library, over malloc.
+LIBC = $(dir $(shell readlink -f "$$(command -v rt)"))../c/liblibc_c.a
+CRATES = $(shell find crates -name '*.rt' -o -name '*.antt' -path '*/specs/*' -o -name '*.antt' -path '*/proofs/*') crates.txt
+ARCHIVE = crates/jwt_c/out/libjwt_c.a
+PROGRAM = crates/jwt_tool/out/jwt_tool
+LIBRARIES = $(BUILD)/libfowharimu.a $(BUILD)/libfowharimu.so.0 $(BUILD)/libfowharimu_openssl.a $(BUILD)/libfowharimu_openssl.so.0
+PACKAGES = $(BUILD)/fowharimu.pc $(BUILD)/fowharimu_openssl.pc
+
+all: $(LIBRARIES) $(PACKAGES)
+
+$(ARCHIVE): $(CRATES)
+	cd crates/jwt_c && rt lib
+
+$(BUILD)/libfowharimu.a: $(ARCHIVE)
+	rm -rf $(BUILD)/objects $@ && mkdir -p $(BUILD)/objects
+	cd $(BUILD)/objects && ar x $(abspath $(ARCHIVE)) && ar x $(LIBC)
+	ar rcs $@ $(BUILD)/objects/*.o
+
+# Only the names of the headers are seen from outside.
+$(BUILD)/libfowharimu.so.0: $(BUILD)/libfowharimu.a bindings/c/fowharimu.map
+	$(CC) -shared -o $@ -Wl,-soname,libfowharimu.so.0 -Wl,--version-script,bindings/c/fowharimu.map -Wl,-z,relro,-z,now \
+	    -Wl,--whole-archive $(BUILD)/libfowharimu.a -Wl,--no-whole-archive
+	ln -sf libfowharimu.so.0 $(BUILD)/libfowharimu.so
+
+$(BUILD)/fowharimu_openssl.o: bindings/openssl/fowharimu_openssl.c include/fowharimu.h include/fowharimu_openssl.h
+	mkdir -p $(BUILD)
+	$(CC) $(CFLAGS) $(WARNINGS) -fPIC -Iinclude -c -o $@ bindings/openssl/fowharimu_openssl.c
+
+$(BUILD)/libfowharimu_openssl.a: $(BUILD)/fowharimu_openssl.o
+	rm -f $@ && ar rcs $@ $<
+
+$(BUILD)/libfowharimu_openssl.so.0: $(BUILD)/fowharimu_openssl.o $(BUILD)/libfowharimu.so.0 bindings/c/fowharimu.map
+	$(CC) -shared -o $@ -Wl,-soname,libfowharimu_openssl.so.0 -Wl,--version-script,bindings/c/fowharimu.map -Wl,-z,relro,-z,now \
+	    $(BUILD)/fowharimu_openssl.o -L$(BUILD) -lfowharimu -lcrypto
+	ln -sf libfowharimu_openssl.so.0 $(BUILD)/libfowharimu_openssl.so
+
+# The prefix may be another than that of the last call.
+$(BUILD)/%.pc: bindings/c/%.pc.in FORCE
+	mkdir -p $(BUILD)
+	sed 's|@PREFIX@|$(PREFIX)|; s|@LIBDIR@|$(LIBDIR)|; s|@VERSION@|$(VERSION)|' $< > $@
+
+$(PROGRAM): $(CRATES)
+	./jwt > $(BUILD)/usage || test $$? = 2
+
+$(BUILD)/fowharimu.1: docs/jwt.1
+	mkdir -p $(BUILD)
+	sed 's/^\(\.Nm\|\.Dt\) jwt/\1 fowharimu/I; s/\bjwt \(verify\|issue\|mac\|show\|keys\)/fowharimu \1/g' docs/jwt.1 > $@
+
+install: all $(PROGRAM) $(BUILD)/fowharimu.1
+	install -d $(DESTDIR)$(LIBDIR)/pkgconfig $(DESTDIR)$(PREFIX)/include $(DESTDIR)$(PREFIX)/bin $(DESTDIR)$(PREFIX)/share/man/man1
+	install -m 644 include/fowharimu.h include/fowharimu_openssl.h $(DESTDIR)$(PREFIX)/include
+	install -m 644 $(BUILD)/libfowharimu.a $(BUILD)/libfowharimu_openssl.a $(DESTDIR)$(LIBDIR)
+	install -m 755 $(BUILD)/libfowharimu.so.0 $(BUILD)/libfowharimu_openssl.so.0 $(DESTDIR)$(LIBDIR)
+	ln -sf libfowharimu.so.0 $(DESTDIR)$(LIBDIR)/libfowharimu.so
+	ln -sf libfowharimu_openssl.so.0 $(DESTDIR)$(LIBDIR)/libfowharimu_openssl.so
+	install -m 644 $(PACKAGES) $(DESTDIR)$(LIBDIR)/pkgconfig
+	install -m 755 $(PROGRAM) $(DESTDIR)$(PREFIX)/bin/fowharimu
+	install -m 644 $(BUILD)/fowharimu.1 $(DESTDIR)$(PREFIX)/share/man/man1
+
+# The package holds what install installs; it is made in a folder of its own.
+deb:
+	rm -rf $(BUILD)/deb
+	$(MAKE) install PREFIX=/usr DESTDIR=$(BUILD)/deb
+	install -d $(BUILD)/deb/DEBIAN
+	sed 's|@VERSION@|$(VERSION)|; s|@ARCHITECTURE@|$(shell dpkg --print-architecture)|' debian/control > $(BUILD)/deb/DEBIAN/control
+	dpkg-deb --root-owner-group --build $(BUILD)/deb $(BUILD)
+
+test: all
+	bindings/run
+
+clean:
+	rm -rf $(BUILD)
+
+FORCE:
+
+.PHONY: all install deb test clean FORCE

@@ -1,0 +1,158 @@
+/* memory HMAC RSA: refuses each allocation of each call in turn. Each has to answer FOW_OUT_OF_MEMORY or what it answers with memory,
+ * and no block may be left. Linked with --wrap=malloc,--wrap=realloc,--wrap=free. */
+#include <fowharimu.h>
+#include <string.h>
+
+#include "octets.h"
+
+/* How many allocations are still granted, none where negative is no limit; how many were asked for; how many blocks are held. */
+static long granted = -1, asked_for, held;
+
+void *__real_malloc(size_t size);
+void *__real_realloc(void *block, size_t size);
+void __real_free(void *block);
+
+static int is_granted(void)
+{
+    asked_for++;
+    return granted < 0 || granted-- > 0;
+}
+
+void *__wrap_malloc(size_t size)
+{
+    if (!is_granted()) {
+        granted = 0;
+        return NULL;
+    }
+    void *block = __real_malloc(size);
+    held += block != NULL;
+    return block;
+}
+
+void *__wrap_realloc(void *block, size_t size)
+{
+    if (!is_granted()) {
+        granted = 0;
+        return NULL;
+    }
+    void *moved = __real_realloc(block, size);
+    held += block == NULL && moved != NULL;
+    return moved;
+}
+
+void __wrap_free(void *block)
+{
+    held -= block != NULL;
+    __real_free(block);
+}
+
+static octets policy, keys, token;
+static uint8_t out[MOST];
+static fow_validator validator = FOW_VALIDATOR_INIT;
+
+/* The calls, each of which answers its status. They leave the validator with what it holds, or open it. */
+static uint32_t open_it(void)
+{
+    uint32_t fault;
+    return fow_open(&validator, policy.at, policy.len, keys.at, keys.len, &fault);
+}
+
+static uint32_t judge_it(void)
+{
+    fow_report report;
+    return fow_judge(&validator, token.at, token.len, NOW, FOW_RSA_PROVED, &report);
+}
+
+static uint32_t judge_asking(void)
+{
+    fow_report report;
+    return fow_judge(&validator, token.at, token.len, NOW, FOW_RSA_ASKED, &report);
+}
+
+static uint32_t ask_it(void)
+{
+    fow_question asked;
+    return fow_ask(&validator, token.at, token.len, 0, 0, out, sizeof out, &asked);
+}
+
+static uint32_t answer_it(void)
+{
+    return fow_answer(&validator, token.at, token.len, 0, 0, true);
+}
+
+static uint32_t payload_of_it(void)
+{
+    size_t written;
+    return fow_payload(&validator, token.at, token.len, out, sizeof out, &written);
+}
+
+static uint32_t claim_of_it(void)
+{
+    size_t written;
+    return fow_claim(&validator, (const uint8_t *)"iss", 3, out, sizeof out, &written);
+}
+
+static uint32_t show_it(void)
+{
+    size_t written;
+    fow_report report;
+    return fow_show(token.at, token.len, out, sizeof out, &written, &report);
+}
+
+static uint32_t issue_it(void)
+{
+    size_t written;
+    fow_report report;
+    return fow_issue(&validator, FOW_HS256, FOW_GENERAL, 0, (const uint8_t *)"JWT", 3, (const uint8_t *)"{\"iss\":\"joe\"}", 13, out,
+        sizeof out, &written, &report);
+}
+
+/* Refuses each allocation of a call in turn, and then all after it, until the call needs no more. */
+static void refuse_each(const char *name, uint32_t (*call)(void), uint32_t right)
+{
+    long refused = 0;
+    for (;; refused++) {
+        granted = refused;
+        uint32_t status = call();
+        int was_enough = granted >= 0 && status == right;
+        granted = -1;
+        CHECK(status == right || status == FOW_OUT_OF_MEMORY);
+        if (status == right && was_enough)
+            break;
+        CHECK(refused < 10000);
+    }
+    printf("%s: %ld allocations refused in turn\n", name, refused);
+}
+
+static void refuse_on(const char *name)
+{
+    long before = held;
+    read_named(&policy, name, "policy");
+    read_named(&keys, name, "keys");
+    read_named(&token, name, "jwt");
+    before = held;
+    refuse_each("fow_open", open_it, FOW_OK);
+    refuse_each("fow_judge", judge_it, FOW_OK);
+    refuse_each("fow_claim", claim_of_it, FOW_OK);
+    refuse_each("fow_payload", payload_of_it, FOW_OK);
+    refuse_each("fow_show", show_it, FOW_OK);
+    refuse_each("fow_ask", ask_it, FOW_OK);
+    refuse_each("fow_answer", answer_it, FOW_OK);
+    refuse_each("fow_judge, told", judge_asking, FOW_OK);
+    fow_close(&validator);
+    CHECK(held == before);
+}
+
+int main(int argc, char **argv)
+{
+    CHECK(argc == 3);
+    refuse_on(argv[2]);
+    refuse_on(argv[1]);
+    CHECK(open_it() == FOW_OK);
+    long before = held;
+    refuse_each("fow_issue", issue_it, FOW_OK);
+    CHECK(held == before);
+    fow_close(&validator);
+    printf("%ld allocations, nothing is left\n", asked_for);
+    return 0;
+}

@@ -1,0 +1,80 @@
+/* tokens NAME ..: judges the token NAME.jwt by NAME.keys and NAME.policy, which has to be accepted, and the same with an octet of its
+ * signature changed, which has to be refused. The token of RFC 8037, appendix A.4, whose payload is no object, has to verify and then
+ * to be refused for its claims. */
+#include <fowharimu_openssl.h>
+#include <string.h>
+
+#include "octets.h"
+
+static int has_no_claims(const char *name)
+{
+    return strstr(name, "rfc8037-a4") != NULL;
+}
+
+/* Whether the payload and a claim can be had of the accepted token. */
+static void check_claims(fow_validator *validator, const octets *token)
+{
+    uint8_t out[MOST];
+    size_t written = 0;
+    CHECK(fow_payload(validator, token->at, token->len, out, sizeof out, &written) == FOW_OK);
+    CHECK(written > 2 && out[0] == '{' && out[written - 1] == '}');
+    CHECK(fow_payload(validator, token->at, token->len, out, written - 1, &written) == FOW_TOO_SHORT);
+    CHECK(fow_claim(validator, (const uint8_t *)"iss", 3, out, sizeof out, &written) == FOW_OK);
+    CHECK(written == 5 && memcmp(out, "\"joe\"", 5) == 0);
+    CHECK(fow_claim(validator, (const uint8_t *)"none", 4, out, sizeof out, &written) == FOW_ABSENT);
+}
+
+static void check_states(fow_validator *validator, const fow_report *report)
+{
+    fow_state state;
+    fow_try tried;
+    CHECK(fow_state_of(validator, 0, &state) == FOW_OK);
+    CHECK(state.state == FOW_STATE_VERIFIED && state.key == report->key);
+    CHECK(fow_state_of(validator, 1, &state) == FOW_ABSENT);
+    CHECK(report->tries == 1 && fow_try_of(validator, 0, &tried) == FOW_OK);
+    CHECK(tried.signature == 0 && tried.key == 0 && tried.cost == report->work);
+    CHECK(fow_try_of(validator, 1, &tried) == FOW_ABSENT);
+}
+
+static void check_token(const char *name)
+{
+    static octets policy, keys, token;
+    fow_validator validator = FOW_VALIDATOR_INIT;
+    fow_openssl crypto = FOW_OPENSSL_INIT;
+    fow_report report;
+    uint32_t fault = 0;
+    read_named(&policy, name, "policy");
+    read_named(&keys, name, "keys");
+    read_named(&token, name, "jwt");
+    CHECK(fow_open(&validator, policy.at, policy.len, keys.at, keys.len, &fault) == FOW_OK);
+
+    uint32_t verdict = fow_openssl_judge(&crypto, &validator, token.at, token.len, NOW, &report);
+    if (has_no_claims(name)) {
+        CHECK(verdict == FOW_REFUSED && report.fault == FOW_CLAIM_CLAIMS_SHAPE);
+    } else {
+        CHECK(verdict == FOW_OK && report.signature == 0 && report.key == 0 && report.fault == FOW_NO_FAULT);
+        check_states(&validator, &report);
+        check_claims(&validator, &token);
+        CHECK(fow_openssl_judge(&crypto, &validator, token.at, token.len, NOW + 1, &report) == FOW_REFUSED);
+        CHECK(report.fault == FOW_CLAIM_EXPIRED);
+    }
+
+    /* The first character of the signature text: another octet, whatever the algorithm. */
+    size_t first = token.len;
+    while (token.at[first - 1] != '.')
+        first--;
+    token.at[first] = token.at[first] == 'A' ? 'B' : 'A';
+    CHECK(fow_openssl_judge(&crypto, &validator, token.at, token.len, NOW, &report) == FOW_REFUSED);
+    CHECK(report.fault == FOW_SIG_BAD_SIGNATURE && report.signature == 0);
+
+    fow_openssl_clear(&crypto);
+    fow_close(&validator);
+}
+
+int main(int argc, char **argv)
+{
+    for (int i = 1; i < argc; i++)
+        check_token(argv[i]);
+    printf("%d tokens as they must be\n", argc - 1);
+    return 0;
+}

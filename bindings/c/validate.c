@@ -1,0 +1,81 @@
+/* Validates a token: validate POLICY KEYS TOKEN [NOW]
+ *
+ * POLICY, KEYS and TOKEN are files; NOW is in seconds since 1970-01-01T00:00:00Z, and the clock's moment where it is left out. Prints
+ * the claims, or why the token is refused. Ends with 0 where it is accepted, 1 where it isn't, 2 for wrong words, 3 for a file that
+ * can't be read. */
+#include <fowharimu_openssl.h>
+#include <inttypes.h>
+#include <stdio.h>
+#include <stdlib.h>
+#include <time.h>
+
+/* The most octets that a file may have: those of the longest key set, and one more. */
+enum { MOST = 4194305 };
+
+typedef struct octets {
+    uint8_t *at;
+    size_t len;
+} octets;
+
+static octets read_file(const char *name)
+{
+    octets file = { malloc(MOST), 0 };
+    FILE *stream = fopen(name, "rb");
+    if (file.at == NULL || stream == NULL) {
+        fprintf(stderr, "validate: %s can't be read\n", name);
+        exit(3);
+    }
+    file.len = fread(file.at, 1, MOST, stream);
+    fclose(stream);
+    return file;
+}
+
+static void print_refusal(const char *what, const fow_report *report)
+{
+    uint8_t name[24];
+    size_t len = 0;
+    if (fow_fault_name(report->fault, name, sizeof name, &len) == FOW_OK)
+        printf("%s: %.*s, signature %" PRIu32 "\n", what, (int)len, (const char *)name, report->signature);
+    else
+        printf("%s: status %" PRIu32 "\n", what, report->verdict);
+}
+
+static void print_claims(fow_validator *validator, octets token)
+{
+    size_t len = 0;
+    uint8_t *payload = malloc(token.len + 1);
+    if (payload != NULL && fow_payload(validator, token.at, token.len, payload, token.len + 1, &len) == FOW_OK)
+        printf("%.*s\n", (int)len, (const char *)payload);
+    free(payload);
+}
+
+int main(int argc, char **argv)
+{
+    if (argc < 4 || argc > 5) {
+        fprintf(stderr, "usage: validate POLICY KEYS TOKEN [NOW]\n");
+        return 2;
+    }
+    octets policy = read_file(argv[1]), keys = read_file(argv[2]), token = read_file(argv[3]);
+    int64_t now = argc == 5 ? strtoll(argv[4], NULL, 10) : (int64_t)time(NULL);
+    fow_validator validator = FOW_VALIDATOR_INIT;
+    fow_openssl crypto = FOW_OPENSSL_INIT;
+    fow_report report = { 0 };
+
+    uint32_t verdict = fow_open(&validator, policy.at, policy.len, keys.at, keys.len, &report.fault);
+    if (verdict != FOW_OK) {
+        print_refusal("not opened", &report);
+    } else {
+        verdict = fow_openssl_judge(&crypto, &validator, token.at, token.len, now, &report);
+        if (verdict == FOW_OK)
+            print_claims(&validator, token);
+        else
+            print_refusal("refused", &report);
+    }
+
+    fow_openssl_clear(&crypto);
+    fow_close(&validator);
+    free(policy.at);
+    free(keys.at);
+    free(token.at);
+    return verdict == FOW_OK ? 0 : 1;
+}

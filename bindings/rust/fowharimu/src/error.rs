@@ -1,0 +1,90 @@
+//! Why something is refused.
+
+use std::error;
+use std::fmt;
+
+/// The part of a token that a fault of its form speaks of.
+#[derive(Clone, Copy, Debug, PartialEq, Eq)]
+pub enum Part {
+    /// The payload.
+    Payload,
+    /// The protected header of the signature that the error names.
+    Protected,
+    /// The octets of the signature that the error names.
+    Signature,
+}
+
+/// Why something is refused. `fault` is the name that the program `jwt` prints, such as `Expired`; signatures and keys are numbered
+/// from 0.
+#[derive(Clone, Debug, PartialEq, Eq)]
+#[non_exhaustive]
+pub enum Error {
+    /// The policy is refused, for this member where the fault speaks of one.
+    Policy {
+        fault: String,
+        member: Option<String>,
+    },
+    /// The key set is refused.
+    Keys { fault: String },
+    /// The token has more octets than the policy's `limit`.
+    TooLong,
+    /// The octets are no signed token.
+    Form {
+        fault: String,
+        part: Option<Part>,
+        signature: u32,
+    },
+    /// The policy's `work` or `max_calls` was reached before this key was tried on this signature.
+    Ceiling {
+        fault: String,
+        signature: u32,
+        key: u32,
+    },
+    /// This signature isn't verified.
+    Signature { fault: String, signature: u32 },
+    /// The claims are refused, for this claim where the fault speaks of one.
+    Claims {
+        fault: String,
+        claim: Option<String>,
+    },
+    /// OpenSSL couldn't say whether this key made this signature: so the token isn't accepted.
+    Undecided { signature: u32, key: u32 },
+    /// An allocation was refused.
+    OutOfMemory,
+}
+
+impl fmt::Display for Error {
+    fn fmt(&self, f: &mut fmt::Formatter<'_>) -> fmt::Result {
+        match self {
+            Error::Policy { fault, member } => {
+                write!(f, "the policy is refused: {fault}")?;
+                member.iter().try_for_each(|it| write!(f, " {it:?}"))
+            }
+            Error::Keys { fault } => write!(f, "the key set is refused: {fault}"),
+            Error::TooLong => write!(f, "the token is refused: TooLong"),
+            Error::Form { fault, .. } => write!(f, "the token is refused: {fault}"),
+            Error::Ceiling {
+                fault,
+                signature,
+                key,
+            } => write!(
+                f,
+                "the token is refused: {fault} at signature {signature} and key {key}"
+            ),
+            Error::Signature { fault, signature } => {
+                write!(f, "the token is refused: {fault} of signature {signature}")
+            }
+            Error::Claims { fault, claim } => {
+                write!(f, "the token is refused: {fault}")?;
+                claim.iter().try_for_each(|it| write!(f, " {it:?}"))
+            }
+            Error::Undecided { signature, key } => write!(
+                f,
+                "the token isn't accepted: signature {signature} couldn't be tried with key {key}"
+            ),
+            Error::OutOfMemory => write!(f, "an allocation was refused"),
+        }
+    }
+}
+
+impl error::Error for Error {}

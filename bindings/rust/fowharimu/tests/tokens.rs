@@ -1,0 +1,122 @@
+//! The tokens of the repository.
+
+use fowharimu::{Error, Part, Validator};
+use std::fs;
+use std::path::{Path, PathBuf};
+use std::thread;
+
+const NOW: i64 = 1_300_819_379;
+
+fn top() -> PathBuf {
+    Path::new(env!("CARGO_MANIFEST_DIR")).join("../../..")
+}
+
+/// The tokens, each with its policy and key set beside it.
+fn tokens() -> Vec<PathBuf> {
+    let mut names = Vec::new();
+    for folder in ["examples", "bindings/tokens"] {
+        for entry in fs::read_dir(top().join(folder)).unwrap() {
+            let path = entry.unwrap().path();
+            if path.extension().is_some_and(|it| it == "jwt") {
+                names.push(path);
+            }
+        }
+    }
+    names
+}
+
+fn open(token: &Path) -> Validator {
+    let read = |end| fs::read(token.with_extension(end)).unwrap();
+    Validator::open(&read("policy"), &read("keys")).unwrap()
+}
+
+#[test]
+fn each_token_is_accepted_and_refused_where_it_is_changed() {
+    let names = tokens();
+    assert!(names.len() >= 15);
+    for name in names {
+        let mut token = fs::read(&name).unwrap();
+        let mut validator = open(&name);
+        let verdict = validator.validate_at(&token, NOW);
+        if name.ends_with("rfc8037-a4.jwt") {
+            assert!(matches!(verdict, Err(Error::Claims { .. })), "{name:?}");
+        } else {
+            assert!(verdict.unwrap().json().contains("joe"), "{name:?}");
+        }
+        let first = token.iter().rposition(|it| *it == b'.').unwrap() + 1;
+        token[first] = if token[first] == b'A' { b'B' } else { b'A' };
+        let refusal = Error::Signature {
+            fault: "BadSignature".to_owned(),
+            signature: 0,
+        };
+        assert_eq!(validator.validate_at(&token, NOW), Err(refusal), "{name:?}");
+    }
+}
+
+#[test]
+fn each_kind_of_refusal() {
+    let token = fs::read(top().join("examples/rfc7515-a1.jwt")).unwrap();
+    let keys = fs::read(top().join("examples/rfc7515-a1.keys")).unwrap();
+    let refused = |policy: &str, token: &[u8]| {
+        let mut validator = Validator::open(policy.as_bytes(), &keys).unwrap();
+        validator.validate_at(token, NOW).unwrap_err()
+    };
+    let named = |fault: &str| fault.to_owned();
+    assert_eq!(
+        refused(r#"{"algs":["HS256"],"limit":100}"#, &token),
+        Error::TooLong
+    );
+    assert_eq!(
+        refused(r#"{"algs":["HS256"]}"#, b"e30.*.AA"),
+        Error::Form {
+            fault: named("Base64"),
+            part: Some(Part::Payload),
+            signature: 0
+        }
+    );
+    assert_eq!(
+        refused(r#"{"algs":["HS256"],"work":10}"#, &token),
+        Error::Ceiling {
+            fault: named("WorkExceeded"),
+            signature: 0,
+            key: 0
+        }
+    );
+    assert_eq!(
+        refused(r#"{"algs":["HS256"],"required":["role"]}"#, &token),
+        Error::Claims {
+            fault: named("ClaimMissing"),
+            claim: Some(named("role"))
+        }
+    );
+    let opened = Validator::open(br#"{"algs":["HS256"],"audience":"me"}"#, &keys);
+    assert_eq!(
+        opened.unwrap_err(),
+        Error::Policy {
+            fault: named("Member"),
+            member: Some(named("audience"))
+        }
+    );
+}
+
+#[test]
+fn another_thread_may_have_it() {
+    let name = top().join("bindings/tokens/RS256.jwt");
+    let token = fs::read(&name).unwrap();
+    let mut validator = open(&name);
+    let claims = thread::spawn(move || validator.validate_at(&token, NOW)).join();
+    assert!(claims.unwrap().is_ok());
+}
+
+#[test]
+fn the_clock_is_the_moment() {
+    let name = top().join("bindings/tokens/RS256.jwt");
+    let refusal = open(&name).validate(&fs::read(&name).unwrap()).unwrap_err();
+    assert_eq!(
+        refusal,
+        Error::Claims {
+            fault: "Expired".to_owned(),
+            claim: None
+        }
+    );
+}
