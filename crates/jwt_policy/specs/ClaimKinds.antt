@@ -21,10 +21,6 @@ claim_name Nbf = codes "nbf"
 claim_name Iat = codes "iat"
 claim_name Jti = codes "jti"
 
--- `aud` is there, and is neither a text nor a list of texts
-abbrev pub is_no_audience : Members → Bool
-is_no_audience ms = is_no_text (codes "aud") ms && not (some_passes are_texts (list_at (codes "aud") ms))
-
 -- a date is there, and is no number
 abbrev pub is_no_number : List ℕ → Members → Bool
 is_no_number name ms = has name ms && not (is_number_at name ms)
@@ -33,13 +29,13 @@ is_no_number name ms = has name ms && not (is_number_at name ms)
 abbrev pub is_no_date : List ℕ → Members → Bool
 is_no_date name ms = has name ms && is_none (whole_at name ms)
 
--- ---- the table, claim by claim
+-- ---- the table, claim by claim; `aud` is a text or a list of texts
 
 abbrev pub kind_rows : Members → List (Row ClaimFault)
 kind_rows ms =
     (is_no_text (codes "iss") ms ⇒ ClaimKind Iss)
     ∷ (is_no_text (codes "sub") ms ⇒ ClaimKind Sub)
-    ∷ (is_no_audience ms ⇒ ClaimKind Aud)
+    ∷ ((is_no_text (codes "aud") ms && not (some_passes are_texts (list_at (codes "aud") ms))) ⇒ ClaimKind Aud)
     ∷ (is_no_number (codes "exp") ms ⇒ ClaimKind Exp)
     ∷ (is_no_date (codes "exp") ms ⇒ ClaimDate Exp)
     ∷ (is_no_number (codes "nbf") ms ⇒ ClaimKind Nbf)
