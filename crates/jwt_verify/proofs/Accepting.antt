@@ -23,10 +23,10 @@ use Rattle.jwt_verify.specs.declared.report.Verdict.TheVariants.{Accepted}
 use Rattle.jwt_verify.specs.Table.{Table, below, verifies, verified, outcome, stop, ending}
 use Rattle.jwt_verify.specs.Trying.{table_of}
 use Rattle.jwt_verify.specs.Verdict.{Terms, Signing, VerifiedBy, Unverified, first_in, key_at, fault_at, unverified, verified_or, signing_in, signing_of, checked, claimed, concluded, ended, token_verdict, formed, token_of, decided, verdict_of, table, without_line_feed}
-use Rattle.jwt_verify.specs.Accepted.{Counts, IsVerifiedBy}
+use Rattle.jwt_verify.specs.Accepted.{IsLeastKey, Counts, IsVerifiedBy}
 use Rattle.jwt_verify.proofs.First.{first_zero, first_here, first_more, first_none_at, first-below, or_else}
 use Rattle.jwt_verify.proofs.Walking.{find-below}
-use Rattle.jwt_verify.proofs.Least.{IsLeastKey, least_found}
+use Rattle.jwt_verify.proofs.Least.{least_found}
 use Rattle.jwt_verify.proofs.Signing.{none_below, found_any, key_none, fault_none}
 use Rattle.jwt_verify.proofs.Judged.{unbarred_by, done_stop, table_of_token}
 use Rattle.jwt_verify.proofs.Stepwise.{IsReadToken, IsAcceptedStepwise, AcceptsStepwise}

@@ -43,10 +43,6 @@ not_true true h = sym h
 not_true false h = refl
 
 -- the least number that passes
--- j is the least key that is eligible and valid for signature i
-abbrev pub IsLeastKey : Table → ℕ → ℕ → Type 0
-IsLeastKey t i j = (j < t.keys) × (verifies t i j ≡ true) × ((n : ℕ) → n < j → verifies t i n ≡ false)
-
 pub least_found : (p : ℕ → Bool) (n : ℕ) → list_any p (below n) ≡ true → (j : ℕ) × (j < n) × (p j ≡ true) × (list_any p (below j) ≡ false)
 least_found p zero h = absurd (false≢true (sym (ap (list_any p) below-zero) ∙ h))
 least_found p (suc n) h =

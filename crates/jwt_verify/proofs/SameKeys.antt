@@ -18,11 +18,11 @@ use Rattle.jwt_verify.specs.declared.report.Verdict.TheVariants.{Accepted, Refus
 use Rattle.jwt_verify.specs.Table.{Table, below, verifies, verified, outcome, stop, states_at}
 use Rattle.jwt_verify.specs.Trying.{table_of}
 use Rattle.jwt_verify.specs.Verdict.{Terms, Signing, VerifiedBy, Unverified, first_in, fault_of, key_at, fault_at, unverified, verified_or, signing_in, signing_of, checked, claimed, concluded, ended, token_verdict, token_of, decided, verdict_of, table}
-use Rattle.jwt_verify.specs.Accepted.{Counts, IsVerifiedBy}
+use Rattle.jwt_verify.specs.Accepted.{IsLeastKey, Counts, IsVerifiedBy}
 use Rattle.jwt_verify.specs.Laws.{AreAmong, with_keys, MoreKeys, SameKeys, kind_of, without_key}
 use Rattle.jwt_verify.proofs.First.{first_agree}
 use Rattle.jwt_verify.proofs.Bounds.{never_stops}
-use Rattle.jwt_verify.proofs.Least.{IsLeastKey, least_found}
+use Rattle.jwt_verify.proofs.Least.{least_found}
 use Rattle.jwt_verify.proofs.Signing.{key_none}
 use Rattle.jwt_verify.proofs.Judged.{no_states, table_none, table_of_token}
 use Rattle.jwt_verify.proofs.Accepting.{accepts_exactly_holds, is_token, any_at, any_true, stop_done, verified_key}

@@ -31,10 +31,13 @@ abbrev pub Counts : Mode → Table → ℕ → Type 0
 Counts Any t i = (k : ℕ) → k < i → verified t k ≡ false
 Counts All t i = (i ≡ 0) × ((k : ℕ) → k < t.signatures → verified t k ≡ true)
 
--- some signature is verified, or each one is; i is the one that counts, and j the least key that is eligible and valid for it
+-- j is the least key that is eligible and valid for signature i
+abbrev pub IsLeastKey : Table → ℕ → ℕ → Type 0
+IsLeastKey t i j = (j < t.keys) × (verifies t i j ≡ true) × ((n : ℕ) → n < j → verifies t i n ≡ false)
+
+-- some signature is verified, or each one is, and i and j are the signature and the key that an acceptance names
 abbrev pub IsVerifiedBy : Table → ℕ → ℕ → Type 0
-IsVerifiedBy t i j = (i < t.signatures) × Counts t.mode t i
-    × (j < t.keys) × (verifies t i j ≡ true) × ((n : ℕ) → n < j → verifies t i n ≡ false)
+IsVerifiedBy t i j = (i < t.signatures) × Counts t.mode t i × IsLeastKey t i j
 
 -- the claims are those of the payload, and each registered one has its kind (RFC 7519, sections 4.1 and 7.2)
 abbrev pub HasClaims : List ℕ → Members → Type 0
