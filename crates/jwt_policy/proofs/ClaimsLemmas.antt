@@ -10,7 +10,7 @@ use Rattle.jwt_text.specs.Rows.{Row, ◌⇒◌, first_row}
 use Rattle.jwt_policy.specs.Settings.{Settings}
 use Rattle.jwt_policy.specs.Texts.{some_passes, is_among, any_text}
 use Rattle.jwt_policy.specs.Checks.{missing, names_audience, is_expired, is_later, is_not_yet, is_issued_later, is_too_old, later_rows, check_of}
-use Rattle.jwt_policy.specs.Laws.{IsAudience, ClaimsHold}
+use Rattle.jwt_policy.specs.Laws.{ClaimsHold}
 use Rattle.jwt_policy.specs.declared.claim_fault.ClaimFault.TheVariants.{ClaimMissing, Issuer, Audience, Expired, NotYet, IssuedLater, TooOld}
 use Rattle.jwt_policy.proofs.RowsLemmas.{first_of_both}
 use Rattle.jwt_policy.proofs.TestLemmas.{Fails, fails_not, fails_every, fails_where, decides_some, lt_decides, lt_fails, among_decides, any_text_decides}
@@ -31,6 +31,10 @@ is_before_expiry now leeway exp = int_lt now (exp +ℤ pos leeway)
 
 abbrev is_older : ℤ → ℕ → ℤ → ℕ → Bool
 is_older now leeway iat age = int_lt (iat +ℤ pos (age + leeway)) now
+
+-- a text is an audience: it is `aud`, or stands in the list `aud`
+abbrev IsAudience : List ℕ → Members → Type 0
+IsAudience name ms = (text_at (codes "aud") ms ≡ Some name) ⊎ ((ds : List Data) × (list_at (codes "aud") ms ≡ Some ds) × Contains ds (string name))
 
 -- ---- rows that don't hold
 
@@ -144,13 +148,11 @@ claims_hold p ms now e =
       required = there ms p.claims.required both.0;
       issuer = (issuer_fails p.claims.issuers (text_at (codes "iss") ms)).0 r2.0;
       audience = (other_audience p ms).0 r3.0;
-      dates = record {
-        exp = (expired p ms now).0 r4.0;
-        nbf = (not_yet p ms now).0 r5.0;
-        iat_is_there = (iat_there p ms).0 r1.0;
-        iat_least = (issued_later p ms now).0 r6.0;
-        iat_most = (too_old p ms now).0 r7.0;
-      };
+      exp = (expired p ms now).0 r4.0;
+      nbf = (not_yet p ms now).0 r5.0;
+      iat_is_there = (iat_there p ms).0 r1.0;
+      iat_least = (issued_later p ms now).0 r6.0;
+      iat_most = (too_old p ms now).0 r7.0;
     }
 
 pub holds_unrefused : (p : Settings) (ms : Members) (now : ℤ) → ClaimsHold p ms now → check_of p ms now ≡ None
@@ -158,10 +160,10 @@ unfolding check_of later_rows
 holds_unrefused p ms now h =
     first_of_both (map (missing ms) p.claims.required) (later_rows p ms now)
     ∙ ap (λ o. option_or o (first_row (later_rows p ms now))) (all_there ms p.claims.required h.required)
-    ∙ row_from (lacks_iat p ms) (ClaimMissing (codes "iat")) (drop 1 (later_rows p ms now)) ((iat_there p ms).1 h.dates.iat_is_there)
+    ∙ row_from (lacks_iat p ms) (ClaimMissing (codes "iat")) (drop 1 (later_rows p ms now)) ((iat_there p ms).1 h.iat_is_there)
     (row_from (is_other_issuer p ms) Issuer (drop 2 (later_rows p ms now)) ((issuer_fails p.claims.issuers (text_at (codes "iss") ms)).1 h.issuer)
     (row_from (is_other_audience p ms) Audience (drop 3 (later_rows p ms now)) ((other_audience p ms).1 h.audience)
-    (row_from (is_expired p ms now) Expired (drop 4 (later_rows p ms now)) ((expired p ms now).1 h.dates.exp)
-    (row_from (is_not_yet p ms now) NotYet (drop 5 (later_rows p ms now)) ((not_yet p ms now).1 h.dates.nbf)
-    (row_from (is_issued_later p ms now) IssuedLater (drop 6 (later_rows p ms now)) ((issued_later p ms now).1 h.dates.iat_least)
-    (row_from (is_too_old p ms now) TooOld [] ((too_old p ms now).1 h.dates.iat_most) refl))))))
+    (row_from (is_expired p ms now) Expired (drop 4 (later_rows p ms now)) ((expired p ms now).1 h.exp)
+    (row_from (is_not_yet p ms now) NotYet (drop 5 (later_rows p ms now)) ((not_yet p ms now).1 h.nbf)
+    (row_from (is_issued_later p ms now) IssuedLater (drop 6 (later_rows p ms now)) ((issued_later p ms now).1 h.iat_least)
+    (row_from (is_too_old p ms now) TooOld [] ((too_old p ms now).1 h.iat_most) refl))))))
