@@ -38,14 +38,12 @@ IsFirstSignatureFault form ws fault = (i : ℕ) × (w : Spelled) × (slice_get w
 abbrev pub IsJsonOf : List ℕ → Members → Type 0
 IsJsonOf z m = (opens_object z ≡ true) × IsObjectText z m × (has (codes "ciphertext") m ≡ false)
 
--- in compact form, by the number of periods
-abbrev pub HasPeriods : List ℕ → (ℕ → Type 0) → Type 0
-HasPeriods z P = (z ≢ []) × (opens_object z ≡ false) × P (count_by is_period z)
-
+-- in compact form it goes by the number of periods
 abbrev pub IsFormFault : ℕ → List ℕ → FormFault → Type 0
 IsFormFault most z Empty = z ≡ []
-IsFormFault most z Segments = HasPeriods z (λ n. (n ≢ 2) × (n ≢ 4))
-IsFormFault most z Encrypted = HasPeriods z (λ n. n ≡ 4) ⊎ ((opens_object z ≡ true) × ((m : Members) × IsObjectText z m × (has (codes "ciphertext") m ≡ true)))
+IsFormFault most z Segments = (z ≢ []) × (opens_object z ≡ false) × ((count_by is_period z ≢ 2) × (count_by is_period z ≢ 4))
+IsFormFault most z Encrypted = ((z ≢ []) × (opens_object z ≡ false) × (count_by is_period z ≡ 4))
+    ⊎ ((opens_object z ≡ true) × ((m : Members) × IsObjectText z m × (has (codes "ciphertext") m ≡ true)))
 IsFormFault most z Json = (opens_object z ≡ true) × ((m : Members) → reading z ≢ Some (object m))
 IsFormFault most z NameTwice = (opens_object z ≡ true) × ((m : Members) × (reading z ≡ Some (object m)) × (colons z ≢ members_entries m))
 -- the object has neither shape, however many signatures are allowed

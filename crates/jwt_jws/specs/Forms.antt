@@ -1,6 +1,7 @@
 -- The signed token that octets are, or the first cause why they are none (RFC 7515, sections 7.1 and 7.2).
 use Rattle.std.specs.Prelude.{ℕ, ◌==◌, ◌||◌, Bool, true, false, not, List, [], ◌∷◌, length, Option, Some, None, Result, Ok, Err, option_map, nat_lt, if◌then◌else◌, codes}
 use Rattle.std.specs.List.{slice_split, list_any, find}
+use Rattle.std.specs.Option.{option_map_or}
 use Rattle.serde_json.specs.Data.{Data, Members, no_members}
 use Rattle.serde_json.specs.Find.{get_member, as_object}
 use Rattle.jwt_text.specs.Answers.{◌>>=◌, or_fault, some_or, each}
@@ -149,16 +150,9 @@ token_in most m = json_of most m >>= signed_of
 abbrev pub is_space : ℕ → Bool
 is_space c = c == 9 || c == 10 || c == 13 || c == 32
 
-abbrev pub is_no_space : ℕ → Bool
-is_no_space c = not (is_space c)
-
-abbrev pub is_brace : Option ℕ → Bool
-is_brace None = false
-is_brace (Some c) = c == 123
-
 -- the first octet that isn't white space is '{'
 abbrev pub opens_object : List ℕ → Bool
-opens_object z = is_brace (find is_no_space z)
+opens_object z = option_map_or (λ c. c == 123) (find (λ c. not (is_space c)) z) false
 
 unfoldable pub spelled_token : ℕ → List ℕ → Result SpelledToken FormFault
 spelled_token most z = if opens_object z then (read_as (object_of z) >>= json_of most) else compact z

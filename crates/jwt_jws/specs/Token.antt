@@ -1,6 +1,7 @@
 -- A signed token (RFC 7515), as the crates above see it.
-use Rattle.std.specs.Prelude.{ℕ, List, Bool, ◌||◌, false, Option, Some, None, codes, option_and_then}
-use Rattle.serde_json.specs.Data.{Data, Members}
+use Rattle.std.specs.Prelude.{ℕ, List, Bool, ◌||◌, false, Option, codes, option_and_then}
+use Rattle.std.specs.Option.{option_map_or, option_or}
+use Rattle.serde_json.specs.Data.{Members}
 use Rattle.serde_json.specs.Find.{get_member, as_str}
 use Rattle.jwt_text.specs.Members.{has, text_at}
 use Rattle.jwt_mac.specs.Verifying.{MessageOctets}
@@ -26,31 +27,17 @@ message_of t s = record { protected = s.protected_text; payload = t.payload_text
 
 -- ---- the JOSE header, which is the union of the protected and the unprotected header (RFC 7515, section 4)
 
-abbrev has_in : List ℕ → Option Members → Bool
-has_in name None = false
-has_in name (Some ms) = has name ms
-
 abbrev pub in_unprotected : List ℕ → SignatureParts → Bool
-in_unprotected name s = has_in name s.unprotected
+in_unprotected name s = option_map_or (has name) s.unprotected false
 
 abbrev pub in_header : List ℕ → SignatureParts → Bool
 in_header name s = has name s.protected || in_unprotected name s
-
-abbrev member_in : List ℕ → Option Members → Option Data
-member_in name None = None
-member_in name (Some ms) = get_member name ms
-
-abbrev or_else : {A : Type 0} → Option A → Option A → Option A
-or_else None o = o
-or_else (Some a) o = Some a
-
-abbrev pub header_member : List ℕ → SignatureParts → Option Data
-header_member name s = or_else (get_member name s.protected) (member_in name s.unprotected)
 
 -- the algorithm's name, from the protected header alone (RFC 7515, section 4.1.1)
 abbrev pub alg_text : SignatureParts → Option (List ℕ)
 alg_text s = text_at (codes "alg") s.protected
 
--- the key id (RFC 7515, section 4.1.4)
+-- the key id, from either header (RFC 7515, section 4.1.4)
 abbrev pub kid : SignatureParts → Option (List ℕ)
-kid s = option_and_then as_str (header_member (codes "kid") s)
+kid s = option_and_then as_str
+    (option_or (get_member (codes "kid") s.protected) (option_and_then (get_member (codes "kid")) s.unprotected))

@@ -1,18 +1,40 @@
 -- Claims that hold, in words.
-use Rattle.std.proofs.Common.{◌≡◌, ℕ, zero, suc, ℤ, pos, ◌+◌, ◌+ℤ◌, ◌<ℤ◌, ◌≤ℤ◌, List, [], ◌∷◌, drop, map, codes, Bool, true, false, not, ◌&&◌, ◌⊎◌, inl, inr, ⊎_elim, Option, Some, None, is_some, refl, sym, ap, ◌∙◌, subst, arith, Decides}
+use Rattle.std.proofs.Common.{◌≡◌, ℕ, zero, suc, ℤ, pos, ◌+◌, ◌+ℤ◌, ◌==◌, ◌<ℤ◌, ◌≤ℤ◌, List, [], ◌∷◌, drop, map, codes, Bool, true, false, int_lt, length, not, ◌&&◌, ◌⊎◌, inl, inr, ⊎_elim, Option, Some, None, is_some, refl, sym, ap, ◌∙◌, subst, arith, Decides}
 use Rattle.std.specs.Option.{option_or}
 use Rattle.std.specs.List.{Contains}
+use Rattle.std.proofs.lemmas.Bool.{eqb-true}
 use Rattle.std.proofs.lemmas.Bool.Decides.{Decides-or}
 use Rattle.serde_json.specs.Data.{Data, string, Members}
 use Rattle.jwt_text.specs.Members.{has, text_at, list_at, whole_at}
 use Rattle.jwt_text.specs.Rows.{Row, ◌⇒◌, first_row}
 use Rattle.jwt_policy.specs.Settings.{Settings}
 use Rattle.jwt_policy.specs.Texts.{some_passes, is_among, any_text}
-use Rattle.jwt_policy.specs.Checks.{missing, is_empty, lacks_iat, is_other_issuer, names_audience, is_other_audience, is_before_expiry, is_expired, is_later, is_not_yet, is_issued_later, is_older, is_too_old, later_rows, check_of}
-use Rattle.jwt_policy.specs.Laws.{IsAudience, ClaimsHold}
+use Rattle.jwt_policy.specs.Checks.{missing, names_audience, is_expired, is_later, is_not_yet, is_issued_later, is_too_old, later_rows, check_of}
+use Rattle.jwt_policy.specs.Laws.{ClaimsHold}
 use Rattle.jwt_policy.specs.declared.claim_fault.ClaimFault.TheVariants.{ClaimMissing, Issuer, Audience, Expired, NotYet, IssuedLater, TooOld}
 use Rattle.jwt_policy.proofs.RowsLemmas.{first_of_both}
 use Rattle.jwt_policy.proofs.TestLemmas.{Fails, fails_not, fails_every, fails_where, decides_some, lt_decides, lt_fails, among_decides, any_text_decides}
+
+-- ---- the rows, one by one
+
+abbrev lacks_iat : Settings → Members → Bool
+lacks_iat p ms = is_some p.claims.max_age && not (has (codes "iat") ms)
+
+abbrev is_other_issuer : Settings → Members → Bool
+is_other_issuer p ms = not (length p.claims.issuers == 0) && not (some_passes (is_among p.claims.issuers) (text_at (codes "iss") ms))
+
+abbrev is_other_audience : Settings → Members → Bool
+is_other_audience p ms = has (codes "aud") ms && not (names_audience p.claims.audiences ms)
+
+abbrev is_before_expiry : ℤ → ℕ → ℤ → Bool
+is_before_expiry now leeway exp = int_lt now (exp +ℤ pos leeway)
+
+abbrev is_older : ℤ → ℕ → ℤ → ℕ → Bool
+is_older now leeway iat age = int_lt (iat +ℤ pos (age + leeway)) now
+
+-- a text is an audience: it is `aud`, or stands in the list `aud`
+abbrev IsAudience : List ℕ → Members → Type 0
+IsAudience name ms = (text_at (codes "aud") ms ≡ Some name) ⊎ ((ds : List Data) × (list_at (codes "aud") ms ≡ Some ds) × Contains ds (string name))
 
 -- ---- rows that don't hold
 
@@ -45,9 +67,17 @@ all_there ms (n ∷ ns) h = row_from (not (has n ms)) (ClaimMissing n) (map (mis
 
 -- ---- the issuer and the audience
 
-issuer_fails : (issuers : List (List ℕ)) (iss : Option (List ℕ)) → Fails (not (is_empty issuers) && not (some_passes (is_among issuers) iss)) ((issuers ≡ []) ⊎ ((name : List ℕ) × (iss ≡ Some name) × Contains issuers name))
+-- a list that has an element isn't empty
+not_empty : (n : ℕ) (b : Bool) → (suc n == 0) ≡ b → not b ≡ true
+not_empty n true e = absurd (let none : suc n ≡ 0 = eqb-true (suc n) 0 e in omega arith)
+not_empty n false e = refl
+
+some_named : (n : ℕ) (b : Bool) → (not (suc n == 0) && b) ≡ b
+some_named n b = ap (λ c. c && b) (not_empty n (suc n == 0) refl)
+
+issuer_fails : (issuers : List (List ℕ)) (iss : Option (List ℕ)) → Fails (not (length issuers == 0) && not (some_passes (is_among issuers) iss)) ((issuers ≡ []) ⊎ ((name : List ℕ) × (iss ≡ Some name) × Contains issuers name))
 issuer_fails [] iss = (λ _. inl refl, λ _. refl)
-issuer_fails (i ∷ is) iss = (λ e. inr (named.0 e), λ h. ⊎_elim (λ none. absurd cc) named.1 h)
+issuer_fails (i ∷ is) iss = (λ e. inr (named.0 (sym (some_named (length is) _) ∙ e)), λ h. some_named (length is) _ ∙ ⊎_elim (λ none. absurd cc) named.1 h)
   where
     named : Fails (not (some_passes (is_among (i ∷ is)) iss)) ((name : List ℕ) × (iss ≡ Some name) × Contains (i ∷ is) name)
     named = fails_not (some_passes (is_among (i ∷ is)) iss) (decides_some (is_among (i ∷ is)) iss (λ name. Contains (i ∷ is) name) (among_decides (i ∷ is)))
@@ -118,13 +148,11 @@ claims_hold p ms now e =
       required = there ms p.claims.required both.0;
       issuer = (issuer_fails p.claims.issuers (text_at (codes "iss") ms)).0 r2.0;
       audience = (other_audience p ms).0 r3.0;
-      dates = record {
-        exp = (expired p ms now).0 r4.0;
-        nbf = (not_yet p ms now).0 r5.0;
-        iat_is_there = (iat_there p ms).0 r1.0;
-        iat_least = (issued_later p ms now).0 r6.0;
-        iat_most = (too_old p ms now).0 r7.0;
-      };
+      exp = (expired p ms now).0 r4.0;
+      nbf = (not_yet p ms now).0 r5.0;
+      iat_is_there = (iat_there p ms).0 r1.0;
+      iat_least = (issued_later p ms now).0 r6.0;
+      iat_most = (too_old p ms now).0 r7.0;
     }
 
 pub holds_unrefused : (p : Settings) (ms : Members) (now : ℤ) → ClaimsHold p ms now → check_of p ms now ≡ None
@@ -132,10 +160,10 @@ unfolding check_of later_rows
 holds_unrefused p ms now h =
     first_of_both (map (missing ms) p.claims.required) (later_rows p ms now)
     ∙ ap (λ o. option_or o (first_row (later_rows p ms now))) (all_there ms p.claims.required h.required)
-    ∙ row_from (lacks_iat p ms) (ClaimMissing (codes "iat")) (drop 1 (later_rows p ms now)) ((iat_there p ms).1 h.dates.iat_is_there)
+    ∙ row_from (lacks_iat p ms) (ClaimMissing (codes "iat")) (drop 1 (later_rows p ms now)) ((iat_there p ms).1 h.iat_is_there)
     (row_from (is_other_issuer p ms) Issuer (drop 2 (later_rows p ms now)) ((issuer_fails p.claims.issuers (text_at (codes "iss") ms)).1 h.issuer)
     (row_from (is_other_audience p ms) Audience (drop 3 (later_rows p ms now)) ((other_audience p ms).1 h.audience)
-    (row_from (is_expired p ms now) Expired (drop 4 (later_rows p ms now)) ((expired p ms now).1 h.dates.exp)
-    (row_from (is_not_yet p ms now) NotYet (drop 5 (later_rows p ms now)) ((not_yet p ms now).1 h.dates.nbf)
-    (row_from (is_issued_later p ms now) IssuedLater (drop 6 (later_rows p ms now)) ((issued_later p ms now).1 h.dates.iat_least)
-    (row_from (is_too_old p ms now) TooOld [] ((too_old p ms now).1 h.dates.iat_most) refl))))))
+    (row_from (is_expired p ms now) Expired (drop 4 (later_rows p ms now)) ((expired p ms now).1 h.exp)
+    (row_from (is_not_yet p ms now) NotYet (drop 5 (later_rows p ms now)) ((not_yet p ms now).1 h.nbf)
+    (row_from (is_issued_later p ms now) IssuedLater (drop 6 (later_rows p ms now)) ((issued_later p ms now).1 h.iat_least)
+    (row_from (is_too_old p ms now) TooOld [] ((too_old p ms now).1 h.iat_most) refl))))))

@@ -8,7 +8,7 @@ use Rattle.std.proofs.lemmas.Map.Views.{Contains-from_any}
 use Rattle.std.proofs.lemmas.List.Folds.{list_any_at}
 use Rattle.serde_json.specs.Data.{Data, null, boolean, number, string, array, object}
 use Rattle.serde_json.specs.Find.{as_str}
-use Rattle.jwt_policy.specs.Texts.{some_passes, is_among, any_text, is_text_with}
+use Rattle.jwt_policy.specs.Texts.{some_passes, is_among, any_text}
 
 -- a test fails exactly where this holds
 abbrev pub Fails : Bool → Type 0 → Type 0
@@ -67,6 +67,10 @@ text_is (number n) t e = absurd cc
 text_is (string s) t e = let same : s ≡ t = cc in ap string same
 text_is (array ds) t e = absurd cc
 text_is (object ms) t e = absurd cc
+
+-- an element is a text, and it passes
+abbrev is_text_with : (List ℕ → Bool) → Data → Bool
+is_text_with test d = some_passes test (as_str d)
 
 text_with : (test : List ℕ → Bool) (P : List ℕ → Type 0) → ((t : List ℕ) → Decides (test t) (P t)) → (d : Data) → is_text_with test d ≡ true → (t : List ℕ) × (d ≡ string t) × P t
 text_with test P each d e = let h = (decides_some test (as_str d) P each).0 e in (h.0, text_is d h.0 h.1, h.2)

@@ -1,9 +1,9 @@
 -- The bars of a signature, under a policy and the verifiers that were handed in.
-use Rattle.std.specs.Prelude.{ℕ, List, [], ◌∷◌, Bool, true, false, not, ◌||◌, ◌&&◌, codes, Option, is_some, is_none, option_and_then}
+use Rattle.std.specs.Prelude.{ℕ, List, [], ◌∷◌, ◌==◌, Bool, true, not, ◌||◌, ◌&&◌, codes, length, Option, is_some, is_none, option_and_then}
 use Rattle.std.specs.Option.{option_map_or}
 use Rattle.std.specs.List.{list_any}
 use Rattle.std.specs.Str.{bytes_eq}
-use Rattle.serde_json.specs.Data.{Data, Members}
+use Rattle.serde_json.specs.Data.{Data}
 use Rattle.jwt_mac.specs.declared.algorithm.Alg.{Alg}
 use Rattle.jwt_mac.specs.Algorithm.{is_hmac_alg, name_of, alg_named}
 use Rattle.jwt_mac.specs.Verifying.{Meaning, first_naming}
@@ -22,44 +22,13 @@ use Rattle.jwt_policy.specs.declared.sig_fault.SigFault.TheVariants.{AlgMissing,
 abbrev pub alg : SignatureParts → Option Alg
 alg s = option_and_then alg_named (alg_text s)
 
-abbrev pub lacks_alg : SignatureParts → Bool
-lacks_alg s = is_none (alg_text s)
-
-abbrev pub is_alg_none : SignatureParts → Bool
-is_alg_none s = some_passes (λ t. bytes_eq t (codes "none")) (alg_text s)
-
-abbrev pub is_alg_unknown : SignatureParts → Bool
-is_alg_unknown s = is_none (alg s)
-
-abbrev pub same_alg : Alg → Alg → Bool
-same_alg a b = bytes_eq (name_of a) (name_of b)
-
+-- an algorithm is among these
 abbrev pub is_allowed : List Alg → Alg → Bool
-is_allowed algs a = list_any (λ b. same_alg b a) algs
-
-abbrev pub is_alg_not_allowed : Settings → SignatureParts → Bool
-is_alg_not_allowed p s = not (some_passes (is_allowed p.run.algs) (alg s))
+is_allowed algs a = list_any (λ b. bytes_eq (name_of b) (name_of a)) algs
 
 -- signatures by the algorithm can be verified: it is HMAC, or a verifier names it
 abbrev pub can_verify : List Meaning → Alg → Bool
 can_verify verifiers a = is_hmac_alg a || is_some (first_naming verifiers a)
-
-abbrev pub lacks_verifier : List Meaning → SignatureParts → Bool
-lacks_verifier verifiers s = not (some_passes (can_verify verifiers) (alg s))
-
--- ---- members that are refused wherever they stand
-
--- keys by URL (RFC 7515, sections 4.1.2 and 4.1.5; RFC 8725, section 3.10)
-abbrev pub has_key_url : SignatureParts → Bool
-has_key_url s = in_header (codes "jku") s || in_header (codes "x5u") s
-
--- encryption (RFC 7516, section 4.1.2)
-abbrev pub has_enc : SignatureParts → Bool
-has_enc s = in_header (codes "enc") s
-
--- a payload that isn't base64url (RFC 7797, section 3)
-abbrev pub is_unencoded : SignatureParts → Bool
-is_unencoded s = in_header (codes "b64") s
 
 -- ---- `crit` (RFC 7515, section 4.1.11)
 
@@ -69,72 +38,42 @@ registered_names =
     codes "alg" ∷ codes "jku" ∷ codes "jwk" ∷ codes "kid" ∷ codes "x5u" ∷ codes "x5c" ∷ codes "x5t" ∷ codes "x5t#S256"
     ∷ codes "typ" ∷ codes "cty" ∷ codes "crit" ∷ []
 
-abbrev pub is_registered : List ℕ → Bool
-is_registered t = is_among registered_names t
-
--- a name of the list isn't in the header
-abbrev pub names_absent : SignatureParts → List Data → Bool
-names_absent s ds = any_text (λ t. not (in_header t s)) ds
-
-abbrev pub is_empty : List Data → Bool
-is_empty [] = true
-is_empty (d ∷ ds) = false
-
 -- the list `crit` of the protected header is empty, or holds something that is no text, a name twice, a registered name,
 -- or a name that the header lacks
 abbrev pub is_no_name_list : SignatureParts → List Data → Bool
-is_no_name_list s ds = is_empty ds || not (are_texts ds) || crit_repeats s.protected || any_text is_registered ds || names_absent s ds
+is_no_name_list s ds =
+    length ds == 0 || not (are_texts ds) || crit_repeats s.protected
+    || any_text (is_among registered_names) ds || any_text (λ t. not (in_header t s)) ds
 
+-- `crit` stands in the unprotected header, or is no list of names that the header has beside the registered ones
 abbrev pub is_crit_misshapen : SignatureParts → Bool
 is_crit_misshapen s =
     in_unprotected (codes "crit") s
     || (has (codes "crit") s.protected && option_map_or (is_no_name_list s) (list_at (codes "crit") s.protected) true)
 
-abbrev pub is_crit_unknown : Settings → SignatureParts → Bool
-is_crit_unknown p s = some_passes (any_text (λ t. not (is_among p.header.understood t))) (list_at (codes "crit") s.protected)
-
--- ---- `typ` and `cty` (RFC 7515, sections 4.1.9 and 4.1.10; RFC 7519, sections 5.1 and 5.2; RFC 8725, section 3.11)
-
-abbrev pub is_typ_misshapen : SignatureParts → Bool
-is_typ_misshapen s = is_no_text (codes "typ") s.protected || is_no_text (codes "cty") s.protected
-
--- `typ` is absent, or another media type
-abbrev pub is_other_typ : Members → List ℕ → Bool
-is_other_typ ms t = not (some_passes (same_media_type t) (text_at (codes "typ") ms))
-
-abbrev pub is_typ_mismatched : Settings → SignatureParts → Bool
-is_typ_mismatched p s = some_passes (is_other_typ s.protected) p.header.typ
-
-abbrev pub is_nested : SignatureParts → Bool
-is_nested s = some_passes (same_media_type (codes "application/jwt")) (text_at (codes "cty") s.protected)
-
--- ---- `kid` (RFC 7515, section 4.1.4)
-
-abbrev pub is_kid_misshapen : SignatureParts → Bool
-is_kid_misshapen s = in_header (codes "kid") s && is_none (kid s)
-
-abbrev pub lacks_kid : Settings → SignatureParts → Bool
-lacks_kid p s = p.header.need_kid && not (in_header (codes "kid") s)
-
 -- ---- the table
 
+-- The algorithm (RFC 7515, section 4.1.1; RFC 8725, sections 3.1 and 3.2); keys by URL (RFC 7515, sections 4.1.2 and 4.1.5;
+-- RFC 8725, section 3.10); encryption (RFC 7516, section 4.1.2); a payload that isn't base64url (RFC 7797, section 3); `crit`;
+-- `typ` and `cty`, where `typ` is absent or another media type than the policy's, or the payload is a token again (RFC 7515,
+-- sections 4.1.9 and 4.1.10; RFC 7519, sections 5.1 and 5.2; RFC 8725, section 3.11); `kid` (RFC 7515, section 4.1.4).
 abbrev pub bar_rows : Settings → SignatureParts → List Meaning → List (Row SigFault)
 bar_rows p s verifiers =
-    (lacks_alg s ⇒ AlgMissing)
-    ∷ (is_alg_none s ⇒ AlgNone)
-    ∷ (is_alg_unknown s ⇒ AlgUnknown)
-    ∷ (is_alg_not_allowed p s ⇒ AlgNotAllowed)
-    ∷ (lacks_verifier verifiers s ⇒ NoVerifier)
-    ∷ (has_key_url s ⇒ KeyUrl)
-    ∷ (has_enc s ⇒ EncHeader)
-    ∷ (is_unencoded s ⇒ Unencoded)
+    (is_none (alg_text s) ⇒ AlgMissing)
+    ∷ (some_passes (λ t. bytes_eq t (codes "none")) (alg_text s) ⇒ AlgNone)
+    ∷ (is_none (alg s) ⇒ AlgUnknown)
+    ∷ (not (some_passes (is_allowed p.run.algs) (alg s)) ⇒ AlgNotAllowed)
+    ∷ (not (some_passes (can_verify verifiers) (alg s)) ⇒ NoVerifier)
+    ∷ ((in_header (codes "jku") s || in_header (codes "x5u") s) ⇒ KeyUrl)
+    ∷ (in_header (codes "enc") s ⇒ EncHeader)
+    ∷ (in_header (codes "b64") s ⇒ Unencoded)
     ∷ (is_crit_misshapen s ⇒ CritShape)
-    ∷ (is_crit_unknown p s ⇒ CritUnknown)
-    ∷ (is_typ_misshapen s ⇒ TypShape)
-    ∷ (is_typ_mismatched p s ⇒ TypMismatch)
-    ∷ (is_nested s ⇒ Nested)
-    ∷ (is_kid_misshapen s ⇒ KidShape)
-    ∷ (lacks_kid p s ⇒ KidMissing)
+    ∷ (some_passes (any_text (λ t. not (is_among p.header.understood t))) (list_at (codes "crit") s.protected) ⇒ CritUnknown)
+    ∷ ((is_no_text (codes "typ") s.protected || is_no_text (codes "cty") s.protected) ⇒ TypShape)
+    ∷ (some_passes (λ t. not (some_passes (same_media_type t) (text_at (codes "typ") s.protected))) p.header.typ ⇒ TypMismatch)
+    ∷ (some_passes (same_media_type (codes "application/jwt")) (text_at (codes "cty") s.protected) ⇒ Nested)
+    ∷ ((in_header (codes "kid") s && is_none (kid s)) ⇒ KidShape)
+    ∷ ((p.header.need_kid && not (in_header (codes "kid") s)) ⇒ KidMissing)
     ∷ []
 
 -- the bar of a signature: the first row that holds, if any

@@ -1,5 +1,5 @@
 -- The claims under a policy, at a moment.
-use Rattle.std.specs.Prelude.{ℕ, ℤ, pos, ◌+◌, ◌+ℤ◌, List, [], ◌∷◌, ◌++◌, codes, map, Bool, true, false, not, ◌&&◌, ◌||◌, int_lt, is_some, Option}
+use Rattle.std.specs.Prelude.{ℕ, ℤ, pos, ◌+◌, ◌+ℤ◌, ◌==◌, List, [], ◌∷◌, ◌++◌, codes, length, map, Bool, not, ◌&&◌, ◌||◌, int_lt, is_some, Option}
 use Rattle.serde_json.specs.Data.{Members}
 use Rattle.jwt_text.specs.Members.{has, text_at, whole_at, list_at}
 use Rattle.jwt_text.specs.Rows.{Row, ◌⇒◌, first_row}
@@ -8,22 +8,9 @@ use Rattle.jwt_policy.specs.Texts.{some_passes, is_among, any_text}
 use Rattle.jwt_policy.specs.declared.claim_fault.ClaimFault.{ClaimFault}
 use Rattle.jwt_policy.specs.declared.claim_fault.ClaimFault.TheVariants.{ClaimMissing, Issuer, Audience, Expired, NotYet, IssuedLater, TooOld}
 
--- ---- what has to be there, and whom the claims are of and for
-
 -- a required claim is absent
 abbrev pub missing : Members → List ℕ → Row ClaimFault
 missing ms name = not (has name ms) ⇒ ClaimMissing name
-
-abbrev pub lacks_iat : Settings → Members → Bool
-lacks_iat p ms = is_some p.claims.max_age && not (has (codes "iat") ms)
-
-abbrev pub is_empty : List (List ℕ) → Bool
-is_empty [] = true
-is_empty (t ∷ ts) = false
-
--- RFC 7519, section 4.1.1; RFC 8725, section 3.8
-abbrev pub is_other_issuer : Settings → Members → Bool
-is_other_issuer p ms = not (is_empty p.claims.issuers) && not (some_passes (is_among p.claims.issuers) (text_at (codes "iss") ms))
 
 -- a text of `aud` is among these
 abbrev pub names_audience : List (List ℕ) → Members → Bool
@@ -31,17 +18,10 @@ names_audience audiences ms =
     some_passes (is_among audiences) (text_at (codes "aud") ms)
     || some_passes (any_text (is_among audiences)) (list_at (codes "aud") ms)
 
--- RFC 7519, section 4.1.3; RFC 8725, section 3.9
-abbrev pub is_other_audience : Settings → Members → Bool
-is_other_audience p ms = has (codes "aud") ms && not (names_audience p.claims.audiences ms)
-
 -- ---- dates (RFC 7519, sections 4.1.4 to 4.1.6), in seconds, over unbounded whole numbers
 
-abbrev pub is_before_expiry : ℤ → ℕ → ℤ → Bool
-is_before_expiry now leeway exp = int_lt now (exp +ℤ pos leeway)
-
 unfoldable pub is_expired : Settings → Members → ℤ → Bool
-is_expired p ms now = some_passes (λ exp. not (is_before_expiry now p.claims.leeway exp)) (whole_at (codes "exp") ms)
+is_expired p ms now = some_passes (λ exp. not (int_lt now (exp +ℤ pos p.claims.leeway))) (whole_at (codes "exp") ms)
 
 -- a date is later than now, the leeway added
 abbrev pub is_later : ℤ → ℕ → ℤ → Bool
@@ -53,21 +33,20 @@ is_not_yet p ms now = some_passes (is_later now p.claims.leeway) (whole_at (code
 unfoldable pub is_issued_later : Settings → Members → ℤ → Bool
 is_issued_later p ms now = is_some p.claims.max_age && some_passes (is_later now p.claims.leeway) (whole_at (codes "iat") ms)
 
--- what was issued at iat is older than this age, the leeway added
-abbrev pub is_older : ℤ → ℕ → ℤ → ℕ → Bool
-is_older now leeway iat age = int_lt (iat +ℤ pos (age + leeway)) now
-
+-- what was issued at iat is older than the greatest age, the leeway added
 unfoldable pub is_too_old : Settings → Members → ℤ → Bool
-is_too_old p ms now = some_passes (λ iat. some_passes (is_older now p.claims.leeway iat) p.claims.max_age) (whole_at (codes "iat") ms)
+is_too_old p ms now =
+    some_passes (λ iat. some_passes (λ age. int_lt (iat +ℤ pos (age + p.claims.leeway)) now) p.claims.max_age) (whole_at (codes "iat") ms)
 
 -- ---- the table
 
--- the rows after those of the required claims
+-- The rows after those of the required claims: `iat`, which a greatest age asks for; the issuer (RFC 7519, section 4.1.1;
+-- RFC 8725, section 3.8); the audience (RFC 7519, section 4.1.3; RFC 8725, section 3.9); the dates.
 unfoldable pub later_rows : Settings → Members → ℤ → List (Row ClaimFault)
 later_rows p ms now =
-    (lacks_iat p ms ⇒ ClaimMissing (codes "iat"))
-    ∷ (is_other_issuer p ms ⇒ Issuer)
-    ∷ (is_other_audience p ms ⇒ Audience)
+    ((is_some p.claims.max_age && not (has (codes "iat") ms)) ⇒ ClaimMissing (codes "iat"))
+    ∷ ((not (length p.claims.issuers == 0) && not (some_passes (is_among p.claims.issuers) (text_at (codes "iss") ms))) ⇒ Issuer)
+    ∷ ((has (codes "aud") ms && not (names_audience p.claims.audiences ms)) ⇒ Audience)
     ∷ (is_expired p ms now ⇒ Expired)
     ∷ (is_not_yet p ms now ⇒ NotYet)
     ∷ (is_issued_later p ms now ⇒ IssuedLater)

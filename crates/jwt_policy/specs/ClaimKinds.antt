@@ -1,8 +1,9 @@
 -- The kinds of the registered claims (RFC 7519, section 4.1), and the claims of a payload.
-use Rattle.std.specs.Prelude.{ℕ, List, [], ◌∷◌, codes, Bool, not, ◌&&◌, is_none, Option, Some, None, Result, Ok, Err}
+use Rattle.std.specs.Prelude.{ℕ, List, [], ◌∷◌, codes, Bool, not, ◌&&◌, is_none, option_and_then, Option, Some, None, Result, Ok, Err}
 use Rattle.serde_json.specs.Data.{Members}
+use Rattle.serde_json.specs.Find.{get_member, as_number}
 use Rattle.jwt_text.specs.Answers.{or_fault, ◌>>=◌}
-use Rattle.jwt_text.specs.Members.{has, list_at, is_number_at, whole_at, are_texts}
+use Rattle.jwt_text.specs.Members.{has, list_at, whole_at, are_texts}
 use Rattle.jwt_text.specs.ObjectText.{object_of}
 use Rattle.jwt_text.specs.Rows.{Row, ◌⇒◌, first_row}
 use Rattle.jwt_policy.specs.Texts.{some_passes, is_no_text}
@@ -21,25 +22,21 @@ claim_name Nbf = codes "nbf"
 claim_name Iat = codes "iat"
 claim_name Jti = codes "jti"
 
--- `aud` is there, and is neither a text nor a list of texts
-abbrev pub is_no_audience : Members → Bool
-is_no_audience ms = is_no_text (codes "aud") ms && not (some_passes are_texts (list_at (codes "aud") ms))
-
 -- a date is there, and is no number
 abbrev pub is_no_number : List ℕ → Members → Bool
-is_no_number name ms = has name ms && not (is_number_at name ms)
+is_no_number name ms = has name ms && is_none (option_and_then as_number (get_member name ms))
 
 -- a date is there, and is no whole number within 64 signed bits
 abbrev pub is_no_date : List ℕ → Members → Bool
 is_no_date name ms = has name ms && is_none (whole_at name ms)
 
--- ---- the table, claim by claim
+-- ---- the table, claim by claim; `aud` is a text or a list of texts
 
 abbrev pub kind_rows : Members → List (Row ClaimFault)
 kind_rows ms =
     (is_no_text (codes "iss") ms ⇒ ClaimKind Iss)
     ∷ (is_no_text (codes "sub") ms ⇒ ClaimKind Sub)
-    ∷ (is_no_audience ms ⇒ ClaimKind Aud)
+    ∷ ((is_no_text (codes "aud") ms && not (some_passes are_texts (list_at (codes "aud") ms))) ⇒ ClaimKind Aud)
     ∷ (is_no_number (codes "exp") ms ⇒ ClaimKind Exp)
     ∷ (is_no_date (codes "exp") ms ⇒ ClaimDate Exp)
     ∷ (is_no_number (codes "nbf") ms ⇒ ClaimKind Nbf)

@@ -15,46 +15,23 @@ use Rattle.jwt_policy.specs.Bars.{alg, bar_of}
 
 -- ---- the kind, curve and size of a key (RFC 7518, sections 3.2 to 3.5; RFC 8037, section 3.1; RFC 8725, section 3.5)
 
--- a shared secret of at least so many octets
-abbrev pub is_oct_of : ℕ → KeyOctets → Bool
-is_oct_of least (OctKey k) = nat_le least (length k)
-is_oct_of least _ = false
-
-abbrev pub is_rsa : KeyOctets → Bool
-is_rsa (RsaKey n e) = true
-is_rsa _ = false
-
-abbrev pub is_p256 : KeyOctets → Bool
-is_p256 (EcKey P256 x y) = true
-is_p256 _ = false
-
-abbrev pub is_p384 : KeyOctets → Bool
-is_p384 (EcKey P384 x y) = true
-is_p384 _ = false
-
-abbrev pub is_p521 : KeyOctets → Bool
-is_p521 (EcKey P521 x y) = true
-is_p521 _ = false
-
-abbrev pub is_okp : KeyOctets → Bool
-is_okp (OkpKey curve x) = true
-is_okp _ = false
-
--- the key is of the kind, curve and size that the algorithm asks for
+-- The key is of the kind, curve and size that the algorithm asks for: a shared secret of at least so many octets, an RSA key, a
+-- point on that curve, a key of EdDSA.
 abbrev pub suits : Alg → KeyOctets → Bool
-suits HS256 key = is_oct_of 32 key
-suits HS384 key = is_oct_of 48 key
-suits HS512 key = is_oct_of 64 key
-suits RS256 key = is_rsa key
-suits RS384 key = is_rsa key
-suits RS512 key = is_rsa key
-suits PS256 key = is_rsa key
-suits PS384 key = is_rsa key
-suits PS512 key = is_rsa key
-suits ES256 key = is_p256 key
-suits ES384 key = is_p384 key
-suits ES512 key = is_p521 key
-suits EdDSA key = is_okp key
+suits HS256 (OctKey k) = nat_le 32 (length k)
+suits HS384 (OctKey k) = nat_le 48 (length k)
+suits HS512 (OctKey k) = nat_le 64 (length k)
+suits RS256 (RsaKey n e) = true
+suits RS384 (RsaKey n e) = true
+suits RS512 (RsaKey n e) = true
+suits PS256 (RsaKey n e) = true
+suits PS384 (RsaKey n e) = true
+suits PS512 (RsaKey n e) = true
+suits ES256 (EcKey P256 x y) = true
+suits ES384 (EcKey P384 x y) = true
+suits ES512 (EcKey P521 x y) = true
+suits EdDSA (OkpKey curve x) = true
+suits _ _ = false
 
 -- ---- the pair
 

@@ -8,7 +8,8 @@ use Rattle.jwt_mac.specs.declared.algorithm.Alg.{Alg}
 use Rattle.jwt_mac.specs.Algorithm.{alg_named}
 use Rattle.jwt_text.specs.Answers.{some_or, ◌>>=◌}
 use Rattle.jwt_text.specs.Members.{has, text_at, whole_at, flag_at, list_at}
-use Rattle.jwt_policy.specs.Bars.{is_registered}
+use Rattle.jwt_policy.specs.Texts.{is_among}
+use Rattle.jwt_policy.specs.Bars.{registered_names}
 use Rattle.jwt_policy.specs.declared.mode.Mode.{Mode}
 use Rattle.jwt_policy.specs.declared.mode.Mode.TheVariants.{Any, All}
 use Rattle.jwt_policy.specs.declared.policy_fault.PolicyFault.{PolicyFault}
@@ -79,7 +80,7 @@ texts_in name ms = present_or [] texts_of name ms
 
 -- a registered header name, or `b64`
 abbrev pub is_reserved : List ℕ → Bool
-is_reserved t = is_registered t || bytes_eq t (codes "b64")
+is_reserved t = is_among registered_names t || bytes_eq t (codes "b64")
 
 abbrev pub unreserved : List (List ℕ) → Option (List (List ℕ))
 unreserved ts = if list_any is_reserved ts then None else Some ts

@@ -15,13 +15,9 @@ some_passes test o = option_map_or test o false
 abbrev pub is_among : List (List ℕ) → List ℕ → Bool
 is_among ts t = list_any (λ u. bytes_eq t u) ts
 
--- an element is a text, and it passes
-abbrev pub is_text_with : (List ℕ → Bool) → Data → Bool
-is_text_with test d = some_passes test (as_str d)
-
--- some text of a list passes
+-- some element of a list is a text, and it passes
 abbrev pub any_text : (List ℕ → Bool) → List Data → Bool
-any_text test ds = list_any (is_text_with test) ds
+any_text test ds = list_any (λ d. some_passes test (as_str d)) ds
 
 -- a member is there, and is no text
 abbrev pub is_no_text : List ℕ → Members → Bool

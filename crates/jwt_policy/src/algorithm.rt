@@ -1,9 +1,12 @@
 //! The algorithm of a signature (RFC 7515, section 4.1.1).
 
-ghost use Rattle.std.specs.Prelude.{◌≡◌, map};
+ghost use Rattle.std.specs.Prelude.{◌≡◌, codes, is_none, map, not};
+ghost use Rattle.std.specs.Str.{bytes_eq};
 ghost use Rattle.jwt_mac.specs.Verifying.{Meaning};
+ghost use Rattle.jwt_jws.specs.Token.{alg_text};
 ghost use Rattle.jwt_jws.specs.Views.{parts};
-ghost use Rattle.jwt_policy.specs.Bars.{alg, lacks_alg, is_alg_none, is_alg_unknown, is_allowed, is_alg_not_allowed, can_verify, lacks_verifier};
+ghost use Rattle.jwt_policy.specs.Bars.{alg, is_allowed, can_verify};
+ghost use Rattle.jwt_policy.specs.Texts.{some_passes};
 
 use crate::policy::Policy;
 use jwt_jws::Signature;
@@ -21,14 +24,14 @@ pub fn known_alg(signature: &Signature<'_>) -> Option<Alg>
 
 /// Whether the protected header has no text `alg`.
 pub(crate) fn lacks_alg(signature: &Signature<'_>) -> bool
-    ensures { result ≡ lacks_alg (parts signature.now) }
+    ensures { result ≡ is_none (alg_text (parts signature.now)) }
 {
     signature.alg_text().is_none()
 }
 
 /// Whether `alg` is `none`.
 pub(crate) fn is_alg_none(signature: &Signature<'_>) -> bool
-    ensures { result ≡ is_alg_none (parts signature.now) }
+    ensures { result ≡ some_passes (λ t. bytes_eq t (codes "none")) (alg_text (parts signature.now)) }
 {
     match signature.alg_text() {
         Some(text) => text == "none",
@@ -38,7 +41,7 @@ pub(crate) fn is_alg_none(signature: &Signature<'_>) -> bool
 
 /// Whether `alg` isn't known.
 pub(crate) fn is_alg_unknown(signature: &Signature<'_>) -> bool
-    ensures { result ≡ is_alg_unknown (parts signature.now) }
+    ensures { result ≡ is_none (alg (parts signature.now)) }
 {
     known_alg(signature).is_none()
 }
@@ -58,7 +61,7 @@ fn is_allowed(algs: &[Alg], alg: Alg) -> bool
 
 /// Whether the policy doesn't allow the algorithm.
 pub(crate) fn is_alg_not_allowed(policy: &Policy, signature: &Signature<'_>) -> bool
-    ensures { result ≡ is_alg_not_allowed policy.now (parts signature.now) }
+    ensures { result ≡ not (some_passes (is_allowed policy.now.run.algs) (alg (parts signature.now))) }
 {
     match known_alg(signature) {
         Some(alg) => !is_allowed(policy.algs(), alg),
@@ -75,7 +78,8 @@ fn can_verify(verifiers: &[Box<dyn Verifier>], alg: Alg) -> bool
 
 /// Whether nothing here verifies by the algorithm.
 pub(crate) fn lacks_verifier(verifiers: &[Box<dyn Verifier>], signature: &Signature<'_>) -> bool
-    ensures { result ≡ lacks_verifier (map meaning verifiers.now) (parts signature.now) }
+    ensures { result
+        ≡ not (some_passes (can_verify (map meaning verifiers.now)) (alg (parts signature.now))) }
 {
     match known_alg(signature) {
         Some(alg) => !can_verify(verifiers, alg),

@@ -1,10 +1,10 @@
 //! The claims under a policy, at a moment (RFC 7519, sections 4.1.1 to 4.1.6).
 
-ghost use Rattle.std.specs.Prelude.{◌≡◌, ◌||◌, ◌&&◌, not, codes, map, option_map, string_bytes};
-ghost use Rattle.jwt_text.specs.Members.{has, text_at, list_at};
+ghost use Rattle.std.specs.Prelude.{◌≡◌, ◌+◌, ◌+ℤ◌, ◌==◌, ◌&&◌, not, codes, int_lt, is_some, length, map, pos, string_bytes};
+ghost use Rattle.jwt_text.specs.Members.{has, text_at};
 ghost use Rattle.jwt_text.specs.Rows.{first_row};
-ghost use Rattle.jwt_policy.specs.Texts.{any_text, is_among};
-ghost use Rattle.jwt_policy.specs.Checks.{missing, lacks_iat, is_other_issuer, names_audience, is_other_audience, is_before_expiry, is_expired, is_later, is_not_yet, is_issued_later, is_older, is_too_old, later_rows, check_of};
+ghost use Rattle.jwt_policy.specs.Texts.{any_text, is_among, some_passes};
+ghost use Rattle.jwt_policy.specs.Checks.{missing, names_audience, is_expired, is_later, is_not_yet, is_issued_later, is_too_old, later_rows, check_of};
 
 use crate::claim_fault::{ClaimFault, ClaimName};
 use crate::claims::Claims;
@@ -28,14 +28,16 @@ fn first_missing<'a>(claims: &ObjectRef<'_>, required: &'a [String]) -> Option<C
 
 /// Whether the policy has a greatest age, and `iat` is absent.
 fn lacks_iat(policy: &Policy, claims: &ObjectRef<'_>) -> bool
-    ensures { result ≡ lacks_iat policy.now claims.now }
+    ensures { result ≡ (is_some policy.now.claims.max_age && not (has (codes "iat") claims.now)) }
 {
     policy.max_age().is_some() && !claims.has("iat")
 }
 
 /// Whether the policy names issuers, and `iss` isn't among them.
 fn is_other_issuer(policy: &Policy, claims: &ObjectRef<'_>) -> bool
-    ensures { result ≡ is_other_issuer policy.now claims.now }
+    ensures { result ≡ (not (length policy.now.claims.issuers == 0)
+        && not (some_passes (is_among policy.now.claims.issuers)
+            (text_at (codes "iss") claims.now))) }
 {
     let issuers = policy.issuers();
     if issuers.is_empty() {
@@ -78,14 +80,15 @@ fn names_audience(audiences: &[String], claims: &ObjectRef<'_>) -> bool
 
 /// Whether `aud` is there and names none of the policy's audiences.
 fn is_other_audience(policy: &Policy, claims: &ObjectRef<'_>) -> bool
-    ensures { result ≡ is_other_audience policy.now claims.now }
+    ensures { result ≡ (has (codes "aud") claims.now
+        && not (names_audience policy.now.claims.audiences claims.now)) }
 {
     claims.has("aud") && !names_audience(policy.audiences(), claims)
 }
 
 /// Whether this is before the expiration time, the leeway added to it.
 fn is_before_expiry(now: i64, leeway: u32, exp: i64) -> bool
-    ensures { result ≡ is_before_expiry now leeway exp }
+    ensures { result ≡ int_lt now (exp +ℤ pos leeway) }
 {
     i128::from(now) < i128::from(exp) + i128::from(leeway)
 }
@@ -135,7 +138,7 @@ fn is_issued_later(policy: &Policy, claims: &ObjectRef<'_>, now: i64) -> bool
 
 /// Whether what was issued at `iat` is older than this age, the leeway added to it. All are seconds.
 fn is_older(now: i64, leeway: u32, iat: i64, age: u32) -> bool
-    ensures { result ≡ is_older now leeway iat age }
+    ensures { result ≡ int_lt (iat +ℤ pos (age + leeway)) now }
 {
     let seconds = u64::from(age) + u64::from(leeway);
     i128::from(iat) + i128::from(seconds) < i128::from(now)

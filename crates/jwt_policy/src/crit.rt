@@ -1,9 +1,11 @@
 //! The header `crit` (RFC 7515, section 4.1.11).
 
-ghost use Rattle.std.specs.Prelude.{◌≡◌, ◌||◌, not, codes, drop, option_map, map, string_bytes};
+ghost use Rattle.std.specs.Prelude.{◌≡◌, not, codes, map, string_bytes};
 ghost use Rattle.jwt_jws.specs.Views.{parts};
-ghost use Rattle.jwt_policy.specs.Texts.{any_text, is_among};
-ghost use Rattle.jwt_policy.specs.Bars.{is_registered, names_absent, is_no_name_list, is_crit_misshapen, is_crit_unknown};
+ghost use Rattle.jwt_text.specs.Members.{list_at};
+ghost use Rattle.jwt_jws.specs.Token.{in_header};
+ghost use Rattle.jwt_policy.specs.Texts.{any_text, is_among, some_passes};
+ghost use Rattle.jwt_policy.specs.Bars.{registered_names, is_no_name_list, is_crit_misshapen};
 
 use crate::policy::Policy;
 use crate::texts::is_among;
@@ -12,7 +14,7 @@ use jwt_text::List;
 
 /// Whether this is a header name of RFC 7515, section 4.1.
 pub(crate) fn is_registered(name: &str) -> bool
-    ensures { result ≡ is_registered name.now }
+    ensures { result ≡ is_among registered_names name.now }
 {
     match name {
         "alg"
@@ -33,7 +35,7 @@ pub(crate) fn is_registered(name: &str) -> bool
 /// Whether the list holds a header name of RFC 7515, section 4.1.
 #[tactic(auto, using(crate::proofs::ItemsLemmas::any_more, std::proofs::lemmas::List::at_drop_all))]
 fn names_registered(list: &List<'_>) -> bool
-    ensures { result ≡ any_text is_registered list.now }
+    ensures { result ≡ any_text (is_among registered_names) list.now }
 {
     for place in 0..list.len() {
         if let Some(name) = list.text(place) {
@@ -48,7 +50,7 @@ fn names_registered(list: &List<'_>) -> bool
 /// Whether the list holds a name that the header lacks.
 #[tactic(auto, using(crate::proofs::ItemsLemmas::any_more, std::proofs::lemmas::List::at_drop_all))]
 fn names_absent(signature: &Signature<'_>, list: &List<'_>) -> bool
-    ensures { result ≡ names_absent (parts signature.now) list.now }
+    ensures { result ≡ any_text (λ t. not (in_header t (parts signature.now))) list.now }
 {
     for place in 0..list.len() {
         if let Some(name) = list.text(place) {
@@ -105,7 +107,9 @@ pub(crate) fn is_crit_misshapen(signature: &Signature<'_>) -> bool
 
 /// Whether the policy doesn't understand a name in `crit`.
 pub(crate) fn is_crit_unknown(policy: &Policy, signature: &Signature<'_>) -> bool
-    ensures { result ≡ is_crit_unknown policy.now (parts signature.now) }
+    ensures { result
+        ≡ some_passes (any_text (λ t. not (is_among policy.now.header.understood t)))
+            (list_at (codes "crit") (parts signature.now).protected) }
 {
     match signature.protected().list("crit") {
         Some(list) => names_other(policy.understood(), &list),

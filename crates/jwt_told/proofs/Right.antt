@@ -15,7 +15,7 @@ use Rattle.jwt_policy.specs.declared.mode.Mode.TheVariants as mode
 use Rattle.jwt_policy.specs.declared.sig_fault.SigFault.{SigFault}
 use Rattle.jwt_policy.specs.Settings.{Settings}
 use Rattle.jwt_policy.specs.Texts.{some_passes}
-use Rattle.jwt_policy.specs.Bars.{alg, bar_of, can_verify, lacks_verifier}
+use Rattle.jwt_policy.specs.Bars.{alg, bar_of, can_verify}
 use Rattle.jwt_policy.specs.Eligible.{eligible_for, fits}
 use Rattle.jwt_verify.specs.declared.report.Try.{Try}
 use Rattle.jwt_verify.specs.declared.report.Fault.{Fault}
@@ -51,7 +51,7 @@ module _ (ts : List ToldParts) (truth : Truth) where
   can_same : can_verify (said ∷ []) ≡ can_verify (meant ∷ [])
   can_same = fun_ext (λ a. named_same (is_hmac_alg a))
 
-  lacks_same : (s : SignatureParts) → lacks_verifier (said ∷ []) s ≡ lacks_verifier (meant ∷ []) s
+  lacks_same : (s : SignatureParts) → not (some_passes (can_verify (said ∷ [])) (alg s)) ≡ not (some_passes (can_verify (meant ∷ [])) (alg s))
   lacks_same s = ap (λ f. not (some_passes f (alg s))) can_same
 
   bar_same : (p : Settings) (s : SignatureParts) → bar_of p s (said ∷ []) ≡ bar_of p s (meant ∷ [])

@@ -9,7 +9,7 @@ use Rattle.std.specs.List.{All, Contains}
 use Rattle.jwt_verify.specs.declared.report.Try.{Try}
 use Rattle.jwt_verify.specs.Table.{Table, entry, tries, work, is_within, affords, paid, stop}
 use Rattle.jwt_verify.specs.Paying.{IsFront, IsNext, IsWithin, AreAllowed, ArePaid}
-use Rattle.jwt_verify.specs.Accepted.{StopsAt, StopsForWork, StopsForCalls}
+use Rattle.jwt_verify.specs.Accepted.{StopsAt}
 use Rattle.jwt_verify.proofs.Bounds.{HasCost, rows_ordered}
 use Rattle.jwt_verify.proofs.Walking.{tries_are_rows}
 use Rattle.jwt_verify.proofs.Paying.{work-push, paid_all, paid_stop, paid_front, paid_rest, paid_fits, paid_over, slice_get_at}
@@ -112,6 +112,14 @@ over_words t w calls e n within =
     first_false : (a b : Bool) → (a && b) ≡ false → b ≡ true → a ≡ false
     first_false false b h y = refl
     first_false true b h y = absurd (false≢true (sym h ∙ y))
+
+-- the cost of the pair of i and j exceeds what is left of the budget, and one more call is within the ceiling on calls
+abbrev pub StopsForWork : Table → ℕ → Option ℕ → ℕ → ℕ → Type 0
+StopsForWork t w calls i j = (es : List Try) × StopsAt t w calls i j es × (w < work es + t.cost i j) × IsWithin calls (length es + 1)
+
+-- one more call exceeds the ceiling on calls
+abbrev pub StopsForCalls : Table → ℕ → Option ℕ → ℕ → ℕ → Type 0
+StopsForCalls t w calls i j = (es : List Try) × StopsAt t w calls i j es × ((most : ℕ) × (calls ≡ Some most) × (most < length es + 1))
 
 pub work_words : (t : Table) (w : ℕ) (calls : Option ℕ) (i j : ℕ) → StopsStepwise t w calls i j → is_within calls (length (paid t w calls) + 1) ≡ true → StopsForWork t w calls i j
 work_words t w calls i j s y =

@@ -1,5 +1,5 @@
 -- The work of a run is within the bound, so a ceiling of the bound is never exceeded.
-use Rattle.std.proofs.Common.{◌≡◌, ◌≢◌, ℕ, ℤ, zero, suc, ◌+◌, ◌*◌, ◌≤◌, Bool, true, false, List, [], ◌∷◌, length, map, take, drop, Option, Some, None, Result, Ok, Err, arith, refl, sym, ◌∙◌, ap, subst, inl, inr}
+use Rattle.std.proofs.Common.{bytes_eq, ◌≡◌, ◌≢◌, ℕ, ℤ, zero, suc, ◌+◌, ◌*◌, ◌≤◌, Bool, true, false, List, [], ◌∷◌, length, map, take, drop, Option, Some, None, Result, Ok, Err, arith, refl, sym, ◌∙◌, ap, subst, inl, inr}
 use Rattle.std.specs.Prelude.{not, slice_get, nat_lt, if◌then◌else◌}
 use Rattle.std.specs.Option.{option_map_or}
 use Rattle.std.specs.List.{prefix_len, range_with_len}
@@ -17,7 +17,7 @@ use Rattle.jwt_jws.specs.Token.{Token, SignatureParts, message_of}
 use Rattle.jwt_keys.specs.Keys.{KeyParts}
 use Rattle.jwt_policy.specs.Settings.{Settings}
 use Rattle.jwt_policy.specs.Texts.{some_passes}
-use Rattle.jwt_policy.specs.Bars.{alg, same_alg, is_allowed, bar_rows, bar_of}
+use Rattle.jwt_policy.specs.Bars.{alg, is_allowed, bar_rows, bar_of}
 use Rattle.jwt_policy.specs.Eligible.{eligible_for}
 use Rattle.jwt_policy.specs.Laws.{IsEligible}
 use Rattle.jwt_verify.specs.declared.tries.End.TheVariants as end
@@ -64,7 +64,7 @@ named_back ES384 = refl
 named_back ES512 = refl
 named_back EdDSA = refl
 
-alg_same : (a b : Alg) → same_alg a b ≡ true → a ≡ b
+alg_same : (a b : Alg) → bytes_eq (name_of a) (name_of b) ≡ true → a ≡ b
 alg_same a b h =
     let e : name_of a ≡ name_of b = (bytes_eq-Decides (name_of a) (name_of b)).0 h in
     let s : Some a ≡ Some b = sym (named_back a) ∙ ap alg_named e ∙ named_back b in
@@ -72,7 +72,7 @@ alg_same a b h =
 
 greatest_allowed : (f : Alg → ℕ) (algs : List Alg) (a : Alg) → is_allowed algs a ≡ true → f a ≤ greatest (map f algs)
 greatest_allowed f [] a h = cc
-greatest_allowed f (b ∷ algs) a h = elim (cases_Bool (same_alg b a)) [
+greatest_allowed f (b ∷ algs) a h = elim (cases_Bool (bytes_eq (name_of b) (name_of a))) [
   | inl y ↦ (let e : b ≡ a = alg_same b a y in rw (sym e) (le-max_left (f b) (greatest (map f algs))))
   | inr n ↦ (let k = rw n at h in omega (arith, greatest_allowed f algs a k, le-max_right (f b) (greatest (map f algs))))
 ]

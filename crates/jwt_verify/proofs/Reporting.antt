@@ -22,7 +22,7 @@ use Rattle.jwt_verify.specs.Verdict.{Terms, token_of, table, verdict_of}
 use Rattle.jwt_verify.specs.Paying.{IsFront, IsWithin, AreAllowed, ArePaid}
 use Rattle.jwt_verify.specs.Asks.{AtPair, IsToken, IsAsking}
 use Rattle.jwt_verify.specs.Laws.{IsBefore, common_cost, long_key, work_most}
-use Rattle.jwt_verify.specs.Reports.{FoundMemory, IsComplete, IsRunReport, IsBlank, IsReport, AreEligible, IsBounded}
+use Rattle.jwt_verify.specs.Reports.{FoundMemory, IsComplete, IsRunReport, IsReport, AreEligible, IsBounded}
 use Rattle.jwt_verify.specs.Steps.{IsSourceFault, IsWhole, IsListed, ReportsInWords, ReportsOnTaken, TakenTokens, TellsReports}
 use Rattle.jwt_verify.proofs.Bounds.{HasCost, rows_ordered, tries_eligible, length-tries, sum_bound, tries_bounded}
 use Rattle.jwt_verify.proofs.Walking.{tries_are_rows}
@@ -151,6 +151,10 @@ source_report q x w r failed VerifierMemory h v nil works = absurd h
 source_report q x w r failed (CallsExceeded i j) h v nil works = absurd h
 
 -- ---- the report
+
+-- no try and no state is listed; after OutOfMemory nothing is said of the states
+abbrev IsBlank : Report → Type 0
+IsBlank r = (r.tries.items ≡ []) × ((r.verdict ≡ Refused OutOfMemory) ⊎ (FoundMemory r.verdict × (r.states.items ≡ [])))
 
 module _ (laws : Laws) where
   listed_blank : (q : Terms) (x : List ℕ) (w : ℕ) (r : Report) → IsListed q x w r → ((token : Token) → ¬ IsToken q x token) → IsBlank r

@@ -31,7 +31,7 @@ use Rattle.jwt_verify.specs.Table.{Table, below, verified, outcome, settled, tri
 use Rattle.jwt_verify.specs.Verdict.{Terms, fault_of, fault_at, table, verdict_of}
 use Rattle.jwt_verify.specs.Paying.{AreAllowed}
 use Rattle.jwt_verify.specs.Asks.{IsTable, IsAsking}
-use Rattle.jwt_verify.specs.Accepted.{IsVerifiedBy, IsAccepted, IsFirstUnverified, IsReason, IsClaimFault, StopsForWork, StopsForCalls, IsFault, HasOneVerdict, AcceptsExactly, RefusesExactly, TellsVerdicts}
+use Rattle.jwt_verify.specs.Accepted.{IsVerifiedBy, IsAccepted, IsFirstUnverified, IsReason, IsClaimFault, IsFault, HasOneVerdict, AcceptsExactly, RefusesExactly, TellsVerdicts}
 use Rattle.jwt_verify.proofs.Judged.{table_of_token}
 use Rattle.jwt_verify.proofs.Least.{least_found}
 use Rattle.jwt_verify.proofs.Signing.{none_below}
@@ -39,7 +39,7 @@ use Rattle.jwt_verify.proofs.Stepwise.{IsReadToken, IsAcceptedStepwise, IsClaimF
 use Rattle.jwt_verify.proofs.Accepting.{any_at, any_true, not_verified, is_token, token_is, accepts_exactly_holds}
 use Rattle.jwt_verify.proofs.Refusing.{some_signature, stops_token, refuses_exactly_holds}
 use Rattle.jwt_verify.proofs.Pinning.{the_table, table_is}
-use Rattle.jwt_verify.proofs.Allowing.{unstopped_words, words_unstopped, work_words, calls_words, words_work, words_calls}
+use Rattle.jwt_verify.proofs.Allowing.{StopsForWork, StopsForCalls, unstopped_words, words_unstopped, work_words, calls_words, words_work, words_calls}
 
 -- what the laws of the crates below say
 pub record Laws : Type 0 where

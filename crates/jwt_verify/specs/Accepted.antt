@@ -25,15 +25,15 @@ use Rattle.jwt_verify.specs.Paying.{IsNext, IsWithin, AreAllowed}
 use Rattle.jwt_verify.specs.Asks.{IsAsking}
 use Rattle.jwt_verify.specs.Verdict.{Terms, without_line_feed, verdict_of}
 
--- j is the least key that is eligible and valid for signature i
-abbrev pub IsLeastKey : Table → ℕ → ℕ → Type 0
-IsLeastKey t i j = (j < t.keys) × (verifies t i j ≡ true) × ((n : ℕ) → n < j → verifies t i n ≡ false)
-
 -- Signature i is the one that counts: in mode Any the first that is verified, in mode All the first of all, each of which is
 -- verified (RFC 7515, section 5.2).
 abbrev pub Counts : Mode → Table → ℕ → Type 0
 Counts Any t i = (k : ℕ) → k < i → verified t k ≡ false
 Counts All t i = (i ≡ 0) × ((k : ℕ) → k < t.signatures → verified t k ≡ true)
+
+-- j is the least key that is eligible and valid for signature i
+abbrev pub IsLeastKey : Table → ℕ → ℕ → Type 0
+IsLeastKey t i j = (j < t.keys) × (verifies t i j ≡ true) × ((n : ℕ) → n < j → verifies t i n ≡ false)
 
 -- some signature is verified, or each one is, and i and j are the signature and the key that an acceptance names
 abbrev pub IsVerifiedBy : Table → ℕ → ℕ → Type 0
@@ -61,14 +61,6 @@ pub record StopsAt (t : Table) (w : ℕ) (calls : Option ℕ) (i j : ℕ) (es : 
   pub next : IsNext t es (entry t i j)
   pub allowed : AreAllowed w calls es
 
--- the cost of that pair exceeds what is left of the budget, and one more call is within the ceiling on calls
-abbrev pub StopsForWork : Table → ℕ → Option ℕ → ℕ → ℕ → Type 0
-StopsForWork t w calls i j = (es : List Try) × StopsAt t w calls i j es × (w < work es + t.cost i j) × IsWithin calls (length es + 1)
-
--- one more call exceeds the ceiling on calls
-abbrev pub StopsForCalls : Table → ℕ → Option ℕ → ℕ → ℕ → Type 0
-StopsForCalls t w calls i j = (es : List Try) × StopsAt t w calls i j es × ((most : ℕ) × (calls ≡ Some most) × (most < length es + 1))
-
 -- Signature i is the first that isn't verified; in mode Any none is, in mode All each one before it is.
 abbrev pub IsFirstUnverified : Mode → Table → ℕ → Type 0
 IsFirstUnverified Any t i = (i ≡ 0) × ((k : ℕ) → k < t.signatures → verified t k ≡ false)
@@ -90,18 +82,20 @@ IsClaimFault q payload f = ((f ≡ ClaimsShape) × ((claims : Members) → ¬ Is
 abbrev pub OfToken : Terms → List ℕ → (List ℕ → Table → Type 0) → Type 0
 OfToken q x P = (token : Token) × (t : Table) × IsAsking q x token t × P token.payload t
 
--- the same, where no ceiling stops the run
-abbrev pub OfRun : Terms → List ℕ → ℕ → (List ℕ → Table → Type 0) → Type 0
-OfRun q x w P = OfToken q x (λ payload t. AreAllowed w q.policy.max_calls (tries t) × P payload t)
-
--- why x is refused, each cause where none before it holds
+-- why x is refused, each cause where none before it holds; a signature and the claims where no ceiling stops the run
 abbrev pub IsFault : Terms → List ℕ → ℕ → Fault → Type 0
 IsFault q x w (Text TooLong) = q.policy.run.limit < length x
 IsFault q x w (Form f) = (length x ≤ q.policy.run.limit) × IsFormFault q.policy.run.max_signatures (without_line_feed q.policy.run.line_feed x) f
-IsFault q x w (CallsExceeded i j) = OfToken q x (λ payload t. StopsForCalls t w q.policy.max_calls i j)
-IsFault q x w (WorkExceeded i j) = OfToken q x (λ payload t. StopsForWork t w q.policy.max_calls i j)
-IsFault q x w (Signature i f) = OfRun q x w (λ payload t. IsFirstUnverified t.mode t i × IsReason t i f)
-IsFault q x w (Claim f) = OfRun q x w (λ payload t. ((i : ℕ) × (j : ℕ) × IsVerifiedBy t i j) × IsClaimFault q payload f)
+-- one more call exceeds the ceiling on calls
+IsFault q x w (CallsExceeded i j) = OfToken q x (λ payload t. (es : List Try) × StopsAt t w q.policy.max_calls i j es
+    × ((most : ℕ) × (q.policy.max_calls ≡ Some most) × (most < length es + 1)))
+-- the cost of that pair exceeds what is left of the budget, and one more call is within the ceiling on calls
+IsFault q x w (WorkExceeded i j) = OfToken q x (λ payload t. (es : List Try) × StopsAt t w q.policy.max_calls i j es
+    × (w < work es + t.cost i j) × IsWithin q.policy.max_calls (length es + 1))
+IsFault q x w (Signature i f) = OfToken q x (λ payload t. AreAllowed w q.policy.max_calls (tries t)
+    × (IsFirstUnverified t.mode t i × IsReason t i f))
+IsFault q x w (Claim f) = OfToken q x (λ payload t. AreAllowed w q.policy.max_calls (tries t)
+    × (((i : ℕ) × (j : ℕ) × IsVerifiedBy t i j) × IsClaimFault q payload f))
 IsFault q x w _ = ⊥
 
 -- ---- the verdict

@@ -16,18 +16,15 @@ use Rattle.jwt_verify.specs.Verdict.{Terms, without_line_feed}
 
 -- ---- one pair
 
--- by HMAC the key is a secret, and the octets are the tag of the signing input under it (RFC 2104; RFC 7518, section 3.2)
-abbrev pub IsTag : Alg → KeyOctets → MessageOctets → List ℕ → Type 0
-IsTag a key message octets = (is_hmac_alg a ≡ true) × ((k : List ℕ) × (key ≡ OctKey k) × (octets ≡ tag_of a k (signing_input message)))
-
 -- for another algorithm the first handed-in verifier that names it is asked
 abbrev pub IsAsked : List Meaning → Alg → Meaning → Type 0
 IsAsked verifiers a v = (is_hmac_alg a ≡ false) × (first_naming verifiers a ≡ Some v)
 
--- the signature is valid by the key: it is the tag, or the verifier that is asked accepts it (RFC 7515, section 5.2, step 8)
+-- The signature is valid by the key (RFC 7515, section 5.2, step 8): by HMAC the key is a secret, and the signature is the tag of the
+-- signing input under it (RFC 2104; RFC 7518, section 3.2); by another algorithm the verifier that is asked accepts it.
 abbrev pub IsValid : List Meaning → MessageOctets → SignatureParts → KeyParts → Type 0
 IsValid verifiers message s key = (a : Alg) × (alg s ≡ Some a)
-    × (IsTag a key.octets message s.octets ⊎ ((v : Meaning) × IsAsked verifiers a v × (v.accepts a key.octets message s.octets ≡ true)))
+    × (((is_hmac_alg a ≡ true) × ((k : List ℕ) × (key.octets ≡ OctKey k) × (s.octets ≡ tag_of a k (signing_input message)))) ⊎ ((v : Meaning) × IsAsked verifiers a v × (v.accepts a key.octets message s.octets ≡ true)))
 
 -- the verifier that is asked may lack memory
 abbrev pub MayLack : List Meaning → MessageOctets → SignatureParts → KeyParts → Type 0

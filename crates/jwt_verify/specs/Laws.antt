@@ -97,14 +97,10 @@ abbrev pub greatest : List ℕ → ℕ
 greatest [] = 0
 greatest (n ∷ ns) = max n (greatest ns)
 
--- the length of the longest signing input
-abbrev pub longest_input : Token → ℕ
-longest_input t = greatest (map (λ s. length (signing_input (message_of t s))) t.signatures)
-
 -- what a try costs at most, but for its key: the longest signing input, two blocks and a digest, these the greatest among the
 -- policy's algorithms (RFC 2104, section 2)
 abbrev pub common_cost : Settings → Token → ℕ
-common_cost p t = longest_input t + 2 * greatest (map block_size p.run.algs) + greatest (map digest_size p.run.algs)
+common_cost p t = greatest (map (λ s. length (signing_input (message_of t s))) t.signatures) + 2 * greatest (map block_size p.run.algs) + greatest (map digest_size p.run.algs)
 
 abbrev pub long_secret : Alg → KeyOctets → ℕ
 long_secret a (OctKey k) = if is_hmac_alg a then key_cost (block_size a) (length k) else 0

@@ -1,10 +1,10 @@
 -- What a report on a token holds.
-use Rattle.std.specs.Prelude.{◌≡◌, ◌≤◌, ◌⊎◌, ℕ, ℤ, ◌++◌, true, List, [], ◌∷◌, length, slice_get, Option, Some}
+use Rattle.std.specs.Prelude.{◌≡◌, ◌≤◌, ◌⊎◌, ℕ, ℤ, ◌++◌, true, List, [], ◌∷◌, length, map, slice_get, Option, Some}
 use Rattle.std.specs.List.{All}
 use Rattle.jwt_mac.specs.Verifying.{Meaning}
 use Rattle.jwt_jws.specs.Token.{Token}
 use Rattle.jwt_keys.specs.declared.set.KeySet.{KeySet}
-use Rattle.jwt_keys.specs.KeySets.{key_set}
+use Rattle.jwt_keys.specs.Views.{key_parts}
 use Rattle.jwt_policy.specs.Settings.{Settings}
 use Rattle.jwt_policy.specs.Laws.{IsEligible}
 use Rattle.jwt_verify.specs.declared.report.Try.{Try}
@@ -22,7 +22,7 @@ use Rattle.jwt_verify.specs.Laws.{work_most}
 use Rattle.jwt_verify.specs.Verdict.{Terms}
 
 abbrev pub terms : Settings → KeySet → ℤ → List Meaning → Terms
-terms p keys now verifiers = record { policy = p; keys = (key_set keys).keys; now = now; verifiers = verifiers }
+terms p keys now verifiers = record { policy = p; keys = map key_parts keys.keys.items; now = now; verifiers = verifiers }
 
 -- the verdict doesn't say that memory was refused, to the run or to a verifier that was asked
 abbrev pub FoundMemory : Verdict → Type 0
@@ -45,16 +45,13 @@ pub record IsRunReport (t : Table) (w : ℕ) (calls : Option ℕ) (r : Report) :
   pub allowed : AreAllowed w calls r.tries.items
   pub complete : IsComplete t w calls r.tries.items r.states.items r.verdict
 
--- no try and no state is listed; after OutOfMemory nothing is said of the states
-abbrev pub IsBlank : Report → Type 0
-IsBlank r = (r.tries.items ≡ []) × ((r.verdict ≡ Refused OutOfMemory) ⊎ (FoundMemory r.verdict × (r.states.items ≡ [])))
-
 -- The report on x, w being the budget's ceiling: its verdict, unless memory was refused, is that on x; of a signed token it lists
--- what its run comes to, of anything else nothing.
+-- what its run comes to, of anything else no try and no state; after OutOfMemory nothing is said of the states.
 pub record IsReport (q : Terms) (x : List ℕ) (w : ℕ) (r : Report) : Type 0 where
   pub verdict : FoundMemory r.verdict → IsVerdict q x w r.verdict
   pub run : (token : Token) (t : Table) → IsAsking q x token t → IsRunReport t w q.policy.max_calls r
-  pub blank : ((token : Token) → ¬ IsToken q x token) → IsBlank r
+  pub blank : ((token : Token) → ¬ IsToken q x token) 
+    → (r.tries.items ≡ []) × ((r.verdict ≡ Refused OutOfMemory) ⊎ (FoundMemory r.verdict × (r.states.items ≡ [])))
 
 -- each of these tries is of an eligible pair
 abbrev pub AreEligible : Terms → List ℕ → List Try → Type 0

@@ -2,8 +2,8 @@
 use Rattle.std.specs.Prelude.{ℕ, ◌+◌, ◌*◌, ◌≤◌, ◌≡◌, ◌≢◌, Bool, not, List, length, map, Option, None}
 use Rattle.std.specs.List.{All, Contains, sum_by}
 use Rattle.serde_json.specs.Data.{Members}
-use Rattle.jwt_mac.specs.Verifying.{KeyOctets, OctKey}
-use Rattle.jwt_jws.specs.Token.{Token}
+use Rattle.jwt_mac.specs.Verifying.{KeyOctets, OctKey, signing_input}
+use Rattle.jwt_jws.specs.Token.{Token, message_of}
 use Rattle.jwt_keys.specs.Keys.{KeyParts}
 use Rattle.jwt_verify.specs.declared.report.Try.{Try}
 use Rattle.jwt_verify.specs.declared.report.Fault.TheVariants.{CallsExceeded}
@@ -14,7 +14,7 @@ use Rattle.jwt_verify.specs.Verdict.{Terms}
 use Rattle.jwt_verify.specs.Paying.{IsWithin, AreAllowed, ArePaid}
 use Rattle.jwt_verify.specs.Asks.{IsToken, IsAsking}
 use Rattle.jwt_verify.specs.Accepted.{IsVerdict}
-use Rattle.jwt_verify.specs.Laws.{AreAmong, with_keys, kind_of, without_key, common_cost, longest_input, with_valid, verdict_by}
+use Rattle.jwt_verify.specs.Laws.{AreAmong, with_keys, kind_of, without_key, common_cost, greatest, with_valid, verdict_by}
 
 -- what is paid is the longest prefix of the tries that both ceilings allow, and nothing else is
 abbrev pub PaidIsLongest : Type 0
@@ -43,7 +43,9 @@ CallersBound = (q : Terms) (x : List ℕ) (token : Token) (t : Table) → IsAski
 -- its greatest value, with 32 signatures, 1,024 keys, signing inputs of 1,048,576 octets and secrets of 4,096
 abbrev pub GreatestWork : Type 0
 GreatestWork = (q : Terms) (x : List ℕ) (token : Token) (t : Table) → IsAsking q x token t
-    → length token.signatures ≤ 32 → length q.keys ≤ 1024 → longest_input token ≤ 1048576 → All (λ key. secret_length key.octets ≤ 4096) q.keys
+    → length token.signatures ≤ 32 → length q.keys ≤ 1024
+    → greatest (map (λ s. length (signing_input (message_of token s))) token.signatures) ≤ 1048576
+    → All (λ key. secret_length key.octets ≤ 4096) q.keys
     → work (tries t) ≤ 34504441856
 
 -- ---- other keys, where no ceiling stops a run
