@@ -1,6 +1,7 @@
 //! A key set: its readable keys in order, found by number and by name.
 
 ghost use Rattle.std.specs.Prelude.{◌≡◌, ◌≤◌, ◌<◌, ◌&&◌, ◌↔◌, [], length, map, Err, IfOk, IsTrue, slice_get, option_map};
+ghost use Rattle.std.specs.Slice.Iter.{iter_rest};
 ghost use Rattle.jwt_keys.specs.Keys.{has_thumbprint, names};
 ghost use Rattle.jwt_keys.specs.Numbers.{IsLeastFrom};
 ghost use Rattle.jwt_keys.specs.Views.{IsIndex, key_parts};
@@ -12,6 +13,7 @@ use crate::key::Key;
 use crate::skip::Skip;
 use jwt_text::{TextFault, object};
 use std::alloc::{AllocError, Global};
+use std::slice::Iter;
 
 /// The greatest number of octets of a key set document.
 const MAX_OCTETS: usize = 4_194_304;
@@ -122,6 +124,13 @@ impl KeySet {
         ensures { option_map (λ k. key_parts k.now) result ≡ slice_get (key_set self.now).keys j }
     {
         self.keys.get(j as usize)
+    }
+
+    /// The readable keys, in the order of their numbers.
+    pub fn iter(&self) -> Iter<'_, Key>
+        ensures { map key_parts (iter_rest result) ≡ (key_set self.now).keys }
+    {
+        self.keys.iter()
     }
 
     /// The entries that are no readable keys, in the order of their places, each with its reason.

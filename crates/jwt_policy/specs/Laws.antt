@@ -25,7 +25,7 @@ pub record IsEligible (p : Settings) (s : SignatureParts) (key : KeyParts) (veri
   pub key_use : (name : List ℕ) → key.key_use ≡ Some name → name ≡ codes "sig"
   pub key_ops : (names : List (List ℕ)) → key.key_ops ≡ Some names → Contains names (codes "verify")
   pub answers : (name : List ℕ) → kid s ≡ Some name
-    → (key.kid ≡ Some name) ⊎ ((key.kid ≡ None) × (p.header.thumb_kid ≡ true) × (key.thumbprint ≡ name))
+      → (key.kid ≡ Some name) ⊎ ((key.kid ≡ None) × (p.header.thumb_kid ≡ true) × (key.thumbprint ≡ name))
 
 -- The required claims are there; where the policy names issuers, `iss` is one of them; where `aud` is there, it is one of the
 -- policy's audiences, or holds one (RFC 7519, section 4.1.3); `exp`, where it is there, is later than now, the leeway added to it
@@ -35,8 +35,8 @@ pub record ClaimsHold (p : Settings) (ms : Members) (now : ℤ) : Type 0 where
   pub required : (name : List ℕ) → Contains p.claims.required name → has name ms ≡ true
   pub issuer : (p.claims.issuers ≡ []) ⊎ ((name : List ℕ) × (text_at (codes "iss") ms ≡ Some name) × Contains p.claims.issuers name)
   pub audience : has (codes "aud") ms ≡ true → (name : List ℕ)
-    × ((text_at (codes "aud") ms ≡ Some name) ⊎ ((ds : List Data) × (list_at (codes "aud") ms ≡ Some ds) × Contains ds (string name)))
-    × Contains p.claims.audiences name
+      × ((text_at (codes "aud") ms ≡ Some name) ⊎ ((ds : List Data) × (list_at (codes "aud") ms ≡ Some ds) × Contains ds (string name)))
+      × Contains p.claims.audiences name
   pub exp : (exp : ℤ) → whole_at (codes "exp") ms ≡ Some exp → now <ℤ (exp +ℤ pos p.claims.leeway)
   pub nbf : (nbf : ℤ) → whole_at (codes "nbf") ms ≡ Some nbf → nbf ≤ℤ (now +ℤ pos p.claims.leeway)
   pub iat_is_there : (age : ℕ) → p.claims.max_age ≡ Some age → has (codes "iat") ms ≡ true

@@ -37,7 +37,7 @@ fn lacks_iat(policy: &Policy, claims: &ObjectRef<'_>) -> bool
 fn is_other_issuer(policy: &Policy, claims: &ObjectRef<'_>) -> bool
     ensures { result ≡ (not (length policy.now.claims.issuers == 0)
         && not (some_passes (is_among policy.now.claims.issuers)
-            (text_at (codes "iss") claims.now))) }
+        (text_at (codes "iss") claims.now))) }
 {
     let issuers = policy.issuers();
     if issuers.is_empty() {

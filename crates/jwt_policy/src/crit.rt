@@ -109,7 +109,7 @@ pub(crate) fn is_crit_misshapen(signature: &Signature<'_>) -> bool
 pub(crate) fn is_crit_unknown(policy: &Policy, signature: &Signature<'_>) -> bool
     ensures { result
         ≡ some_passes (any_text (λ t. not (is_among policy.now.header.understood t)))
-            (list_at (codes "crit") (parts signature.now).protected) }
+        (list_at (codes "crit") (parts signature.now).protected) }
 {
     match signature.protected().list("crit") {
         Some(list) => names_other(policy.understood(), &list),

@@ -58,7 +58,7 @@ fn is_other_typ(header: &Object, typ: &str) -> bool
 pub(crate) fn is_typ_mismatched(policy: &Policy, signature: &Signature<'_>) -> bool
     ensures { result ≡ some_passes
         (λ t. not (some_passes (same_media_type t)
-            (text_at (codes "typ") (parts signature.now).protected)))
+        (text_at (codes "typ") (parts signature.now).protected)))
         policy.now.header.typ }
 {
     match policy.typ() {

@@ -35,7 +35,7 @@ fn unreadable_entries_are_skipped_and_readable_ones_numbered(rt: HostRuntime) ->
     assert_eq!(rt; keys.len(), 1);
     assert!(rt; !keys.is_empty());
     assert!(rt; keys.key(1).is_none());
-    let key = keys.key(0).ok_or("no key")?;
+    let key = keys.iter().next().ok_or("no key")?;
     assert_eq!(rt; key.place(), 5);
     assert!(rt; matches!(key.view(), KeyView::Oct { k } if k == [0u8].as_slice()));
     Ok(())

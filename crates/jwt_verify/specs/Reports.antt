@@ -50,8 +50,8 @@ pub record IsRunReport (t : Table) (w : ℕ) (calls : Option ℕ) (r : Report) :
 pub record IsReport (q : Terms) (x : List ℕ) (w : ℕ) (r : Report) : Type 0 where
   pub verdict : FoundMemory r.verdict → IsVerdict q x w r.verdict
   pub run : (token : Token) (t : Table) → IsAsking q x token t → IsRunReport t w q.policy.max_calls r
-  pub blank : ((token : Token) → ¬ IsToken q x token) 
-    → (r.tries.items ≡ []) × ((r.verdict ≡ Refused OutOfMemory) ⊎ (FoundMemory r.verdict × (r.states.items ≡ [])))
+  pub blank : ((token : Token) → ¬ IsToken q x token)
+      → (r.tries.items ≡ []) × ((r.verdict ≡ Refused OutOfMemory) ⊎ (FoundMemory r.verdict × (r.states.items ≡ [])))
 
 -- each of these tries is of an eligible pair
 abbrev pub AreEligible : Terms → List ℕ → List Try → Type 0
