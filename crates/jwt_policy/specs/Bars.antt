@@ -45,16 +45,11 @@ is_no_name_list s ds =
     length ds == 0 || not (are_texts ds) || crit_repeats s.protected
     || any_text (is_among registered_names) ds || any_text (λ t. not (in_header t s)) ds
 
--- `crit` stands in the unprotected header, or is no list of names that the header has beside the registered ones
-abbrev pub is_crit_misshapen : SignatureParts → Bool
-is_crit_misshapen s =
-    in_unprotected (codes "crit") s
-    || (has (codes "crit") s.protected && option_map_or (is_no_name_list s) (list_at (codes "crit") s.protected) true)
-
 -- ---- the table
 
 -- The algorithm (RFC 7515, section 4.1.1; RFC 8725, sections 3.1 and 3.2); keys by URL (RFC 7515, sections 4.1.2 and 4.1.5;
--- RFC 8725, section 3.10); encryption (RFC 7516, section 4.1.2); a payload that isn't base64url (RFC 7797, section 3); `crit`;
+-- RFC 8725, section 3.10); encryption (RFC 7516, section 4.1.2); a payload that isn't base64url (RFC 7797, section 3); `crit` in
+-- the unprotected header, or no list of names that it may hold;
 -- `typ` and `cty`, where `typ` is absent or another media type than the policy's, or the payload is a token again (RFC 7515,
 -- sections 4.1.9 and 4.1.10; RFC 7519, sections 5.1 and 5.2; RFC 8725, section 3.11); `kid` (RFC 7515, section 4.1.4).
 abbrev pub bar_rows : Settings → SignatureParts → List Meaning → List (Row SigFault)
@@ -67,7 +62,9 @@ bar_rows p s verifiers =
     ∷ ((in_header (codes "jku") s || in_header (codes "x5u") s) ⇒ KeyUrl)
     ∷ (in_header (codes "enc") s ⇒ EncHeader)
     ∷ (in_header (codes "b64") s ⇒ Unencoded)
-    ∷ (is_crit_misshapen s ⇒ CritShape)
+    ∷ ((in_unprotected (codes "crit") s
+        || (has (codes "crit") s.protected && option_map_or (is_no_name_list s) (list_at (codes "crit") s.protected) true))
+        ⇒ CritShape)
     ∷ (some_passes (any_text (λ t. not (is_among p.header.understood t))) (list_at (codes "crit") s.protected) ⇒ CritUnknown)
     ∷ ((is_no_text (codes "typ") s.protected || is_no_text (codes "cty") s.protected) ⇒ TypShape)
     ∷ (some_passes (λ t. not (some_passes (same_media_type t) (text_at (codes "typ") s.protected))) p.header.typ ⇒ TypMismatch)

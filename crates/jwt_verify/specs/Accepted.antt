@@ -1,5 +1,5 @@
 -- When a token is accepted, and why it is refused, in words.
-use Rattle.std.specs.Prelude.{ℕ, ◌+◌, ◌<◌, ◌≤◌, ◌≡◌, ◌⊎◌, ◌↔◌, true, false, List, length, Option, Some, None}
+use Rattle.std.specs.Prelude.{ℕ, ◌+◌, ◌<◌, ◌≤◌, ◌≡◌, ◌⊎◌, ◌↔◌, true, false, List, length, Option, Some, None, ◌++◌, ◌∷◌}
 use Rattle.serde_json.specs.Data.{Members}
 use Rattle.jwt_text.specs.ObjectText.{IsObjectText}
 use Rattle.jwt_text.specs.Rows.{IsFirstRow, NoRow}
@@ -21,7 +21,7 @@ use Rattle.jwt_verify.specs.declared.report.Fault.TheVariants.{Text, Form, WorkE
 use Rattle.jwt_verify.specs.declared.report.Verdict.{Verdict}
 use Rattle.jwt_verify.specs.declared.report.Verdict.TheVariants.{Accepted, Refused}
 use Rattle.jwt_verify.specs.Table.{Table, verifies, verified, entry, tries, work}
-use Rattle.jwt_verify.specs.Paying.{IsNext, IsWithin, AreAllowed}
+use Rattle.jwt_verify.specs.Paying.{IsWithin, AreAllowed}
 use Rattle.jwt_verify.specs.Asks.{IsAsking}
 use Rattle.jwt_verify.specs.Verdict.{Terms, without_line_feed, verdict_of}
 
@@ -58,7 +58,7 @@ pub record IsAccepted (q : Terms) (x : List ℕ) (w i j : ℕ) (claims : Members
 
 -- the run stops before the pair of i and j: the tries es come before it, and both ceilings allow them
 pub record StopsAt (t : Table) (w : ℕ) (calls : Option ℕ) (i j : ℕ) (es : List Try) : Type 0 where
-  pub next : IsNext t es (entry t i j)
+  pub next : (rest : List Try) × (tries t ≡ es ++ entry t i j ∷ rest)
   pub allowed : AreAllowed w calls es
 
 -- Signature i is the first that isn't verified; in mode Any none is, in mode All each one before it is.
