@@ -113,7 +113,7 @@ module _ (eligible_words : (p : Settings) (s : SignatureParts) (k : KeyParts) (v
   pair_cost p v t i s k here eligible =
       let e = eligible_words p s k v eligible in
       let a = e.algorithm in
-      let fine : is_allowed p.run.algs a ≡ true = allowed p s v a (no_row p s v e.unbarred) e.named in
+      let fine : is_allowed p.run.algs a ≡ true = allowed p s v a e.unbarred e.named in
       rw e.named (omega (
         arith,
         under a k.octets (message_of t s),
