@@ -22,10 +22,6 @@ use Rattle.jwt_policy.specs.declared.sig_fault.SigFault.TheVariants.{AlgMissing,
 abbrev pub alg : SignatureParts → Option Alg
 alg s = option_and_then alg_named (alg_text s)
 
--- an algorithm is among these
-abbrev pub is_allowed : List Alg → Alg → Bool
-is_allowed algs a = list_any (λ b. bytes_eq (name_of b) (name_of a)) algs
-
 -- signatures by the algorithm can be verified: it is HMAC, or a verifier names it
 abbrev pub can_verify : List Meaning → Alg → Bool
 can_verify verifiers a = is_hmac_alg a || is_some (first_naming verifiers a)
@@ -57,7 +53,7 @@ bar_rows p s verifiers =
     (is_none (alg_text s) ⇒ AlgMissing)
     ∷ (some_passes (λ t. bytes_eq t (codes "none")) (alg_text s) ⇒ AlgNone)
     ∷ (is_none (alg s) ⇒ AlgUnknown)
-    ∷ (not (some_passes (is_allowed p.run.algs) (alg s)) ⇒ AlgNotAllowed)
+    ∷ (not (some_passes (λ a. list_any (λ b. bytes_eq (name_of b) (name_of a)) p.run.algs) (alg s)) ⇒ AlgNotAllowed)
     ∷ (not (some_passes (can_verify verifiers) (alg s)) ⇒ NoVerifier)
     ∷ ((in_header (codes "jku") s || in_header (codes "x5u") s) ⇒ KeyUrl)
     ∷ (in_header (codes "enc") s ⇒ EncHeader)
