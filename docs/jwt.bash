@@ -8,13 +8,13 @@ _jwt() {
         case ${COMP_WORDS[1]}:$before in
         issue:--alg) choices="HS256 HS384 HS512" ;;
         issue:--form) choices="compact json flattened" ;;
-        verify:--policy | verify:--keys | verify:--token | issue:--keys)
+        verify:--policy | verify:--keys | verify:--token | issue:--keys | mac:--key-file)
             mapfile -t COMPREPLY < <(compgen -f -- "$word")
             return
             ;;
         # The values of these aren't known here.
         issue:--typ | mac:--k | mac:--limit | show:--limit | verify:--now) ;;
-        mac:*) choices="--k --limit" ;;
+        mac:*) choices="--k --key-file --limit" ;;
         show:*) choices="--limit" ;;
         verify:*) choices="--now --public-keys --policy --keys --token" ;;
         issue:*) choices="--alg --typ --form --keys" ;;

@@ -2,7 +2,7 @@
 use Rattle.std.proofs.Common.{◌≡◌, [], ◌∷◌, None, Some, true, false, refl}
 use Rattle.std.specs.Prelude.{codes}
 use Rattle.clap.proofs.OnLiterals.{clap_on_literals}
-use Rattle.jwt_command.specs.Words.{Mac, Verify, Version, no_files, order_of}
+use Rattle.jwt_command.specs.Words.{Mac, MacFile, Verify, Version, no_files, order_of}
 
 pub key_alone : order_of None (codes "jwt" ∷ codes "mac" ∷ codes "--k" ∷ codes "AA" ∷ []) ≡ Some (Mac (codes "AA") 8192)
 unfolding clap_on_literals
@@ -108,9 +108,17 @@ pub no_moment : order_of None (codes "jwt" ∷ codes "verify" ∷ []) ≡ None
 unfolding clap_on_literals
 no_moment = refl
 
-pub files_named : order_of None (codes "jwt" ∷ codes "verify" ∷ codes "--now" ∷ codes "7" ∷ codes "--policy" ∷ codes "p" ∷ codes "--keys=k" ∷ []) ≡ Some (Verify 7 false (record { policy = Some (codes "p"); keys = Some (codes "k"); token = None }))
+pub files_named : order_of None (codes "jwt" ∷ codes "verify" ∷ codes "--now" ∷ codes "7" ∷ codes "--policy" ∷ codes "p" ∷ codes "--keys=k" ∷ []) ≡ Some (Verify 7 false (record { policy = Some (codes "p"); keys = Some (codes "k"); token = None; key = None }))
 unfolding clap_on_literals
 files_named = refl
+
+pub key_file : order_of None (codes "jwt" ∷ codes "mac" ∷ codes "--key-file" ∷ codes "k" ∷ codes "--limit" ∷ codes "178" ∷ []) ≡ Some (MacFile (codes "k") 178)
+unfolding clap_on_literals
+key_file = refl
+
+pub key_and_its_file : order_of None (codes "jwt" ∷ codes "mac" ∷ codes "--key-file" ∷ codes "k" ∷ codes "--k" ∷ codes "AA" ∷ []) ≡ None
+unfolding clap_on_literals
+key_and_its_file = refl
 
 pub file_named_twice : order_of None (codes "jwt" ∷ codes "verify" ∷ codes "--now" ∷ codes "7" ∷ codes "--token" ∷ codes "t" ∷ codes "--token" ∷ codes "t" ∷ []) ≡ None
 unfolding clap_on_literals

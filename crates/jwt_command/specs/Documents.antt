@@ -15,9 +15,10 @@ pub record Held : Type 0 where
   pub policy : Option (List ℕ)
   pub keys : Option (List ℕ)
   pub token : Option (List ℕ)
+  pub key : Option (List ℕ)
 
 abbrev pub none_held : Held
-none_held = record { policy = None; keys = None; token = None }
+none_held = record { policy = None; keys = None; token = None; key = None }
 
 -- a file that is named and isn't in hand, else the next
 abbrev pub unread_or : Option (List ℕ) → Option (List ℕ) → Option (List ℕ) → Option (List ℕ)
@@ -26,7 +27,7 @@ unread_or name held next = next
 
 -- the first file that is named and isn't in hand
 abbrev pub unread : Files → Held → Option (List ℕ)
-unread files held = unread_or files.policy held.policy (unread_or files.keys held.keys (unread_or files.token held.token None))
+unread files held = unread_or files.policy held.policy (unread_or files.keys held.keys (unread_or files.token held.token (unread_or files.key held.key None)))
 
 abbrev pub file_failed : List ℕ → Answer
 file_failed name = line (codes "failed Read file=" ∷ quoted_text name ∷ []) 3

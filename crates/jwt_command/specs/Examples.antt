@@ -1,6 +1,6 @@
 -- What some words ask for.
 use Rattle.std.specs.Prelude.{◌≡◌, [], ◌∷◌, None, Some, true, false, codes}
-use Rattle.jwt_command.specs.Words.{Mac, Verify, Version, no_files, order_of}
+use Rattle.jwt_command.specs.Words.{Mac, MacFile, Verify, Version, no_files, order_of}
 
 pub record Examples : Type 0 where
   pub key_alone : order_of None (codes "jwt" ∷ codes "mac" ∷ codes "--k" ∷ codes "AA" ∷ []) ≡ Some (Mac (codes "AA") 8192)
@@ -29,5 +29,7 @@ pub record Examples : Type 0 where
   pub now_before_clock : order_of (Some 7) (codes "jwt" ∷ codes "verify" ∷ codes "--now" ∷ codes "1300819379" ∷ []) ≡ Some (Verify 1300819379 false no_files)
   pub too_late_with_clock : order_of (Some 7) (codes "jwt" ∷ codes "verify" ∷ codes "--now" ∷ codes "9223372036854775808" ∷ []) ≡ None
   pub no_moment : order_of None (codes "jwt" ∷ codes "verify" ∷ []) ≡ None
-  pub files_named : order_of None (codes "jwt" ∷ codes "verify" ∷ codes "--now" ∷ codes "7" ∷ codes "--policy" ∷ codes "p" ∷ codes "--keys=k" ∷ []) ≡ Some (Verify 7 false (record { policy = Some (codes "p"); keys = Some (codes "k"); token = None }))
+  pub files_named : order_of None (codes "jwt" ∷ codes "verify" ∷ codes "--now" ∷ codes "7" ∷ codes "--policy" ∷ codes "p" ∷ codes "--keys=k" ∷ []) ≡ Some (Verify 7 false (record { policy = Some (codes "p"); keys = Some (codes "k"); token = None; key = None }))
+  pub key_file : order_of None (codes "jwt" ∷ codes "mac" ∷ codes "--key-file" ∷ codes "k" ∷ codes "--limit" ∷ codes "178" ∷ []) ≡ Some (MacFile (codes "k") 178)
+  pub key_and_its_file : order_of None (codes "jwt" ∷ codes "mac" ∷ codes "--key-file" ∷ codes "k" ∷ codes "--k" ∷ codes "AA" ∷ []) ≡ None
   pub file_named_twice : order_of None (codes "jwt" ∷ codes "verify" ∷ codes "--now" ∷ codes "7" ∷ codes "--token" ∷ codes "t" ∷ codes "--token" ∷ codes "t" ∷ []) ≡ None

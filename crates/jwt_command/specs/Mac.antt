@@ -1,5 +1,5 @@
 -- What `jwt mac` finds of a token, and its line.
-use Rattle.std.specs.Prelude.{ℕ, Bool, true, false, ◌&&◌, List, [], ◌∷◌, length, Option, Some, None, Result, Ok, Err, codes, nat_lt, nat_le, if◌then◌else◌, option_and_then}
+use Rattle.std.specs.Prelude.{◌+◌, ℕ, Bool, true, false, ◌&&◌, List, [], ◌∷◌, length, Option, Some, None, Result, Ok, Err, codes, nat_lt, nat_le, if◌then◌else◌, option_and_then}
 use Rattle.std.specs.Str.{bytes_eq}
 use Rattle.hex.specs.Hex.{encode_lower}
 use Rattle.jwt_text.specs.Answers.{◌>>=◌, or_fault, some_or}
@@ -91,3 +91,17 @@ mac_under (Some key) limit failed input = mac_on key limit failed input
 -- the answer of `jwt mac` with a key text and a limit
 abbrev pub mac_answer : List ℕ → ℕ → Bool → List ℕ → Answer
 mac_answer key = mac_under (key_spelled key)
+
+-- with the key's text in hand, and one line feed behind it or none
+abbrev pub mac_in_hand : Option (List ℕ) → ℕ → Bool → List ℕ → Answer
+mac_in_hand (Some text) limit failed input = mac_answer (without_line_feed text) limit failed input
+mac_in_hand None limit failed input = key_refused
+
+-- how much of the input is taken at most: nothing where the key is refused
+abbrev pub behind_key : Option (List ℕ) → ℕ → ℕ
+behind_key (Some key) limit = limit + 1
+behind_key None limit = 0
+
+abbrev pub mac_most : Option (List ℕ) → ℕ → ℕ
+mac_most (Some text) limit = behind_key (key_spelled (without_line_feed text)) limit
+mac_most None limit = 0

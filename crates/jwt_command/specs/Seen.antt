@@ -1,6 +1,6 @@
 -- What a clause sees of the crate's own types.
 use Rattle.std.specs.Prelude.{option_map}
-use Rattle.jwt_command.specs.Words.{Files, Issue, Keys, Mac, Order, Show, Verify, Version}
+use Rattle.jwt_command.specs.Words.{Files, Issue, Keys, Mac, MacFile, Order, Show, Verify, Version}
 use Rattle.jwt_command.specs.declared.words.Order.{Order as Asked}
 use Rattle.jwt_command.specs.declared.words.Order.TheVariants as asked
 use Rattle.jwt_command.specs.declared.words.Files.{Files as CodeFiles}
@@ -8,10 +8,11 @@ use Rattle.jwt_command.specs.declared.words.WordsFault.{WordsFault}
 use Rattle.jwt_command.specs.declared.words.WordsFault.TheVariants.{OutOfMemory, Wrong}
 
 abbrev pub files_view : CodeFiles → Files
-files_view f = record { policy = option_map (λ t. t.now) f.policy; keys = option_map (λ t. t.now) f.keys; token = option_map (λ t. t.now) f.token }
+files_view f = record { policy = option_map (λ t. t.now) f.policy; keys = option_map (λ t. t.now) f.keys; token = option_map (λ t. t.now) f.token; key = option_map (λ t. t.now) f.key }
 
 abbrev pub seen : Asked → Order
 seen (asked.Mac key limit) = Mac key.now limit
+seen (asked.MacFile name limit) = MacFile name.now limit
 seen asked.Keys = Keys
 seen (asked.Show limit) = Show limit
 seen (asked.Verify now public_keys files) = Verify now public_keys (files_view files)

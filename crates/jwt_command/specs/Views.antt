@@ -21,7 +21,7 @@ abbrev pub wanted_view : CodeWanted → TokenAsked
 wanted_view w = record { alg = w.alg; typ = option_map (λ t. t.now) w.typ; form = w.form }
 
 abbrev pub held_view : CodeHeld → Held
-held_view h = record { policy = option_map (λ t. t.now) h.policy; keys = option_map (λ t. t.now) h.keys; token = option_map (λ t. t.now) h.token }
+held_view h = record { policy = option_map (λ t. t.now) h.policy; keys = option_map (λ t. t.now) h.keys; token = option_map (λ t. t.now) h.token; key = option_map (λ t. t.now) h.key }
 
 abbrev pub document_octets : TakenDocument → List ℕ
 document_octets (Line v) = v.items

@@ -25,8 +25,12 @@ limit_range = vp.Unsigned 1 1048576
 abbrev pub now_range : ValueParser
 now_range = vp.Unsigned 0 9223372036854775807
 
+-- the key of `mac`: its text, or the file of it
 abbrev pub key_rule : Rule
-key_rule = record (option (codes "k")) { required = true }
+key_rule = option (codes "k")
+
+abbrev pub key_file_rule : Rule
+key_file_rule = option (codes "key-file")
 
 abbrev pub limit_rule : Rule
 limit_rule = record (option (codes "limit")) { parser = Some limit_range; defaults = codes "8192" ∷ [] }
@@ -61,7 +65,7 @@ form_rule = record (option (codes "form")) { defaults = codes "compact" ∷ [] }
 -- ---- the command
 
 abbrev pub mac_app : App
-mac_app = with_rule (with_rule (new_app (codes "mac")) key_rule) limit_rule
+mac_app = with_rule (with_rule (with_rule (new_app (codes "mac")) key_rule) key_file_rule) limit_rule
 
 abbrev pub keys_app : App
 keys_app = new_app (codes "keys")
@@ -92,12 +96,15 @@ pub record Files : Type 0 where
   pub policy : Option Text
   pub keys : Option Text
   pub token : Option Text
+  pub key : Option Text
 
 abbrev pub no_files : Files
-no_files = record { policy = None; keys = None; token = None }
+no_files = record { policy = None; keys = None; token = None; key = None }
 
 pub data Order : Type 0 where
   Mac : Text → ℕ → Order
+  -- the file of the key
+  MacFile : Text → ℕ → Order
   Keys : Order
   Show : ℕ → Order
   Verify : ℕ → Bool → Files → Order
@@ -107,6 +114,7 @@ pub data Order : Type 0 where
 -- the numbers of an order are in their ranges
 abbrev pub HasLimits : Order → Type 0
 HasLimits (Mac key limit) = (1 ≤ limit) × (limit ≤ 1048576)
+HasLimits (MacFile name limit) = (1 ≤ limit) × (limit ≤ 1048576)
 HasLimits Keys = Unit {0}
 HasLimits (Show limit) = (1 ≤ limit) × (limit ≤ 1048576)
 HasLimits (Verify now public_keys files) = now ≤ 9223372036854775807
@@ -117,6 +125,7 @@ HasLimits Version = Unit {0}
 -- 1,048,576, with the two line feeds between them, and that of `issue` a key set and claims of 1,048,576
 abbrev pub input_limit : Order → ℕ
 input_limit (Mac key limit) = limit
+input_limit (MacFile name limit) = limit
 input_limit Keys = 4194304
 input_limit (Show limit) = limit
 input_limit (Verify now public_keys files) = 5308418
@@ -127,8 +136,14 @@ input_limit Version = 0
 abbrev pub number_in : ValueParser → Option Text → Option ℕ
 number_in range text = option_and_then (λ t. if accepts false range t then Some (digits_value 10 (without_leading_plus t)) else None) text
 
+-- the key by its text, or by its file: one of the two
+abbrev pub keyed : Option Text → Option Text → ℕ → Option Order
+keyed (Some text) None limit = Some (Mac text limit)
+keyed None (Some name) limit = Some (MacFile name limit)
+keyed text name limit = None
+
 abbrev pub mac_order : List Row → Option Order
-mac_order rows = option_and_then (λ key. option_map (λ limit. Mac key limit) (number_in limit_range (one_of (codes "limit") rows))) (first_of (codes "k") rows)
+mac_order rows = option_and_then (keyed (first_of (codes "k") rows) (first_of (codes "key-file") rows)) (number_in limit_range (one_of (codes "limit") rows))
 
 abbrev pub show_order : List Row → Option Order
 show_order rows = option_map (λ limit. Show limit) (number_in limit_range (one_of (codes "limit") rows))
@@ -142,7 +157,7 @@ abbrev pub moment_in : Option ℕ → List Row → Option ℕ
 moment_in clock rows = if is_some (first_of (codes "now") rows) then number_in now_range (one_of (codes "now") rows) else clock
 
 abbrev pub files_in : List Row → Files
-files_in rows = record { policy = first_of (codes "policy") rows; keys = first_of (codes "keys") rows; token = first_of (codes "token") rows }
+files_in rows = record { policy = first_of (codes "policy") rows; keys = first_of (codes "keys") rows; token = first_of (codes "token") rows; key = None }
 
 abbrev pub verify_order : Option ℕ → List Row → Option Order
 verify_order clock rows = option_map (λ now. Verify now (public_keys_in rows) (files_in rows)) (moment_in clock rows)
@@ -162,7 +177,7 @@ abbrev pub form_in : List Row → Option Form
 form_in rows = option_and_then form_named (first_of (codes "form") rows)
 
 abbrev pub keys_file_in : List Row → Files
-keys_file_in rows = record { policy = None; keys = first_of (codes "keys") rows; token = None }
+keys_file_in rows = record { policy = None; keys = first_of (codes "keys") rows; token = None; key = None }
 
 abbrev pub issue_order : List Row → Option Order
 issue_order rows = option_and_then (λ alg. option_map (λ form. Issue alg (first_of (codes "typ") rows) form (keys_file_in rows)) (form_in rows)) (alg_in rows)
@@ -198,6 +213,7 @@ order_of clock words = if asks_version words then Some Version else clap_order c
 
 -- the files that an order names
 abbrev pub files_in_order : Order → Files
+files_in_order (MacFile name limit) = record no_files { key = Some name }
 files_in_order (Verify now public_keys files) = files
 files_in_order (Issue alg typ form files) = files
 files_in_order order = no_files

@@ -22,6 +22,9 @@ pub struct Held<'a> {
 
     /// The token's; more than the policy's limit are too many.
     pub token: Option<&'a [u8]>,
+
+    /// The text of the key of `mac`, and one line feed behind it or none; more than 5,463 are too many.
+    pub key: Option<&'a [u8]>,
 }
 
 impl<'a> Held<'a> {
@@ -33,6 +36,7 @@ impl<'a> Held<'a> {
             policy: None,
             keys: None,
             token: None,
+            key: None,
         }
     }
 }
@@ -107,8 +111,8 @@ pub(crate) fn document<'a, R: Source>(
     }
 }
 
-// A file that is named and isn't in hand, else the next.
-fn unread_or<'a>(
+/// A file that is named and isn't in hand, else the next.
+pub(crate) fn unread_or<'a>(
     name: Option<&'a str>,
     held: Option<&[u8]>,
     next: Option<&'a str>,
@@ -126,7 +130,8 @@ fn unread_or<'a>(
 pub(crate) fn unread<'a>(files: Files<'a>, held: Held<'_>) -> Option<&'a str>
     ensures { option_map (λ t. t.now) result ≡ unread (files_view files.entry) (held_view held.entry) }
 {
-    let last = unread_or(files.token, held.token, None);
+    let key = unread_or(files.key, held.key, None);
+    let last = unread_or(files.token, held.token, key);
     let later = unread_or(files.keys, held.keys, last);
     unread_or(files.policy, held.policy, later)
 }

@@ -13,6 +13,7 @@ mod input;
 mod issue;
 mod keys;
 mod mac;
+mod nearest;
 mod pieces;
 mod reply;
 pub mod run;

@@ -6,7 +6,7 @@ ghost use Rattle.jwt_text.specs.Base64url.{spelled};
 ghost use Rattle.jwt_mac.specs.Algorithm.{is_hmac_alg};
 ghost use Rattle.jwt_jws.specs.Views.{texts_view};
 ghost use Rattle.jwt_command.specs.declared.mac.MacFault.TheVariants.{Base64};
-ghost use Rattle.jwt_command.specs.Mac.{algorithm_of, digest_by, digest_line, digest_of, fault_name, key_refused, key_spelled, mac_answer, mac_line, texts_digest};
+ghost use Rattle.jwt_command.specs.Mac.{algorithm_of, behind_key, digest_by, digest_line, digest_of, fault_name, key_refused, key_spelled, mac_answer, mac_in_hand, mac_line, mac_most, texts_digest};
 ghost use Rattle.jwt_command.specs.Input.{TakesAtMost};
 ghost use Rattle.jwt_command.specs.Views.{digest_view, reply_view};
 
@@ -167,22 +167,29 @@ fn token_line(alloc: Global, key: &[u8], token: &[u8]) -> Result<Reply, AllocErr
 }
 
 // The octets of a key, 1 to 4,096, where the text spells such.
-fn key_octets(alloc: Global, text: &str) -> Result<Option<Vec<u8>>, AllocError>
+fn key_octets(alloc: Global, text: &[u8]) -> Result<Option<Vec<u8>>, AllocError>
     ensures value { IfOk result (λ o. option_map (λ k. k.items) o ≡ key_spelled text.now) }
     ensures short { IfOk result (λ o. IfSome o (λ k. length k.items ≤ 4096)) }
 {
-    match jwt_text::decode(alloc, text.as_bytes()) {
+    match jwt_text::decode(alloc, text) {
         Ok(key) if 1 <= key.len() && key.len() <= 4096 => Ok(Some(key)),
         Ok(_) | Err(TextFault::Base64) => Ok(None),
         Err(_) => Err(AllocError),
     }
 }
 
+// The line of a key that is refused.
+fn refused_key(alloc: Global) -> Result<Reply, AllocError>
+    ensures { IfOk result (λ a. reply_view a ≡ key_refused) }
+{
+    Reply::line(alloc, "refused Key", 2)
+}
+
 /// Runs `jwt mac` on an input: a token in compact form, and one line feed behind it or none. A key text that spells no 1 to
 /// 4,096 octets is refused before anything is read.
 pub(crate) fn mac<R: Source>(
     alloc: Global,
-    key: &str,
+    key: &[u8],
     limit: u64,
     r: &mut R,
 ) -> Result<Reply, AllocError>
@@ -190,16 +197,39 @@ pub(crate) fn mac<R: Source>(
     requires most { limit ≤ 1048576 }
     ensures line { IfSome (R.remaining r.old) (λ x. IfOk result (λ a. reply_view a ≡ mac_answer key.now limit (R.failed r.new) x)) }
     ensures taken { IfSome (R.remaining r.old) (λ x. (R.failed r.new ≡ true) ⊎ TakesAtMost (limit + 1) x (R.remaining r.new)) }
+    ensures stops { IfSome (R.remaining r.old) (λ x. (R.failed r.new ≡ true)
+        ⊎ TakesAtMost (behind_key (key_spelled key.now) limit) x (R.remaining r.new)) }
     ensures key { key_spelled key.now ≡ None → IfOk result (λ a. reply_view a ≡ key_refused) }
     ensures unread { key_spelled key.now ≡ None → r.new ≡ r.old }
 {
     let Some(key) = key_octets(alloc, key)? else {
-        return Reply::line(alloc, "refused Key", 2);
+        return refused_key(alloc);
     };
     match read_input(alloc, limit as u32, r) {
         Err(TextFault::Read) => Reply::line(alloc, "failed Read", 3),
         Err(TextFault::TooLong) => Reply::refused(alloc, "TooLong"),
         Err(_) => Err(AllocError),
         Ok(input) => token_line(alloc, key.as_slice(), without_line_feed(input.octets())),
+    }
+}
+
+/// Runs `jwt mac --key-file` on an input, with the key's text in hand.
+pub(crate) fn mac_in_hand<R: Source>(
+    alloc: Global,
+    key: Option<&[u8]>,
+    limit: u64,
+    r: &mut R,
+) -> Result<Reply, AllocError>
+    requires least { 1 ≤ limit }
+    requires most { limit ≤ 1048576 }
+    ensures line { IfSome (R.remaining r.old) (λ x. IfOk result (λ a. reply_view a
+        ≡ mac_in_hand (option_map (λ t. t.now) key.entry) limit (R.failed r.new) x)) }
+    ensures taken { IfSome (R.remaining r.old) (λ x. (R.failed r.new ≡ true) ⊎ TakesAtMost (limit + 1) x (R.remaining r.new)) }
+    ensures stops { IfSome (R.remaining r.old) (λ x. (R.failed r.new ≡ true)
+        ⊎ TakesAtMost (mac_most (option_map (λ t. t.now) key.entry) limit) x (R.remaining r.new)) }
+{
+    match key {
+        Some(text) => mac(alloc, without_line_feed(text), limit, r),
+        None => refused_key(alloc),
     }
 }

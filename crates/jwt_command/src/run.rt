@@ -1,9 +1,9 @@
 //! The command, over any source and sink.
 ghost use Rattle.std.specs.Prelude.{◌≡◌, ◌≤◌, ◌+◌, ◌⊎◌, ℕ, List, [], None, Some, map, true, IfOk, IfSome};
 ghost use Rattle.jwt_command.specs.Answered.{answer_of, answer_with, version_answer};
-ghost use Rattle.jwt_command.specs.Documents.{most_unless_unread, unless_unread, unread};
+ghost use Rattle.jwt_command.specs.Documents.{most_unless_unread, unless_unread, unread, unread_or};
 ghost use Rattle.jwt_command.specs.Issue.{issue_answer};
-ghost use Rattle.jwt_command.specs.Mac.{key_refused, key_spelled};
+ghost use Rattle.jwt_command.specs.Mac.{key_refused, key_spelled, mac_in_hand, mac_most};
 ghost use Rattle.jwt_command.specs.Input.{TakesAtMost};
 ghost use Rattle.jwt_command.specs.Printed.{Gives, GivesWrongWords, Prints, out_of_memory};
 ghost use Rattle.jwt_command.specs.Seen.{files_view};
@@ -12,10 +12,10 @@ ghost use Rattle.jwt_command.specs.Stops.{keys_most, most_taken, most_taken_with
 ghost use Rattle.jwt_command.specs.Verify.{asked_for, verify_answer};
 ghost use Rattle.jwt_command.specs.Words.{Mac, Order as Asked, Version, input_limit, order_of};
 
-use crate::documents::{Held, file_failed, unread};
+use crate::documents::{Held, file_failed, unread, unread_or};
 use crate::issue::{Wanted, issue};
 use crate::keys::keys;
-use crate::mac::mac;
+use crate::mac::{mac, mac_in_hand};
 use crate::reply::Reply;
 use crate::show::show;
 use crate::verify::verify;
@@ -216,6 +216,31 @@ fn asked_for(public_keys: bool, built_in: &[Box<dyn Verifier>]) -> &[Box<dyn Ver
     }
 }
 
+// The answer of `mac`, where the key that a file is named for is in hand.
+fn mac_named<R: Source>(
+    alloc: Global,
+    name: &str,
+    limit: u64,
+    held: Held<'_>,
+    r: &mut R,
+) -> Result<Reply, AllocError>
+    requires least { 1 ≤ limit }
+    requires most { limit ≤ 1048576 }
+    ensures line { IfSome (R.remaining r.old) (λ x. IfOk result (λ a. reply_view a
+        ≡ unless_unread (unread_or (Some name.now) (held_view held.entry).key None)
+        (mac_in_hand (held_view held.entry).key limit (R.failed r.new) x))) }
+    ensures taken { IfSome (R.remaining r.old) (λ x. (R.failed r.new ≡ true)
+        ⊎ TakesAtMost (limit + 1) x (R.remaining r.new)) }
+    ensures stops { IfSome (R.remaining r.old) (λ x. (R.failed r.new ≡ true)
+        ⊎ TakesAtMost (most_unless_unread (unread_or (Some name.now) (held_view held.entry).key None)
+        (mac_most (held_view held.entry).key limit)) x (R.remaining r.new)) }
+{
+    match unread_or(Some(name), held.key, None) {
+        Some(name) => file_failed(alloc, name),
+        None => mac_in_hand(alloc, held.key, limit, r),
+    }
+}
+
 // The answer of `verify`, where each document that a file is named for is in hand.
 fn verify_named<R: Source>(
     alloc: Global,
@@ -299,7 +324,8 @@ fn reply_to<R: Source>(
     ensures unread { order_of clock (map (λ word. word.now) words.now) ≡ None → r.new ≡ r.old }
 {
     match read_words(alloc, words, clock) {
-        Ok(Order::Mac { key, limit }) => mac(alloc, key, limit, r),
+        Ok(Order::Mac { key, limit }) => mac(alloc, key.as_bytes(), limit, r),
+        Ok(Order::MacFile { name, limit }) => mac_named(alloc, name, limit, held, r),
         Ok(Order::Keys) => keys(alloc, r),
         Ok(Order::Show { limit }) => show(alloc, limit, r),
         Ok(

@@ -3,10 +3,11 @@ ghost use Rattle.std.specs.Prelude.{◌≡◌, ◌≤◌, IfOk, IfErr, IfSome, N
 ghost use Rattle.clap.specs.Words.{app_of, found_of, one_of, rows_of, rule_of, subcommand_rows_of};
 ghost use Rattle.clap.specs.declared.builder.command.Command.TheViews.{out-Command as fields_of};
 ghost use Rattle.clap.specs.declared.builder.ValueParser.TheVariants.{Unsigned};
-ghost use Rattle.jwt_command.specs.Words.{HasLimits, alg_in, alg_rule, form_in, form_named, form_rule, asks_version, clap_order, files_in, files_of, issue_app, issue_order, jwt_app, key_rule, keys_app, keys_file_in, keys_rule, limit_rule, mac_app, mac_order, moment_in, now_rule, number_in, order_in, order_of, policy_rule, public_keys_in, public_keys_rule, show_app, show_order, token_rule, typ_rule, verify_app, verify_on_input, verify_order};
+ghost use Rattle.jwt_command.specs.Words.{HasLimits, alg_in, alg_rule, form_in, form_named, form_rule, asks_version, clap_order, files_in, files_of, issue_app, issue_order, jwt_app, key_file_rule, key_rule, keyed, keys_app, keys_file_in, keys_rule, limit_rule, mac_app, mac_order, moment_in, no_files, now_rule, number_in, order_in, order_of, policy_rule, public_keys_in, public_keys_rule, show_app, show_order, token_rule, typ_rule, verify_app, verify_on_input, verify_order};
 ghost use Rattle.jwt_command.specs.Examples.{Examples};
 ghost use Rattle.jwt_command.specs.Seen.{IsWrong, files_view, seen};
 
+use crate::nearest::nearest;
 use clap::builder::ValueParser;
 use clap::error::ErrorKind;
 use clap::{Arg, ArgAction, ArgMatches, Command, Error};
@@ -25,6 +26,23 @@ pub struct Files<'a> {
 
     /// The file of the token.
     pub token: Option<&'a str>,
+
+    /// The file of the key of `mac`.
+    pub key: Option<&'a str>,
+}
+
+impl<'a> Files<'a> {
+    /// None is named.
+    pub fn none() -> Files<'a>
+        ensures { files_view result ≡ no_files }
+    {
+        Files {
+            policy: None,
+            keys: None,
+            token: None,
+            key: None,
+        }
+    }
 }
 
 /// What the words ask for.
@@ -32,6 +50,10 @@ pub struct Files<'a> {
 pub enum Order<'a> {
     Mac {
         key: &'a str,
+        limit: u64,
+    },
+    MacFile {
+        name: &'a str,
         limit: u64,
     },
     Keys,
@@ -56,11 +78,19 @@ fn key_option<'a>(alloc: Global) -> Arg<'a>
     ensures shape { rule_of result ≡ key_rule }
     ensures local { result.global ≡ false }
 {
-    Arg::new(alloc, "k")
-        .long("k")
-        .value_name("TEXT")
-        .required(true)
-        .help("The key, octets in base64url; other users can see it, so it is for test keys")
+    Arg::new(alloc, "k").long("k").value_name("TEXT").help(
+        "The key, octets in base64url; other users can see it, so it is for test keys",
+    )
+}
+
+fn key_file_option<'a>(alloc: Global) -> Arg<'a>
+    ensures shape { rule_of result ≡ key_file_rule }
+    ensures local { result.global ≡ false }
+{
+    Arg::new(alloc, "key-file")
+        .long("key-file")
+        .value_name("FILE")
+        .help("The file of the key, octets in base64url, in the place of --k")
 }
 
 fn limit_option<'a>(alloc: Global) -> Arg<'a>
@@ -169,6 +199,7 @@ fn mac_command<'a>(alloc: Global) -> Result<Command<'a>, AllocError>
     Command::new(alloc, "mac")
         .about("Computes the tag of a compact token, which standard input holds")
         .arg(key_option(alloc))?
+        .arg(key_file_option(alloc))?
         .arg(limit_option(alloc))
 }
 
@@ -309,21 +340,35 @@ fn read_by_clap<'a>(
     }
 }
 
-// What is said where `clap` accepts the words and they ask for nothing: of `--alg` and `--form` it takes any text.
+// What is said where `clap` accepts the words and they ask for nothing: of `--alg` and `--form` it takes any text, and of the keys
+// of `mac` both or none.
 fn unknown_name(alloc: Global, matches: &ArgMatches<'_>) -> Result<String, AllocError> {
     match matches.subcommand() {
+        Some(("mac", options)) => wrong_keys(alloc, options),
         Some((_, options)) => unknown_option(alloc, options),
         None => unknown_option(alloc, matches),
     }
 }
 
+// The text of keys of `mac` that are both there or both missing, as `clap` words it.
+fn wrong_keys(alloc: Global, options: &ArgMatches<'_>) -> Result<String, AllocError> {
+    let wrong = if options.get_str("k").is_some() {
+        "the argument '--k <TEXT>' cannot be used with '--key-file <FILE>'"
+    } else {
+        "one of the following arguments has to be provided:\n  --k <TEXT>\n  --key-file <FILE>"
+    };
+    format!(in alloc; "error: {wrong}\n\nFor more information, try '--help'.\n")
+}
+
 fn unknown_option(alloc: Global, options: &ArgMatches<'_>) -> Result<String, AllocError> {
     let alg = options.get_str("alg").unwrap_or("");
     if Alg::from_text(alg).is_none() {
-        unknown_value(alloc, "--alg <A>", alg, "HS256, HS384, HS512")
+        let near = nearest(alloc, alg, &["HS256", "HS384", "HS512"])?;
+        unknown_value(alloc, "--alg <A>", alg, "HS256, HS384, HS512", near)
     } else {
         let form = options.get_str("form").unwrap_or("");
-        unknown_value(alloc, "--form <F>", form, "compact, json, flattened")
+        let near = nearest(alloc, form, &["compact", "json", "flattened"])?;
+        unknown_value(alloc, "--form <F>", form, "compact, json, flattened", near)
     }
 }
 
@@ -333,10 +378,16 @@ fn unknown_value(
     option: &str,
     value: &str,
     known: &str,
+    near: Option<&str>,
 ) -> Result<String, AllocError> {
-    format!(in alloc;
-        "error: invalid value '{value}' for '{option}'\n  [possible values: {known}]\n\nFor more information, try '--help'.\n"
-    )
+    let mut text = format!(in alloc;
+        "error: invalid value '{value}' for '{option}'\n  [possible values: {known}]\n"
+    )?;
+    if let Some(near) = near {
+        text.push_str(format!(in alloc; "\n  tip: a similar value exists: '{near}'\n")?.as_str())?;
+    }
+    text.push_str("\nFor more information, try '--help'.\n")?;
+    Ok(text)
 }
 
 fn chosen<'a>(matches: &ArgMatches<'a>, clock: Option<u64>) -> Option<Order<'a>>
@@ -356,13 +407,28 @@ fn chosen<'a>(matches: &ArgMatches<'a>, clock: Option<u64>) -> Option<Order<'a>>
     }
 }
 
+// The key by its text, or by its file: one of the two.
+fn keyed<'a>(text: Option<&'a str>, name: Option<&'a str>, limit: u64) -> Option<Order<'a>>
+    requires least { 1 ≤ limit }
+    requires most { limit ≤ 1048576 }
+    ensures limits { IfSome result (λ o. HasLimits (seen o)) }
+    ensures order { option_map seen result ≡ keyed (option_map (λ t. t.now) text.entry) (option_map (λ t. t.now) name.entry) limit }
+{
+    match (text, name) {
+        (Some(key), None) => Some(Order::Mac { key, limit }),
+        (None, Some(name)) => Some(Order::MacFile { name, limit }),
+        _ => None,
+    }
+}
+
 fn chosen_mac<'a>(options: &ArgMatches<'a>) -> Option<Order<'a>>
     ensures limits { IfSome result (λ o. HasLimits (seen o)) }
     ensures order { option_map seen result ≡ mac_order (rows_of (found_of options.now)) }
 {
-    let key = options.get_str("k")?;
+    let text = options.get_str("k");
+    let name = options.get_str("key-file");
     let limit = number(options, "limit", 1, 1_048_576)?;
-    Some(Order::Mac { key, limit })
+    keyed(text, name, limit)
 }
 
 fn chosen_show<'a>(options: &ArgMatches<'a>) -> Option<Order<'a>>
@@ -406,6 +472,7 @@ fn chosen_files<'a>(options: &ArgMatches<'a>) -> Files<'a>
         policy,
         keys,
         token,
+        key: None,
     }
 }
 
@@ -458,6 +525,7 @@ fn chosen_keys_file<'a>(options: &ArgMatches<'a>) -> Files<'a>
         policy: None,
         keys,
         token: None,
+        key: None,
     }
 }
 
@@ -499,11 +567,11 @@ pub fn files_named<'a>(
 {
     match read_words(alloc, words, clock) {
         Ok(Order::Verify { files, .. } | Order::Issue { files, .. }) => Ok(files),
-        Ok(_) | Err(WordsFault::Wrong(_)) => Ok(Files {
-            policy: None,
-            keys: None,
-            token: None,
+        Ok(Order::MacFile { name, .. }) => Ok(Files {
+            key: Some(name),
+            ..Files::none()
         }),
+        Ok(_) | Err(WordsFault::Wrong(_)) => Ok(Files::none()),
         Err(WordsFault::OutOfMemory) => Err(AllocError),
     }
 }

@@ -119,6 +119,34 @@ fn mac_prints_the_tag_or_the_first_refusal(rt: HostRuntime) -> Result<(), Fail> 
 }
 
 #[test]
+fn mac_takes_the_text_of_its_key_in_hand(rt: HostRuntime) -> Result<(), Fail> {
+    let alloc = rt.alloc();
+    let fed = format!(in alloc; "{KEY_A}\n")?;
+    let words = ["jwt", "mac", "--key-file", "a \"k\""];
+    let cases: [(Option<&str>, &str, u8, usize); 6] = [
+        (Some(KEY_A), LINE_A, 0, 0),
+        (Some(fed.as_str()), LINE_A, 0, 0),
+        (Some(""), "refused Key\n", 2, 179),
+        (Some("\n"), "refused Key\n", 2, 179),
+        (Some("AA=="), "refused Key\n", 2, 179),
+        (None, "failed Read file=\"a \\\"k\\\"\"\n", 3, 179),
+    ];
+    for (key, line, status, unread) in cases {
+        let held = Held {
+            key: key.map(|it| it.as_bytes()),
+            ..Held::none()
+        };
+        let mut out: Vec<u8> = Vec::new(alloc);
+        let mut r = Drip::new(TOKEN_A.as_bytes(), 1000);
+        let mut w = Writer::new(&mut out);
+        let code = run_files(alloc, &words, &[], None, held, &mut r, &mut w);
+        assert_eq!(rt; out.as_slice(), line.as_bytes());
+        assert_eq!(rt; (code, r.rest.len()), (status, unread));
+    }
+    Ok(())
+}
+
+#[test]
 fn mac_compares_the_limit_before_it_drops_a_line_feed(rt: HostRuntime) -> Result<(), Fail> {
     let alloc = rt.alloc();
     let mut fed = TOKEN_A.as_bytes().to_vec(alloc)?;
@@ -252,9 +280,16 @@ fn wrong_words_print_what_clap_says(rt: HostRuntime) -> Result<(), Fail> {
             .as_slice(),
         range.as_bytes()
     );
+    let keyless =
+        "error: one of the following arguments has to be provided:\n  --k <TEXT>\n  --key-file <FILE>\n\nFor more information, try '--help'.\n";
+    assert_eq!(rt;
+        printed(alloc, &["jwt", "mac"], b"").0.as_slice(),
+        keyless.as_bytes()
+    );
     // The words are looked at before the key.
-    let cases: [&[&str]; 10] = [
+    let cases: [&[&str]; 11] = [
         &["jwt", "verify"],
+        &["jwt", "mac", "--k", "AA", "--key-file", "k"],
         &["jwt", "mac", "--k", "AA==", "--limit", "0"],
         &["jwt"],
         &["jwt", "--help"],
@@ -679,6 +714,7 @@ fn printed_on(
         policy: policy.map(|it| it.as_bytes()),
         keys: keys.map(|it| it.as_bytes()),
         token: token.map(|it| it.as_bytes()),
+        ..Held::none()
     };
     let mut out: Vec<u8> = Vec::new(alloc);
     let mut r = Reader::new(input.as_bytes());
@@ -768,7 +804,7 @@ fn issue_prints_the_token_or_the_first_refusal(rt: HostRuntime) -> Result<(), Fa
             .as_slice()
             .starts_with(b"eyJhbGciOiJIUzI1NiIsInR5cCI6IkpXVCJ9.e30.")
     );
-    let cases: [(&[&str], &str, &str, &str, u8); 8] = [
+    let cases: [(&[&str], &str, &str, &str, u8); 9] = [
         (compact, "{}", "{}", "refused Keys NotKeySet\n", 1),
         (compact, r#"{"keys":[]}"#, "{}", "refused NoKey\n", 1),
         (compact, r#"{"keys":[]}"#, "[]", "refused ClaimsShape\n", 1),
@@ -802,6 +838,13 @@ fn issue_prints_the_token_or_the_first_refusal(rt: HostRuntime) -> Result<(), Fa
             2,
         ),
         (
+            &["jwt", "issue", "--alg", "hs265"],
+            KEYS_Z,
+            "{}",
+            "error: invalid value 'hs265' for '--alg <A>'\n  [possible values: HS256, HS384, HS512]\n\n  tip: a similar value exists: 'HS256'\n\nFor more information, try '--help'.\n",
+            2,
+        ),
+        (
             &["jwt", "issue", "--alg", "HS256", "--form", "general"],
             KEYS_Z,
             "{}",
@@ -831,9 +874,8 @@ fn issue_takes_a_key_set_in_hand(rt: HostRuntime) -> Result<(), Fail> {
         (None, none.as_bytes(), 3),
     ] {
         let held = Held {
-            policy: None,
             keys: keys.map(|it| it.as_bytes()),
-            token: None,
+            ..Held::none()
         };
         let mut out: Vec<u8> = Vec::new(alloc);
         let mut r = Reader::new(claims.as_bytes());

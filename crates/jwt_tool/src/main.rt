@@ -82,10 +82,12 @@ fn run_words<R: Source, W: Sink>(
     let policy = document(rt, files.policy, 65_536)?;
     let keys = document(rt, files.keys, 4_194_304)?;
     let token = document(rt, files.token, 1_048_576)?;
+    let key = document(rt, files.key, 5_463)?;
     let held = Held {
         policy: octets(&policy),
         keys: octets(&keys),
         token: octets(&token),
+        key: octets(&key),
     };
     Ok(run_files(rt.alloc(), words.as_slice(), &built_in, clock, held, r, w))
 }

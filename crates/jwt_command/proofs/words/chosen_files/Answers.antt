@@ -1,4 +1,4 @@
-use Rattle.std.proofs.Common.{◌∙◌, ap, ap₂, option_map, Option}
+use Rattle.std.proofs.Common.{◌∙◌, ap, ap₂, option_map, None, Option}
 use Rattle.std.specs.Prelude.{codes}
 use Rattle.clap.specs.Words.{Text, found_of}
 use Rattle.clap.proofs.WalkLemmas.{first_value-rows}
@@ -7,7 +7,7 @@ use Rattle.jwt_command.proofs.words.chosen_files.Goals as goal
 
 -- `files_in` of the three values
 abbrev files_from : Option Text → Option Text → Option Text → Files
-files_from policy keys token = record { policy = policy; keys = keys; token = token }
+files_from policy keys token = record { policy = policy; keys = keys; token = token; key = None }
 
 pub returns : goal.returns
 returns c =
