@@ -1,0 +1,326 @@
+/* Fowharimu for C and C++: validates JSON Web Tokens (RFC 7519) signed as JWS (RFC 7515).
+ *
+ *     fow_validator validator = FOW_VALIDATOR_INIT;
+ *     fow_report report;
+ *     uint32_t fault;
+ *     if (fow_open(&validator, policy, policy_len, keys, keys_len, &fault) != FOW_OK) { ... }
+ *     while (fow_judge(&validator, token, token_len, now, FOW_RSA_PROVED, &report) == FOW_ASKS) {
+ *         if (fow_ask(&validator, token, token_len, report.signature, report.key, out, out_len, &asked) != FOW_OK) break;
+ *         bool valid = (your own cryptography on asked and out);
+ *         if (fow_answer(&validator, token, token_len, report.signature, report.key, valid) != FOW_OK) break;
+ *     }
+ *     if (report.verdict == FOW_OK) { ... it is accepted; every other verdict is none ... }
+ *     fow_close(&validator);
+ *
+ * What is proved is said function by function below, and exactly by the clauses in crates/jwt_c/src. It holds for callers that keep
+ * to these premises, which C can't check:
+ *
+ *  - A fow_validator is zeroed before its first use (FOW_VALIDATOR_INIT), is changed by these functions alone, isn't copied while it
+ *    holds something, and is used by one call at a time. Another thread may use it after a lock or a join.
+ *  - A pointer with a length beside it is to so many readable octets (const) or writable octets (else), fewer than 2^63. It isn't
+ *    NULL, even where the length is 0: hand in the address of any octet then. Every other pointer is to one readable and writable
+ *    value of its type, and isn't NULL.
+ *  - What a call writes to doesn't overlap with what it is handed, nor with the validator.
+ *  - A bool is 0 or 1.
+ *  - malloc, realloc and free are those of one allocator, and no call is made from a signal handler.
+ *
+ * A validator that was never opened, or was closed, is no error: a call answers FOW_NOT_OPEN then. Nothing is leaked where memory is
+ * refused. Each call ends. Nothing is promised of time, or of keys that are left in memory. */
+#ifndef FOWHARIMU_H
+#define FOWHARIMU_H
+
+#include <stdbool.h>
+#include <stddef.h>
+#include <stdint.h>
+
+#ifdef __cplusplus
+extern "C" {
+#endif
+
+/* A policy, a key set, what was told of signatures, and the last report. The members are private. */
+typedef struct fow_validator {
+    void *at;
+    bool held;
+} fow_validator;
+
+#define FOW_VALIDATOR_INIT { NULL, false }
+
+/* What a call answers. Take each but FOW_OK for a refusal. */
+enum fow_status {
+    FOW_OK = 0,            /* done; of a verdict: the token is accepted */
+    FOW_REFUSED = 1,       /* refused, for the fault that is named */
+    FOW_ASKS = 2,          /* of a verdict alone: it needs to know whether a key made a signature */
+    FOW_OUT_OF_MEMORY = 3, /* an allocation was refused */
+    FOW_NOT_OPEN = 4,      /* the validator holds nothing */
+    FOW_TOO_SHORT = 5,     /* what is to be written has more octets than there is room for */
+    FOW_ABSENT = 6         /* there is no such thing */
+};
+
+/* Why something is refused: one number for each name that the program `jwt` prints. fow_fault_name gives the name. */
+enum fow_fault {
+    FOW_NO_FAULT = 0,
+
+    /* why a policy is refused */
+    FOW_POLICY_JSON = 101,         /* no JSON text in UTF-8, or no object */
+    FOW_POLICY_NAME_TWICE = 102,   /* a name stands twice in one object, at any depth */
+    FOW_POLICY_MEMBER = 103,       /* a member is unknown, or of another kind; fow_policy_member names it */
+    FOW_POLICY_RANGE = 104,        /* a member's value is out of its range; fow_policy_member names it */
+    FOW_POLICY_NO_ALGORITHM = 105, /* the list `algs` is absent or empty */
+    FOW_POLICY_TOO_LONG = 106,     /* more than 65,536 octets */
+
+    /* why a key set is refused */
+    FOW_KEYS_JSON = 201,          /* no JSON text in UTF-8 */
+    FOW_KEYS_NOT_KEY_SET = 202,   /* no object, or one without a list `keys` */
+    FOW_KEYS_NAME_TWICE = 203,    /* a name stands twice in one object, at any depth */
+    FOW_KEYS_TOO_MANY_KEYS = 204, /* more than 1,024 entries */
+    FOW_KEYS_TOO_LONG = 205,      /* more than 4,194,304 octets */
+
+    /* why octets aren't read as a token */
+    FOW_TEXT_READ = 301,     /* the source failed; it doesn't come from these functions */
+    FOW_TEXT_TOO_LONG = 302, /* more octets than the policy's `limit` */
+
+    /* why octets are no signed token (RFC 7515, section 7) */
+    FOW_FORM_EMPTY = 401,               /* there are no octets */
+    FOW_FORM_ENCRYPTED = 402,           /* an encrypted token (RFC 7516) */
+    FOW_FORM_SEGMENTS = 403,            /* compact form with another number of periods than two and four */
+    FOW_FORM_JSON = 404,                /* it begins as an object, and is no JSON text */
+    FOW_FORM_NAME_TWICE = 405,          /* a name is doubled in an object of the JSON form */
+    FOW_FORM_MEMBERS = 406,             /* a member is missing, of another kind, or not to be there */
+    FOW_FORM_TOO_MANY_SIGNATURES = 407, /* more signatures than the policy allows */
+    FOW_FORM_BASE64 = 408,              /* a text is no base64url; the part, and its signature but for the payload */
+    FOW_FORM_HEADER = 409,              /* the protected header of this signature is no object text */
+    FOW_FORM_UNPROTECTED_KIND = 410,    /* the member `header` of this signature is no object */
+    FOW_FORM_NAMES_OVERLAP = 411,       /* a name is in both headers of this signature */
+
+    /* a ceiling was reached before this signature was tried with this key */
+    FOW_WORK_EXCEEDED = 501,  /* the octets of HMAC would exceed the policy's `work` */
+    FOW_CALLS_EXCEEDED = 502, /* there were as many tries as the policy's `max_calls` */
+
+    /* why this signature isn't verified */
+    FOW_SIG_ALG_MISSING = 601,     /* the protected header has no text `alg` */
+    FOW_SIG_ALG_NONE = 602,        /* `alg` is `none` */
+    FOW_SIG_ALG_UNKNOWN = 603,     /* `alg` is unknown */
+    FOW_SIG_ALG_NOT_ALLOWED = 604, /* `alg` isn't among the policy's `algs` */
+    FOW_SIG_NO_VERIFIER = 605,     /* no verifier names `alg`; it doesn't come from fow_judge, which asks */
+    FOW_SIG_KEY_URL = 606,         /* the header has `jku` or `x5u` */
+    FOW_SIG_ENC_HEADER = 607,      /* the header has `enc` */
+    FOW_SIG_UNENCODED = 608,       /* the header has `b64` (RFC 7797) */
+    FOW_SIG_CRIT_SHAPE = 609,      /* `crit` has another shape than RFC 7515, section 4.1.11, gives it */
+    FOW_SIG_CRIT_UNKNOWN = 610,    /* a name in `crit` isn't among the policy's `understood` */
+    FOW_SIG_TYP_SHAPE = 611,       /* `typ` or `cty` is no text */
+    FOW_SIG_TYP_MISMATCH = 612,    /* `typ` isn't the policy's */
+    FOW_SIG_NESTED = 613,          /* `cty` says that the payload is a token again */
+    FOW_SIG_KID_SHAPE = 614,       /* `kid` is no text */
+    FOW_SIG_KID_MISSING = 615,     /* the policy has `need_kid`, and there is no `kid` */
+    FOW_SIG_NO_KEY = 616,          /* no key of the set is eligible */
+    FOW_SIG_BAD_SIGNATURE = 617,   /* no eligible key verified it */
+
+    /* why claims are refused (RFC 7519, section 4) */
+    FOW_CLAIM_CLAIMS_SHAPE = 701, /* the payload is no object text */
+    FOW_CLAIM_KIND = 702,         /* this registered claim has another kind */
+    FOW_CLAIM_DATE = 703,         /* this date is no whole number of 64 bits */
+    FOW_CLAIM_MISSING = 704,      /* a claim that the policy asks for is absent; fow_refused_claim names it */
+    FOW_CLAIM_ISSUER = 705,       /* `iss` isn't among the policy's `issuers` */
+    FOW_CLAIM_AUDIENCE = 706,     /* `aud` names no audience of the policy */
+    FOW_CLAIM_EXPIRED = 707,      /* the moment is at or after `exp` and the leeway */
+    FOW_CLAIM_NOT_YET = 708,      /* the moment and the leeway are before `nbf` */
+    FOW_CLAIM_ISSUED_LATER = 709, /* `iat` is later than the moment and the leeway */
+    FOW_CLAIM_TOO_OLD = 710,      /* the moment is later than `iat`, the policy's `max_age` and the leeway */
+
+    /* why nothing is issued; pairs of an algorithm and a key are numbered from 0 */
+    FOW_ISSUE_NO_KEY = 801,              /* there is no such key */
+    FOW_ISSUE_TOO_MANY_SIGNATURES = 802, /* more than 32 keys */
+    FOW_ISSUE_ALG_NOT_HMAC = 803,        /* the algorithm isn't HMAC */
+    FOW_ISSUE_KEY_UNFIT = 804,           /* the key of this signature doesn't suit the algorithm, or may not sign */
+    FOW_ISSUE_TOO_LONG = 805,            /* the token would have more than 1,048,576 octets */
+    FOW_ISSUE_SPENT = 806                /* the HMAC of this signature would cost more than 10^12 octets */
+};
+
+/* The part of a token of which FOW_FORM_BASE64 speaks. */
+enum fow_part { FOW_NO_PART = 0, FOW_PART_PAYLOAD = 1, FOW_PART_PROTECTED = 2, FOW_PART_SIGNATURE = 3 };
+
+/* The claim of which FOW_CLAIM_KIND, FOW_CLAIM_DATE and FOW_CLAIM_MISSING speak. */
+enum fow_claim_number {
+    FOW_NO_CLAIM = 0,
+    FOW_ISS = 1,
+    FOW_SUB = 2,
+    FOW_AUD = 3,
+    FOW_EXP = 4,
+    FOW_NBF = 5,
+    FOW_IAT = 6,
+    FOW_JTI = 7,
+    FOW_CLAIM_BY_NAME = 8 /* of FOW_CLAIM_MISSING: fow_refused_claim gives the name */
+};
+
+/* What is said of a token. A number that the verdict or the fault doesn't speak of is 0. */
+typedef struct fow_report {
+    uint64_t work;      /* the octets that were fed to HMAC */
+    uint64_t tries;     /* the tries of a key on a signature that were made */
+    uint32_t verdict;   /* enum fow_status: FOW_OK accepted, FOW_REFUSED, FOW_ASKS, FOW_OUT_OF_MEMORY, FOW_NOT_OPEN */
+    uint32_t fault;     /* enum fow_fault: of FOW_REFUSED why */
+    uint32_t part;      /* enum fow_part */
+    uint32_t signature; /* a signature's number in the token, from 0: the one that was verified, refused, or is asked about */
+    uint32_t key;       /* a key's number among the readable keys of the set, from 0: the one that verified, or is asked about */
+    uint32_t claim;     /* enum fow_claim_number */
+} fow_report;
+
+/* What became of a signature. */
+enum fow_state_number {
+    FOW_STATE_BARRED = 1,        /* no key was tried on it, for this fault */
+    FOW_STATE_NO_KEY = 2,        /* no key is eligible */
+    FOW_STATE_BAD_SIGNATURE = 3, /* each eligible key was tried, and none verified it */
+    FOW_STATE_VERIFIED = 4,      /* this key verified it, the first that is eligible and does */
+    FOW_STATE_NOT_REACHED = 5,   /* the run ended before it */
+    FOW_STATE_STOPPED = 6        /* the run stopped at one of its pairs */
+};
+
+typedef struct fow_state {
+    uint32_t state; /* enum fow_state_number */
+    uint32_t fault; /* enum fow_fault: of FOW_STATE_BARRED why */
+    uint32_t key;   /* of FOW_STATE_VERIFIED the key */
+} fow_state;
+
+/* The try of a key on a signature. */
+typedef struct fow_try {
+    uint64_t cost;      /* the octets that were fed to HMAC for it; 0 for a public key */
+    uint32_t signature; /* the signature's number, from 0 */
+    uint32_t key;       /* the key's number, from 0 */
+} fow_try;
+
+enum fow_alg {
+    FOW_HS256 = 1,
+    FOW_HS384 = 2,
+    FOW_HS512 = 3,
+    FOW_RS256 = 4,
+    FOW_RS384 = 5,
+    FOW_RS512 = 6,
+    FOW_PS256 = 7,
+    FOW_PS384 = 8,
+    FOW_PS512 = 9,
+    FOW_ES256 = 10,
+    FOW_ES384 = 11,
+    FOW_ES512 = 12,
+    FOW_EDDSA = 13
+};
+
+/* The kind of a key, with its curve. */
+enum fow_kind {
+    FOW_OCT = 1,
+    FOW_RSA = 2,
+    FOW_ED25519 = 255,
+    FOW_P256 = 256,
+    FOW_P384 = 384,
+    FOW_ED448 = 448,
+    FOW_P521 = 521
+};
+
+/* A question: did this key make this signature over this signing input by this algorithm? Its octets stand one after another in what
+ * fow_ask writes: the signing input, the signature, the key's first member and its second. The members are the modulus and the
+ * exponent of an RSA key, the coordinates x and y of an EC key, x and nothing of an OKP key: as the key set spells them, big-endian. A
+ * signature by ES256, ES384 or ES512 is r and s, one after another (RFC 7518, section 3.4), and no DER. */
+typedef struct fow_question {
+    uint32_t alg;     /* enum fow_alg */
+    uint32_t kind;    /* enum fow_kind */
+    size_t input;     /* how many octets the signing input has */
+    size_t signature; /* how many the signature has */
+    size_t first;     /* how many the first member has */
+    size_t second;    /* how many the second member has */
+} fow_question;
+
+/* The form of a token (RFC 7515, section 7). */
+enum fow_form { FOW_COMPACT = 1, FOW_GENERAL = 2, FOW_FLATTENED = 3 };
+
+/* Who verifies RS256, RS384, RS512, PS256, PS384 and PS512. */
+enum fow_rsa {
+    FOW_RSA_ASKED = 0, /* the caller, who is asked */
+    FOW_RSA_PROVED = 1 /* this library: it accepts what RFC 8017 does, with keys of 2,048 to 8,192 bits */
+};
+
+/* Reads a policy and a key set.
+ *
+ * Proved: FOW_OK: the policy and the key set that these octets spell are held from now on, and nothing is told. FOW_REFUSED: *fault
+ * says why the first of the two that is refused is refused. FOW_OUT_OF_MEMORY: memory was refused. Where the answer isn't FOW_OK, the
+ * validator holds what it held. The octets aren't needed any more after the call.
+ *
+ * A caller who answers questions sets `max_calls` in the policy: each question is a try, so `max_calls` bounds how many are asked of
+ * one token. Without it a token of 32 signatures may raise a question for each of them and each key of the set. */
+uint32_t fow_open(fow_validator *validator, const uint8_t *policy, size_t policy_len, const uint8_t *keys, size_t keys_len,
+    uint32_t *fault);
+
+/* Frees what is held. It may be called twice, and before anything was opened. Proved: the validator holds nothing. */
+void fow_close(fow_validator *validator);
+
+/* Judges a token at a moment, in seconds since 1970-01-01T00:00:00Z. It answers the verdict, which *report has too. `rsa` is enum
+ * fow_rsa; any number but FOW_RSA_PROVED is FOW_RSA_ASKED.
+ *
+ * Proved: what is accepted or refused, and all that *report says of it, is the verdict of validate's contract on these octets under
+ * the policy, the key set and the moment, where the verifiers are: HMAC; the proved one of RSA, where it is chosen; and for the other
+ * algorithms what was told. So where each answer that was told is right, it is the verdict under what is right. Of FOW_ASKS: nothing
+ * was told of whether the key of this number made the signature of this number. FOW_NOT_OPEN: nothing is held. */
+uint32_t fow_judge(fow_validator *validator, const uint8_t *token, size_t token_len, int64_t now, uint32_t rsa,
+    fow_report *report);
+
+/* What became of signature `signature` of the token that was judged last. Proved: FOW_OK: that is what the report of fow_judge's
+ * contract says of it. FOW_ABSENT: the report has no such signature. FOW_NOT_OPEN: nothing is held. */
+uint32_t fow_state_of(fow_validator *validator, uint32_t signature, fow_state *state);
+
+/* Try `n`, from 0, of the last judging. Proved as with fow_state_of. */
+uint32_t fow_try_of(fow_validator *validator, uint64_t n, fow_try *tried);
+
+/* The name of the claim that the last judging's fault speaks of. FOW_ABSENT: it speaks of none. */
+uint32_t fow_refused_claim(fow_validator *validator, uint8_t *out, size_t out_len, size_t *written);
+
+/* Writes a question at the front of `out`. The token's length and 16,384 octets are always enough.
+ *
+ * Proved: FOW_OK: `out` begins with the question whether key `key` of the set made signature `signature` of the token, and *asked has
+ * its sizes. FOW_ABSENT: the octets are no token, or there is no such pair. */
+uint32_t fow_ask(fow_validator *validator, const uint8_t *token, size_t token_len, uint32_t signature, uint32_t key, uint8_t *out,
+    size_t out_len, fow_question *asked);
+
+/* Tells whether the key made the signature. Later verdicts rest on it, for this very algorithm, key, signing input and signature, and
+ * for nothing else. Where the same question is answered twice, the first answer counts.
+ *
+ * Proved: FOW_OK: exactly this answer is told besides those told before. Else what was told is as before. FOW_ABSENT: the octets are
+ * no token, or there is no such pair. */
+uint32_t fow_answer(fow_validator *validator, const uint8_t *token, size_t token_len, uint32_t signature, uint32_t key, bool valid);
+
+/* Forgets what was told: do so from time to time, since all answers are kept until then. Proved: nothing is told, and the policy and
+ * the key set are as before. */
+void fow_forget(fow_validator *validator);
+
+/* Writes the octets of the payload of a token, whether it was judged or not: judge it first.
+ *
+ * Proved: FOW_OK: `out` begins with the payload, which has *written octets. FOW_ABSENT: the octets are no token under the policy. */
+uint32_t fow_payload(fow_validator *validator, const uint8_t *token, size_t token_len, uint8_t *out, size_t out_len,
+    size_t *written);
+
+/* Writes a claim of the token that was accepted last, as compact JSON text, by its name in UTF-8. FOW_ABSENT: the last verdict was no
+ * acceptance, or there is no such claim. */
+uint32_t fow_claim(fow_validator *validator, const uint8_t *name, size_t name_len, uint8_t *out, size_t out_len, size_t *written);
+
+/* Writes the name of a fault, as the program `jwt` prints it, such as `Expired`: at most 24 octets. FOW_ABSENT: no fault has this
+ * number. */
+uint32_t fow_fault_name(uint32_t fault, uint8_t *out, size_t out_len, size_t *written);
+
+/* Writes the name of the member for which a policy is refused, as the policy spells it. FOW_ABSENT: the policy isn't refused for a
+ * member. */
+uint32_t fow_policy_member(const uint8_t *policy, size_t policy_len, uint8_t *out, size_t out_len, size_t *written);
+
+/* Writes what stands in a token, in any form, with nothing of it verified: the lines that `jwt show` prints. FOW_REFUSED: the octets
+ * are no signed token; *report has the fault with its part and signature, and no verdict rests on it. */
+uint32_t fow_show(const uint8_t *token, size_t token_len, uint8_t *out, size_t out_len, size_t *written, fow_report *report);
+
+/* Issues the claims, signed by HMAC: `alg` is FOW_HS256, FOW_HS384 or FOW_HS512, `form` is enum fow_form. In compact and flattened
+ * form key `key` of the set signs, in general form each readable key of the set, in order, and `key` isn't looked at. `typ` is the
+ * header's media type in UTF-8, and none where typ_len is 0.
+ *
+ * Proved: FOW_OK: `out` begins with the token that the issuing contract gives for these claims, which has *written octets.
+ * FOW_REFUSED: *report says why, with the signature or the claim that the fault speaks of. FOW_ABSENT: there is no such algorithm or
+ * form, or `typ` isn't UTF-8. */
+uint32_t fow_issue(fow_validator *validator, uint32_t alg, uint32_t form, uint32_t key, const uint8_t *typ, size_t typ_len,
+    const uint8_t *claims, size_t claims_len, uint8_t *out, size_t out_len, size_t *written, fow_report *report);
+
+#ifdef __cplusplus
+}
+#endif
+#endif
