@@ -4,7 +4,7 @@
  *     fow_report report;
  *     uint32_t fault;
  *     if (fow_open(&validator, policy, policy_len, keys, keys_len, &fault) != FOW_OK) { ... }
- *     while (fow_judge(&validator, token, token_len, now, FOW_RSA_PROVED, &report) == FOW_ASKS) {
+ *     while (fow_judge(&validator, token, token_len, now, &report) == FOW_ASKS) {
  *         if (fow_ask(&validator, token, token_len, report.signature, report.key, out, out_len, &asked) != FOW_OK) break;
  *         bool valid = (your own cryptography on asked and out);
  *         if (fow_answer(&validator, token, token_len, report.signature, report.key, valid) != FOW_OK) break;
@@ -230,12 +230,6 @@ typedef struct fow_question {
 /* The form of a token (RFC 7515, section 7). */
 enum fow_form { FOW_COMPACT = 1, FOW_GENERAL = 2, FOW_FLATTENED = 3 };
 
-/* Who verifies RS256, RS384, RS512, PS256, PS384 and PS512. */
-enum fow_rsa {
-    FOW_RSA_ASKED = 0, /* the caller, who is asked */
-    FOW_RSA_PROVED = 1 /* this library: it accepts what RFC 8017 does, with keys of 2,048 to 8,192 bits */
-};
-
 /* Reads a policy and a key set.
  *
  * Proved: FOW_OK: the policy and the key set that these octets spell are held from now on, and nothing is told. FOW_REFUSED: *fault
@@ -250,24 +244,24 @@ uint32_t fow_open(fow_validator *validator, const uint8_t *policy, size_t policy
 /* Frees what is held. It may be called twice, and before anything was opened. Proved: the validator holds nothing. */
 void fow_close(fow_validator *validator);
 
-/* Judges a token at a moment, in seconds since 1970-01-01T00:00:00Z. It answers the verdict, which *report has too. `rsa` is enum
- * fow_rsa; any number but FOW_RSA_PROVED is FOW_RSA_ASKED.
+/* Judges a token at a moment, in seconds since 1970-01-01T00:00:00Z. It answers the verdict, which *report has too.
  *
- * Proved: what is accepted or refused, and all that *report says of it, is the verdict of validate's contract on these octets under
- * the policy, the key set and the moment, where the verifiers are: HMAC; the proved one of RSA, where it is chosen; and for the other
- * algorithms what was told. So where each answer that was told is right, it is the verdict under what is right. Of FOW_ASKS: nothing
- * was told of whether the key of this number made the signature of this number. FOW_NOT_OPEN: nothing is held. */
-uint32_t fow_judge(fow_validator *validator, const uint8_t *token, size_t token_len, int64_t now, uint32_t rsa,
-    fow_report *report);
+ * Proved: what is accepted or refused, and all that *report says of it, is the verdict of validate's contract on these octets
+ * under the policy, the key set and the moment, where HMAC is verified and for the other algorithms what was told is believed.
+ * Where each answer that was told is right, it is the verdict under what is right. Of FOW_ASKS: nothing was told of whether the
+ * key of this number made the signature of this number. FOW_NOT_OPEN: nothing is held. FOW_OUT_OF_MEMORY: nothing is said. */
+uint32_t fow_judge(fow_validator *validator, const uint8_t *token, size_t token_len, int64_t now, fow_report *report);
 
-/* What became of signature `signature` of the token that was judged last. Proved: FOW_OK: that is what the report of fow_judge's
- * contract says of it. FOW_ABSENT: the report has no such signature. FOW_NOT_OPEN: nothing is held. */
+/* What became of signature `signature` of the token that was judged last. Proved: FOW_OK: that is what is kept of it, which after
+ * an acceptance or a refusal is what validate's report says; FOW_ABSENT, and nothing else, where that has no such signature. After
+ * a verdict of another kind nothing is kept. FOW_NOT_OPEN: nothing is held. */
 uint32_t fow_state_of(fow_validator *validator, uint32_t signature, fow_state *state);
 
 /* Try `n`, from 0, of the last judging. Proved as with fow_state_of. */
 uint32_t fow_try_of(fow_validator *validator, uint64_t n, fow_try *tried);
 
-/* The name of the claim that the last judging's fault speaks of. FOW_ABSENT: it speaks of none. */
+/* The name of the claim that the last judging found missing (FOW_CLAIM_MISSING), as the policy spells it. FOW_ABSENT: it found none
+ * missing, or one whose name is empty. */
 uint32_t fow_refused_claim(fow_validator *validator, uint8_t *out, size_t out_len, size_t *written);
 
 /* Writes a question at the front of `out`. The token's length and 16,384 octets are always enough.

@@ -1,0 +1,5 @@
+pub mod Asking
+pub mod Faults
+pub mod Handles
+pub mod Reports
+pub mod Written
