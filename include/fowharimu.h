@@ -292,9 +292,9 @@ uint32_t fow_payload(fow_validator *validator, const uint8_t *token, size_t toke
  * acceptance, or there is no such claim. */
 uint32_t fow_claim(fow_validator *validator, const uint8_t *name, size_t name_len, uint8_t *out, size_t out_len, size_t *written);
 
-/* Writes the name of a fault, as the program `jwt` prints it, such as `Expired`: at most 24 octets. FOW_ABSENT: no fault has this
- * number. */
-uint32_t fow_fault_name(uint32_t fault, uint8_t *out, size_t out_len, size_t *written);
+/* The name of a fault, as the program `jwt` prints it, such as `Expired`; empty where no fault has this number. It isn't to be freed.
+ * It is C, and tested. */
+const char *fow_fault_name(uint32_t fault);
 
 /* Writes the name of the member for which a policy is refused, as the policy spells it. FOW_ABSENT: the policy isn't refused for a
  * member. */

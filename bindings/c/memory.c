@@ -60,13 +60,13 @@ static uint32_t open_it(void)
 static uint32_t judge_it(void)
 {
     fow_report report;
-    return fow_judge(&validator, token.at, token.len, NOW, FOW_RSA_PROVED, &report);
+    return fow_judge(&validator, token.at, token.len, NOW, &report);
 }
 
 static uint32_t judge_asking(void)
 {
     fow_report report;
-    return fow_judge(&validator, token.at, token.len, NOW, FOW_RSA_ASKED, &report);
+    return fow_judge(&validator, token.at, token.len, NOW, &report);
 }
 
 static uint32_t ask_it(void)
