@@ -1,2 +1,3 @@
 pub mod Handles
+mod PairLemmas
 pub mod Values

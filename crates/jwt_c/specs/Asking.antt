@@ -1,5 +1,5 @@
 -- Questions, as they are written for the caller, and their answers.
-use Rattle.std.specs.Prelude.{◌≡◌, ◌≢◌, ◌<◌, ℕ, Bool, ◌++◌, List, [], ◌∷◌, length, Option, Some, None, Result, Ok, Err}
+use Rattle.std.specs.Prelude.{◌≡◌, ◌≢◌, ◌<◌, ℕ, Bool, false, if◌then◌else◌, ◌++◌, List, [], ◌∷◌, length, Option, Some, None, Result, Ok, Err}
 use Rattle.jwt_mac.specs.declared.algorithm.Alg.{Alg}
 use Rattle.jwt_mac.specs.declared.algorithm.Alg.TheVariants as alg
 use Rattle.jwt_mac.specs.declared.message.Curve.{Curve}
@@ -9,6 +9,7 @@ use Rattle.jwt_mac.specs.declared.message.EdCurve.TheVariants.{Ed25519, Ed448}
 use Rattle.jwt_mac.specs.Verifying.{KeyOctets, OctKey, RsaKey, EcKey, OkpKey, signing_input}
 use Rattle.jwt_jws.specs.Token.{Token}
 use Rattle.jwt_keys.specs.Keys.{KeyParts}
+use Rattle.jwt_rsa.specs.Meanings.{rsa_meaning}
 use Rattle.jwt_verify.specs.declared.report.Fault.{Fault}
 use Rattle.jwt_told.specs.Told.{ToldParts, told}
 use Rattle.jwt_told.specs.Questions.{QuestionParts, question_at}
@@ -100,3 +101,15 @@ TellsDesk (Some q) valid status d e = (status ≡ 0 → TellsOf (told_of q valid
 abbrev pub IsTold : Option QuestionParts → Bool → ℕ → Desk → Option Desk → Type 0
 IsTold q valid status d None = ⊥
 IsTold q valid status d (Some e) = TellsDesk q valid status d e
+
+-- ---- the questions that the proved verifier of RSA answers
+
+-- the question, where it is about an algorithm that the verifier names
+abbrev pub rsa_asked : Option QuestionParts → Option QuestionParts
+rsa_asked None = None
+rsa_asked (Some q) = if rsa_meaning.named q.alg then Some q else None
+
+-- whether the verifier accepts the signature
+abbrev pub rsa_says : Option QuestionParts → Bool
+rsa_says None = false
+rsa_says (Some q) = rsa_meaning.accepts q.alg q.key q.message q.signature

@@ -5,11 +5,12 @@ ghost use Rattle.jwt_mac.specs.Verifying.{key_octets, signing_input};
 ghost use Rattle.jwt_keys.specs.KeySets.{key_set};
 ghost use Rattle.jwt_verify.specs.Verdict.{token_of};
 ghost use Rattle.jwt_told.specs.Questions.{question_parts};
-ghost use Rattle.jwt_c.specs.Asking.{asked_at, alg_number, kind_number, key_first, key_second, question_octets, PutsQuestion, TellsDesk};
+ghost use Rattle.jwt_c.specs.Asking.{asked_at, alg_number, kind_number, key_first, key_second, question_octets, PutsQuestion, TellsDesk, rsa_asked, rsa_says};
 
 use crate::desk::Desk;
 use crate::report::FowQuestion;
-use jwt_mac::{Alg, Curve, EdCurve, KeyView};
+use jwt_mac::{Alg, Answer, Curve, EdCurve, KeyView, Verifier};
+use jwt_rsa::Rsa;
 use jwt_told::{Asked, Question, read_token};
 use std::alloc::{AllocError, Global};
 
@@ -171,6 +172,57 @@ pub(crate) fn tell(
                 Ok(()) => 0,
                 Err(_) => 3,
             },
+            None => 6,
+        },
+        Ok(None) => 6,
+        Err(_) => 3,
+    }
+}
+
+/// Whether the proved verifier of RSA accepts the signature.
+fn rsa_accepts(asked: &Asked<'_>) -> bool
+    ensures { result ≡ rsa_says (Some (question_parts asked.now)) }
+{
+    match Rsa.verify(asked.alg, &asked.key, asked.message, asked.signature) {
+        Answer::Valid => true,
+        _ => false,
+    }
+}
+
+/// Tells what the proved verifier of RSA says of a signature. 0; 3: memory was refused; 6: there is no such pair, or it is about
+/// another algorithm.
+pub(crate) fn tell_by_rsa(
+    alloc: Global,
+    desk: &mut Desk,
+    token: &[u8],
+    signature: u32,
+    key: u32,
+) -> u32
+    ensures { TellsDesk
+        (rsa_asked (asked_at (token_of desk.old.policy token.now)
+        (key_set desk.old.keys).keys signature key))
+        (rsa_says (asked_at (token_of desk.old.policy token.now)
+        (key_set desk.old.keys).keys signature key)) result desk.old desk.new }
+{
+    match read_token(alloc, token, &desk.policy) {
+        Ok(Some(signed)) => match (Question { signature, key }).about(&signed, &desk.keys) {
+            Some(asked) => {
+                if !Rsa.names(asked.alg) {
+                    return 6;
+                }
+                let accepts = rsa_accepts(&asked);
+                match desk.answers.tell(
+                    alloc,
+                    asked.alg,
+                    &asked.key,
+                    asked.message,
+                    asked.signature,
+                    accepts,
+                ) {
+                    Ok(()) => 0,
+                    Err(_) => 3,
+                }
+            }
             None => 6,
         },
         Ok(None) => 6,

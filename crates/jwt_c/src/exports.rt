@@ -6,12 +6,15 @@ ghost use Rattle.jwt_verify.specs.Verdict.{token_of};
 ghost use Rattle.jwt_c.specs.Reports.{IsOpened, IsRefused, IsAlike, IsForgotten, IsAsked, IsJudgedBy, report_numbers};
 ghost use Rattle.jwt_c.specs.Faults.{bare};
 ghost use Rattle.jwt_c.specs.Written.{PutsPayload, PutsName, IsState, IsTry};
-ghost use Rattle.jwt_c.specs.Asking.{asked_at, PutsQuestion, IsTold};
+ghost use Rattle.jwt_c.specs.Asking.{asked_at, PutsQuestion, IsTold, rsa_asked, rsa_says};
+ghost use Rattle.jwt_c.specs.Issuing.{hmac_at, form_at, PutsIssued};
+ghost use Rattle.jwt_issue.specs.ClaimSets.{claim_set_of};
 
-use crate::asking::{ask_about, tell};
+use crate::asking::{ask_about, tell, tell_by_rsa};
 use crate::desk::{Desk, Last};
 use crate::faults::{keys_number, policy_number};
 use crate::handle::{Handle, take};
+use crate::issuing::{Wanted, form_at, hmac_at, put_issued};
 use crate::judging::judge_desk;
 use crate::report::{FowQuestion, FowReport, FowState, FowTry};
 use crate::writing::{payload_of, put};
@@ -270,6 +273,75 @@ pub extern "C" fn fow_refused_claim(
         6
     } else {
         put(&desk.last.missing, out, written)
+    };
+    *validator = Handle::of(desk);
+    status
+}
+
+/// Tells what the proved verifier of RSA says of a signature. 0: that is told from now on; 3: memory was refused; 4: nothing is held;
+/// 6: there is no such pair, or its algorithm isn't RSA.
+#[unsafe(no_mangle)]
+pub extern "C" fn fow_answer_rsa(
+    validator: &mut Handle,
+    alloc: Global,
+    token: &[u8],
+    signature: u32,
+    key: u32,
+) -> u32
+    ensures none { validator.old.desk ≡ None → (result ≡ 4) × (validator.new.desk ≡ None) }
+    ensures told { IfSome validator.old.desk (λ d. IsTold
+        (rsa_asked (asked_at (token_of d.policy token.now) (key_set d.keys).keys signature key))
+        (rsa_says (asked_at (token_of d.policy token.now) (key_set d.keys).keys signature key))
+        result d validator.new.desk) }
+{
+    let Some(mut desk) = take(validator, alloc) else {
+        return 4;
+    };
+    let status = tell_by_rsa(alloc, &mut desk, token, signature, key);
+    *validator = Handle::of(desk);
+    status
+}
+
+/// Issues a token of some claims, in the form and by the HMAC algorithm of these numbers, and writes it at the front of `out`. 0; 1:
+/// it is refused, as the report says; 3: memory was refused; 4: nothing is held; 5: `out` is too short; 6: there is no such algorithm
+/// or form.
+#[unsafe(no_mangle)]
+pub extern "C" fn fow_issue(
+    validator: &mut Handle,
+    alloc: Global,
+    alg: u32,
+    form: u32,
+    key: u32,
+    claims: &[u8],
+    out: &mut [u8],
+    written: &mut usize,
+    report: &mut FowReport,
+) -> u32
+    ensures same { validator.new.desk ≡ validator.old.desk }
+    ensures none { validator.old.desk ≡ None → result ≡ 4 }
+    ensures alg { IfSome validator.old.desk (λ d. hmac_at alg ≡ None → result ≡ 6) }
+    ensures form { IfSome validator.old.desk (λ d. form_at form ≡ None → result ≡ 6) }
+    ensures token { IfSome validator.old.desk (λ d. IfSome (hmac_at alg) (λ a.
+        IfSome (form_at form) (λ f. PutsIssued f a None key (key_set d.keys).keys
+        (claim_set_of claims.now) result report.new written.new out.old out.new))) }
+{
+    let Some(desk) = take(validator, alloc) else {
+        return 4;
+    };
+    let status = match hmac_at(alg) {
+        Some(alg) => match form_at(form) {
+            Some(form) => {
+                let wanted = Wanted {
+                    alg,
+                    typ: None,
+                    form,
+                    key,
+                };
+                put_issued(alloc, wanted, &desk.keys, claims, out, written, report)
+            }
+            None => 6,
+        },
+        None => 6,
     };
     *validator = Handle::of(desk);
     status

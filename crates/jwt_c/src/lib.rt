@@ -9,6 +9,7 @@ pub mod desk;
 pub mod exports;
 mod faults;
 pub mod handle;
+mod issuing;
 mod judging;
 mod loose;
 pub mod report;
