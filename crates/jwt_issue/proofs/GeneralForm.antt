@@ -8,6 +8,7 @@ use Rattle.json.specs.Tree as tree
 use Rattle.json.proofs.Printed.Trees.{ArePrintable-json_tokens}
 use Rattle.json.proofs.Printed.Utf8.{IsUtf8-are_ascii}
 use Rattle.serde_json.specs.Data.{Data, Items, Members, no_members, member, string, array, object}
+use Rattle.serde_json.specs.Find.{as_object}
 use Rattle.serde_json.specs.Read.{of_json, of_items}
 use Rattle.serde_json.specs.View.{items_of}
 use Rattle.serde_json.specs.Written.{compact_text, items_text, outline, items_outline}
@@ -15,13 +16,17 @@ use Rattle.jwt_text.specs.Base64url.{AreOctets, spelling}
 use Rattle.jwt_text.specs.Members.{elements}
 use Rattle.jwt_text.specs.ObjectText.{colons, items_entries, IsObjectText}
 use Rattle.jwt_jws.specs.Forms.{Spelled}
-use Rattle.jwt_jws.specs.SignedToken.{IsElement, IsSignature, IsSignedToken}
+use Rattle.jwt_jws.specs.SignedToken.{IsSpelledIn, IsSignature, IsSignedToken}
 use Rattle.jwt_jws.specs.declared.fault.Form.TheVariants.{General}
 use Rattle.jwt_issue.specs.Issued.{PairParts, header, signer_of, element, general_token, text_members}
 use Rattle.jwt_issue.specs.Signed.{tag_over, signature_over, general_signed}
 use Rattle.jwt_issue.proofs.Characters.{escape_spelling, utf8_spelling}
 use Rattle.jwt_issue.proofs.HeaderTexts.{header_text, reads, one}
 use Rattle.jwt_issue.proofs.Spelled.{IsPlain, texts_of, plain_texts, utf8_texts, quoted_plain, members_plain, members_utf8, signature_is}
+
+-- the element is an object that has the texts of a signature
+abbrev IsElement : Data → Spelled → Type 0
+IsElement d w = (m : Members) × (as_object d ≡ Some m) × IsSpelledIn m w
 
 -- ---- the value
 

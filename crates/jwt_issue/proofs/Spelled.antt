@@ -1,5 +1,6 @@
 -- The signatures that are issued, and what is issued in compact form.
 use Rattle.std.proofs.Common.{◌≡◌, Bool, ℕ, ◌<◌, ◌==◌, true, false, not, List, [], ◌∷◌, ◌++◌, Option, None, codes, IsUtf8, length, inl, refl, sym, ap, ◌∙◌, arith, append_assoc}
+use Rattle.std.specs.Prelude.{All}
 use Rattle.std.specs.List.{list_all}
 use Rattle.std.proofs.lemmas.Bool.{and_parts, not-true}
 use Rattle.std.proofs.lemmas.List.Sums.{AllPass-from_list_all}
@@ -8,17 +9,23 @@ use Rattle.json.specs.Print.{escape, escape_byte, quoted}
 use Rattle.json.proofs.Printed.Utf8.{IsUtf8-are_ascii}
 use Rattle.serde_json.specs.Data.{Members, object}
 use Rattle.serde_json.specs.Written.{compact_text}
-use Rattle.jwt_text.specs.Base64url.{AreOctets, spelling}
+use Rattle.jwt_text.specs.Base64url.{AreOctets, Spells, spelling}
 use Rattle.jwt_text.specs.ObjectText.{IsObjectText}
 use Rattle.jwt_jws.specs.Forms.{Spelled, is_period, is_space, opens_object, compact_token as spelled_compact}
-use Rattle.jwt_jws.specs.CompactForm.{HasNoPeriod}
-use Rattle.jwt_jws.specs.SignedToken.{IsProtectedText, IsProtected, IsSignature, IsSignedToken}
+use Rattle.jwt_jws.specs.SignedToken.{IsProtected, IsSignature, IsSignedToken}
 use Rattle.jwt_jws.specs.declared.fault.Form.{Form}
 use Rattle.jwt_jws.specs.declared.fault.Form.TheVariants.{Compact, General, Flattened}
 use Rattle.jwt_issue.specs.Issued.{PairParts, header, protected_text, signer_of, compact_token, signature_text, text_members}
 use Rattle.jwt_issue.specs.Signed.{tag_over, signature_over, compact_signed}
 use Rattle.jwt_issue.proofs.Lengths.{length_spelling}
 use Rattle.jwt_issue.proofs.Characters.{spelling_passes, escape_spelling, utf8_spelling, utf8_octets}
+
+-- no octet of the text is a period
+abbrev HasNoPeriod : List ℕ → Type 0
+HasNoPeriod t = All (λ c. is_period c ≡ false) t
+
+abbrev IsProtectedText : List ℕ → Members → Type 0
+IsProtectedText text p = (octets : List ℕ) × Spells text octets × IsObjectText octets p
 
 -- ---- a signature
 

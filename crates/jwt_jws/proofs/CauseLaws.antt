@@ -12,8 +12,8 @@ use Rattle.jwt_text.specs.ObjectText.{IsObjectText, reading, object_of}
 use Rattle.jwt_text.specs.declared.fault.TextFault.{TextFault}
 use Rattle.jwt_text.specs.declared.fault.TextFault.TheVariants as text
 use Rattle.jwt_jws.specs.Forms.{Spelled, SpelledToken, is_period, compact_of, compact, within, json_of, read_as, protected_of, signature_of, signed_of, spelled_token, form_of, opens_object}
-use Rattle.jwt_jws.specs.SignedToken.{IsGeneral, IsFlattened, IsSpelledToken, IsProtectedText, IsProtected}
-use Rattle.jwt_jws.specs.FormFaults.{SpellsNothing, IsSignatureFault, IsFirstSignatureFault, IsFormFault}
+use Rattle.jwt_jws.specs.SignedToken.{IsGeneral, IsFlattened, IsSpelledToken, IsProtected}
+use Rattle.jwt_jws.specs.FormFaults.{IsSignatureFault, IsFirstSignatureFault, IsFormFault}
 use Rattle.jwt_jws.specs.declared.fault.Form.{Form}
 use Rattle.jwt_jws.specs.declared.fault.Form.TheVariants.{Compact, General, Flattened}
 use Rattle.jwt_jws.specs.declared.fault.FormFault.{FormFault}
@@ -21,6 +21,7 @@ use Rattle.jwt_jws.specs.declared.fault.FormFault.TheVariants as fault
 use Rattle.jwt_jws.specs.declared.fault.Place.TheVariants as place
 use Rattle.jwt_jws.proofs.SignedLaws.{SpellsLaw, ObjectLaw, header_read, protected_made, unprotected_made, signature_made, spelled_token_made, empty_is_none, json_read}
 use Rattle.jwt_jws.proofs.FaultLaws.{ObjectFaultsLaw, JsonFault, json_fault, general_from, general_token}
+use Rattle.jwt_jws.proofs.Shapes.{IsProtectedText, SpellsNothing}
 
 -- what has no value has the fault
 unread : {A E : Type 0} (f : FormFault) (r : Result A E) → ((x : A) → r ≡ Ok x → ⊥) → or_fault f r ≡ Err f

@@ -5,7 +5,8 @@ use Rattle.std.specs.List.{slice_split, onto_first, join_with_byte}
 use Rattle.std.proofs.lemmas.List.Splits.{slice_split_at, slice_split_none, join_with_byte-slice_split}
 use Rattle.std.proofs.lemmas.List.Elements.{All-nil, All-cons, All-head, All-tail}
 use Rattle.jwt_jws.specs.Forms.{SpelledToken, is_period, compact, compact_of, compact_token}
-use Rattle.jwt_jws.specs.CompactForm.{HasNoPeriod, ReadsCompact, IsReadCompact}
+use Rattle.jwt_jws.specs.CompactForm.{ReadsCompact, IsReadCompact}
+use Rattle.jwt_jws.proofs.Shapes.{HasNoPeriod}
 
 pub reads_compact : ReadsCompact
 unfolding compact

@@ -5,7 +5,8 @@ use Rattle.std.specs.List.{list_any}
 use Rattle.std.specs.Str.{bytes_eq}
 use Rattle.serde_json.specs.Data.{Data}
 use Rattle.serde_json.specs.Find.{as_str}
-use Rattle.jwt_jws.specs.Crit.{is_text, repeats_text}
+use Rattle.jwt_jws.specs.Crit.{repeats_text}
+use Rattle.jwt_jws.proofs.Shapes.{is_text}
 
 pub some_after : {X : Type 0} (b : Bool) (x : X) (o : Option X) → is_some (cond b (Some x) o) ≡ (b || is_some o)
 some_after true x o = refl

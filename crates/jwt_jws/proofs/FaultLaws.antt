@@ -14,14 +14,15 @@ use Rattle.jwt_text.specs.declared.fault.TextFault.{TextFault}
 use Rattle.jwt_text.specs.declared.fault.TextFault.TheVariants as text
 use Rattle.jwt_jws.specs.Token.{SignatureParts, Token}
 use Rattle.jwt_jws.specs.Forms.{Spelled, SpelledToken, is_period, compact_of, compact, protected_text, spelled_signature, spelled_element, flattened, general, within, json_of, read_as, protected_of, unprotected_of, overlap, signature_of, signed_of, spelled_token, form_of, opens_object}
-use Rattle.jwt_jws.specs.SignedToken.{IsElement, IsGeneral, IsFlattened, IsSpelledToken, IsProtectedText, IsProtected}
-use Rattle.jwt_jws.specs.FormFaults.{SpellsNothing, IsSignatureFault, IsFirstSignatureFault, IsFormFault}
+use Rattle.jwt_jws.specs.SignedToken.{IsGeneral, IsFlattened, IsSpelledToken, IsProtected}
+use Rattle.jwt_jws.specs.FormFaults.{IsSignatureFault, IsFirstSignatureFault, IsFormFault}
 use Rattle.jwt_jws.specs.declared.fault.Form.{Form}
 use Rattle.jwt_jws.specs.declared.fault.Form.TheVariants.{Compact, General, Flattened}
 use Rattle.jwt_jws.specs.declared.fault.FormFault.{FormFault}
 use Rattle.jwt_jws.specs.declared.fault.FormFault.TheVariants as fault
 use Rattle.jwt_jws.specs.declared.fault.Place.TheVariants as place
 use Rattle.jwt_jws.proofs.SignedLaws.{SpellsLaw, ObjectLaw, or_fault_ok, some_or_ok, each_zip, zip_each, header_read, signed_octets, protected_read, unprotected_read, signature_read, has_text, element_read, element_made, flattened_made, read_as_ok, spelled_token_read, json_by}
+use Rattle.jwt_jws.proofs.Shapes.{IsElement, IsProtectedText, SpellsNothing}
 
 -- the fault of a step is its own, or that of what follows
 pub bind_err : {A B : Type 0} (P : Type 0) (r : Result A FormFault) (f : A → Result B FormFault) (e : FormFault) → (r >>= f) ≡ Err e

@@ -5,4 +5,5 @@ pub mod Each
 pub mod FaultLaws
 pub mod Periods
 pub mod SignedLaws
+pub mod Shapes
 pub mod Texts

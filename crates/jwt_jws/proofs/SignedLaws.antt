@@ -13,7 +13,7 @@ use Rattle.jwt_text.specs.declared.fault.TextFault.{TextFault}
 use Rattle.jwt_text.specs.declared.fault.TextFault.TheVariants as text
 use Rattle.jwt_jws.specs.Token.{SignatureParts, Token}
 use Rattle.jwt_jws.specs.Forms.{Spelled, SpelledToken, protected_text, spelled_signature, spelled_element, flattened, general, within, json_of, read_as, protected_of, unprotected_of, overlap, signature_of, signed_of, spelled_token, form_of, compact, opens_object}
-use Rattle.jwt_jws.specs.SignedToken.{IsSpelledIn, IsElement, IsGeneral, IsFlattened, IsSpelledToken, IsProtectedText, IsProtected, IsSignature, IsSignedToken}
+use Rattle.jwt_jws.specs.SignedToken.{IsSpelledIn, IsGeneral, IsFlattened, IsSpelledToken, IsProtected, IsSignature, IsSignedToken}
 use Rattle.jwt_jws.specs.declared.fault.Form.{Form}
 use Rattle.jwt_jws.specs.declared.fault.Form.TheVariants.{Compact, General, Flattened}
 use Rattle.jwt_jws.specs.declared.fault.FormFault.{FormFault}
@@ -21,6 +21,7 @@ use Rattle.jwt_jws.specs.declared.fault.FormFault.TheVariants.{Members as WrongM
 use Rattle.jwt_jws.specs.declared.fault.Place.TheVariants.{Payload, Protected, Signature}
 use Rattle.jwt_jws.proofs.CompactLaws.{reads_compact, is_read_compact}
 use Rattle.jwt_jws.proofs.Each.{bind_ok}
+use Rattle.jwt_jws.proofs.Shapes.{IsElement, IsProtectedText}
 
 -- ---- steps
 

@@ -2,15 +2,12 @@
 use Rattle.std.specs.Prelude.{◌≡◌, ℕ, false, List, ◌∷◌, ◌++◌, All, Ok}
 use Rattle.jwt_jws.specs.Forms.{SpelledToken, is_period, compact, compact_token}
 
-abbrev pub HasNoPeriod : List ℕ → Type 0
-HasNoPeriod t = All (λ c. is_period c ≡ false) t
-
 -- z is the texts h, p and g joined by periods, and none of the three holds one
 pub record IsCompact (z h p g : List ℕ) : Type 0 where
   pub joined : z ≡ h ++ 46 ∷ (p ++ 46 ∷ g)
-  pub protected : HasNoPeriod h
-  pub payload : HasNoPeriod p
-  pub signature : HasNoPeriod g
+  pub protected : All (λ c. is_period c ≡ false) h
+  pub payload : All (λ c. is_period c ≡ false) p
+  pub signature : All (λ c. is_period c ≡ false) g
 
 -- what has compact form is read as its three texts
 abbrev pub ReadsCompact : Type 0

@@ -12,14 +12,10 @@ use Rattle.serde_json.specs.Data.{Data, Members}
 use Rattle.serde_json.specs.Find.{as_str}
 use Rattle.jwt_text.specs.Members.{list_at}
 
--- the element is this text
-abbrev pub is_text : List ℕ → Data → Bool
-is_text name d = option_map_or (λ text. bytes_eq text name) (as_str d) false
-
 -- some text stands twice in the list
 abbrev pub repeats_text : List Data → Bool
 repeats_text [] = false
-repeats_text (d ∷ ds) = option_map_or (λ text. list_any (is_text text) ds) (as_str d) false || repeats_text ds
+repeats_text (d ∷ ds) = option_map_or (λ text. list_any (λ e. option_map_or (λ t. bytes_eq t text) (as_str e) false) ds) (as_str d) false || repeats_text ds
 
 -- some name stands twice in the list `crit` of the header
 abbrev pub crit_repeats : Members → Bool

@@ -13,30 +13,23 @@ use Rattle.jwt_jws.specs.declared.fault.FormFault.{FormFault}
 use Rattle.jwt_jws.specs.declared.fault.FormFault.TheVariants.{Empty, Encrypted, Segments, Json, NameTwice, Members as WrongMembers, TooManySignatures, Base64, Header, UnprotectedKind, NamesOverlap}
 use Rattle.jwt_jws.specs.declared.fault.Place.TheVariants.{Payload, Protected, Signature}
 
-abbrev pub SpellsNothing : List ℕ → Type 0
-SpellsNothing text = (octets : List ℕ) → ¬ Spells text octets
-
 -- Why the texts of signature i are those of no signature, each cause where none before it holds: the protected text isn't
 -- base64url; its octets are no object text; `header` is no object; a name is in both headers; the signature text isn't
 -- base64url.
 abbrev pub IsSignatureFault : Form → ℕ → Spelled → FormFault → Type 0
-IsSignatureFault form i w (Base64 (Protected k)) = (k ≡ i) × SpellsNothing w.protected
+IsSignatureFault form i w (Base64 (Protected k)) = (k ≡ i) × ((octets : List ℕ) → ¬ Spells w.protected octets)
 IsSignatureFault form i w (Header k) = (k ≡ i) × ((octets : List ℕ) × Spells w.protected octets) × ((p : Members) → ¬ IsProtected form w.protected p)
 IsSignatureFault form i w (UnprotectedKind k) = (k ≡ i) × ((p : Members) × IsProtected form w.protected p) × (w.header ≡ Some None)
 IsSignatureFault form i w (NamesOverlap k) = (k ≡ i) × ((p : Members) × (u : Option Members) × IsProtected form w.protected p × (w.header ≡ option_map Some u) × (overlap p u ≡ true))
 IsSignatureFault form i w (Base64 (Signature k)) = (k ≡ i)
     × ((p : Members) × (u : Option Members) × IsProtected form w.protected p × (w.header ≡ option_map Some u) × (overlap p u ≡ false))
-    × SpellsNothing w.signature
+    × ((octets : List ℕ) → ¬ Spells w.signature octets)
 IsSignatureFault form i w _ = ⊥
 
 -- signature i has this fault, and no signature before it has one
 abbrev pub IsFirstSignatureFault : Form → List Spelled → FormFault → Type 0
 IsFirstSignatureFault form ws fault = (i : ℕ) × (w : Spelled) × (slice_get ws i ≡ Some w) × IsSignatureFault form i w fault
     × ((k : ℕ) (v : Spelled) → k < i → slice_get ws k ≡ Some v → (s : SignatureParts) × IsSignature form v s)
-
--- the octets are the text of an object in JSON form, which isn't encrypted
-abbrev pub IsJsonOf : List ℕ → Members → Type 0
-IsJsonOf z m = (opens_object z ≡ true) × IsObjectText z m × (has (codes "ciphertext") m ≡ false)
 
 -- in compact form it goes by the number of periods
 abbrev pub IsFormFault : ℕ → List ℕ → FormFault → Type 0
@@ -46,10 +39,12 @@ IsFormFault most z Encrypted = ((z ≢ []) × (opens_object z ≡ false) × (cou
     ⊎ ((opens_object z ≡ true) × ((m : Members) × IsObjectText z m × (has (codes "ciphertext") m ≡ true)))
 IsFormFault most z Json = (opens_object z ≡ true) × ((m : Members) → reading z ≢ Some (object m))
 IsFormFault most z NameTwice = (opens_object z ≡ true) × ((m : Members) × (reading z ≡ Some (object m)) × (colons z ≢ members_entries m))
--- the object has neither shape, however many signatures are allowed
-IsFormFault most z WrongMembers = (m : Members) × IsJsonOf z m × ((n : ℕ) (t : SpelledToken) → ¬ (IsGeneral n m t ⊎ IsFlattened m t))
-IsFormFault most z TooManySignatures = (m : Members) × IsJsonOf z m × ((n : ℕ) × (t : SpelledToken) × IsGeneral n m t × (most < length t.signatures))
-IsFormFault most z (Base64 Payload) = (w : SpelledToken) × IsSpelledToken most z w × SpellsNothing w.payload
+-- in JSON form, which isn't encrypted, the object has neither shape, however many signatures are allowed
+IsFormFault most z WrongMembers = (m : Members) × ((opens_object z ≡ true) × IsObjectText z m × (has (codes "ciphertext") m ≡ false))
+    × ((n : ℕ) (t : SpelledToken) → ¬ (IsGeneral n m t ⊎ IsFlattened m t))
+IsFormFault most z TooManySignatures = (m : Members) × ((opens_object z ≡ true) × IsObjectText z m × (has (codes "ciphertext") m ≡ false))
+    × ((n : ℕ) × (t : SpelledToken) × IsGeneral n m t × (most < length t.signatures))
+IsFormFault most z (Base64 Payload) = (w : SpelledToken) × IsSpelledToken most z w × ((octets : List ℕ) → ¬ Spells w.payload octets)
 IsFormFault most z fault = (w : SpelledToken) × IsSpelledToken most z w × ((octets : List ℕ) × Spells w.payload octets) × IsFirstSignatureFault w.form w.signatures fault
 
 -- the answer of reading is a fault exactly where it is the first cause that holds

@@ -20,15 +20,12 @@ pub record IsSpelledIn (m : Members) (w : Spelled) : Type 0 where
   pub protected : ((has (codes "protected") m ≡ false) × (w.protected ≡ [])) ⊎ (text_at (codes "protected") m ≡ Some w.protected)
   pub header : w.header ≡ option_map as_object (get_member (codes "header") m)
 
-abbrev pub IsElement : Data → Spelled → Type 0
-IsElement d w = (m : Members) × (as_object d ≡ Some m) × IsSpelledIn m w
-
 -- general JSON form (RFC 7515, section 7.2.1), with at most so many signatures
 pub record IsGeneral (most : ℕ) (m : Members) (t : SpelledToken) : Type 0 where
   pub form : t.form ≡ General
   pub one_at_the_top : has (codes "signature") m ≡ false
   pub payload : text_at (codes "payload") m ≡ Some t.payload
-  pub listed : (elements : List Data) × (list_at (codes "signatures") m ≡ Some elements) × AllZip IsElement elements t.signatures
+  pub listed : (elements : List Data) × (list_at (codes "signatures") m ≡ Some elements) × AllZip (λ d w. (m : Members) × (as_object d ≡ Some m) × IsSpelledIn m w) elements t.signatures
   pub some : 0 < length t.signatures
   pub few : length t.signatures ≤ most
 
@@ -47,14 +44,11 @@ IsSpelledToken most z t =
 
 -- ---- what the texts stand for
 
-abbrev pub IsProtectedText : List ℕ → Members → Type 0
-IsProtectedText text p = (octets : List ℕ) × Spells text octets × IsObjectText octets p
-
 -- the protected header: the object whose text is spelled; in JSON form the empty text has the empty one
 abbrev pub IsProtected : Form → List ℕ → Members → Type 0
-IsProtected Compact text p = IsProtectedText text p
+IsProtected Compact text p = (octets : List ℕ) × Spells text octets × IsObjectText octets p
 IsProtected _ [] p = p ≡ no_members
-IsProtected _ (c ∷ cs) p = IsProtectedText (c ∷ cs) p
+IsProtected _ (c ∷ cs) p = (octets : List ℕ) × Spells (c ∷ cs) octets × IsObjectText octets p
 
 pub record IsSignature (form : Form) (w : Spelled) (s : SignatureParts) : Type 0 where
   pub protected_text : s.protected_text ≡ w.protected

@@ -8,10 +8,6 @@ use Rattle.jwt_mac.specs.Hmac.{hmac_of}
 use Rattle.jwt_mac.specs.declared.algorithm.Alg.{Alg}
 use Rattle.jwt_mac.specs.declared.algorithm.Alg.TheVariants.{HS256, HS384, HS512, RS256, RS384, RS512, PS256, PS384, PS512, ES256, ES384, ES512, EdDSA}
 
--- all algorithms, in the order of RFC 7518, section 3.1; EdDSA is of RFC 8037, section 3.1
-abbrev pub algs : List Alg
-algs = HS256 ∷ HS384 ∷ HS512 ∷ RS256 ∷ RS384 ∷ RS512 ∷ PS256 ∷ PS384 ∷ PS512 ∷ ES256 ∷ ES384 ∷ ES512 ∷ EdDSA ∷ []
-
 -- the value of `alg` for each (RFC 7518, section 3.1; RFC 8037, section 3.1), as octets
 abbrev pub name_of : Alg → List ℕ
 name_of HS256 = codes "HS256"
@@ -30,7 +26,8 @@ name_of EdDSA = codes "EdDSA"
 
 -- the algorithm that a text names, if any: names are compared octet by octet, so by case (RFC 7515, section 4.1.1)
 unfoldable pub alg_named : List ℕ → Option Alg
-alg_named text = find (λ alg. bytes_eq text (name_of alg)) algs
+alg_named text = find (λ alg. bytes_eq text (name_of alg))
+    (HS256 ∷ HS384 ∷ HS512 ∷ RS256 ∷ RS384 ∷ RS512 ∷ PS256 ∷ PS384 ∷ PS512 ∷ ES256 ∷ ES384 ∷ ES512 ∷ EdDSA ∷ [])
 
 -- HMAC with SHA-2 (RFC 7518, section 3.2)
 abbrev pub is_hmac_alg : Alg → Bool

@@ -1,5 +1,5 @@
 -- Claims that hold, in words.
-use Rattle.std.proofs.Common.{◌≡◌, ℕ, zero, suc, ℤ, pos, ◌+◌, ◌+ℤ◌, ◌==◌, ◌<ℤ◌, ◌≤ℤ◌, List, [], ◌∷◌, drop, map, codes, Bool, true, false, int_lt, length, not, ◌&&◌, ◌⊎◌, inl, inr, ⊎_elim, Option, Some, None, is_some, refl, sym, ap, ◌∙◌, subst, arith, Decides}
+use Rattle.std.proofs.Common.{◌≡◌, ℕ, zero, suc, ℤ, pos, ◌+◌, ◌+ℤ◌, ◌==◌, ◌<ℤ◌, ◌≤ℤ◌, List, [], ◌∷◌, drop, map, codes, Bool, true, false, int_lt, length, not, ◌&&◌, ◌||◌, ◌⊎◌, inl, inr, ⊎_elim, Option, Some, None, is_some, refl, sym, ap, ◌∙◌, subst, arith, Decides}
 use Rattle.std.specs.Option.{option_or}
 use Rattle.std.specs.List.{Contains}
 use Rattle.std.proofs.lemmas.Bool.{eqb-true}
@@ -9,7 +9,7 @@ use Rattle.jwt_text.specs.Members.{has, text_at, list_at, whole_at}
 use Rattle.jwt_text.specs.Rows.{Row, ◌⇒◌, first_row}
 use Rattle.jwt_policy.specs.Settings.{Settings}
 use Rattle.jwt_policy.specs.Texts.{some_passes, is_among, any_text}
-use Rattle.jwt_policy.specs.Checks.{missing, names_audience, is_expired, is_later, is_not_yet, is_issued_later, is_too_old, later_rows, check_of}
+use Rattle.jwt_policy.specs.Checks.{missing, is_expired, is_later, is_not_yet, is_issued_later, is_too_old, later_rows, check_of}
 use Rattle.jwt_policy.specs.Laws.{ClaimsHold}
 use Rattle.jwt_policy.specs.declared.claim_fault.ClaimFault.TheVariants.{ClaimMissing, Issuer, Audience, Expired, NotYet, IssuedLater, TooOld}
 use Rattle.jwt_policy.proofs.RowsLemmas.{first_of_both}
@@ -22,6 +22,12 @@ lacks_iat p ms = is_some p.claims.max_age && not (has (codes "iat") ms)
 
 abbrev is_other_issuer : Settings → Members → Bool
 is_other_issuer p ms = not (length p.claims.issuers == 0) && not (some_passes (is_among p.claims.issuers) (text_at (codes "iss") ms))
+
+-- a text of `aud` is among these
+abbrev names_audience : List (List ℕ) → Members → Bool
+names_audience audiences ms =
+    some_passes (is_among audiences) (text_at (codes "aud") ms)
+    || some_passes (any_text (is_among audiences)) (list_at (codes "aud") ms)
 
 abbrev is_other_audience : Settings → Members → Bool
 is_other_audience p ms = has (codes "aud") ms && not (names_audience p.claims.audiences ms)

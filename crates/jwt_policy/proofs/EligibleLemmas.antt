@@ -80,8 +80,8 @@ named_from name thumb own print (inr h) = ap (λ o. is_kid name o || (thumb && i
 
 -- ---- the pair
 
-fitting : (p : Settings) (s : SignatureParts) (key : KeyParts) (verifiers : List Meaning) → NoRow (bar_rows p s verifiers) → bar_of p s verifiers ≡ None → fits p s key ≡ true → IsEligible p s key verifiers
-fitting p s key verifiers fails unbarred fit =
+fitting : (p : Settings) (s : SignatureParts) (key : KeyParts) (verifiers : List Meaning) → NoRow (bar_rows p s verifiers) → fits p s key ≡ true → IsEligible p s key verifiers
+fitting p s key verifiers fails fit =
     let parts = and_parts (some_passes (is_for key) (alg s) && permits_of (codes "verify") key) (answers_to p s key) fit in
     let rest = and_parts (some_passes (is_for key) (alg s)) (permits_of (codes "verify") key) parts.0 in
     let permits = and_parts (is_for_signatures key.key_use) (allows (codes "verify") key.key_ops) rest.1 in
@@ -90,7 +90,7 @@ fitting p s key verifiers fails unbarred fit =
     let can = some_at (can_verify verifiers) (alg s) (not_false (some_passes (can_verify verifiers) (alg s)) (fails 4 (not (some_passes (can_verify verifiers) (alg s)) ⇒ NoVerifier) refl)) in
     let same : can.0 ≡ at.0 = some_same can.0 at.0 (sym can.1 ∙ at.1) in
     record {
-      unbarred = unbarred;
+      unbarred = fails;
       algorithm = at.0;
       named = at.1;
       verified = subst (λ a. can_verify verifiers a ≡ true) same can.2;
@@ -109,18 +109,18 @@ unfolding eligible_for
 eligible_is p s key verifiers fails e =
     let parts = and_parts (is_none (bar_of p s verifiers)) (fits p s key) e in
     let unbarred = none_from (bar_of p s verifiers) parts.0 in
-    fitting p s key verifiers (fails unbarred) unbarred parts.1
+    fitting p s key verifiers (fails unbarred) parts.1
 
-pub is_eligible : (p : Settings) (s : SignatureParts) (key : KeyParts) (verifiers : List Meaning) → IsEligible p s key verifiers → eligible_for p s key verifiers ≡ true
+pub is_eligible : (p : Settings) (s : SignatureParts) (key : KeyParts) (verifiers : List Meaning) → (NoRow (bar_rows p s verifiers) → bar_of p s verifiers ≡ None) → IsEligible p s key verifiers → eligible_for p s key verifiers ≡ true
 unfolding eligible_for
-is_eligible p s key verifiers h =
+is_eligible p s key verifiers unbarred h =
     let a = h.algorithm in
     let for_alg = some_from (is_for key) (alg s) a h.named
     (and_from (suits a key.octets) (option_map_or (bytes_eq (name_of a)) key.alg true) h.suited
     (every_from (bytes_eq (name_of a)) key.alg (λ name is. (bytes_eq-Decides (name_of a) name).1 (sym (h.key_alg name is))))) in
     let permits = and_from (is_for_signatures key.key_use) (allows (codes "verify") key.key_ops) (uses_from key.key_use h.key_use) (allowed_from (codes "verify") key.key_ops h.key_ops) in
     let answers = every_from (λ n. names n p.header.thumb_kid key) (kid s) (λ name is. named_from name p.header.thumb_kid key.kid key.thumbprint (h.answers name is)) in
-    and_from (is_none (bar_of p s verifiers)) (fits p s key) (ap is_none h.unbarred)
+    and_from (is_none (bar_of p s verifiers)) (fits p s key) (ap is_none (unbarred h.unbarred))
     (and_from (some_passes (is_for key) (alg s) && permits_of (codes "verify") key) (answers_to p s key)
     (and_from (some_passes (is_for key) (alg s)) (permits_of (codes "verify") key) for_alg permits)
     answers)

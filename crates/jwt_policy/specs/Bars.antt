@@ -22,10 +22,6 @@ use Rattle.jwt_policy.specs.declared.sig_fault.SigFault.TheVariants.{AlgMissing,
 abbrev pub alg : SignatureParts → Option Alg
 alg s = option_and_then alg_named (alg_text s)
 
--- an algorithm is among these
-abbrev pub is_allowed : List Alg → Alg → Bool
-is_allowed algs a = list_any (λ b. bytes_eq (name_of b) (name_of a)) algs
-
 -- signatures by the algorithm can be verified: it is HMAC, or a verifier names it
 abbrev pub can_verify : List Meaning → Alg → Bool
 can_verify verifiers a = is_hmac_alg a || is_some (first_naming verifiers a)
@@ -45,16 +41,11 @@ is_no_name_list s ds =
     length ds == 0 || not (are_texts ds) || crit_repeats s.protected
     || any_text (is_among registered_names) ds || any_text (λ t. not (in_header t s)) ds
 
--- `crit` stands in the unprotected header, or is no list of names that the header has beside the registered ones
-abbrev pub is_crit_misshapen : SignatureParts → Bool
-is_crit_misshapen s =
-    in_unprotected (codes "crit") s
-    || (has (codes "crit") s.protected && option_map_or (is_no_name_list s) (list_at (codes "crit") s.protected) true)
-
 -- ---- the table
 
 -- The algorithm (RFC 7515, section 4.1.1; RFC 8725, sections 3.1 and 3.2); keys by URL (RFC 7515, sections 4.1.2 and 4.1.5;
--- RFC 8725, section 3.10); encryption (RFC 7516, section 4.1.2); a payload that isn't base64url (RFC 7797, section 3); `crit`;
+-- RFC 8725, section 3.10); encryption (RFC 7516, section 4.1.2); a payload that isn't base64url (RFC 7797, section 3); `crit` in
+-- the unprotected header, or no list of names that it may hold;
 -- `typ` and `cty`, where `typ` is absent or another media type than the policy's, or the payload is a token again (RFC 7515,
 -- sections 4.1.9 and 4.1.10; RFC 7519, sections 5.1 and 5.2; RFC 8725, section 3.11); `kid` (RFC 7515, section 4.1.4).
 abbrev pub bar_rows : Settings → SignatureParts → List Meaning → List (Row SigFault)
@@ -62,12 +53,14 @@ bar_rows p s verifiers =
     (is_none (alg_text s) ⇒ AlgMissing)
     ∷ (some_passes (λ t. bytes_eq t (codes "none")) (alg_text s) ⇒ AlgNone)
     ∷ (is_none (alg s) ⇒ AlgUnknown)
-    ∷ (not (some_passes (is_allowed p.run.algs) (alg s)) ⇒ AlgNotAllowed)
+    ∷ (not (some_passes (λ a. list_any (λ b. bytes_eq (name_of b) (name_of a)) p.run.algs) (alg s)) ⇒ AlgNotAllowed)
     ∷ (not (some_passes (can_verify verifiers) (alg s)) ⇒ NoVerifier)
     ∷ ((in_header (codes "jku") s || in_header (codes "x5u") s) ⇒ KeyUrl)
     ∷ (in_header (codes "enc") s ⇒ EncHeader)
     ∷ (in_header (codes "b64") s ⇒ Unencoded)
-    ∷ (is_crit_misshapen s ⇒ CritShape)
+    ∷ ((in_unprotected (codes "crit") s
+        || (has (codes "crit") s.protected && option_map_or (is_no_name_list s) (list_at (codes "crit") s.protected) true))
+        ⇒ CritShape)
     ∷ (some_passes (any_text (λ t. not (is_among p.header.understood t))) (list_at (codes "crit") s.protected) ⇒ CritUnknown)
     ∷ ((is_no_text (codes "typ") s.protected || is_no_text (codes "cty") s.protected) ⇒ TypShape)
     ∷ (some_passes (λ t. not (some_passes (same_media_type t) (text_at (codes "typ") s.protected))) p.header.typ ⇒ TypMismatch)

@@ -12,12 +12,6 @@ use Rattle.jwt_policy.specs.declared.claim_fault.ClaimFault.TheVariants.{ClaimMi
 abbrev pub missing : Members → List ℕ → Row ClaimFault
 missing ms name = not (has name ms) ⇒ ClaimMissing name
 
--- a text of `aud` is among these
-abbrev pub names_audience : List (List ℕ) → Members → Bool
-names_audience audiences ms =
-    some_passes (is_among audiences) (text_at (codes "aud") ms)
-    || some_passes (any_text (is_among audiences)) (list_at (codes "aud") ms)
-
 -- ---- dates (RFC 7519, sections 4.1.4 to 4.1.6), in seconds, over unbounded whole numbers
 
 unfoldable pub is_expired : Settings → Members → ℤ → Bool
@@ -46,7 +40,8 @@ unfoldable pub later_rows : Settings → Members → ℤ → List (Row ClaimFaul
 later_rows p ms now =
     ((is_some p.claims.max_age && not (has (codes "iat") ms)) ⇒ ClaimMissing (codes "iat"))
     ∷ ((not (length p.claims.issuers == 0) && not (some_passes (is_among p.claims.issuers) (text_at (codes "iss") ms))) ⇒ Issuer)
-    ∷ ((has (codes "aud") ms && not (names_audience p.claims.audiences ms)) ⇒ Audience)
+    ∷ ((has (codes "aud") ms && not (some_passes (is_among p.claims.audiences) (text_at (codes "aud") ms)
+        || some_passes (any_text (is_among p.claims.audiences)) (list_at (codes "aud") ms))) ⇒ Audience)
     ∷ (is_expired p ms now ⇒ Expired)
     ∷ (is_not_yet p ms now ⇒ NotYet)
     ∷ (is_issued_later p ms now ⇒ IssuedLater)

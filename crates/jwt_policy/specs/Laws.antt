@@ -5,18 +5,19 @@ use Rattle.serde_json.specs.Data.{Data, string, Members}
 use Rattle.jwt_mac.specs.declared.algorithm.Alg.{Alg}
 use Rattle.jwt_mac.specs.Algorithm.{name_of}
 use Rattle.jwt_mac.specs.Verifying.{Meaning}
+use Rattle.jwt_text.specs.Rows.{NoRow}
 use Rattle.jwt_text.specs.Members.{has, text_at, list_at, whole_at}
 use Rattle.jwt_jws.specs.Token.{SignatureParts, kid}
 use Rattle.jwt_keys.specs.Keys.{KeyParts}
 use Rattle.jwt_policy.specs.Settings.{Settings}
-use Rattle.jwt_policy.specs.Bars.{alg, can_verify, bar_of}
+use Rattle.jwt_policy.specs.Bars.{alg, can_verify, bar_rows}
 use Rattle.jwt_policy.specs.Eligible.{suits}
 
 -- The signature has no bar, and names an algorithm that the key suits and that is HMAC or named by a verifier; the key's
 -- `alg`, `use` and `key_ops`, where they are there, are that algorithm's name, `sig`, and a list that holds `verify`; where the
 -- signature has a `kid`, it is the key's, or the key has none, thumbprints count, and it is the key's thumbprint.
 pub record IsEligible (p : Settings) (s : SignatureParts) (key : KeyParts) (verifiers : List Meaning) : Type 0 where
-  pub unbarred : bar_of p s verifiers ≡ None
+  pub unbarred : NoRow (bar_rows p s verifiers)
   pub algorithm : Alg
   pub named : alg s ≡ Some algorithm
   pub verified : can_verify verifiers algorithm ≡ true

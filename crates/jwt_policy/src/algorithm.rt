@@ -1,11 +1,13 @@
 //! The algorithm of a signature (RFC 7515, section 4.1.1).
 
 ghost use Rattle.std.specs.Prelude.{◌≡◌, codes, is_none, map, not};
+ghost use Rattle.std.specs.List.{list_any};
 ghost use Rattle.std.specs.Str.{bytes_eq};
+ghost use Rattle.jwt_mac.specs.Algorithm.{name_of};
 ghost use Rattle.jwt_mac.specs.Verifying.{Meaning};
 ghost use Rattle.jwt_jws.specs.Token.{alg_text};
 ghost use Rattle.jwt_jws.specs.Views.{parts};
-ghost use Rattle.jwt_policy.specs.Bars.{alg, is_allowed, can_verify};
+ghost use Rattle.jwt_policy.specs.Bars.{alg, can_verify};
 ghost use Rattle.jwt_policy.specs.Texts.{some_passes};
 
 use crate::policy::Policy;
@@ -49,7 +51,7 @@ pub(crate) fn is_alg_unknown(signature: &Signature<'_>) -> bool
 /// Whether the algorithm is among these.
 #[tactic(auto, using(std::proofs::lemmas::List::at_drop_more, std::proofs::lemmas::List::at_drop_all))]
 fn is_allowed(algs: &[Alg], alg: Alg) -> bool
-    ensures { result ≡ is_allowed algs.now alg }
+    ensures { result ≡ list_any (λ b. bytes_eq (name_of b) (name_of alg)) algs.now }
 {
     for each in algs {
         if each.text() == alg.text() {
@@ -61,7 +63,9 @@ fn is_allowed(algs: &[Alg], alg: Alg) -> bool
 
 /// Whether the policy doesn't allow the algorithm.
 pub(crate) fn is_alg_not_allowed(policy: &Policy, signature: &Signature<'_>) -> bool
-    ensures { result ≡ not (some_passes (is_allowed policy.now.run.algs) (alg (parts signature.now))) }
+    ensures { result ≡ not (some_passes
+        (λ a. list_any (λ b. bytes_eq (name_of b) (name_of a)) policy.now.run.algs)
+        (alg (parts signature.now))) }
 {
     match known_alg(signature) {
         Some(alg) => !is_allowed(policy.algs(), alg),

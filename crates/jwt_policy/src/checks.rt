@@ -1,10 +1,10 @@
 //! The claims under a policy, at a moment (RFC 7519, sections 4.1.1 to 4.1.6).
 
-ghost use Rattle.std.specs.Prelude.{◌≡◌, ◌+◌, ◌+ℤ◌, ◌==◌, ◌&&◌, not, codes, int_lt, is_some, length, map, pos, string_bytes};
-ghost use Rattle.jwt_text.specs.Members.{has, text_at};
+ghost use Rattle.std.specs.Prelude.{◌≡◌, ◌+◌, ◌+ℤ◌, ◌==◌, ◌&&◌, ◌||◌, not, codes, int_lt, is_some, length, map, pos, string_bytes};
+ghost use Rattle.jwt_text.specs.Members.{has, list_at, text_at};
 ghost use Rattle.jwt_text.specs.Rows.{first_row};
 ghost use Rattle.jwt_policy.specs.Texts.{any_text, is_among, some_passes};
-ghost use Rattle.jwt_policy.specs.Checks.{missing, names_audience, is_expired, is_later, is_not_yet, is_issued_later, is_too_old, later_rows, check_of};
+ghost use Rattle.jwt_policy.specs.Checks.{missing, is_expired, is_later, is_not_yet, is_issued_later, is_too_old, later_rows, check_of};
 
 use crate::claim_fault::{ClaimFault, ClaimName};
 use crate::claims::Claims;
@@ -66,7 +66,9 @@ fn any_among(texts: &[String], list: &List<'_>) -> bool
 
 /// Whether a text of `aud` is among these.
 fn names_audience(audiences: &[String], claims: &ObjectRef<'_>) -> bool
-    ensures { result ≡ names_audience (map string_bytes audiences.now) claims.now }
+    ensures { result ≡ (some_passes (is_among (map string_bytes audiences.now)) (text_at (codes "aud") claims.now)
+        || some_passes (any_text (is_among (map string_bytes audiences.now)))
+        (list_at (codes "aud") claims.now)) }
 {
     let one = match claims.text("aud") {
         Some(text) => is_among(audiences, text),
@@ -81,7 +83,9 @@ fn names_audience(audiences: &[String], claims: &ObjectRef<'_>) -> bool
 /// Whether `aud` is there and names none of the policy's audiences.
 fn is_other_audience(policy: &Policy, claims: &ObjectRef<'_>) -> bool
     ensures { result ≡ (has (codes "aud") claims.now
-        && not (names_audience policy.now.claims.audiences claims.now)) }
+        && not (some_passes (is_among policy.now.claims.audiences) (text_at (codes "aud") claims.now)
+        || some_passes (any_text (is_among policy.now.claims.audiences))
+        (list_at (codes "aud") claims.now))) }
 {
     claims.has("aud") && !names_audience(policy.audiences(), claims)
 }

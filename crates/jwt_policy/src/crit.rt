@@ -1,11 +1,12 @@
 //! The header `crit` (RFC 7515, section 4.1.11).
 
-ghost use Rattle.std.specs.Prelude.{◌≡◌, not, codes, map, string_bytes};
+ghost use Rattle.std.specs.Prelude.{◌≡◌, ◌||◌, ◌&&◌, true, not, codes, map, string_bytes};
 ghost use Rattle.jwt_jws.specs.Views.{parts};
-ghost use Rattle.jwt_text.specs.Members.{list_at};
-ghost use Rattle.jwt_jws.specs.Token.{in_header};
+ghost use Rattle.std.specs.Option.{option_map_or};
+ghost use Rattle.jwt_text.specs.Members.{has, list_at};
+ghost use Rattle.jwt_jws.specs.Token.{in_header, in_unprotected};
 ghost use Rattle.jwt_policy.specs.Texts.{any_text, is_among, some_passes};
-ghost use Rattle.jwt_policy.specs.Bars.{registered_names, is_no_name_list, is_crit_misshapen};
+ghost use Rattle.jwt_policy.specs.Bars.{registered_names, is_no_name_list};
 
 use crate::policy::Policy;
 use crate::texts::is_among;
@@ -90,7 +91,10 @@ fn is_no_name_list(signature: &Signature<'_>, list: &List<'_>) -> bool
 
 /// Whether `crit` has another shape than it may have.
 pub(crate) fn is_crit_misshapen(signature: &Signature<'_>) -> bool
-    ensures { result ≡ is_crit_misshapen (parts signature.now) }
+    ensures { result ≡ (in_unprotected (codes "crit") (parts signature.now)
+        || (has (codes "crit") (parts signature.now).protected
+        && option_map_or (is_no_name_list (parts signature.now))
+        (list_at (codes "crit") (parts signature.now).protected) true)) }
 {
     if signature.in_unprotected("crit") {
         return true;

@@ -2,7 +2,7 @@
 use Rattle.std.proofs.Common.{bytes_eq, ◌≡◌, ◌≢◌, ℕ, ℤ, zero, suc, ◌+◌, ◌*◌, ◌≤◌, Bool, true, false, List, [], ◌∷◌, length, map, take, drop, Option, Some, None, Result, Ok, Err, arith, refl, sym, ◌∙◌, ap, subst, inl, inr}
 use Rattle.std.specs.Prelude.{not, slice_get, nat_lt, if◌then◌else◌}
 use Rattle.std.specs.Option.{option_map_or}
-use Rattle.std.specs.List.{prefix_len, range_with_len}
+use Rattle.std.specs.List.{list_any, prefix_len, range_with_len}
 use Rattle.std.proofs.Math.Nat.{le-max_left, le-max_right}
 use Rattle.std.proofs.lemmas.Bool.{cases_Bool, cases_lt, le-leb}
 use Rattle.std.proofs.lemmas.Option.{slice_get_past}
@@ -17,7 +17,7 @@ use Rattle.jwt_jws.specs.Token.{Token, SignatureParts, message_of}
 use Rattle.jwt_keys.specs.Keys.{KeyParts}
 use Rattle.jwt_policy.specs.Settings.{Settings}
 use Rattle.jwt_policy.specs.Texts.{some_passes}
-use Rattle.jwt_policy.specs.Bars.{alg, is_allowed, bar_rows, bar_of}
+use Rattle.jwt_policy.specs.Bars.{alg, bar_rows, bar_of}
 use Rattle.jwt_policy.specs.Eligible.{eligible_for}
 use Rattle.jwt_policy.specs.Laws.{IsEligible}
 use Rattle.jwt_verify.specs.declared.tries.End.TheVariants as end
@@ -70,6 +70,10 @@ alg_same a b h =
     let s : Some a ≡ Some b = sym (named_back a) ∙ ap alg_named e ∙ named_back b in
     cc
 
+-- an algorithm is among these
+abbrev is_allowed : List Alg → Alg → Bool
+is_allowed algs a = list_any (λ b. bytes_eq (name_of b) (name_of a)) algs
+
 greatest_allowed : (f : Alg → ℕ) (algs : List Alg) (a : Alg) → is_allowed algs a ≡ true → f a ≤ greatest (map f algs)
 greatest_allowed f [] a h = cc
 greatest_allowed f (b ∷ algs) a h = elim (cases_Bool (bytes_eq (name_of b) (name_of a))) [
@@ -113,7 +117,7 @@ module _ (eligible_words : (p : Settings) (s : SignatureParts) (k : KeyParts) (v
   pair_cost p v t i s k here eligible =
       let e = eligible_words p s k v eligible in
       let a = e.algorithm in
-      let fine : is_allowed p.run.algs a ≡ true = allowed p s v a (no_row p s v e.unbarred) e.named in
+      let fine : is_allowed p.run.algs a ≡ true = allowed p s v a e.unbarred e.named in
       rw e.named (omega (
         arith,
         under a k.octets (message_of t s),

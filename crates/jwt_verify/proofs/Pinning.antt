@@ -19,7 +19,7 @@ use Rattle.jwt_policy.specs.Laws.{IsEligible}
 use Rattle.jwt_verify.specs.Table.{Table}
 use Rattle.jwt_verify.specs.Trying.{is_tag, accepted_by, lacking_by, valid_under, may_lack_under, valid_by, may_lack_by, at_pair, table_of}
 use Rattle.jwt_verify.specs.Verdict.{Terms}
-use Rattle.jwt_verify.specs.Asks.{IsAsked, IsValid, MayLack, AtPair, IsTable}
+use Rattle.jwt_verify.specs.Asks.{IsAsked, IsValid, AtPair, IsTable}
 
 bool_same : (a b : Bool) → (a ≡ true → b ≡ true) → (b ≡ true → a ≡ true) → a ≡ b
 bool_same true true f g = refl
@@ -33,6 +33,10 @@ option_same None (Some b) f g = g b refl
 option_same (Some a) p f g = sym (f a refl)
 
 -- ---- one pair
+
+-- the verifier that is asked may lack memory
+abbrev MayLack : List Meaning → MessageOctets → SignatureParts → KeyParts → Type 0
+MayLack verifiers message s key = (a : Alg) × (alg s ≡ Some a) × ((v : Meaning) × IsAsked verifiers a v × (v.may_lack a key.octets message s.octets ≡ true))
 
 -- the key is a secret, and the octets are the tag of the signing input under it
 abbrev IsTag : Alg → KeyOctets → MessageOctets → List ℕ → Type 0

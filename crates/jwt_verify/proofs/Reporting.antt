@@ -1,7 +1,7 @@
 -- The report that the steps leave is the report in words.
 use Rattle.std.proofs.Common.{◌≡◌, ◌≢◌, ℕ, ◌+◌, ◌*◌, ◌≤◌, ◌⊎◌, Bool, true, List, [], ◌∷◌, ◌++◌, length, take, get_or, Option, Result, Ok, Err, refl, sym, ◌∙◌, ap, subst, inl, inr, arith, length-append, append_assoc}
 use Rattle.std.specs.Prelude.{slice_get}
-use Rattle.std.specs.List.{All, AllPairs}
+use Rattle.std.specs.List.{All, AllPairs, sum_by}
 use Rattle.std.proofs.lemmas.List.{nil_from_length, take_at, get_or_append_left}
 use Rattle.std.proofs.lemmas.List.Elements.{All-nil, All-take, All-weaker}
 use Rattle.std.proofs.Math.Nat.{mul-le-mul_right}
@@ -21,7 +21,7 @@ use Rattle.jwt_verify.specs.Trying.{at_pair, table_of}
 use Rattle.jwt_verify.specs.Verdict.{Terms, token_of, table, verdict_of}
 use Rattle.jwt_verify.specs.Paying.{IsFront, IsWithin, AreAllowed, ArePaid}
 use Rattle.jwt_verify.specs.Asks.{AtPair, IsToken, IsAsking}
-use Rattle.jwt_verify.specs.Laws.{IsBefore, common_cost, long_key, work_most}
+use Rattle.jwt_verify.specs.Laws.{IsBefore, common_cost, long_key}
 use Rattle.jwt_verify.specs.Reports.{FoundMemory, IsComplete, IsRunReport, IsReport, AreEligible, IsBounded}
 use Rattle.jwt_verify.specs.Steps.{IsSourceFault, IsWhole, IsListed, ReportsInWords, ReportsOnTaken, TakenTokens, TellsReports}
 use Rattle.jwt_verify.proofs.Bounds.{HasCost, rows_ordered, tries_eligible, length-tries, sum_bound, tries_bounded}
@@ -206,7 +206,7 @@ module _ (laws : Laws) where
     eligible_words = All-weaker (λ e. T.eligible e.signature e.key ≡ true) (λ e. AtPair token q.keys e.signature e.key (λ s key. IsEligible q.policy s key q.verifiers))
         (λ e h. ((the_table laws.eligible laws.bar q token).eligible e.signature e.key).0 h) es eligible_here
 
-    pub bounded_words : work es ≤ work_most q token es
+    pub bounded_words : work es ≤ length token.signatures * length q.keys * common_cost q.policy token + sum_by (λ e. at_pair long_key 0 token q.keys e.signature e.key) es
     unfolding work
     bounded_words =
         let common = common_cost q.policy token in

@@ -1,5 +1,5 @@
 -- When a token is accepted, and why it is refused, in words.
-use Rattle.std.specs.Prelude.{ℕ, ◌+◌, ◌<◌, ◌≤◌, ◌≡◌, ◌⊎◌, ◌↔◌, true, false, List, length, Option, Some, None}
+use Rattle.std.specs.Prelude.{ℕ, ◌+◌, ◌<◌, ◌≤◌, ◌≡◌, ◌⊎◌, ◌↔◌, true, false, List, length, Option, Some, None, ◌++◌, ◌∷◌, map}
 use Rattle.serde_json.specs.Data.{Members}
 use Rattle.jwt_text.specs.ObjectText.{IsObjectText}
 use Rattle.jwt_text.specs.Rows.{IsFirstRow, NoRow}
@@ -12,7 +12,7 @@ use Rattle.jwt_policy.specs.declared.sig_fault.SigFault.TheVariants.{NoKey, BadS
 use Rattle.jwt_policy.specs.declared.claim_fault.ClaimFault.{ClaimFault}
 use Rattle.jwt_policy.specs.declared.claim_fault.ClaimFault.TheVariants.{ClaimsShape}
 use Rattle.jwt_policy.specs.ClaimKinds.{kind_rows}
-use Rattle.jwt_policy.specs.Checks.{check_rows}
+use Rattle.jwt_policy.specs.Checks.{missing, later_rows}
 use Rattle.jwt_policy.specs.Laws.{ClaimsHold}
 use Rattle.jwt_verify.specs.declared.report.Try.{Try}
 use Rattle.jwt_verify.specs.declared.report.InputFault.TheVariants.{TooLong}
@@ -21,7 +21,7 @@ use Rattle.jwt_verify.specs.declared.report.Fault.TheVariants.{Text, Form, WorkE
 use Rattle.jwt_verify.specs.declared.report.Verdict.{Verdict}
 use Rattle.jwt_verify.specs.declared.report.Verdict.TheVariants.{Accepted, Refused}
 use Rattle.jwt_verify.specs.Table.{Table, verifies, verified, entry, tries, work}
-use Rattle.jwt_verify.specs.Paying.{IsNext, IsWithin, AreAllowed}
+use Rattle.jwt_verify.specs.Paying.{IsWithin, AreAllowed}
 use Rattle.jwt_verify.specs.Asks.{IsAsking}
 use Rattle.jwt_verify.specs.Verdict.{Terms, without_line_feed, verdict_of}
 
@@ -58,7 +58,7 @@ pub record IsAccepted (q : Terms) (x : List ℕ) (w i j : ℕ) (claims : Members
 
 -- the run stops before the pair of i and j: the tries es come before it, and both ceilings allow them
 pub record StopsAt (t : Table) (w : ℕ) (calls : Option ℕ) (i j : ℕ) (es : List Try) : Type 0 where
-  pub next : IsNext t es (entry t i j)
+  pub next : (rest : List Try) × (tries t ≡ es ++ entry t i j ∷ rest)
   pub allowed : AreAllowed w calls es
 
 -- Signature i is the first that isn't verified; in mode Any none is, in mode All each one before it is.
@@ -71,12 +71,12 @@ abbrev pub IsReason : Table → ℕ → SigFault → Type 0
 IsReason t i f = (t.bar i ≡ Some f) ⊎ ((t.bar i ≡ None) × (
     ((f ≡ NoKey) × ((j : ℕ) → j < t.keys → t.eligible i j ≡ false)) ⊎ ((f ≡ BadSignature) × ((j : ℕ) × (j < t.keys) × (t.eligible i j ≡ true)))))
 
--- why the claims of a payload are refused: it is no object text; a registered claim has another kind; or the first row of the
--- policy's checks that holds
+-- why the claims of a payload are refused: it is no object text; a registered claim has another kind; or the first of the policy's
+-- checks that holds, the required claims before the others
 abbrev pub IsClaimFault : Terms → List ℕ → ClaimFault → Type 0
 IsClaimFault q payload f = ((f ≡ ClaimsShape) × ((claims : Members) → ¬ IsObjectText payload claims))
     ⊎ (((claims : Members) × IsObjectText payload claims × IsFirstRow (kind_rows claims) f)
-    ⊎ ((claims : Members) × HasClaims payload claims × IsFirstRow (check_rows q.policy claims q.now) f))
+    ⊎ ((claims : Members) × HasClaims payload claims × IsFirstRow (map (missing claims) q.policy.claims.required ++ later_rows q.policy claims q.now) f))
 
 -- x is a signed token, and this holds of its payload and its table
 abbrev pub OfToken : Terms → List ℕ → (List ℕ → Table → Type 0) → Type 0

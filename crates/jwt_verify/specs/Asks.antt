@@ -26,10 +26,6 @@ abbrev pub IsValid : List Meaning → MessageOctets → SignatureParts → KeyPa
 IsValid verifiers message s key = (a : Alg) × (alg s ≡ Some a)
     × (((is_hmac_alg a ≡ true) × ((k : List ℕ) × (key.octets ≡ OctKey k) × (s.octets ≡ tag_of a k (signing_input message)))) ⊎ ((v : Meaning) × IsAsked verifiers a v × (v.accepts a key.octets message s.octets ≡ true)))
 
--- the verifier that is asked may lack memory
-abbrev pub MayLack : List Meaning → MessageOctets → SignatureParts → KeyParts → Type 0
-MayLack verifiers message s key = (a : Alg) × (alg s ≡ Some a) × ((v : Meaning) × IsAsked verifiers a v × (v.may_lack a key.octets message s.octets ≡ true))
-
 -- ---- all pairs
 
 -- signature i and key j are there, and this holds of the two
@@ -45,7 +41,8 @@ pub record IsTable (q : Terms) (token : Token) (t : Table) : Type 0 where
   pub bar : (i : ℕ) (f : SigFault) → (t.bar i ≡ Some f) ↔ ((s : SignatureParts) × (slice_get token.signatures i ≡ Some s) × IsFirstRow (bar_rows q.policy s q.verifiers) f)
   pub eligible : (i j : ℕ) → (t.eligible i j ≡ true) ↔ AtPair token q.keys i j (λ s key. IsEligible q.policy s key q.verifiers)
   pub valid : (i j : ℕ) → (t.valid i j ≡ true) ↔ AtPair token q.keys i j (λ s key. IsValid q.verifiers (message_of token s) s key)
-  pub may_lack : (i j : ℕ) → (t.may_lack i j ≡ true) ↔ AtPair token q.keys i j (λ s key. MayLack q.verifiers (message_of token s) s key)
+  pub may_lack : (i j : ℕ) → (t.may_lack i j ≡ true) ↔ AtPair token q.keys i j (λ s key.
+      (a : Alg) × (alg s ≡ Some a) × ((v : Meaning) × IsAsked q.verifiers a v × (v.may_lack a key.octets (message_of token s) s.octets ≡ true)))
   pub cost : (i j : ℕ) → t.cost i j ≡ at_pair (λ s key. cost_by (message_of token s) s key) 0 token q.keys i j
 
 -- x isn't too long and, without one line feed at its end where the policy drops it, is this signed token (RFC 7515, section 7)

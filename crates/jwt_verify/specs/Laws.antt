@@ -115,10 +115,6 @@ abbrev pub work_bound : Terms → List ℕ → ℕ
 work_bound q x = let t = token_or_none (token_of q.policy x) in
     bound (table q x) (common_cost q.policy t) (at_pair long_key 0 t q.keys)
 
--- the same for some of its tries: signatures times keys times the common cost, and each long key once for each of these tries
-abbrev pub work_most : Terms → Token → List Try → ℕ
-work_most q token es = length token.signatures * length q.keys * common_cost q.policy token + sum_by (λ e. at_pair long_key 0 token q.keys e.signature e.key) es
-
 -- the work is within the bound
 abbrev pub WorkIsBounded : Type 0
 WorkIsBounded = (q : Terms) (x : List ℕ) → work (tries (table q x)) ≤ work_bound q x

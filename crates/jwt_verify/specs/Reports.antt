@@ -1,6 +1,6 @@
 -- What a report on a token holds.
-use Rattle.std.specs.Prelude.{◌≡◌, ◌≤◌, ◌⊎◌, ℕ, ℤ, ◌++◌, true, List, [], ◌∷◌, length, map, slice_get, Option, Some}
-use Rattle.std.specs.List.{All}
+use Rattle.std.specs.Prelude.{◌≡◌, ◌≤◌, ◌+◌, ◌*◌, ◌⊎◌, ℕ, ℤ, ◌++◌, true, List, [], ◌∷◌, length, map, slice_get, Option, Some}
+use Rattle.std.specs.List.{All, sum_by}
 use Rattle.jwt_mac.specs.Verifying.{Meaning}
 use Rattle.jwt_jws.specs.Token.{Token}
 use Rattle.jwt_keys.specs.declared.set.KeySet.{KeySet}
@@ -18,7 +18,8 @@ use Rattle.jwt_verify.specs.Table.{Table, tries, states_at}
 use Rattle.jwt_verify.specs.Paying.{IsFront, AreAllowed, ArePaid}
 use Rattle.jwt_verify.specs.Asks.{AtPair, IsToken, IsAsking}
 use Rattle.jwt_verify.specs.Accepted.{IsVerdict}
-use Rattle.jwt_verify.specs.Laws.{work_most}
+use Rattle.jwt_verify.specs.Laws.{common_cost, long_key}
+use Rattle.jwt_verify.specs.Trying.{at_pair}
 use Rattle.jwt_verify.specs.Verdict.{Terms}
 
 abbrev pub terms : Settings → KeySet → ℤ → List Meaning → Terms
@@ -57,9 +58,12 @@ pub record IsReport (q : Terms) (x : List ℕ) (w : ℕ) (r : Report) : Type 0 w
 abbrev pub AreEligible : Terms → List ℕ → List Try → Type 0
 AreEligible q x es = (token : Token) → IsToken q x token → All (λ e. AtPair token q.keys e.signature e.key (λ s key. IsEligible q.policy s key q.verifiers)) es
 
--- so many octets are within the bound on these tries
+-- so many octets are within the bound on these tries: signatures times keys times the common cost, and each long key once for each
+-- of its tries
 abbrev pub IsBounded : Terms → List ℕ → List Try → ℕ → Type 0
-IsBounded q x es octets = (token : Token) → IsToken q x token → octets ≤ work_most q token es
+IsBounded q x es octets = (token : Token) → IsToken q x token → octets
+    ≤ length token.signatures * length q.keys * common_cost q.policy token
+    + sum_by (λ e. at_pair long_key 0 token q.keys e.signature e.key) es
 
 -- the source failed, and nothing was tried; or memory was refused before anything was
 abbrev pub Failed : Verdict → List Try → Type 0

@@ -3,7 +3,7 @@ use Rattle.std.specs.Prelude.{ℕ, Bool, false, List, length, Option, Some, None
 use Rattle.std.specs.Option.{option_map_or}
 use Rattle.std.specs.Str.{bytes_eq}
 use Rattle.jwt_mac.specs.declared.algorithm.Alg.{Alg}
-use Rattle.jwt_mac.specs.Algorithm.{is_hmac_alg, tag_of, cost_of}
+use Rattle.jwt_mac.specs.Algorithm.{is_hmac_alg, tag_of, try_cost}
 use Rattle.jwt_mac.specs.Verifying.{Meaning, KeyOctets, OctKey, MessageOctets, signing_input, first_naming}
 use Rattle.jwt_jws.specs.Token.{Token, SignatureParts, message_of}
 use Rattle.jwt_keys.specs.Keys.{KeyParts}
@@ -41,7 +41,7 @@ may_lack_under verifiers a key message signature =
 
 -- the octets that the try feeds to HMAC (RFC 2104, section 2); none for another algorithm
 abbrev pub cost_under : Alg → KeyOctets → MessageOctets → ℕ
-cost_under a (OctKey k) message = cost_of a k (signing_input message)
+cost_under a (OctKey k) message = try_cost a (length k) (length (signing_input message))
 cost_under a _ message = 0
 
 -- ---- the same of a signature and a key, by the algorithm that the protected header names

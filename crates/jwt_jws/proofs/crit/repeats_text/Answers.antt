@@ -1,8 +1,9 @@
 use Rattle.std.proofs.Common.{◌≡◌, ◌<◌, ◌-◌, ◌∙◌, suc, sym, ap, drop, length, arith}
 use Rattle.std.specs.List.{list_any}
-use Rattle.jwt_jws.specs.Crit.{has_text, is_text, repeats_text}
+use Rattle.jwt_jws.specs.Crit.{has_text, repeats_text}
 use Rattle.jwt_jws.proofs.CritLemmas.{down_texts, down_repeats, texts_none, repeats_none, repeats_before, not_false, not_true}
 use Rattle.jwt_jws.proofs.crit.repeats_text.Goals as goal
+use Rattle.jwt_jws.proofs.Shapes.{is_text}
 
 pub returns-then-not-branch : goal.returns-then-not-branch
 returns-then-not-branch c =

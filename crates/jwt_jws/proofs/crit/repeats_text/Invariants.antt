@@ -1,7 +1,8 @@
 use Rattle.std.proofs.Common.{◌≡◌, ℕ, List, false, drop, length, ◌≤◌}
 use Rattle.std.specs.List.{list_any}
-use Rattle.jwt_jws.specs.Crit.{has_text, is_text, repeats_text}
+use Rattle.jwt_jws.specs.Crit.{has_text, repeats_text}
 use Rattle.jwt_jws.proofs.crit.repeats_text.Given as goal
+use Rattle.jwt_jws.proofs.Shapes.{is_text}
 
 -- the texts from `place` on are those seen, and none of them stands twice
 abbrev pub invariant-loop-place : goal.invariant-loop-place
