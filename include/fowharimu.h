@@ -63,8 +63,8 @@ enum fow_fault {
     /* why a policy is refused */
     FOW_POLICY_JSON = 101,         /* no JSON text in UTF-8, or no object */
     FOW_POLICY_NAME_TWICE = 102,   /* a name stands twice in one object, at any depth */
-    FOW_POLICY_MEMBER = 103,       /* a member is unknown, or of another kind; fow_policy_member names it */
-    FOW_POLICY_RANGE = 104,        /* a member's value is out of its range; fow_policy_member names it */
+    FOW_POLICY_MEMBER = 103,       /* a member is unknown, or of another kind */
+    FOW_POLICY_RANGE = 104,        /* a member's value is out of its range */
     FOW_POLICY_NO_ALGORITHM = 105, /* the list `algs` is absent or empty */
     FOW_POLICY_TOO_LONG = 106,     /* more than 65,536 octets */
 
@@ -288,31 +288,26 @@ void fow_forget(fow_validator *validator);
 uint32_t fow_payload(fow_validator *validator, const uint8_t *token, size_t token_len, uint8_t *out, size_t out_len,
     size_t *written);
 
-/* Writes a claim of the token that was accepted last, as compact JSON text, by its name in UTF-8. FOW_ABSENT: the last verdict was no
- * acceptance, or there is no such claim. */
-uint32_t fow_claim(fow_validator *validator, const uint8_t *name, size_t name_len, uint8_t *out, size_t out_len, size_t *written);
-
 /* The name of a fault, as the program `jwt` prints it, such as `Expired`; empty where no fault has this number. It isn't to be freed.
  * It is C, and tested. */
 const char *fow_fault_name(uint32_t fault);
 
-/* Writes the name of the member for which a policy is refused, as the policy spells it. FOW_ABSENT: the policy isn't refused for a
- * member. */
-uint32_t fow_policy_member(const uint8_t *policy, size_t policy_len, uint8_t *out, size_t out_len, size_t *written);
-
-/* Writes what stands in a token, in any form, with nothing of it verified: the lines that `jwt show` prints. FOW_REFUSED: the octets
- * are no signed token; *report has the fault with its part and signature, and no verdict rests on it. */
-uint32_t fow_show(const uint8_t *token, size_t token_len, uint8_t *out, size_t out_len, size_t *written, fow_report *report);
+/* Tells what the proved verifier of RSA says of a signature by RS256, RS384, RS512, PS256, PS384 or PS512: it accepts what RFC 8017
+ * does, with keys of 2,048 to 8,192 bits and an exponent of at most 64. It stands for fow_ask and fow_answer, for callers who have no
+ * cryptography of their own.
+ *
+ * Proved: FOW_OK: exactly that answer is told besides those told before. Else what was told is as before. FOW_ABSENT: there is no such
+ * pair, or its algorithm isn't RSA. */
+uint32_t fow_answer_rsa(fow_validator *validator, const uint8_t *token, size_t token_len, uint32_t signature, uint32_t key);
 
 /* Issues the claims, signed by HMAC: `alg` is FOW_HS256, FOW_HS384 or FOW_HS512, `form` is enum fow_form. In compact and flattened
- * form key `key` of the set signs, in general form each readable key of the set, in order, and `key` isn't looked at. `typ` is the
- * header's media type in UTF-8, and none where typ_len is 0.
+ * form key `key` of the set signs, in general form each readable key of the set, in order, and `key` isn't looked at.
  *
  * Proved: FOW_OK: `out` begins with the token that the issuing contract gives for these claims, which has *written octets.
  * FOW_REFUSED: *report says why, with the signature or the claim that the fault speaks of. FOW_ABSENT: there is no such algorithm or
- * form, or `typ` isn't UTF-8. */
-uint32_t fow_issue(fow_validator *validator, uint32_t alg, uint32_t form, uint32_t key, const uint8_t *typ, size_t typ_len,
-    const uint8_t *claims, size_t claims_len, uint8_t *out, size_t out_len, size_t *written, fow_report *report);
+ * form. */
+uint32_t fow_issue(fow_validator *validator, uint32_t alg, uint32_t form, uint32_t key, const uint8_t *claims, size_t claims_len,
+    uint8_t *out, size_t out_len, size_t *written, fow_report *report);
 
 #ifdef __cplusplus
 }

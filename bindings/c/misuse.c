@@ -31,9 +31,9 @@ static void check_unopened(fow_validator *validator)
     CHECK(fow_refused_claim(validator, out, sizeof out, &written) == FOW_NOT_OPEN);
     CHECK(fow_ask(validator, out, 0, 0, 0, out + 1, sizeof out - 1, &asked) == FOW_NOT_OPEN);
     CHECK(fow_answer(validator, out, 0, 0, 0, true) == FOW_NOT_OPEN);
+    CHECK(fow_answer_rsa(validator, out, 0, 0, 0) == FOW_NOT_OPEN);
     CHECK(fow_payload(validator, out, 0, out + 1, sizeof out - 1, &written) == FOW_NOT_OPEN);
-    CHECK(fow_claim(validator, (const uint8_t *)"iss", 3, out, sizeof out, &written) == FOW_NOT_OPEN);
-    CHECK(fow_issue(validator, FOW_HS256, FOW_COMPACT, 0, (const uint8_t *)"", 0, (const uint8_t *)"{}", 2, out, sizeof out, &written, &report)
+    CHECK(fow_issue(validator, FOW_HS256, FOW_COMPACT, 0, (const uint8_t *)"{}", 2, out, sizeof out, &written, &report)
         == FOW_NOT_OPEN);
     fow_forget(validator);
     fow_close(validator);
@@ -69,7 +69,6 @@ static void check_no_token(const char *name)
     CHECK(fow_ask(&validator, zeros, 3, 0, 0, out, sizeof out, &asked) == FOW_ABSENT);
     CHECK(fow_answer(&validator, zeros, 3, 0, 0, true) == FOW_ABSENT);
     CHECK(fow_payload(&validator, zeros, 3, out, sizeof out, &written) == FOW_ABSENT);
-    CHECK(fow_claim(&validator, (const uint8_t *)"iss", 3, out, sizeof out, &written) == FOW_ABSENT);
     fow_close(&validator);
 }
 
@@ -98,10 +97,12 @@ static void check_answers(const char *hmac, const char *rsa)
     CHECK(fow_answer(&one, token.at, token.len, 0, 0, false) == FOW_OK);
     CHECK(fow_answer(&one, token.at, token.len, 0, 0, true) == FOW_OK);
     CHECK(fow_judge(&one, token.at, token.len, NOW, &report) == FOW_REFUSED && report.fault == FOW_SIG_BAD_SIGNATURE);
-    CHECK(fow_judge(&one, token.at, token.len, NOW, &report) == FOW_OK);
     CHECK(fow_judge(&two, token.at, token.len, NOW, &report) == FOW_ASKS);
     fow_forget(&one);
     CHECK(fow_judge(&one, token.at, token.len, NOW, &report) == FOW_ASKS);
+    CHECK(fow_answer_rsa(&one, token.at, token.len, 0, 1) == FOW_ABSENT);
+    CHECK(fow_answer_rsa(&one, token.at, token.len, 0, 0) == FOW_OK);
+    CHECK(fow_judge(&one, token.at, token.len, NOW, &report) == FOW_OK);
     fow_close(&one);
     fow_close(&two);
 }
@@ -116,15 +117,15 @@ static void check_issuing(const char *name)
     fow_report report;
     open_named(&validator, name);
     for (uint32_t form = FOW_COMPACT; form <= FOW_FLATTENED; form++) {
-        CHECK(fow_issue(&validator, FOW_HS256, form, 0, claims, 0, claims, claims_len, out, sizeof out, &written, &report) == FOW_OK);
+        CHECK(fow_issue(&validator, FOW_HS256, form, 0, claims, claims_len, out, sizeof out, &written, &report) == FOW_OK);
         CHECK(fow_judge(&validator, out, written, NOW, &report) == FOW_OK);
     }
-    CHECK(fow_issue(&validator, FOW_HS256, FOW_COMPACT, 9, claims, 0, claims, claims_len, out, sizeof out, &written, &report) == FOW_REFUSED);
+    CHECK(fow_issue(&validator, FOW_HS256, FOW_COMPACT, 9, claims, claims_len, out, sizeof out, &written, &report) == FOW_REFUSED);
     CHECK(report.fault == FOW_ISSUE_NO_KEY);
-    CHECK(fow_issue(&validator, FOW_RS256, FOW_COMPACT, 0, claims, 0, claims, claims_len, out, sizeof out, &written, &report) == FOW_REFUSED);
+    CHECK(fow_issue(&validator, FOW_RS256, FOW_COMPACT, 0, claims, claims_len, out, sizeof out, &written, &report) == FOW_REFUSED);
     CHECK(report.fault == FOW_ISSUE_ALG_NOT_HMAC);
-    CHECK(fow_issue(&validator, 99, FOW_COMPACT, 0, claims, 0, claims, claims_len, out, sizeof out, &written, &report) == FOW_ABSENT);
-    CHECK(fow_issue(&validator, FOW_HS256, 9, 0, claims, 0, claims, claims_len, out, sizeof out, &written, &report) == FOW_ABSENT);
+    CHECK(fow_issue(&validator, 99, FOW_COMPACT, 0, claims, claims_len, out, sizeof out, &written, &report) == FOW_ABSENT);
+    CHECK(fow_issue(&validator, FOW_HS256, 9, 0, claims, claims_len, out, sizeof out, &written, &report) == FOW_ABSENT);
     fow_close(&validator);
 }
 
