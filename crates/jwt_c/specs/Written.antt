@@ -1,5 +1,7 @@
 -- What is written for the caller, by the status that is answered: 0 done, 3 out of memory, 5 too short, 6 absent.
-use Rattle.std.specs.Prelude.{◌≡◌, ◌≢◌, ◌<◌, ℕ, ◌++◌, List, [], ◌∷◌, length, Option, Some, None, Result, Ok, Err}
+use Rattle.std.specs.Prelude.{◌≡◌, ◌≢◌, ◌<◌, ℕ, ℤ, ◌++◌, List, [], ◌∷◌, length, Option, Some, None, Result, Ok, Err}
+use Rattle.serde_json.specs.Data.{Members}
+use Rattle.jwt_text.specs.Members.{compact_at, whole_at}
 use Rattle.jwt_jws.specs.Token.{Token}
 use Rattle.jwt_verify.specs.declared.report.Fault.{Fault}
 use Rattle.jwt_verify.specs.declared.report.SigState.{SigState}
@@ -39,3 +41,22 @@ IsState (Some x) status s = (status ≡ 0) × (state_parts s ≡ state_numbers x
 abbrev pub IsTry : Option Try → ℕ → FowTry → Type 0
 IsTry None status t = status ≡ 6
 IsTry (Some x) status t = (status ≡ 0) × (try_of t ≡ try_parts x)
+
+-- the compact JSON text of a claim, a text or a list of texts, of the claims that are kept
+abbrev pub claim_at : Option Members → List ℕ → Option (List ℕ)
+claim_at None name = None
+claim_at (Some ms) name = compact_at name ms
+
+-- a whole number of 64 signed bits, of the claims that are kept
+abbrev pub number_at : Option Members → List ℕ → Option ℤ
+number_at None name = None
+number_at (Some ms) name = whole_at name ms
+
+-- it is written, where it is there, unless memory was refused
+abbrev pub PutsSome : Option (List ℕ) → ℕ → ℕ → List ℕ → List ℕ → Type 0
+PutsSome None status n old out = IsAbsent status
+PutsSome (Some x) status n old out = status ≢ 3 → Puts x status n old out
+
+abbrev pub PutsNumber : Option ℤ → ℕ → ℤ → Type 0
+PutsNumber None status n = status ≡ 6
+PutsNumber (Some x) status n = (status ≡ 0) × (n ≡ x)

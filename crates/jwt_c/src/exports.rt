@@ -1,11 +1,11 @@
 //! What C calls.
 
-ghost use Rattle.std.specs.Prelude.{◌≡◌, ◌≢◌, ◌≤◌, IfSome, Some, None, slice_get, IfOk, IfErr};
+ghost use Rattle.std.specs.Prelude.{◌≡◌, ◌≢◌, ◌≤◌, IfSome, Some, None, slice_get, IfOk, IfErr, IsUtf8};
 ghost use Rattle.jwt_keys.specs.KeySets.{key_set};
 ghost use Rattle.jwt_verify.specs.Verdict.{token_of};
 ghost use Rattle.jwt_c.specs.Reports.{IsOpened, IsRefused, IsAlike, IsForgotten, IsAsked, IsJudgedBy, report_numbers};
 ghost use Rattle.jwt_c.specs.Faults.{bare};
-ghost use Rattle.jwt_c.specs.Written.{PutsPayload, PutsName, IsState, IsTry};
+ghost use Rattle.jwt_c.specs.Written.{PutsPayload, PutsName, IsState, IsTry, PutsSome, PutsNumber, claim_at, number_at};
 ghost use Rattle.jwt_c.specs.Asking.{asked_at, PutsQuestion, IsTold, rsa_asked, rsa_says};
 ghost use Rattle.jwt_c.specs.Issuing.{hmac_at, form_at, PutsIssued};
 ghost use Rattle.jwt_issue.specs.ClaimSets.{claim_set_of};
@@ -17,7 +17,7 @@ use crate::handle::{Handle, take};
 use crate::issuing::{Wanted, form_at, hmac_at, put_issued};
 use crate::judging::judge_desk;
 use crate::report::{FowQuestion, FowReport, FowState, FowTry};
-use crate::writing::{payload_of, put};
+use crate::writing::{number_at, payload_of, put, put_claim};
 use jwt_keys::{KeySet, KeysFault};
 use jwt_policy::{Policy, PolicyFault};
 use jwt_told::Answers;
@@ -341,6 +341,59 @@ pub extern "C" fn fow_issue(
             }
             None => 6,
         },
+        None => 6,
+    };
+    *validator = Handle::of(desk);
+    status
+}
+
+/// Writes the compact JSON text of a claim, a text or a list of texts, of the token that was accepted last. 0; 3: memory was refused;
+/// 4: nothing is held; 5: `out` is too short; 6: there is no such claim, or the last verdict was no acceptance.
+#[unsafe(no_mangle)]
+pub extern "C" fn fow_claim(
+    validator: &mut Handle,
+    alloc: Global,
+    name: &[u8],
+    out: &mut [u8],
+    written: &mut usize,
+) -> u32
+    ensures same { validator.new.desk ≡ validator.old.desk }
+    ensures none { validator.old.desk ≡ None → result ≡ 4 }
+    ensures claim { IfSome validator.old.desk (λ d. IsUtf8 name.now
+        → PutsSome (claim_at d.last.claims name.now) result written.new out.old out.new) }
+    ensures other { IfSome validator.old.desk (λ d. ¬ IsUtf8 name.now → result ≡ 6) }
+{
+    let Some(desk) = take(validator, alloc) else {
+        return 4;
+    };
+    let status = put_claim(alloc, &desk.last.claims, name, out, written);
+    *validator = Handle::of(desk);
+    status
+}
+
+/// A claim of the token that was accepted last, where it is a whole number of 64 signed bits. 0; 4: nothing is held; 6: there is no
+/// such claim, or the last verdict was no acceptance.
+#[unsafe(no_mangle)]
+pub extern "C" fn fow_number(
+    validator: &mut Handle,
+    alloc: Global,
+    name: &[u8],
+    number: &mut i64,
+) -> u32
+    ensures same { validator.new.desk ≡ validator.old.desk }
+    ensures none { validator.old.desk ≡ None → result ≡ 4 }
+    ensures claim { IfSome validator.old.desk (λ d. IsUtf8 name.now
+        → PutsNumber (number_at d.last.claims name.now) result number.new) }
+    ensures other { IfSome validator.old.desk (λ d. ¬ IsUtf8 name.now → result ≡ 6) }
+{
+    let Some(desk) = take(validator, alloc) else {
+        return 4;
+    };
+    let status = match number_at(&desk.last.claims, name) {
+        Some(found) => {
+            *number = found;
+            0
+        }
         None => 6,
     };
     *validator = Handle::of(desk);
