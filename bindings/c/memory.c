@@ -85,6 +85,12 @@ static uint32_t payload_of_it(void)
     return fow_payload(&validator, token.at, token.len, out, sizeof out, &written);
 }
 
+static uint32_t claim_of_it(void)
+{
+    size_t written;
+    return fow_claim(&validator, (const uint8_t *)"iss", 3, out, sizeof out, &written);
+}
+
 static uint32_t issue_it(void)
 {
     size_t written;
@@ -123,6 +129,7 @@ static void refuse_on(const char *name, uint32_t verdict)
     refuse_each("fow_ask", ask_it, FOW_OK);
     refuse_each("fow_answer", answer_it, FOW_OK);
     refuse_each("fow_judge, told", judge_it, FOW_OK);
+    refuse_each("fow_claim", claim_of_it, FOW_OK);
     fow_forget(&validator);
     refuse_each("fow_answer_rsa", answer_by_rsa, verdict == FOW_ASKS ? FOW_OK : FOW_ABSENT);
     fow_close(&validator);

@@ -33,6 +33,9 @@ static void check_unopened(fow_validator *validator)
     CHECK(fow_answer(validator, out, 0, 0, 0, true) == FOW_NOT_OPEN);
     CHECK(fow_answer_rsa(validator, out, 0, 0, 0) == FOW_NOT_OPEN);
     CHECK(fow_payload(validator, out, 0, out + 1, sizeof out - 1, &written) == FOW_NOT_OPEN);
+    CHECK(fow_claim(validator, (const uint8_t *)"iss", 3, out, sizeof out, &written) == FOW_NOT_OPEN);
+    int64_t number;
+    CHECK(fow_number(validator, (const uint8_t *)"exp", 3, &number) == FOW_NOT_OPEN);
     CHECK(fow_issue(validator, FOW_HS256, FOW_COMPACT, 0, (const uint8_t *)"{}", 2, out, sizeof out, &written, &report)
         == FOW_NOT_OPEN);
     fow_forget(validator);
@@ -69,6 +72,7 @@ static void check_no_token(const char *name)
     CHECK(fow_ask(&validator, zeros, 3, 0, 0, out, sizeof out, &asked) == FOW_ABSENT);
     CHECK(fow_answer(&validator, zeros, 3, 0, 0, true) == FOW_ABSENT);
     CHECK(fow_payload(&validator, zeros, 3, out, sizeof out, &written) == FOW_ABSENT);
+    CHECK(fow_claim(&validator, (const uint8_t *)"iss", 3, out, sizeof out, &written) == FOW_ABSENT);
     fow_close(&validator);
 }
 

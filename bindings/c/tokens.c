@@ -11,14 +11,20 @@ static int has_no_claims(const char *name)
     return strstr(name, "rfc8037-a4") != NULL;
 }
 
-/* Whether the payload can be had of the accepted token. */
-static void check_payload(fow_validator *validator, const octets *token)
+/* Whether the payload and its claims can be had of the accepted token. */
+static void check_claims(fow_validator *validator, const octets *token)
 {
     uint8_t out[MOST];
     size_t written = 0;
     CHECK(fow_payload(validator, token->at, token->len, out, sizeof out, &written) == FOW_OK);
     CHECK(written > 2 && out[0] == '{' && out[written - 1] == '}');
     CHECK(fow_payload(validator, token->at, token->len, out, written - 1, &written) == FOW_TOO_SHORT);
+    CHECK(fow_claim(validator, (const uint8_t *)"iss", 3, out, sizeof out, &written) == FOW_OK);
+    CHECK(written == 5 && memcmp(out, "\"joe\"", 5) == 0);
+    CHECK(fow_claim(validator, (const uint8_t *)"none", 4, out, sizeof out, &written) == FOW_ABSENT);
+    int64_t exp = 0;
+    CHECK(fow_number(validator, (const uint8_t *)"exp", 3, &exp) == FOW_OK && exp == 1300819380);
+    CHECK(fow_number(validator, (const uint8_t *)"iss", 3, &exp) == FOW_ABSENT);
 }
 
 static void check_states(fow_validator *validator, const fow_report *report)
@@ -51,7 +57,7 @@ static void check_token(const char *name)
     } else {
         CHECK(verdict == FOW_OK && report.signature == 0 && report.key == 0 && report.fault == FOW_NO_FAULT);
         check_states(&validator, &report);
-        check_payload(&validator, &token);
+        check_claims(&validator, &token);
         CHECK(fow_openssl_judge(&crypto, &validator, token.at, token.len, NOW + 1, &report) == FOW_REFUSED);
         CHECK(report.fault == FOW_CLAIM_EXPIRED);
     }
