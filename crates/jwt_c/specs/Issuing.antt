@@ -13,7 +13,7 @@ use Rattle.jwt_issue.specs.declared.fault.IssueFault.TheVariants as issue
 use Rattle.jwt_c.specs.declared.report.FowReport.{FowReport}
 use Rattle.jwt_c.specs.Faults.{claim_numbers, issue_numbers}
 use Rattle.jwt_c.specs.Reports.{report_numbers}
-use Rattle.jwt_c.specs.Written.{IsAbsent, Puts}
+use Rattle.jwt_c.specs.Written.{Puts}
 
 -- the HMAC algorithms and the forms, by their numbers
 abbrev pub hmac_at : ℕ → Option Alg

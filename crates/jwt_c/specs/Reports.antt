@@ -1,5 +1,5 @@
 -- What an exported function writes and answers.
-use Rattle.std.specs.Prelude.{◌≡◌, ◌≢◌, ℕ, ℤ, ◌++◌, List, [], ◌∷◌, length, Option, Some, None, Result, Ok, Err}
+use Rattle.std.specs.Prelude.{◌≡◌, ◌≢◌, ℕ, ℤ, List, [], ◌∷◌, length, Option, Some, None, Result, Ok, Err}
 use Rattle.serde_json.specs.Data.{Members}
 use Rattle.jwt_keys.specs.KeySets.{KeyList, key_set, key_set_of}
 use Rattle.jwt_keys.specs.declared.fault.KeysFault.{KeysFault}

@@ -101,6 +101,9 @@ pub extern "C" fn fow_judge(
     ensures judged { IfSome validator.old.desk (λ d. result ≤ 1
         → IsJudgedBy d now token.now report.new validator.new.desk) }
 
+    // Claims are kept of an acceptance alone.
+    ensures claims { IfSome validator.new.desk (λ e. result ≢ 0 → e.last.claims ≡ None) }
+
     // Nothing was told of a pair that is asked about.
     ensures asks { IfSome validator.old.desk (λ d. result ≡ 2 → IsAsked d token.now report.new) }
 {

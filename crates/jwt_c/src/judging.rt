@@ -1,6 +1,6 @@
 //! Judges a token by what was told.
 
-ghost use Rattle.std.specs.Prelude.{◌≡◌, ◌∷◌, ◌≤◌, [], IfOk, length};
+ghost use Rattle.std.specs.Prelude.{◌≡◌, ◌≢◌, None, ◌∷◌, ◌≤◌, [], IfOk, length};
 ghost use Rattle.jwt_told.specs.Told.{told};
 ghost use Rattle.jwt_c.specs.Faults.{missing_in, bare, verdict_numbers};
 ghost use Rattle.jwt_c.specs.Reports.{IsNew, IsAsked, IsJudged, Keeps, claims_in, report_numbers};
@@ -49,6 +49,7 @@ fn missing(alloc: Global, verdict: &Verdict<'_>) -> Result<Vec<u8>, AllocError>
 /// A verdict that speaks of nothing more, of which nothing is kept.
 fn bare(alloc: Global, verdict: u32) -> Judging
     ensures numbers { report_numbers result.said ≡ bare verdict }
+    ensures claims { result.last.claims ≡ None }
 {
     Judging {
         said: FowReport::bare(verdict),
@@ -61,6 +62,7 @@ fn asking(alloc: Global, question: Question) -> Judging
     ensures verdict { result.said.verdict ≡ 2 }
     ensures signature { result.said.signature ≡ question.signature }
     ensures key { result.said.key ≡ question.key }
+    ensures claims { result.last.claims ≡ None }
 {
     let mut said = FowReport::bare(2);
     said.signature = question.signature;
@@ -88,6 +90,7 @@ fn kept(report: Report<'_>, work: u64, missing: Vec<u8>) -> Judging
     ensures tries { result.said.tries ≡ length report.entry.tries.items }
     ensures work { result.said.work ≡ work }
     ensures keeps { Keeps report.entry result.last }
+    ensures claims { result.said.verdict ≢ 0 → result.last.claims ≡ None }
 {
     let mut said = FowReport::of(&report.verdict);
     said.tries = report.tries.len() as u64;
@@ -113,6 +116,7 @@ pub(crate) fn report_on(alloc: Global, desk: &Desk, octets: &[u8], now: i64) -> 
     ensures judged { result.said.verdict ≤ 1
         → IsJudged desk.now now octets.now result.said result.last }
     ensures asks { result.said.verdict ≡ 2 → IsAsked desk.now octets.now result.said }
+    ensures claims { result.said.verdict ≢ 0 → result.last.claims ≡ None }
 {
     let mut budget = desk.policy.budget();
     match judge_told(
@@ -137,6 +141,7 @@ pub(crate) fn judge_desk(alloc: Global, desk: &mut Desk, octets: &[u8], now: i64
     ensures judged { result.verdict ≤ 1
         → IsJudged desk.old now octets.now result desk.new.last }
     ensures asks { result.verdict ≡ 2 → IsAsked desk.old octets.now result }
+    ensures claims { result.verdict ≢ 0 → desk.new.last.claims ≡ None }
     ensures policy { desk.new.policy ≡ desk.old.policy }
     ensures keys { desk.new.keys ≡ desk.old.keys }
     ensures told { told desk.new.answers ≡ told desk.old.answers }
