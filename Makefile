@@ -23,10 +23,14 @@ all: $(LIBRARIES) $(PACKAGES)
 $(ARCHIVE): $(CRATES)
 	cd crates/jwt_c && rt lib
 
-$(BUILD)/libfowharimu.a: $(ARCHIVE)
+$(BUILD)/fault_name.o: bindings/c/fault_name.c include/fowharimu.h
+	mkdir -p $(BUILD)
+	$(CC) $(CFLAGS) $(WARNINGS) -fPIC -Iinclude -c -o $@ bindings/c/fault_name.c
+
+$(BUILD)/libfowharimu.a: $(ARCHIVE) $(BUILD)/fault_name.o
 	rm -rf $(BUILD)/objects $@ && mkdir -p $(BUILD)/objects
 	cd $(BUILD)/objects && ar x $(abspath $(ARCHIVE)) && ar x $(LIBC)
-	ar rcs $@ $(BUILD)/objects/*.o
+	ar rcs $@ $(BUILD)/objects/*.o $(BUILD)/fault_name.o
 
 # Only the names of the headers are seen from outside.
 $(BUILD)/libfowharimu.so.0: $(BUILD)/libfowharimu.a bindings/c/fowharimu.map

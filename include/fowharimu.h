@@ -4,7 +4,7 @@
  *     fow_report report;
  *     uint32_t fault;
  *     if (fow_open(&validator, policy, policy_len, keys, keys_len, &fault) != FOW_OK) { ... }
- *     while (fow_judge(&validator, token, token_len, now, FOW_RSA_PROVED, &report) == FOW_ASKS) {
+ *     while (fow_judge(&validator, token, token_len, now, &report) == FOW_ASKS) {
  *         if (fow_ask(&validator, token, token_len, report.signature, report.key, out, out_len, &asked) != FOW_OK) break;
  *         bool valid = (your own cryptography on asked and out);
  *         if (fow_answer(&validator, token, token_len, report.signature, report.key, valid) != FOW_OK) break;
@@ -12,20 +12,20 @@
  *     if (report.verdict == FOW_OK) { ... it is accepted; every other verdict is none ... }
  *     fow_close(&validator);
  *
- * What is proved is said function by function below, and exactly by the clauses in crates/jwt_c/src. It holds for callers that keep
- * to these premises, which C can't check:
+ * What is proved is said function by function below, and exactly by the clauses in crates/jwt_c/src. It holds for callers that
+ * keep to these premises, which C can't check:
  *
- *  - A fow_validator is zeroed before its first use (FOW_VALIDATOR_INIT), is changed by these functions alone, isn't copied while it
- *    holds something, and is used by one call at a time. Another thread may use it after a lock or a join.
- *  - A pointer with a length beside it is to so many readable octets (const) or writable octets (else), fewer than 2^63. It isn't
- *    NULL, even where the length is 0: hand in the address of any octet then. Every other pointer is to one readable and writable
- *    value of its type, and isn't NULL.
+ *  - A fow_validator is zeroed before its first use (FOW_VALIDATOR_INIT), is changed by these functions alone, isn't copied
+ *    while it holds something, and is used by one call at a time. Another thread may use it after a lock or a join.
+ *  - A pointer with a length beside it is to so many readable octets (const) or writable octets (else), fewer than 2^63. It
+ *    isn't NULL, even where the length is 0: hand in the address of any octet then. Every other pointer is to one readable and
+ *    writable value of its type, and isn't NULL.
  *  - What a call writes to doesn't overlap with what it is handed, nor with the validator.
  *  - A bool is 0 or 1.
  *  - malloc, realloc and free are those of one allocator, and no call is made from a signal handler.
  *
- * A validator that was never opened, or was closed, is no error: a call answers FOW_NOT_OPEN then. Nothing is leaked where memory is
- * refused. Each call ends. Nothing is promised of time, or of keys that are left in memory. */
+ * A validator that was never opened, or was closed, is no error: a call answers FOW_NOT_OPEN then. Nothing is leaked where
+ * memory is refused. Each call ends. Nothing is promised of time, or of keys that are left in memory. */
 #ifndef FOWHARIMU_H
 #define FOWHARIMU_H
 
@@ -63,8 +63,8 @@ enum fow_fault {
     /* why a policy is refused */
     FOW_POLICY_JSON = 101,         /* no JSON text in UTF-8, or no object */
     FOW_POLICY_NAME_TWICE = 102,   /* a name stands twice in one object, at any depth */
-    FOW_POLICY_MEMBER = 103,       /* a member is unknown, or of another kind; fow_policy_member names it */
-    FOW_POLICY_RANGE = 104,        /* a member's value is out of its range; fow_policy_member names it */
+    FOW_POLICY_MEMBER = 103,       /* a member is unknown, or of another kind; `fow_open` doesn't say which */
+    FOW_POLICY_RANGE = 104,        /* a member's value is out of its range; `fow_open` doesn't say which */
     FOW_POLICY_NO_ALGORITHM = 105, /* the list `algs` is absent or empty */
     FOW_POLICY_TOO_LONG = 106,     /* more than 65,536 octets */
 
@@ -214,10 +214,10 @@ enum fow_kind {
     FOW_P521 = 521
 };
 
-/* A question: did this key make this signature over this signing input by this algorithm? Its octets stand one after another in what
- * fow_ask writes: the signing input, the signature, the key's first member and its second. The members are the modulus and the
- * exponent of an RSA key, the coordinates x and y of an EC key, x and nothing of an OKP key: as the key set spells them, big-endian. A
- * signature by ES256, ES384 or ES512 is r and s, one after another (RFC 7518, section 3.4), and no DER. */
+/* A question: did this key make this signature over this signing input by this algorithm? Its octets stand one after another in
+ * what fow_ask writes: the signing input, the signature, the key's first member and its second. The members are the modulus and
+ * the exponent of an RSA key, the coordinates x and y of an EC key, x and nothing of an OKP key: as the key set spells them,
+ * big-endian. A signature by ES256, ES384 or ES512 is r and s, one after another (RFC 7518, section 3.4), and no DER. */
 typedef struct fow_question {
     uint32_t alg;     /* enum fow_alg */
     uint32_t kind;    /* enum fow_kind */
@@ -230,95 +230,96 @@ typedef struct fow_question {
 /* The form of a token (RFC 7515, section 7). */
 enum fow_form { FOW_COMPACT = 1, FOW_GENERAL = 2, FOW_FLATTENED = 3 };
 
-/* Who verifies RS256, RS384, RS512, PS256, PS384 and PS512. */
-enum fow_rsa {
-    FOW_RSA_ASKED = 0, /* the caller, who is asked */
-    FOW_RSA_PROVED = 1 /* this library: it accepts what RFC 8017 does, with keys of 2,048 to 8,192 bits */
-};
-
 /* Reads a policy and a key set.
  *
- * Proved: FOW_OK: the policy and the key set that these octets spell are held from now on, and nothing is told. FOW_REFUSED: *fault
- * says why the first of the two that is refused is refused. FOW_OUT_OF_MEMORY: memory was refused. Where the answer isn't FOW_OK, the
- * validator holds what it held. The octets aren't needed any more after the call.
+ * Proved: FOW_OK: the policy and the key set that these octets spell are held from now on, and nothing is told. FOW_REFUSED:
+ * *fault says why the first of the two that is refused is refused. FOW_OUT_OF_MEMORY: memory was refused. Where the answer
+ * isn't FOW_OK, the validator holds what it held. The octets aren't needed any more after the call.
  *
- * A caller who answers questions sets `max_calls` in the policy: each question is a try, so `max_calls` bounds how many are asked of
- * one token. Without it a token of 32 signatures may raise a question for each of them and each key of the set. */
+ * A caller who answers questions sets `max_calls` in the policy: each question is a try, so `max_calls` bounds how many are
+ * asked of one token. Without it a token of 32 signatures may raise a question for each of them and each key of the set. */
 uint32_t fow_open(fow_validator *validator, const uint8_t *policy, size_t policy_len, const uint8_t *keys, size_t keys_len,
     uint32_t *fault);
 
 /* Frees what is held. It may be called twice, and before anything was opened. Proved: the validator holds nothing. */
 void fow_close(fow_validator *validator);
 
-/* Judges a token at a moment, in seconds since 1970-01-01T00:00:00Z. It answers the verdict, which *report has too. `rsa` is enum
- * fow_rsa; any number but FOW_RSA_PROVED is FOW_RSA_ASKED.
+/* Judges a token at a moment, in seconds since 1970-01-01T00:00:00Z. It answers the verdict, which *report has too.
  *
- * Proved: what is accepted or refused, and all that *report says of it, is the verdict of validate's contract on these octets under
- * the policy, the key set and the moment, where the verifiers are: HMAC; the proved one of RSA, where it is chosen; and for the other
- * algorithms what was told. So where each answer that was told is right, it is the verdict under what is right. Of FOW_ASKS: nothing
- * was told of whether the key of this number made the signature of this number. FOW_NOT_OPEN: nothing is held. */
-uint32_t fow_judge(fow_validator *validator, const uint8_t *token, size_t token_len, int64_t now, uint32_t rsa,
-    fow_report *report);
+ * Proved: what is accepted or refused, and all that *report says of it, is the verdict of validate's contract on these octets
+ * under the policy, the key set and the moment, where HMAC is verified and for the other algorithms what was told is believed.
+ * Where each answer that was told is right, it is the verdict under what is right. Of FOW_ASKS: nothing was told of whether the
+ * key of this number made the signature of this number. FOW_NOT_OPEN: nothing is held. FOW_OUT_OF_MEMORY: nothing is said. */
+uint32_t fow_judge(fow_validator *validator, const uint8_t *token, size_t token_len, int64_t now, fow_report *report);
 
-/* What became of signature `signature` of the token that was judged last. Proved: FOW_OK: that is what the report of fow_judge's
- * contract says of it. FOW_ABSENT: the report has no such signature. FOW_NOT_OPEN: nothing is held. */
+/* What became of signature `signature` of the token that was judged last. Proved: FOW_OK: that is what is kept of it, which
+ * after an acceptance or a refusal is what validate's report says; FOW_ABSENT, and nothing else, where that has no such
+ * signature. After a verdict of another kind nothing is kept. FOW_NOT_OPEN: nothing is held. */
 uint32_t fow_state_of(fow_validator *validator, uint32_t signature, fow_state *state);
 
 /* Try `n`, from 0, of the last judging. Proved as with fow_state_of. */
 uint32_t fow_try_of(fow_validator *validator, uint64_t n, fow_try *tried);
 
-/* The name of the claim that the last judging's fault speaks of. FOW_ABSENT: it speaks of none. */
+/* The name of the claim that the last judging found missing (FOW_CLAIM_MISSING), as the policy spells it. FOW_ABSENT: it found
+ * none missing, or one whose name is empty. */
 uint32_t fow_refused_claim(fow_validator *validator, uint8_t *out, size_t out_len, size_t *written);
 
 /* Writes a question at the front of `out`. The token's length and 16,384 octets are always enough.
  *
- * Proved: FOW_OK: `out` begins with the question whether key `key` of the set made signature `signature` of the token, and *asked has
- * its sizes. FOW_ABSENT: the octets are no token, or there is no such pair. */
+ * Proved: FOW_OK: `out` begins with the question whether key `key` of the set made signature `signature` of the token, and
+ * *asked has its sizes. FOW_ABSENT: the octets are no token, or there is no such pair. */
 uint32_t fow_ask(fow_validator *validator, const uint8_t *token, size_t token_len, uint32_t signature, uint32_t key, uint8_t *out,
     size_t out_len, fow_question *asked);
 
-/* Tells whether the key made the signature. Later verdicts rest on it, for this very algorithm, key, signing input and signature, and
- * for nothing else. Where the same question is answered twice, the first answer counts.
+/* Tells whether the key made the signature. Later verdicts rest on it, for this very algorithm, key, signing input and
+ * signature, and for nothing else. Where the same question is answered twice, the first answer counts.
  *
- * Proved: FOW_OK: exactly this answer is told besides those told before. Else what was told is as before. FOW_ABSENT: the octets are
- * no token, or there is no such pair. */
+ * Proved: FOW_OK: exactly this answer is told besides those told before. Else what was told is as before. FOW_ABSENT: the
+ * octets are no token, or there is no such pair. */
 uint32_t fow_answer(fow_validator *validator, const uint8_t *token, size_t token_len, uint32_t signature, uint32_t key, bool valid);
 
-/* Forgets what was told: do so from time to time, since all answers are kept until then. Proved: nothing is told, and the policy and
- * the key set are as before. */
+/* Tells what this library's proved verifier of RSA says of the signature, in place of fow_ask and fow_answer: for RS256, RS384,
+ * RS512, PS256, PS384 and PS512. It accepts what RFC 8017 does, with keys of 2,048 to 8,192 bits.
+ *
+ * Proved: FOW_OK: exactly that answer is told besides those told before. Else what was told is as before. FOW_ABSENT: the
+ * octets are no token, there is no such pair, or its algorithm is another one. */
+uint32_t fow_answer_rsa(fow_validator *validator, const uint8_t *token, size_t token_len, uint32_t signature, uint32_t key);
+
+/* Forgets what was told: do so from time to time, since all answers are kept until then. Proved: nothing is told, and the
+ * policy and the key set are as before. */
 void fow_forget(fow_validator *validator);
 
 /* Writes the octets of the payload of a token, whether it was judged or not: judge it first.
  *
- * Proved: FOW_OK: `out` begins with the payload, which has *written octets. FOW_ABSENT: the octets are no token under the policy. */
+ * Proved: FOW_OK: `out` begins with the payload, which has *written octets. FOW_ABSENT: the octets are no token under the
+ * policy. */
 uint32_t fow_payload(fow_validator *validator, const uint8_t *token, size_t token_len, uint8_t *out, size_t out_len,
     size_t *written);
 
-/* Writes a claim of the token that was accepted last, as compact JSON text, by its name in UTF-8. FOW_ABSENT: the last verdict was no
- * acceptance, or there is no such claim. */
-uint32_t fow_claim(fow_validator *validator, const uint8_t *name, size_t name_len, uint8_t *out, size_t out_len, size_t *written);
-
-/* Writes the name of a fault, as the program `jwt` prints it, such as `Expired`: at most 24 octets. FOW_ABSENT: no fault has this
- * number. */
-uint32_t fow_fault_name(uint32_t fault, uint8_t *out, size_t out_len, size_t *written);
-
-/* Writes the name of the member for which a policy is refused, as the policy spells it. FOW_ABSENT: the policy isn't refused for a
- * member. */
-uint32_t fow_policy_member(const uint8_t *policy, size_t policy_len, uint8_t *out, size_t out_len, size_t *written);
-
-/* Writes what stands in a token, in any form, with nothing of it verified: the lines that `jwt show` prints. FOW_REFUSED: the octets
- * are no signed token; *report has the fault with its part and signature, and no verdict rests on it. */
-uint32_t fow_show(const uint8_t *token, size_t token_len, uint8_t *out, size_t out_len, size_t *written, fow_report *report);
-
-/* Issues the claims, signed by HMAC: `alg` is FOW_HS256, FOW_HS384 or FOW_HS512, `form` is enum fow_form. In compact and flattened
- * form key `key` of the set signs, in general form each readable key of the set, in order, and `key` isn't looked at. `typ` is the
- * header's media type in UTF-8, and none where typ_len is 0.
+/* Writes a claim of the token that was accepted last, by its name in UTF-8, as compact JSON text: of a text or a list of texts.
  *
- * Proved: FOW_OK: `out` begins with the token that the issuing contract gives for these claims, which has *written octets.
- * FOW_REFUSED: *report says why, with the signature or the claim that the fault speaks of. FOW_ABSENT: there is no such algorithm or
- * form, or `typ` isn't UTF-8. */
-uint32_t fow_issue(fow_validator *validator, uint32_t alg, uint32_t form, uint32_t key, const uint8_t *typ, size_t typ_len,
-    const uint8_t *claims, size_t claims_len, uint8_t *out, size_t out_len, size_t *written, fow_report *report);
+ * Proved: FOW_OK: `out` begins with that text, which has *written octets. FOW_ABSENT: the last verdict was no acceptance, the
+ * payload has no such claim, or it is of another kind. */
+uint32_t fow_claim(fow_validator *validator, const uint8_t *name, size_t name_len, uint8_t *out, size_t out_len,
+    size_t *written);
+
+/* A claim of the token that was accepted last that is a whole number of 64 signed bits, such as `exp`. Proved: FOW_OK: *number
+ * is that number. FOW_ABSENT: there is none, as with fow_claim. */
+uint32_t fow_number(fow_validator *validator, const uint8_t *name, size_t name_len, int64_t *number);
+
+/* Issues the claims as a token signed by HMAC, with no `typ`: `alg` is FOW_HS256, FOW_HS384 or FOW_HS512, `form` is enum
+ * fow_form. In compact and flattened form key `key` of the set signs; in general form each readable key, in order, and `key`
+ * isn't looked at.
+ *
+ * Proved: FOW_OK: `out` begins with the token that the contract of issuing gives for these claims, which has *written octets.
+ * FOW_REFUSED: *report has the fault, with the signature or the claim that it speaks of. FOW_ABSENT: there is no such algorithm
+ * or form. *report is written for FOW_REFUSED alone. */
+uint32_t fow_issue(fow_validator *validator, uint32_t alg, uint32_t form, uint32_t key, const uint8_t *claims, size_t claims_len,
+    uint8_t *out, size_t out_len, size_t *written, fow_report *report);
+
+/* The name of a fault, as the program `jwt` prints it, such as `Expired`; empty where no fault has this number. It isn't to be freed.
+ * It is C, and tested. */
+const char *fow_fault_name(uint32_t fault);
 
 #ifdef __cplusplus
 }

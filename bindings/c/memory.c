@@ -60,13 +60,7 @@ static uint32_t open_it(void)
 static uint32_t judge_it(void)
 {
     fow_report report;
-    return fow_judge(&validator, token.at, token.len, NOW, FOW_RSA_PROVED, &report);
-}
-
-static uint32_t judge_asking(void)
-{
-    fow_report report;
-    return fow_judge(&validator, token.at, token.len, NOW, FOW_RSA_ASKED, &report);
+    return fow_judge(&validator, token.at, token.len, NOW, &report);
 }
 
 static uint32_t ask_it(void)
@@ -78,6 +72,11 @@ static uint32_t ask_it(void)
 static uint32_t answer_it(void)
 {
     return fow_answer(&validator, token.at, token.len, 0, 0, true);
+}
+
+static uint32_t answer_by_rsa(void)
+{
+    return fow_answer_rsa(&validator, token.at, token.len, 0, 0);
 }
 
 static uint32_t payload_of_it(void)
@@ -92,19 +91,12 @@ static uint32_t claim_of_it(void)
     return fow_claim(&validator, (const uint8_t *)"iss", 3, out, sizeof out, &written);
 }
 
-static uint32_t show_it(void)
-{
-    size_t written;
-    fow_report report;
-    return fow_show(token.at, token.len, out, sizeof out, &written, &report);
-}
-
 static uint32_t issue_it(void)
 {
     size_t written;
     fow_report report;
-    return fow_issue(&validator, FOW_HS256, FOW_GENERAL, 0, (const uint8_t *)"JWT", 3, (const uint8_t *)"{\"iss\":\"joe\"}", 13, out,
-        sizeof out, &written, &report);
+    return fow_issue(&validator, FOW_HS256, FOW_GENERAL, 0, (const uint8_t *)"{\"iss\":\"joe\"}", 13, out, sizeof out, &written,
+        &report);
 }
 
 /* Refuses each allocation of a call in turn, and then all after it, until the call needs no more. */
@@ -124,21 +116,22 @@ static void refuse_each(const char *name, uint32_t (*call)(void), uint32_t right
     printf("%s: %ld allocations refused in turn\n", name, refused);
 }
 
-static void refuse_on(const char *name)
+/* The calls on a token that is accepted at once, or on one by RSA, which raises a question. */
+static void refuse_on(const char *name, uint32_t verdict)
 {
-    long before = held;
     read_named(&policy, name, "policy");
     read_named(&keys, name, "keys");
     read_named(&token, name, "jwt");
-    before = held;
+    long before = held;
     refuse_each("fow_open", open_it, FOW_OK);
-    refuse_each("fow_judge", judge_it, FOW_OK);
-    refuse_each("fow_claim", claim_of_it, FOW_OK);
+    refuse_each("fow_judge", judge_it, verdict);
     refuse_each("fow_payload", payload_of_it, FOW_OK);
-    refuse_each("fow_show", show_it, FOW_OK);
     refuse_each("fow_ask", ask_it, FOW_OK);
     refuse_each("fow_answer", answer_it, FOW_OK);
-    refuse_each("fow_judge, told", judge_asking, FOW_OK);
+    refuse_each("fow_judge, told", judge_it, FOW_OK);
+    refuse_each("fow_claim", claim_of_it, FOW_OK);
+    fow_forget(&validator);
+    refuse_each("fow_answer_rsa", answer_by_rsa, verdict == FOW_ASKS ? FOW_OK : FOW_ABSENT);
     fow_close(&validator);
     CHECK(held == before);
 }
@@ -146,8 +139,8 @@ static void refuse_on(const char *name)
 int main(int argc, char **argv)
 {
     CHECK(argc == 3);
-    refuse_on(argv[2]);
-    refuse_on(argv[1]);
+    refuse_on(argv[2], FOW_ASKS);
+    refuse_on(argv[1], FOW_OK);
     CHECK(open_it() == FOW_OK);
     long before = held;
     refuse_each("fow_issue", issue_it, FOW_OK);

@@ -24,16 +24,19 @@ static void check_unopened(fow_validator *validator)
     fow_state state;
     fow_try tried;
     fow_question asked;
-    CHECK(fow_judge(validator, out, 0, NOW, FOW_RSA_PROVED, &report) == FOW_NOT_OPEN);
+    CHECK(fow_judge(validator, out, 0, NOW, &report) == FOW_NOT_OPEN);
     CHECK(report.verdict == FOW_NOT_OPEN && report.tries == 0);
     CHECK(fow_state_of(validator, 0, &state) == FOW_NOT_OPEN);
     CHECK(fow_try_of(validator, 0, &tried) == FOW_NOT_OPEN);
     CHECK(fow_refused_claim(validator, out, sizeof out, &written) == FOW_NOT_OPEN);
     CHECK(fow_ask(validator, out, 0, 0, 0, out + 1, sizeof out - 1, &asked) == FOW_NOT_OPEN);
     CHECK(fow_answer(validator, out, 0, 0, 0, true) == FOW_NOT_OPEN);
+    CHECK(fow_answer_rsa(validator, out, 0, 0, 0) == FOW_NOT_OPEN);
     CHECK(fow_payload(validator, out, 0, out + 1, sizeof out - 1, &written) == FOW_NOT_OPEN);
     CHECK(fow_claim(validator, (const uint8_t *)"iss", 3, out, sizeof out, &written) == FOW_NOT_OPEN);
-    CHECK(fow_issue(validator, FOW_HS256, FOW_COMPACT, 0, (const uint8_t *)"", 0, (const uint8_t *)"{}", 2, out, sizeof out, &written, &report)
+    int64_t number;
+    CHECK(fow_number(validator, (const uint8_t *)"exp", 3, &number) == FOW_NOT_OPEN);
+    CHECK(fow_issue(validator, FOW_HS256, FOW_COMPACT, 0, (const uint8_t *)"{}", 2, out, sizeof out, &written, &report)
         == FOW_NOT_OPEN);
     fow_forget(validator);
     fow_close(validator);
@@ -49,7 +52,7 @@ static void check_refused_documents(const char *name)
     CHECK(fow_open(&validator, policy.at, 0, keys.at, 0, &fault) == FOW_REFUSED && fault == FOW_POLICY_JSON);
     open_named(&validator, name);
     CHECK(fow_open(&validator, policy.at, policy.len, keys.at, keys.len - 2, &fault) == FOW_REFUSED && fault == FOW_KEYS_JSON);
-    CHECK(fow_judge(&validator, token.at, token.len, NOW, FOW_RSA_PROVED, &report) == FOW_OK);
+    CHECK(fow_judge(&validator, token.at, token.len, NOW, &report) == FOW_OK);
     fow_close(&validator);
 }
 
@@ -63,9 +66,9 @@ static void check_no_token(const char *name)
     fow_report report;
     fow_question asked;
     open_named(&validator, name);
-    CHECK(fow_judge(&validator, zeros, 0, NOW, FOW_RSA_PROVED, &report) == FOW_REFUSED && report.fault == FOW_FORM_EMPTY);
-    CHECK(fow_judge(&validator, zeros, sizeof zeros, NOW, FOW_RSA_PROVED, &report) == FOW_REFUSED && report.fault == FOW_TEXT_TOO_LONG);
-    CHECK(fow_judge(&validator, zeros, 3, NOW, FOW_RSA_PROVED, &report) == FOW_REFUSED && report.fault == FOW_FORM_SEGMENTS);
+    CHECK(fow_judge(&validator, zeros, 0, NOW, &report) == FOW_REFUSED && report.fault == FOW_FORM_EMPTY);
+    CHECK(fow_judge(&validator, zeros, sizeof zeros, NOW, &report) == FOW_REFUSED && report.fault == FOW_TEXT_TOO_LONG);
+    CHECK(fow_judge(&validator, zeros, 3, NOW, &report) == FOW_REFUSED && report.fault == FOW_FORM_SEGMENTS);
     CHECK(fow_ask(&validator, zeros, 3, 0, 0, out, sizeof out, &asked) == FOW_ABSENT);
     CHECK(fow_answer(&validator, zeros, 3, 0, 0, true) == FOW_ABSENT);
     CHECK(fow_payload(&validator, zeros, 3, out, sizeof out, &written) == FOW_ABSENT);
@@ -84,24 +87,26 @@ static void check_answers(const char *hmac, const char *rsa)
     open_named(&one, hmac);
     token.at[token.len - 1] ^= 4;
     fow_answer(&one, token.at, token.len, 0, 0, true);
-    CHECK(fow_judge(&one, token.at, token.len, NOW, FOW_RSA_ASKED, &report) == FOW_REFUSED && report.fault == FOW_SIG_BAD_SIGNATURE);
+    CHECK(fow_judge(&one, token.at, token.len, NOW, &report) == FOW_REFUSED && report.fault == FOW_SIG_BAD_SIGNATURE);
     fow_close(&one);
 
     open_named(&one, rsa);
     open_named(&two, rsa);
     CHECK(fow_answer(&one, token.at, token.len, 1, 0, true) == FOW_ABSENT);
     CHECK(fow_answer(&one, token.at, token.len, 0, 1, true) == FOW_ABSENT);
-    CHECK(fow_judge(&one, token.at, token.len, NOW, FOW_RSA_ASKED, &report) == FOW_ASKS && report.signature == 0 && report.key == 0);
+    CHECK(fow_judge(&one, token.at, token.len, NOW, &report) == FOW_ASKS && report.signature == 0 && report.key == 0);
     CHECK(fow_ask(&one, token.at, token.len, 0, 0, out, 1, &asked) == FOW_TOO_SHORT);
     CHECK(fow_ask(&one, token.at, token.len, 0, 0, out, sizeof out, &asked) == FOW_OK);
     CHECK(asked.alg == FOW_RS256 && asked.kind == FOW_RSA && asked.second == 3 && memcmp(out, token.at, asked.input) == 0);
     CHECK(fow_answer(&one, token.at, token.len, 0, 0, false) == FOW_OK);
     CHECK(fow_answer(&one, token.at, token.len, 0, 0, true) == FOW_OK);
-    CHECK(fow_judge(&one, token.at, token.len, NOW, FOW_RSA_ASKED, &report) == FOW_REFUSED && report.fault == FOW_SIG_BAD_SIGNATURE);
-    CHECK(fow_judge(&one, token.at, token.len, NOW, FOW_RSA_PROVED, &report) == FOW_OK);
-    CHECK(fow_judge(&two, token.at, token.len, NOW, FOW_RSA_ASKED, &report) == FOW_ASKS);
+    CHECK(fow_judge(&one, token.at, token.len, NOW, &report) == FOW_REFUSED && report.fault == FOW_SIG_BAD_SIGNATURE);
+    CHECK(fow_judge(&two, token.at, token.len, NOW, &report) == FOW_ASKS);
     fow_forget(&one);
-    CHECK(fow_judge(&one, token.at, token.len, NOW, FOW_RSA_ASKED, &report) == FOW_ASKS);
+    CHECK(fow_judge(&one, token.at, token.len, NOW, &report) == FOW_ASKS);
+    CHECK(fow_answer_rsa(&one, token.at, token.len, 0, 1) == FOW_ABSENT);
+    CHECK(fow_answer_rsa(&one, token.at, token.len, 0, 0) == FOW_OK);
+    CHECK(fow_judge(&one, token.at, token.len, NOW, &report) == FOW_OK);
     fow_close(&one);
     fow_close(&two);
 }
@@ -116,15 +121,15 @@ static void check_issuing(const char *name)
     fow_report report;
     open_named(&validator, name);
     for (uint32_t form = FOW_COMPACT; form <= FOW_FLATTENED; form++) {
-        CHECK(fow_issue(&validator, FOW_HS256, form, 0, claims, 0, claims, claims_len, out, sizeof out, &written, &report) == FOW_OK);
-        CHECK(fow_judge(&validator, out, written, NOW, FOW_RSA_PROVED, &report) == FOW_OK);
+        CHECK(fow_issue(&validator, FOW_HS256, form, 0, claims, claims_len, out, sizeof out, &written, &report) == FOW_OK);
+        CHECK(fow_judge(&validator, out, written, NOW, &report) == FOW_OK);
     }
-    CHECK(fow_issue(&validator, FOW_HS256, FOW_COMPACT, 9, claims, 0, claims, claims_len, out, sizeof out, &written, &report) == FOW_REFUSED);
+    CHECK(fow_issue(&validator, FOW_HS256, FOW_COMPACT, 9, claims, claims_len, out, sizeof out, &written, &report) == FOW_REFUSED);
     CHECK(report.fault == FOW_ISSUE_NO_KEY);
-    CHECK(fow_issue(&validator, FOW_RS256, FOW_COMPACT, 0, claims, 0, claims, claims_len, out, sizeof out, &written, &report) == FOW_REFUSED);
+    CHECK(fow_issue(&validator, FOW_RS256, FOW_COMPACT, 0, claims, claims_len, out, sizeof out, &written, &report) == FOW_REFUSED);
     CHECK(report.fault == FOW_ISSUE_ALG_NOT_HMAC);
-    CHECK(fow_issue(&validator, 99, FOW_COMPACT, 0, claims, 0, claims, claims_len, out, sizeof out, &written, &report) == FOW_ABSENT);
-    CHECK(fow_issue(&validator, FOW_HS256, 9, 0, claims, 0, claims, claims_len, out, sizeof out, &written, &report) == FOW_ABSENT);
+    CHECK(fow_issue(&validator, 99, FOW_COMPACT, 0, claims, claims_len, out, sizeof out, &written, &report) == FOW_ABSENT);
+    CHECK(fow_issue(&validator, FOW_HS256, 9, 0, claims, claims_len, out, sizeof out, &written, &report) == FOW_ABSENT);
     fow_close(&validator);
 }
 

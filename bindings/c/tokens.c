@@ -11,7 +11,7 @@ static int has_no_claims(const char *name)
     return strstr(name, "rfc8037-a4") != NULL;
 }
 
-/* Whether the payload and a claim can be had of the accepted token. */
+/* Whether the payload and its claims can be had of the accepted token. */
 static void check_claims(fow_validator *validator, const octets *token)
 {
     uint8_t out[MOST];
@@ -22,6 +22,9 @@ static void check_claims(fow_validator *validator, const octets *token)
     CHECK(fow_claim(validator, (const uint8_t *)"iss", 3, out, sizeof out, &written) == FOW_OK);
     CHECK(written == 5 && memcmp(out, "\"joe\"", 5) == 0);
     CHECK(fow_claim(validator, (const uint8_t *)"none", 4, out, sizeof out, &written) == FOW_ABSENT);
+    int64_t exp = 0;
+    CHECK(fow_number(validator, (const uint8_t *)"exp", 3, &exp) == FOW_OK && exp == 1300819380);
+    CHECK(fow_number(validator, (const uint8_t *)"iss", 3, &exp) == FOW_ABSENT);
 }
 
 static void check_states(fow_validator *validator, const fow_report *report)

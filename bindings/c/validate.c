@@ -32,10 +32,8 @@ static octets read_file(const char *name)
 
 static void print_refusal(const char *what, const fow_report *report)
 {
-    uint8_t name[24];
-    size_t len = 0;
-    if (fow_fault_name(report->fault, name, sizeof name, &len) == FOW_OK)
-        printf("%s: %.*s, signature %" PRIu32 "\n", what, (int)len, (const char *)name, report->signature);
+    if (report->fault != FOW_NO_FAULT)
+        printf("%s: %s, signature %" PRIu32 "\n", what, fow_fault_name(report->fault), report->signature);
     else
         printf("%s: status %" PRIu32 "\n", what, report->verdict);
 }

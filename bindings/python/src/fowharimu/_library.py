@@ -7,8 +7,6 @@ import os
 from ctypes.util import find_library
 
 OK, REFUSED, ASKS, OUT_OF_MEMORY = 0, 1, 2, 3
-RSA_PROVED = 1
-NAME_ROOM = 24
 
 
 class CValidator(ctypes.Structure):
@@ -64,14 +62,12 @@ _REPORT = ctypes.POINTER(CReport)
 _SIGNATURES = {
     "fow_open": (_U32, [_VALIDATOR, *_IN, *_IN, ctypes.POINTER(_U32)]),
     "fow_close": (None, [_VALIDATOR]),
-    "fow_judge": (_U32, [_VALIDATOR, *_IN, ctypes.c_int64, _U32, _REPORT]),
     "fow_state_of": (_U32, [_VALIDATOR, _U32, ctypes.POINTER(CState)]),
     "fow_try_of": (_U32, [_VALIDATOR, ctypes.c_uint64, ctypes.POINTER(CTry)]),
     "fow_refused_claim": (_U32, [_VALIDATOR, *_OUT]),
     "fow_payload": (_U32, [_VALIDATOR, *_IN, *_OUT]),
-    "fow_fault_name": (_U32, [_U32, *_OUT]),
-    "fow_policy_member": (_U32, [*_IN, *_OUT]),
-    "fow_issue": (_U32, [_VALIDATOR, _U32, _U32, _U32, *_IN, *_IN, *_OUT, _REPORT]),
+    "fow_fault_name": (ctypes.c_char_p, [_U32]),
+    "fow_issue": (_U32, [_VALIDATOR, _U32, _U32, _U32, *_IN, *_OUT, _REPORT]),
     "fow_openssl_judge": (_U32, [ctypes.POINTER(COpenssl), _VALIDATOR, *_IN, ctypes.c_int64, _REPORT]),
     "fow_openssl_clear": (None, [ctypes.POINTER(COpenssl)]),
 }

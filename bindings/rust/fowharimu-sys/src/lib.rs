@@ -2,7 +2,7 @@
 #![no_std]
 #![allow(non_camel_case_types)]
 
-use core::ffi::c_void;
+use core::ffi::{c_char, c_void};
 
 pub const FOW_OK: u32 = 0;
 pub const FOW_REFUSED: u32 = 1;
@@ -72,15 +72,7 @@ extern "C" {
         written: *mut usize,
     ) -> u32;
 
-    pub fn fow_policy_member(
-        policy: *const u8,
-        policy_len: usize,
-        out: *mut u8,
-        out_len: usize,
-        written: *mut usize,
-    ) -> u32;
-
-    pub fn fow_fault_name(fault: u32, out: *mut u8, out_len: usize, written: *mut usize) -> u32;
+    pub fn fow_fault_name(fault: u32) -> *const c_char;
 
     pub fn fow_openssl_judge(
         crypto: *mut fow_openssl,

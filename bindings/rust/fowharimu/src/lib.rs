@@ -16,13 +16,14 @@ mod error;
 pub use error::{Error, Part};
 
 use fowharimu_sys as sys;
+use std::ffi::CStr;
 use std::ptr;
 use std::time::{SystemTime, UNIX_EPOCH};
 
-/// The most octets that the name of a fault has.
-const NAME_ROOM: usize = 24;
+/// The names of the claims, by the numbers from 1 that the library gives them.
+const CLAIMS: [&str; 7] = ["iss", "sub", "aud", "exp", "nbf", "iat", "jti"];
 
-/// The most octets that a claim's name or a member's name has: those of the longest policy document.
+/// The most octets that a claim's name has: those of the longest policy document.
 const WORD_ROOM: usize = 65_536;
 
 /// The claims of an accepted token.
@@ -80,7 +81,7 @@ impl Validator {
         };
         match status {
             sys::FOW_OK => Ok(validator),
-            sys::FOW_REFUSED => Err(document_refused(fault, policy)),
+            sys::FOW_REFUSED => Err(document_refused(fault)),
             _ => Err(Error::OutOfMemory),
         }
     }
@@ -156,12 +157,16 @@ impl Validator {
             6 => Error::Signature { fault, signature },
             _ => Error::Claims {
                 fault,
-                claim: self.refused_claim(),
+                claim: self.refused_claim(report.claim),
             },
         }
     }
 
-    fn refused_claim(&mut self) -> Option<String> {
+    fn refused_claim(&mut self, number: u32) -> Option<String> {
+        let place = usize::try_from(number).ok()?.checked_sub(1)?;
+        if let Some(name) = CLAIMS.get(place) {
+            return Some((*name).to_owned());
+        }
         let held = &mut self.held;
         // SAFETY: the octets are as many as their length says.
         written(WORD_ROOM, |out, room, len| unsafe {
@@ -190,25 +195,17 @@ fn part_of(part: u32) -> Option<Part> {
 }
 
 fn fault_name(fault: u32) -> String {
-    // SAFETY: the octets are as many as their length says.
-    written(NAME_ROOM, |out, room, len| unsafe {
-        sys::fow_fault_name(fault, out, room, len)
-    })
-    .unwrap_or_default()
+    // SAFETY: the name is a C string that is never freed.
+    let name = unsafe { CStr::from_ptr(sys::fow_fault_name(fault)) };
+    name.to_string_lossy().into_owned()
 }
 
-fn document_refused(fault: u32, policy: &[u8]) -> Error {
+fn document_refused(fault: u32) -> Error {
     let name = fault_name(fault);
     if fault / 100 == 2 {
-        return Error::Keys { fault: name };
-    }
-    // SAFETY: the octets are as many as their lengths say.
-    let member = written(WORD_ROOM, |out, room, len| unsafe {
-        sys::fow_policy_member(policy.as_ptr(), policy.len(), out, room, len)
-    });
-    Error::Policy {
-        fault: name,
-        member,
+        Error::Keys { fault: name }
+    } else {
+        Error::Policy { fault: name }
     }
 }
 

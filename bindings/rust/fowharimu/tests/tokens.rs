@@ -93,8 +93,7 @@ fn each_kind_of_refusal() {
     assert_eq!(
         opened.unwrap_err(),
         Error::Policy {
-            fault: named("Member"),
-            member: Some(named("audience"))
+            fault: named("Member")
         }
     );
 }

@@ -1,0 +1,92 @@
+/* bench HMAC RSA: the least time of a call, in microseconds of processor time, on a token by HMAC and one by RS256. */
+#include <fowharimu_openssl.h>
+#include <openssl/evp.h>
+#include <time.h>
+
+#include "octets.h"
+
+enum { ROUNDS = 400 };
+
+static octets policy, keys, token;
+
+static double moment(void)
+{
+    struct timespec now;
+    clock_gettime(CLOCK_PROCESS_CPUTIME_ID, &now);
+    return (double)now.tv_sec * 1e6 + (double)now.tv_nsec * 1e-3;
+}
+
+#define TIME(label, times, call) \
+    do { \
+        double least = 1e18; \
+        for (int round = 0; round < ROUNDS; round++) { \
+            double from = moment(); \
+            for (int i = 0; i < (times); i++) { \
+                call; \
+            } \
+            double took = (moment() - from) / (times); \
+            if (took < least) \
+                least = took; \
+        } \
+        printf("%-48s %8.2f\n", label, least); \
+    } while (0)
+
+static void open_named(fow_validator *validator, const char *name)
+{
+    uint32_t fault;
+    read_named(&policy, name, "policy");
+    read_named(&keys, name, "keys");
+    read_named(&token, name, "jwt");
+    CHECK(fow_open(validator, policy.at, policy.len, keys.at, keys.len, &fault) == FOW_OK);
+}
+
+static void time_hmac(const char *name)
+{
+    static uint8_t out[MOST];
+    fow_validator validator = FOW_VALIDATOR_INIT;
+    fow_report report;
+    size_t written;
+    open_named(&validator, name);
+    CHECK(fow_judge(&validator, token.at, token.len, NOW, &report) == FOW_OK);
+    TIME("HS256: fow_judge", 200, fow_judge(&validator, token.at, token.len, NOW, &report));
+    TIME("HS256: fow_payload", 200, fow_payload(&validator, token.at, token.len, out, sizeof out, &written));
+    TIME("HS256: fow_openssl_judge", 200, fow_openssl_judge(&(fow_openssl)FOW_OPENSSL_INIT, &validator, token.at, token.len, NOW, &report));
+    fow_close(&validator);
+}
+
+/* What OpenSSL alone takes for the question that the token raises. */
+static void time_openssl(const fow_question *asked, const uint8_t *octets, EVP_PKEY *key)
+{
+    TIME("RS256: EVP_DigestVerify alone, the key in hand", 20, EVP_MD_CTX *context = EVP_MD_CTX_new();
+         CHECK(EVP_DigestVerifyInit(context, NULL, EVP_sha256(), NULL, key) == 1);
+         CHECK(EVP_DigestVerify(context, octets + asked->input, asked->signature, octets, asked->input) == 1);
+         EVP_MD_CTX_free(context));
+}
+
+static void time_rsa(const char *name)
+{
+    static uint8_t out[MOST];
+    fow_validator validator = FOW_VALIDATOR_INIT;
+    fow_openssl crypto = FOW_OPENSSL_INIT;
+    fow_report report;
+    fow_question asked;
+    open_named(&validator, name);
+    CHECK(fow_openssl_judge(&crypto, &validator, token.at, token.len, NOW, &report) == FOW_OK);
+    TIME("RS256: fow_judge and fow_answer_rsa", 20, fow_forget(&validator);
+         fow_judge(&validator, token.at, token.len, NOW, &report);
+         fow_answer_rsa(&validator, token.at, token.len, 0, 0);
+         fow_judge(&validator, token.at, token.len, NOW, &report));
+    TIME("RS256: fow_openssl_judge", 20, fow_openssl_judge(&crypto, &validator, token.at, token.len, NOW, &report));
+    CHECK(fow_ask(&validator, token.at, token.len, 0, 0, out, sizeof out, &asked) == FOW_OK);
+    time_openssl(&asked, out, crypto.keys[0]);
+    fow_openssl_clear(&crypto);
+    fow_close(&validator);
+}
+
+int main(int argc, char **argv)
+{
+    CHECK(argc == 3);
+    time_hmac(argv[1]);
+    time_rsa(argv[2]);
+    return 0;
+}

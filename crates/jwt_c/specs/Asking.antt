@@ -1,0 +1,115 @@
+-- Questions, as they are written for the caller, and their answers.
+use Rattle.std.specs.Prelude.{◌≡◌, ◌≢◌, ◌<◌, ℕ, Bool, false, if◌then◌else◌, ◌++◌, List, [], ◌∷◌, length, Option, Some, None, Result, Ok, Err}
+use Rattle.jwt_mac.specs.declared.algorithm.Alg.{Alg}
+use Rattle.jwt_mac.specs.declared.algorithm.Alg.TheVariants as alg
+use Rattle.jwt_mac.specs.declared.message.Curve.{Curve}
+use Rattle.jwt_mac.specs.declared.message.Curve.TheVariants.{P256, P384, P521}
+use Rattle.jwt_mac.specs.declared.message.EdCurve.{EdCurve}
+use Rattle.jwt_mac.specs.declared.message.EdCurve.TheVariants.{Ed25519, Ed448}
+use Rattle.jwt_mac.specs.Verifying.{KeyOctets, OctKey, RsaKey, EcKey, OkpKey, signing_input}
+use Rattle.jwt_jws.specs.Token.{Token}
+use Rattle.jwt_keys.specs.Keys.{KeyParts}
+use Rattle.jwt_rsa.specs.Meanings.{rsa_meaning}
+use Rattle.jwt_verify.specs.declared.report.Fault.{Fault}
+use Rattle.jwt_told.specs.Told.{ToldParts, told}
+use Rattle.jwt_told.specs.Questions.{QuestionParts, question_at}
+use Rattle.jwt_c.specs.declared.desk.Desk.{Desk}
+use Rattle.jwt_c.specs.declared.report.FowQuestion.{FowQuestion}
+use Rattle.jwt_c.specs.Written.{IsAbsent}
+
+-- the question whether key j made signature i of the token; none where the octets are no token, or there is no such pair
+abbrev pub asked_at : Result Token Fault → List KeyParts → ℕ → ℕ → Option QuestionParts
+asked_at (Ok t) keys i j = question_at t keys i j
+asked_at (Err f) keys i j = None
+
+abbrev pub alg_number : Alg → ℕ
+alg_number alg.HS256 = 1
+alg_number alg.HS384 = 2
+alg_number alg.HS512 = 3
+alg_number alg.RS256 = 4
+alg_number alg.RS384 = 5
+alg_number alg.RS512 = 6
+alg_number alg.PS256 = 7
+alg_number alg.PS384 = 8
+alg_number alg.PS512 = 9
+alg_number alg.ES256 = 10
+alg_number alg.ES384 = 11
+alg_number alg.ES512 = 12
+alg_number alg.EdDSA = 13
+
+abbrev curve_number : Curve → ℕ
+curve_number P256 = 256
+curve_number P384 = 384
+curve_number P521 = 521
+
+abbrev ed_curve_number : EdCurve → ℕ
+ed_curve_number Ed25519 = 255
+ed_curve_number Ed448 = 448
+
+abbrev pub kind_number : KeyOctets → ℕ
+kind_number (OctKey k) = 1
+kind_number (RsaKey n e) = 2
+kind_number (EcKey c x y) = curve_number c
+kind_number (OkpKey c x) = ed_curve_number c
+
+-- a key's first member: the secret, the modulus, the coordinate x
+abbrev pub key_first : KeyOctets → List ℕ
+key_first (OctKey k) = k
+key_first (RsaKey n e) = n
+key_first (EcKey c x y) = x
+key_first (OkpKey c x) = x
+
+-- its second: the exponent, the coordinate y
+abbrev pub key_second : KeyOctets → List ℕ
+key_second (OctKey k) = []
+key_second (RsaKey n e) = e
+key_second (EcKey c x y) = y
+key_second (OkpKey c x) = []
+
+-- what a question is written as: the signing input, the signature, the key's two members
+abbrev pub question_octets : QuestionParts → List ℕ
+question_octets q = signing_input q.message ++ q.signature ++ key_first q.key ++ key_second q.key
+
+-- the numbers and sizes of a question
+pub record IsSized (q : QuestionParts) (a : FowQuestion) : Type 0 where
+  pub alg : a.alg ≡ alg_number q.alg
+  pub kind : a.kind ≡ kind_number q.key
+  pub input : a.input ≡ length (signing_input q.message)
+  pub signature : a.signature ≡ length q.signature
+  pub first : a.first ≡ length (key_first q.key)
+  pub second : a.second ≡ length (key_second q.key)
+
+-- the question is written with its sizes, or there is too little room for it; unless memory was refused
+abbrev pub PutsQuestion : Option QuestionParts → ℕ → FowQuestion → List ℕ → List ℕ → Type 0
+PutsQuestion None status a old out = IsAbsent status
+PutsQuestion (Some q) status a old out = (status ≡ 0 → IsSized q a × ((more : List ℕ) × (out ≡ question_octets q ++ more)))
+    × (status ≢ 0 → status ≢ 3 → (status ≡ 5) × (length old < length (question_octets q)))
+
+abbrev pub told_of : QuestionParts → Bool → ToldParts
+told_of q valid = record { alg = q.alg; key = q.key; message = q.message; signature = q.signature; valid = valid }
+
+-- the same policy and key set, where this is told besides
+abbrev TellsOf : List ToldParts → Desk → Desk → Type 0
+TellsOf ts d e = (e.policy ≡ d.policy) × (e.keys ≡ d.keys) × (told e.answers ≡ told d.answers ++ ts)
+
+-- exactly this answer is told besides, unless memory was refused; where there is no question, nothing is
+abbrev pub TellsDesk : Option QuestionParts → Bool → ℕ → Desk → Desk → Type 0
+TellsDesk None valid status d e = IsAbsent status × (status ≢ 0) × (e.policy ≡ d.policy) × (e.keys ≡ d.keys) × (told e.answers ≡ told d.answers)
+TellsDesk (Some q) valid status d e = (status ≡ 0 → TellsOf (told_of q valid ∷ []) d e)
+    × (status ≢ 0 → (status ≡ 3) × (e.policy ≡ d.policy) × (e.keys ≡ d.keys) × (told e.answers ≡ told d.answers))
+
+abbrev pub IsTold : Option QuestionParts → Bool → ℕ → Desk → Option Desk → Type 0
+IsTold q valid status d None = ⊥
+IsTold q valid status d (Some e) = TellsDesk q valid status d e
+
+-- ---- the questions that the proved verifier of RSA answers
+
+-- the question, where it is about an algorithm that the verifier names
+abbrev pub rsa_asked : Option QuestionParts → Option QuestionParts
+rsa_asked None = None
+rsa_asked (Some q) = if rsa_meaning.named q.alg then Some q else None
+
+-- whether the verifier accepts the signature
+abbrev pub rsa_says : Option QuestionParts → Bool
+rsa_says None = false
+rsa_says (Some q) = rsa_meaning.accepts q.alg q.key q.message q.signature

@@ -1,0 +1,124 @@
+-- What an exported function writes and answers.
+use Rattle.std.specs.Prelude.{◌≡◌, ◌≢◌, ℕ, ℤ, List, [], ◌∷◌, length, Option, Some, None, Result, Ok, Err}
+use Rattle.serde_json.specs.Data.{Members}
+use Rattle.jwt_keys.specs.KeySets.{KeyList, key_set, key_set_of}
+use Rattle.jwt_keys.specs.declared.fault.KeysFault.{KeysFault}
+use Rattle.jwt_policy.specs.Settings.{Settings}
+use Rattle.jwt_policy.specs.declared.policy_fault.PolicyFault.{PolicyFault}
+use Rattle.jwt_policy.specs.Document.{policy_of}
+use Rattle.jwt_verify.specs.declared.report.SigState.{SigState}
+use Rattle.jwt_verify.specs.declared.report.SigState.TheVariants as state
+use Rattle.jwt_verify.specs.declared.report.Try.{Try}
+use Rattle.jwt_verify.specs.declared.report.Report.{Report}
+use Rattle.jwt_verify.specs.declared.report.Verdict.{Verdict}
+use Rattle.jwt_verify.specs.declared.report.Verdict.TheVariants.{Accepted, Refused}
+use Rattle.jwt_verify.specs.Accepted.{IsVerdict}
+use Rattle.jwt_verify.specs.Table.{work}
+use Rattle.jwt_verify.specs.Verdict.{token_of}
+use Rattle.jwt_verify.specs.Reports.{FoundMemory, IsReport, terms}
+use Rattle.jwt_told.specs.Told.{Truth, AreRight, told, told_meaning, true_meaning}
+use Rattle.jwt_told.specs.Questions.{IsOpen}
+use Rattle.jwt_c.specs.declared.desk.Desk.{Desk}
+use Rattle.jwt_c.specs.declared.desk.Last.{Last}
+use Rattle.jwt_c.specs.declared.report.FowReport.{FowReport}
+use Rattle.jwt_c.specs.declared.report.FowState.{FowState}
+use Rattle.jwt_c.specs.declared.report.FowTry.{FowTry}
+use Rattle.jwt_c.specs.Faults.{Numbers, keys_number, policy_number, sig_number, verdict_numbers, missing_in}
+
+abbrev pub report_numbers : FowReport → Numbers
+report_numbers r = record { verdict = r.verdict; fault = r.fault; part = r.part; signature = r.signature; key = r.key; claim = r.claim }
+
+-- ---- a signature's state, and a try
+
+-- a state (1 barred, 2 no key, 3 bad signature, 4 verified, 5 not reached, 6 stopped), its fault, its key
+pub record StateNumbers : Type 0 where
+  pub state : ℕ
+  pub fault : ℕ
+  pub key : ℕ
+
+abbrev pub state_parts : FowState → StateNumbers
+state_parts s = record { state = s.state; fault = s.fault; key = s.key }
+
+abbrev pub state_numbers : SigState → StateNumbers
+state_numbers (state.Barred f) = record { state = 1; fault = sig_number f; key = 0 }
+state_numbers state.NoKey = record { state = 2; fault = 0; key = 0 }
+state_numbers state.BadSignature = record { state = 3; fault = 0; key = 0 }
+state_numbers (state.Verified j) = record { state = 4; fault = 0; key = j }
+state_numbers state.NotReached = record { state = 5; fault = 0; key = 0 }
+state_numbers state.Stopped = record { state = 6; fault = 0; key = 0 }
+
+pub record TryNumbers : Type 0 where
+  pub cost : ℕ
+  pub signature : ℕ
+  pub key : ℕ
+
+abbrev pub try_of : FowTry → TryNumbers
+try_of t = record { cost = t.cost; signature = t.signature; key = t.key }
+
+abbrev pub try_parts : Try → TryNumbers
+try_parts t = record { cost = t.cost; signature = t.signature; key = t.key }
+
+-- ---- what a validator holds
+
+-- nothing is kept of a judging
+abbrev pub IsNew : Last → Type 0
+IsNew l = (l.states.items ≡ []) × (l.tries.items ≡ []) × (l.claims ≡ None) × (l.missing.items ≡ [])
+
+-- what was read from these documents is held, and nothing is told
+abbrev pub IsOpened : List ℕ → List ℕ → Option Desk → Type 0
+IsOpened policy keys None = ⊥
+IsOpened policy keys (Some d) = (policy_of policy ≡ Ok d.policy) × (key_set_of keys ≡ Ok (key_set d.keys)) × (told d.answers ≡ []) × IsNew d.last
+
+-- Why what these documents hold isn't held, by the status and the fault that are answered: the policy is refused for this fault, or it
+-- stands and the key set is; or memory was refused.
+abbrev pub RefusesKeys : Result KeyList KeysFault → ℕ → Type 0
+RefusesKeys (Ok s) fault = ⊥
+RefusesKeys (Err f) fault = fault ≡ keys_number f
+
+abbrev pub RefusesEither : Result Settings PolicyFault → Result KeyList KeysFault → ℕ → Type 0
+RefusesEither (Err f) keys fault = fault ≡ policy_number f
+RefusesEither (Ok p) keys fault = RefusesKeys keys fault
+
+abbrev pub IsRefused : List ℕ → List ℕ → ℕ → ℕ → Type 0
+IsRefused policy keys status fault = (status ≢ 0) × (status ≢ 3 → (status ≡ 1) × RefusesEither (policy_of policy) (key_set_of keys) fault)
+
+-- the same policy and key set are held, and the same is told
+abbrev pub IsAlike : Option Desk → Option Desk → Type 0
+IsAlike None None = Unit {0}
+IsAlike None (Some e) = ⊥
+IsAlike (Some d) None = ⊥
+IsAlike (Some d) (Some e) = (e.policy ≡ d.policy) × (e.keys ≡ d.keys) × (told e.answers ≡ told d.answers)
+
+-- the same policy and key set are held, and nothing is told
+abbrev pub IsForgotten : Option Desk → Option Desk → Type 0
+IsForgotten None None = Unit {0}
+IsForgotten None (Some e) = ⊥
+IsForgotten (Some d) None = ⊥
+IsForgotten (Some d) (Some e) = (e.policy ≡ d.policy) × (e.keys ≡ d.keys) × (told e.answers ≡ [])
+
+-- ---- a judging
+
+abbrev pub claims_in : Verdict → Option Members
+claims_in (Accepted i j claims) = Some claims
+claims_in (Refused f) = None
+
+-- what is kept of a report
+abbrev pub Keeps : Report → Last → Type 0
+Keeps r l = (l.states.items ≡ r.states.items) × (l.tries.items ≡ r.tries.items) × (l.claims ≡ claims_in r.verdict) × (l.missing.items ≡ missing_in r.verdict)
+
+-- The verdict and the numbers are those of validate's contract on x, where the one verifier is what was told; and where what was told
+-- is true, the verdict is the one under what is true.
+abbrev pub IsJudged : Desk → ℤ → List ℕ → FowReport → Last → Type 0
+IsJudged d now x said l = (r : Report)
+    × IsReport (terms d.policy d.keys now (told_meaning (told d.answers) ∷ [])) x d.policy.run.work r
+    × (FoundMemory r.verdict → (truth : Truth) → AreRight truth (told d.answers) → IsVerdict (terms d.policy d.keys now (true_meaning truth ∷ [])) x d.policy.run.work r.verdict)
+    × (report_numbers said ≡ verdict_numbers r.verdict) × (said.tries ≡ length r.tries.items) × (said.work ≡ work r.tries.items) × Keeps r l
+
+-- the report is judged so, and is what the desk that is held keeps
+abbrev pub IsJudgedBy : Desk → ℤ → List ℕ → FowReport → Option Desk → Type 0
+IsJudgedBy d now x said None = ⊥
+IsJudgedBy d now x said (Some e) = IsJudged d now x said e.last
+
+-- nothing was told of the pair that is named
+abbrev pub IsAsked : Desk → List ℕ → FowReport → Type 0
+IsAsked d x said = IsOpen (told d.answers) (token_of d.policy x) (key_set d.keys).keys said.signature said.key

@@ -1,0 +1,231 @@
+//! Questions, as they are written for the caller, and their answers.
+
+ghost use Rattle.std.specs.Prelude.{◌≡◌, IfOk, length, Some};
+ghost use Rattle.jwt_mac.specs.Verifying.{key_octets, signing_input};
+ghost use Rattle.jwt_keys.specs.KeySets.{key_set};
+ghost use Rattle.jwt_verify.specs.Verdict.{token_of};
+ghost use Rattle.jwt_told.specs.Questions.{question_parts};
+ghost use Rattle.jwt_c.specs.Asking.{asked_at, alg_number, kind_number, key_first, key_second, question_octets, PutsQuestion, TellsDesk, rsa_asked, rsa_says};
+
+use crate::desk::Desk;
+use crate::report::FowQuestion;
+use jwt_mac::{Alg, Answer, Curve, EdCurve, KeyView, Verifier};
+use jwt_rsa::Rsa;
+use jwt_told::{Asked, Question, read_token};
+use std::alloc::{AllocError, Global};
+
+/// The number of an algorithm.
+fn alg_number(alg: Alg) -> u32
+    ensures { result ≡ alg_number alg }
+{
+    match alg {
+        Alg::HS256 => 1,
+        Alg::HS384 => 2,
+        Alg::HS512 => 3,
+        Alg::RS256 => 4,
+        Alg::RS384 => 5,
+        Alg::RS512 => 6,
+        Alg::PS256 => 7,
+        Alg::PS384 => 8,
+        Alg::PS512 => 9,
+        Alg::ES256 => 10,
+        Alg::ES384 => 11,
+        Alg::ES512 => 12,
+        Alg::EdDSA => 13,
+    }
+}
+
+/// The number of a key's kind.
+fn kind_number(key: &KeyView) -> u32
+    ensures { result ≡ kind_number (key_octets key.now) }
+{
+    match key {
+        KeyView::Oct { .. } => 1,
+        KeyView::Rsa { .. } => 2,
+        KeyView::Ec { curve, .. } => match curve {
+            Curve::P256 => 256,
+            Curve::P384 => 384,
+            Curve::P521 => 521,
+        },
+        KeyView::Okp { curve, .. } => match curve {
+            EdCurve::Ed25519 => 255,
+            EdCurve::Ed448 => 448,
+        },
+    }
+}
+
+/// A key's first member.
+fn first<'a>(key: &KeyView<'a>) -> &'a [u8]
+    ensures { result.now ≡ key_first (key_octets key.now) }
+{
+    match key {
+        KeyView::Oct { k } => k,
+        KeyView::Rsa { n, .. } => n,
+        KeyView::Ec { x, .. } => x,
+        KeyView::Okp { x, .. } => x,
+    }
+}
+
+/// A key's second member; of a secret and of an OKP key none.
+fn second<'a>(key: &KeyView<'a>) -> &'a [u8]
+    ensures { result.now ≡ key_second (key_octets key.now) }
+{
+    match key {
+        KeyView::Oct { .. } => &[],
+        KeyView::Rsa { e, .. } => e,
+        KeyView::Ec { y, .. } => y,
+        KeyView::Okp { .. } => &[],
+    }
+}
+
+/// A question's octets, and how many of them are the signing input.
+#[derive(Drop)]
+struct Spelled {
+    all: Vec<u8>,
+    input: usize,
+}
+
+/// What a question is written as.
+fn spell(alloc: Global, asked: &Asked<'_>) -> Result<Spelled, AllocError>
+    ensures octets { IfOk result (λ s. s.all.items ≡ question_octets (question_parts asked.now)) }
+    ensures input { IfOk result (λ s.
+        s.input ≡ length (signing_input (question_parts asked.now).message)) }
+{
+    let mut all = Vec::from_slice(alloc, asked.message.protected)?;
+    all.push(b'.')?;
+    all.extend_from_slice(asked.message.payload)?;
+    let input = all.len();
+    all.extend_from_slice(asked.signature)?;
+    all.extend_from_slice(first(&asked.key))?;
+    all.extend_from_slice(second(&asked.key))?;
+    Ok(Spelled { all, input })
+}
+
+/// Writes a question at the front of `out`. 0; 3: memory was refused; 5: `out` is too short.
+fn write_question(alloc: Global, asked: &Asked<'_>, out: &mut [u8], into: &mut FowQuestion) -> u32
+    ensures { PutsQuestion (Some (question_parts asked.now)) result into.new out.old out.new }
+{
+    let Ok(Spelled { all, input }) = spell(alloc, asked) else {
+        return 3;
+    };
+    if all.len() > out.len() {
+        return 5;
+    }
+    out[..all.len()].copy_from_slice(&all);
+    *into = FowQuestion {
+        alg: alg_number(asked.alg),
+        kind: kind_number(&asked.key),
+        input,
+        signature: asked.signature.len(),
+        first: first(&asked.key).len(),
+        second: second(&asked.key).len(),
+    };
+    0
+}
+
+/// Writes the question about a pair at the front of `out`. 0; 3: memory was refused; 5: `out` is too short; 6: there is none.
+pub(crate) fn ask_about(
+    alloc: Global,
+    desk: &Desk,
+    token: &[u8],
+    signature: u32,
+    key: u32,
+    out: &mut [u8],
+    into: &mut FowQuestion,
+) -> u32
+    ensures { PutsQuestion
+        (asked_at (token_of desk.now.policy token.now) (key_set desk.now.keys).keys signature key)
+        result into.new out.old out.new }
+{
+    match read_token(alloc, token, &desk.policy) {
+        Ok(Some(signed)) => match (Question { signature, key }).about(&signed, &desk.keys) {
+            Some(asked) => write_question(alloc, &asked, out, into),
+            None => 6,
+        },
+        Ok(None) => 6,
+        Err(_) => 3,
+    }
+}
+
+/// Tells whether a key made a signature. 0; 3: memory was refused; 6: there is no such pair.
+pub(crate) fn tell(
+    alloc: Global,
+    desk: &mut Desk,
+    token: &[u8],
+    signature: u32,
+    key: u32,
+    valid: bool,
+) -> u32
+    ensures { TellsDesk (asked_at (token_of desk.old.policy token.now)
+        (key_set desk.old.keys).keys signature key) valid result desk.old desk.new }
+{
+    match read_token(alloc, token, &desk.policy) {
+        Ok(Some(signed)) => match (Question { signature, key }).about(&signed, &desk.keys) {
+            Some(asked) => match desk.answers.tell(
+                alloc,
+                asked.alg,
+                &asked.key,
+                asked.message,
+                asked.signature,
+                valid,
+            ) {
+                Ok(()) => 0,
+                Err(_) => 3,
+            },
+            None => 6,
+        },
+        Ok(None) => 6,
+        Err(_) => 3,
+    }
+}
+
+/// Whether the proved verifier of RSA accepts the signature.
+fn rsa_accepts(asked: &Asked<'_>) -> bool
+    ensures { result ≡ rsa_says (Some (question_parts asked.now)) }
+{
+    match Rsa.verify(asked.alg, &asked.key, asked.message, asked.signature) {
+        Answer::Valid => true,
+        _ => false,
+    }
+}
+
+/// Tells what the proved verifier of RSA says of a signature. 0; 3: memory was refused; 6: there is no such pair, or it is about
+/// another algorithm.
+pub(crate) fn tell_by_rsa(
+    alloc: Global,
+    desk: &mut Desk,
+    token: &[u8],
+    signature: u32,
+    key: u32,
+) -> u32
+    ensures { TellsDesk
+        (rsa_asked (asked_at (token_of desk.old.policy token.now)
+        (key_set desk.old.keys).keys signature key))
+        (rsa_says (asked_at (token_of desk.old.policy token.now)
+        (key_set desk.old.keys).keys signature key)) result desk.old desk.new }
+{
+    match read_token(alloc, token, &desk.policy) {
+        Ok(Some(signed)) => match (Question { signature, key }).about(&signed, &desk.keys) {
+            Some(asked) => {
+                if !Rsa.names(asked.alg) {
+                    return 6;
+                }
+                let accepts = rsa_accepts(&asked);
+                match desk.answers.tell(
+                    alloc,
+                    asked.alg,
+                    &asked.key,
+                    asked.message,
+                    asked.signature,
+                    accepts,
+                ) {
+                    Ok(()) => 0,
+                    Err(_) => 3,
+                }
+            }
+            None => 6,
+        },
+        Ok(None) => 6,
+        Err(_) => 3,
+    }
+}

@@ -1,0 +1,24 @@
+//! What a validator holds.
+
+use jwt_keys::KeySet;
+use jwt_policy::{Claims, Policy};
+use jwt_told::Answers;
+use jwt_verify::{SigState, Try};
+
+/// What is kept of the last judging.
+#[derive(Drop)]
+pub struct Last {
+    pub(crate) states: Vec<SigState>,
+    pub(crate) tries: Vec<Try>,
+    pub(crate) claims: Option<Claims>,
+    pub(crate) missing: Vec<u8>,
+}
+
+/// What a validator holds: a policy, a key set, what was told, and what is kept of the last judging.
+#[derive(Drop)]
+pub struct Desk {
+    pub(crate) policy: Policy,
+    pub(crate) keys: KeySet,
+    pub(crate) answers: Answers,
+    pub(crate) last: Last,
+}

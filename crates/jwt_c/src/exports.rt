@@ -1,0 +1,404 @@
+//! What C calls.
+
+ghost use Rattle.std.specs.Prelude.{◌≡◌, ◌≢◌, ◌≤◌, IfSome, Some, None, slice_get, IfOk, IfErr, IsUtf8};
+ghost use Rattle.jwt_keys.specs.KeySets.{key_set};
+ghost use Rattle.jwt_verify.specs.Verdict.{token_of};
+ghost use Rattle.jwt_c.specs.Reports.{IsOpened, IsRefused, IsAlike, IsForgotten, IsAsked, IsJudgedBy, report_numbers};
+ghost use Rattle.jwt_c.specs.Faults.{bare};
+ghost use Rattle.jwt_c.specs.Written.{PutsPayload, PutsName, IsState, IsTry, PutsSome, PutsNumber, claim_at, number_at};
+ghost use Rattle.jwt_c.specs.Asking.{asked_at, PutsQuestion, IsTold, rsa_asked, rsa_says};
+ghost use Rattle.jwt_c.specs.Issuing.{hmac_at, form_at, PutsIssued};
+ghost use Rattle.jwt_issue.specs.ClaimSets.{claim_set_of};
+
+use crate::asking::{ask_about, tell, tell_by_rsa};
+use crate::desk::{Desk, Last};
+use crate::faults::{keys_number, policy_number};
+use crate::handle::{Handle, take};
+use crate::issuing::{Wanted, form_at, hmac_at, put_issued};
+use crate::judging::judge_desk;
+use crate::report::{FowQuestion, FowReport, FowState, FowTry};
+use crate::writing::{number_at, payload_of, put, put_claim};
+use jwt_keys::{KeySet, KeysFault};
+use jwt_policy::{Policy, PolicyFault};
+use jwt_told::Answers;
+use std::alloc::Global;
+
+/// The desk of a policy and a key set, or the status and the number of the fault for which one of them is refused.
+fn desk_of(alloc: Global, policy: &[u8], keys: &[u8]) -> Result<Desk, (u32, u32)>
+    ensures opened { IfOk result (λ d. IsOpened policy.now keys.now (Some d)) }
+    ensures refused { IfErr result (λ e. IsRefused policy.now keys.now e.0 e.1) }
+{
+    let policy = match Policy::read(alloc, policy) {
+        Ok(policy) => policy,
+        Err(PolicyFault::OutOfMemory) => return Err((3, 0)),
+        Err(fault) => return Err((1, policy_number(&fault))),
+    };
+    let keys = match KeySet::read(alloc, keys) {
+        Ok(keys) => keys,
+        Err(KeysFault::OutOfMemory) => return Err((3, 0)),
+        Err(fault) => return Err((1, keys_number(fault))),
+    };
+    Ok(Desk {
+        policy,
+        keys,
+        answers: Answers::new(alloc),
+        last: Last::new(alloc),
+    })
+}
+
+/// Reads a policy and a key set. 0: they are held from now on; 1: one of them is refused, for the fault; 3: memory was refused. Where
+/// it isn't 0, what was held is held on.
+#[unsafe(no_mangle)]
+pub extern "C" fn fow_open(
+    validator: &mut Handle,
+    alloc: Global,
+    policy: &[u8],
+    keys: &[u8],
+    fault: &mut u32,
+) -> u32
+    ensures opened { result ≡ 0 → IsOpened policy.now keys.now validator.new.desk }
+    ensures refused { result ≢ 0 → IsRefused policy.now keys.now result fault.new }
+    ensures same { result ≢ 0 → validator.new.desk ≡ validator.old.desk }
+{
+    *fault = 0;
+    match desk_of(alloc, policy, keys) {
+        Ok(desk) => match Box::new(alloc, desk) {
+            Ok(desk) => {
+                *validator = Handle::of(desk);
+                0
+            }
+            Err(_) => 3,
+        },
+        Err((status, number)) => {
+            *fault = number;
+            status
+        }
+    }
+}
+
+/// Frees what is held, if anything is.
+#[unsafe(no_mangle)]
+pub extern "C" fn fow_close(validator: &mut Handle, alloc: Global)
+    ensures { validator.new.desk ≡ None }
+{
+    *validator = Handle::empty(alloc);
+}
+
+/// Judges a token at a moment, in seconds since 1970-01-01T00:00:00Z, and answers the verdict, which the report has too.
+#[unsafe(no_mangle)]
+pub extern "C" fn fow_judge(
+    validator: &mut Handle,
+    alloc: Global,
+    token: &[u8],
+    now: i64,
+    report: &mut FowReport,
+) -> u32
+    ensures verdict { result ≡ report.new.verdict }
+    ensures none { validator.old.desk ≡ None → report_numbers report.new ≡ bare 4 }
+    ensures alike { IsAlike validator.old.desk validator.new.desk }
+
+    // What is accepted or refused is judged by validate's contract, and what is kept of it is its report.
+    ensures judged { IfSome validator.old.desk (λ d. result ≤ 1
+        → IsJudgedBy d now token.now report.new validator.new.desk) }
+
+    // Claims are kept of an acceptance alone.
+    ensures claims { IfSome validator.new.desk (λ e. result ≢ 0 → e.last.claims ≡ None) }
+
+    // Nothing was told of a pair that is asked about.
+    ensures asks { IfSome validator.old.desk (λ d. result ≡ 2 → IsAsked d token.now report.new) }
+{
+    let Some(mut desk) = take(validator, alloc) else {
+        *report = FowReport::bare(4);
+        return 4;
+    };
+    let said = judge_desk(alloc, &mut desk, token, now);
+    *report = said;
+    *validator = Handle::of(desk);
+    said.verdict
+}
+
+/// What became of a signature of the token that was judged last. 0; 6: the report has no such signature; 4: nothing is held.
+#[unsafe(no_mangle)]
+pub extern "C" fn fow_state_of(
+    validator: &mut Handle,
+    alloc: Global,
+    signature: u32,
+    state: &mut FowState,
+) -> u32
+    ensures same { validator.new.desk ≡ validator.old.desk }
+    ensures none { validator.old.desk ≡ None → result ≡ 4 }
+    ensures state { IfSome validator.old.desk (λ d.
+        IsState (slice_get d.last.states.items signature) result state.new) }
+{
+    let Some(desk) = take(validator, alloc) else {
+        return 4;
+    };
+    let status = match desk.last.states.get(signature as usize) {
+        Some(found) => {
+            *state = FowState::of(*found);
+            0
+        }
+        None => 6,
+    };
+    *validator = Handle::of(desk);
+    status
+}
+
+/// A try of the last judging, from 0. 0; 6: the report has no such try; 4: nothing is held.
+#[unsafe(no_mangle)]
+pub extern "C" fn fow_try_of(
+    validator: &mut Handle,
+    alloc: Global,
+    n: u64,
+    tried: &mut FowTry,
+) -> u32
+    ensures same { validator.new.desk ≡ validator.old.desk }
+    ensures none { validator.old.desk ≡ None → result ≡ 4 }
+    ensures tried { IfSome validator.old.desk (λ d.
+        IsTry (slice_get d.last.tries.items n) result tried.new) }
+{
+    let Some(desk) = take(validator, alloc) else {
+        return 4;
+    };
+    let status = match desk.last.tries.get(n as usize) {
+        Some(found) => {
+            *tried = FowTry::of(*found);
+            0
+        }
+        None => 6,
+    };
+    *validator = Handle::of(desk);
+    status
+}
+
+/// Writes a question at the front of `out`. 0; 3: memory was refused; 4: nothing is held; 5: `out` is too short; 6: there is no such
+/// pair.
+#[unsafe(no_mangle)]
+pub extern "C" fn fow_ask(
+    validator: &mut Handle,
+    alloc: Global,
+    token: &[u8],
+    signature: u32,
+    key: u32,
+    out: &mut [u8],
+    asked: &mut FowQuestion,
+) -> u32
+    ensures same { validator.new.desk ≡ validator.old.desk }
+    ensures none { validator.old.desk ≡ None → result ≡ 4 }
+    ensures question { IfSome validator.old.desk (λ d. PutsQuestion
+        (asked_at (token_of d.policy token.now) (key_set d.keys).keys signature key)
+        result asked.new out.old out.new) }
+{
+    let Some(desk) = take(validator, alloc) else {
+        return 4;
+    };
+    let status = ask_about(alloc, &desk, token, signature, key, out, asked);
+    *validator = Handle::of(desk);
+    status
+}
+
+/// Tells whether a key made a signature. 0: that is told from now on; 3: memory was refused; 4: nothing is held; 6: there is no such
+/// pair.
+#[unsafe(no_mangle)]
+pub extern "C" fn fow_answer(
+    validator: &mut Handle,
+    alloc: Global,
+    token: &[u8],
+    signature: u32,
+    key: u32,
+    valid: bool,
+) -> u32
+    ensures none { validator.old.desk ≡ None → (result ≡ 4) × (validator.new.desk ≡ None) }
+    ensures told { IfSome validator.old.desk (λ d. IsTold
+        (asked_at (token_of d.policy token.now) (key_set d.keys).keys signature key)
+        valid result d validator.new.desk) }
+{
+    let Some(mut desk) = take(validator, alloc) else {
+        return 4;
+    };
+    let status = tell(alloc, &mut desk, token, signature, key, valid);
+    *validator = Handle::of(desk);
+    status
+}
+
+/// Forgets what was told.
+#[unsafe(no_mangle)]
+pub extern "C" fn fow_forget(validator: &mut Handle, alloc: Global)
+    ensures { IsForgotten validator.old.desk validator.new.desk }
+{
+    if let Some(mut desk) = take(validator, alloc) {
+        desk.answers.clear();
+        *validator = Handle::of(desk);
+    }
+}
+
+/// Writes the payload of a token at the front of `out`. 0; 3: memory was refused; 4: nothing is held; 5: `out` is too short; 6: the
+/// octets are no token.
+#[unsafe(no_mangle)]
+pub extern "C" fn fow_payload(
+    validator: &mut Handle,
+    alloc: Global,
+    token: &[u8],
+    out: &mut [u8],
+    written: &mut usize,
+) -> u32
+    ensures same { validator.new.desk ≡ validator.old.desk }
+    ensures none { validator.old.desk ≡ None → result ≡ 4 }
+    ensures payload { IfSome validator.old.desk (λ d. PutsPayload
+        (token_of d.policy token.now) result written.new out.old out.new) }
+{
+    let Some(desk) = take(validator, alloc) else {
+        return 4;
+    };
+    let status = payload_of(alloc, &desk, token, out, written);
+    *validator = Handle::of(desk);
+    status
+}
+
+/// Writes the name of the claim that the last judging found missing. 0; 4: nothing is held; 5: `out` is too short; 6: it found none
+/// missing, or one whose name is empty.
+#[unsafe(no_mangle)]
+pub extern "C" fn fow_refused_claim(
+    validator: &mut Handle,
+    alloc: Global,
+    out: &mut [u8],
+    written: &mut usize,
+) -> u32
+    ensures same { validator.new.desk ≡ validator.old.desk }
+    ensures none { validator.old.desk ≡ None → result ≡ 4 }
+    ensures name { IfSome validator.old.desk (λ d. PutsName
+        d.last.missing.items result written.new out.old out.new) }
+{
+    let Some(desk) = take(validator, alloc) else {
+        return 4;
+    };
+    let status = if desk.last.missing.is_empty() {
+        6
+    } else {
+        put(&desk.last.missing, out, written)
+    };
+    *validator = Handle::of(desk);
+    status
+}
+
+/// Tells what the proved verifier of RSA says of a signature. 0: that is told from now on; 3: memory was refused; 4: nothing is held;
+/// 6: there is no such pair, or its algorithm isn't RSA.
+#[unsafe(no_mangle)]
+pub extern "C" fn fow_answer_rsa(
+    validator: &mut Handle,
+    alloc: Global,
+    token: &[u8],
+    signature: u32,
+    key: u32,
+) -> u32
+    ensures none { validator.old.desk ≡ None → (result ≡ 4) × (validator.new.desk ≡ None) }
+    ensures told { IfSome validator.old.desk (λ d. IsTold
+        (rsa_asked (asked_at (token_of d.policy token.now) (key_set d.keys).keys signature key))
+        (rsa_says (asked_at (token_of d.policy token.now) (key_set d.keys).keys signature key))
+        result d validator.new.desk) }
+{
+    let Some(mut desk) = take(validator, alloc) else {
+        return 4;
+    };
+    let status = tell_by_rsa(alloc, &mut desk, token, signature, key);
+    *validator = Handle::of(desk);
+    status
+}
+
+/// Issues a token of some claims, in the form and by the HMAC algorithm of these numbers, and writes it at the front of `out`. 0; 1:
+/// it is refused, as the report says; 3: memory was refused; 4: nothing is held; 5: `out` is too short; 6: there is no such algorithm
+/// or form.
+#[unsafe(no_mangle)]
+pub extern "C" fn fow_issue(
+    validator: &mut Handle,
+    alloc: Global,
+    alg: u32,
+    form: u32,
+    key: u32,
+    claims: &[u8],
+    out: &mut [u8],
+    written: &mut usize,
+    report: &mut FowReport,
+) -> u32
+    ensures same { validator.new.desk ≡ validator.old.desk }
+    ensures none { validator.old.desk ≡ None → result ≡ 4 }
+    ensures alg { IfSome validator.old.desk (λ d. hmac_at alg ≡ None → result ≡ 6) }
+    ensures form { IfSome validator.old.desk (λ d. form_at form ≡ None → result ≡ 6) }
+    ensures token { IfSome validator.old.desk (λ d. IfSome (hmac_at alg) (λ a.
+        IfSome (form_at form) (λ f. PutsIssued f a None key (key_set d.keys).keys
+        (claim_set_of claims.now) result report.new written.new out.old out.new))) }
+{
+    let Some(desk) = take(validator, alloc) else {
+        return 4;
+    };
+    let status = match hmac_at(alg) {
+        Some(alg) => match form_at(form) {
+            Some(form) => {
+                let wanted = Wanted {
+                    alg,
+                    typ: None,
+                    form,
+                    key,
+                };
+                put_issued(alloc, wanted, &desk.keys, claims, out, written, report)
+            }
+            None => 6,
+        },
+        None => 6,
+    };
+    *validator = Handle::of(desk);
+    status
+}
+
+/// Writes the compact JSON text of a claim, a text or a list of texts, of the token that was accepted last. 0; 3: memory was refused;
+/// 4: nothing is held; 5: `out` is too short; 6: there is no such claim, or the last verdict was no acceptance.
+#[unsafe(no_mangle)]
+pub extern "C" fn fow_claim(
+    validator: &mut Handle,
+    alloc: Global,
+    name: &[u8],
+    out: &mut [u8],
+    written: &mut usize,
+) -> u32
+    ensures same { validator.new.desk ≡ validator.old.desk }
+    ensures none { validator.old.desk ≡ None → result ≡ 4 }
+    ensures claim { IfSome validator.old.desk (λ d. IsUtf8 name.now
+        → PutsSome (claim_at d.last.claims name.now) result written.new out.old out.new) }
+    ensures other { IfSome validator.old.desk (λ d. ¬ IsUtf8 name.now → result ≡ 6) }
+{
+    let Some(desk) = take(validator, alloc) else {
+        return 4;
+    };
+    let status = put_claim(alloc, &desk.last.claims, name, out, written);
+    *validator = Handle::of(desk);
+    status
+}
+
+/// A claim of the token that was accepted last, where it is a whole number of 64 signed bits. 0; 4: nothing is held; 6: there is no
+/// such claim, or the last verdict was no acceptance.
+#[unsafe(no_mangle)]
+pub extern "C" fn fow_number(
+    validator: &mut Handle,
+    alloc: Global,
+    name: &[u8],
+    number: &mut i64,
+) -> u32
+    ensures same { validator.new.desk ≡ validator.old.desk }
+    ensures none { validator.old.desk ≡ None → result ≡ 4 }
+    ensures claim { IfSome validator.old.desk (λ d. IsUtf8 name.now
+        → PutsNumber (number_at d.last.claims name.now) result number.new) }
+    ensures other { IfSome validator.old.desk (λ d. ¬ IsUtf8 name.now → result ≡ 6) }
+{
+    let Some(desk) = take(validator, alloc) else {
+        return 4;
+    };
+    let status = match number_at(&desk.last.claims, name) {
+        Some(found) => {
+            *number = found;
+            0
+        }
+        None => 6,
+    };
+    *validator = Handle::of(desk);
+    status
+}

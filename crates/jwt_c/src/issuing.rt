@@ -1,0 +1,151 @@
+//! Issues tokens.
+
+ghost use Rattle.std.specs.Prelude.{◌≡◌, map, option_map, IfOk};
+ghost use Rattle.jwt_text.specs.Answers.{Answers};
+ghost use Rattle.jwt_keys.specs.KeySets.{key_set};
+ghost use Rattle.jwt_issue.specs.ClaimSets.{claim_set_of};
+ghost use Rattle.jwt_issue.specs.Views.{pair_parts, text_of};
+ghost use Rattle.jwt_c.specs.Issuing.{hmac_at, form_at, issued, pair, PutsToken, PutsIssued};
+
+use crate::report::FowReport;
+use crate::writing::put;
+use jwt_issue::{ClaimSet, IssueFault, issue_compact, issue_flat, issue_json};
+use jwt_jws::Form;
+use jwt_keys::{Key, KeySet};
+use jwt_mac::{Alg, CountDown};
+use jwt_policy::ClaimFault;
+use std::alloc::{AllocError, Global};
+
+/// The HMAC algorithm of a number.
+pub(crate) fn hmac_at(number: u32) -> Option<Alg>
+    ensures { result ≡ hmac_at number }
+{
+    if number == 1 {
+        Some(Alg::HS256)
+    } else if number == 2 {
+        Some(Alg::HS384)
+    } else if number == 3 {
+        Some(Alg::HS512)
+    } else {
+        None
+    }
+}
+
+/// The form of a number.
+pub(crate) fn form_at(number: u32) -> Option<Form>
+    ensures { result ≡ form_at number }
+{
+    if number == 1 {
+        Some(Form::Compact)
+    } else if number == 2 {
+        Some(Form::General)
+    } else if number == 3 {
+        Some(Form::Flattened)
+    } else {
+        None
+    }
+}
+
+/// How a token is to be issued.
+#[derive(Clone, Copy)]
+pub(crate) struct Wanted<'a> {
+    pub(crate) alg: Alg,
+    pub(crate) typ: Option<&'a str>,
+    pub(crate) form: Form,
+    pub(crate) key: u32,
+}
+
+/// Each key, for one algorithm.
+fn pairs<'k>(alloc: Global, alg: Alg, keys: &'k KeySet) -> Result<Vec<(Alg, &'k Key)>, AllocError>
+    ensures { IfOk result (λ v. map pair_parts v.items ≡ map (pair alg) (key_set keys.now).keys) }
+{
+    let mut pairs = Vec::new(alloc);
+    'keys: for j in 0..keys.len() {
+        if let Some(key) = keys.key(j) {
+            pairs.push((alg, key))?;
+        }
+    }
+    Ok(pairs)
+}
+
+/// The token of some claims.
+fn issued(
+    alloc: Global,
+    wanted: Wanted<'_>,
+    keys: &KeySet,
+    claims: &ClaimSet,
+) -> Result<Vec<u8>, IssueFault>
+    ensures { Answers IssueFault.OutOfMemory (λ v. v.items) result (issued wanted.entry.form
+        wanted.entry.alg (text_of wanted.entry.typ) wanted.entry.key (key_set keys.now).keys claims.now) }
+{
+    let mut budget = CountDown::new(1_000_000_000_000);
+    match wanted.form {
+        Form::Compact => match keys.key(wanted.key) {
+            Some(key) => issue_compact(alloc, &mut budget, wanted.alg, key, wanted.typ, claims),
+            None => Err(IssueFault::NoKey),
+        },
+        Form::Flattened => match keys.key(wanted.key) {
+            Some(key) => issue_flat(alloc, &mut budget, wanted.alg, key, wanted.typ, claims),
+            None => Err(IssueFault::NoKey),
+        },
+        Form::General => {
+            let pairs = match pairs(alloc, wanted.alg, keys) {
+                Ok(pairs) => pairs,
+                Err(_) => return Err(IssueFault::OutOfMemory),
+            };
+            issue_json(alloc, &mut budget, pairs.as_slice(), wanted.typ, claims)
+        }
+    }
+}
+
+/// Writes the token of some claims at the front of `out`. 0; 1: it is refused, as the report says; 3: memory was refused; 5: `out` is
+/// too short.
+fn put_token(
+    alloc: Global,
+    wanted: Wanted<'_>,
+    keys: &KeySet,
+    claims: &ClaimSet,
+    out: &mut [u8],
+    written: &mut usize,
+    report: &mut FowReport,
+) -> u32
+    ensures { PutsToken (issued wanted.entry.form wanted.entry.alg (text_of wanted.entry.typ)
+        wanted.entry.key (key_set keys.now).keys claims.now)
+        result report.new written.new out.old out.new }
+{
+    match issued(alloc, wanted, keys, claims) {
+        Ok(token) => put(&token, out, written),
+        Err(IssueFault::OutOfMemory) => 3,
+        Err(fault) => {
+            *report = FowReport::of_issue(fault);
+            1
+        }
+    }
+}
+
+/// The same of claims as they stand.
+pub(crate) fn put_issued(
+    alloc: Global,
+    wanted: Wanted<'_>,
+    keys: &KeySet,
+    claims: &[u8],
+    out: &mut [u8],
+    written: &mut usize,
+    report: &mut FowReport,
+) -> u32
+    ensures { PutsIssued wanted.entry.form wanted.entry.alg (text_of wanted.entry.typ)
+        wanted.entry.key (key_set keys.now).keys (claim_set_of claims.now)
+        result report.new written.new out.old out.new }
+{
+    let Ok(octets) = claims.to_vec(alloc) else {
+        return 3;
+    };
+    match ClaimSet::from_octets(alloc, octets) {
+        Ok(claims) => put_token(alloc, wanted, keys, &claims, out, written, report),
+        Err(ClaimFault::OutOfMemory) => 3,
+        Err(fault) => {
+            *report = FowReport::of_claims(&fault);
+            1
+        }
+    }
+}
