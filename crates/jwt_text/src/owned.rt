@@ -6,8 +6,9 @@ ghost use Rattle.jwt_text.specs.Members.{has, text_at, is_number_at, whole_at, f
 
 use crate::TextFault;
 use crate::lent::{List, ObjectRef};
-use crate::node::Entry;
+use crate::node::Entries;
 use crate::store::Store;
+use smallvec::SmallVec;
 use std::alloc::Global;
 use std::marker::Model;
 
@@ -17,7 +18,7 @@ use std::marker::Model;
 #[derive(Drop)]
 pub struct Object {
     pub(crate) store: Store,
-    pub(crate) entries: Vec<Entry>,
+    pub(crate) entries: Entries,
 }
 
 impl Model for Object {
@@ -42,7 +43,7 @@ impl Object {
     {
         Object {
             store: Store::new(alloc),
-            entries: Vec::new(alloc),
+            entries: SmallVec::new(alloc),
         }
     }
 
@@ -52,7 +53,7 @@ impl Object {
     {
         ObjectRef {
             store: &self.store,
-            entries: &self.entries,
+            entries: self.entries.as_slice(),
         }
     }
 
