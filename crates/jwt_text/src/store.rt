@@ -143,10 +143,8 @@ impl Store {
         requires { IsText self.now span }
         ensures { result.now ≡ text_of self.now span }
     {
-        match std::str::from_utf8(self.octets(span)) {
-            Ok(text) => text,
-            Err(_) => "",
-        }
+        // They are UTF-8, by the condition.
+        unsafe { std::str::from_utf8_unchecked(self.octets(span)) }
     }
 
     /// The elements of a list.
