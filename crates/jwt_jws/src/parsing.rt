@@ -16,6 +16,7 @@ use crate::unprotected::Unprotected;
 use jwt_text::{ObjectRef, Part, Scratch};
 use std::alloc::Global;
 
+#[inline(always)]
 #[tactic(auto, unfolding(crate::specs::Forms::signed_of))]
 fn compact_signed<'a>(
     alloc: Global,

@@ -167,13 +167,13 @@ adds_short s t ns p octets nodes long entries start len few =
       is = ap (λ b. run_by b t p) size ∙ piece_is s.nodes.items ns t.nodes.items p nodes start len;
     }
 
-pub adds_long : (s t : Store) (v : Vec Node Global) (p : Span) → t.text.items ≡ s.text.items → t.nodes.items ≡ s.nodes.items → t.long.items ≡ s.long.items ++ v ∷ [] → t.entries.items ≡ s.entries.items → p.start ≡ length s.long.items → short < p.len → AddsNodes s t v.items p
-adds_long s t v p octets nodes long entries start many =
+pub adds_long : (s t : Store) (v : Vec Node Global) (ns : List Node) (p : Span) → v.items ≡ ns → t.text.items ≡ s.text.items → t.nodes.items ≡ s.nodes.items → t.long.items ≡ s.long.items ++ v ∷ [] → t.entries.items ≡ s.entries.items → p.start ≡ length s.long.items → short < p.len → AddsNodes s t ns p
+adds_long s t v ns p same octets nodes long entries start many =
     let size : nat_le p.len short ≡ false = lt-leb p.len short many in
     record {
       grows = record { octets = []; entries = []; octets_are = no_more s.text.items t.text.items octets; entries_are = no_more s.entries.items t.entries.items entries; lists_are = lists_kept s t [] (v ∷ []) (no_more s.nodes.items t.nodes.items nodes) long };
       within = subst (λ b. IsRunBy b t p) (sym size) (omega (arith, ap length long, length-append s.long.items (v ∷ []), start));
-      is = ap (λ b. run_by b t p) size ∙ (λ i. long_at (long i) (start i)) ∙ long_end s.long.items v;
+      is = ap (λ b. run_by b t p) size ∙ (λ i. long_at (long i) (start i)) ∙ long_end s.long.items v ∙ same;
     }
 
 pub adds_entries : (s t : Store) (es : List Entry) (p : Span) → t.text.items ≡ s.text.items → t.nodes.items ≡ s.nodes.items → t.long.items ≡ s.long.items → t.entries.items ≡ s.entries.items ++ es → p.start ≡ length s.entries.items → p.len ≡ length es → AddsEntries s t es p

@@ -73,7 +73,7 @@ impl Store {
         if nodes.len() <= SHORT {
             self.add_short(nodes.as_slice())
         } else {
-            self.add_long(nodes.into_vec().ok()?)
+            self.add_long(nodes)
         }
     }
 
@@ -90,10 +90,13 @@ impl Store {
     }
 
     // It isn't copied.
-    fn add_long(&mut self, nodes: Vec<Node>) -> Option<Span>
+    #[cold]
+    #[inline(never)]
+    fn add_long(&mut self, nodes: Nodes) -> Option<Span>
         requires { SHORT < length nodes.items }
         ensures { IfSome result (AddsNodes self.old self.new nodes.items) }
     {
+        let nodes = nodes.into_vec().ok()?;
         let span = span(self.long.len(), nodes.len())?;
         if self.long.push(nodes).is_err() {
             return None;
