@@ -3,7 +3,7 @@ ghost use Rattle.std.specs.Prelude.{◌≡◌, IfSome, OnSome};
 ghost use Rattle.jwt_text.specs.Reads.{ReadsNode, ReadsItems, ReadsMembers};
 
 use crate::arrange::arrange;
-use crate::node::{Entries, Entry, Node, Nodes, Span};
+use crate::node::{Entries, Entry, Node, Nodes, SHORT, Span};
 use crate::number::{node_of, parse_number};
 use crate::store::Store;
 use json::{Reader, Token};
@@ -56,7 +56,12 @@ fn read_items(
             return None;
         }
     }
-    store.add_list(built)
+    // A short list isn't moved.
+    if built.len() <= SHORT {
+        store.add_short(built.as_slice())
+    } else {
+        store.add_long(built)
+    }
 }
 
 /// The members of an object in order, and the brace that closes it.

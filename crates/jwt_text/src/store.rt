@@ -77,8 +77,9 @@ impl Store {
         }
     }
 
+    /// Adds the elements of a short list.
     #[inline(always)]
-    fn add_short(&mut self, nodes: &[Node]) -> Option<Span>
+    pub(crate) fn add_short(&mut self, nodes: &[Node]) -> Option<Span>
         requires { length nodes.now ≤ SHORT }
         ensures { IfSome result (AddsNodes self.old self.new nodes.now) }
     {
@@ -89,10 +90,10 @@ impl Store {
         Some(span)
     }
 
-    // It isn't copied.
+    /// Adds a long list, which isn't copied.
     #[cold]
     #[inline(never)]
-    fn add_long(&mut self, nodes: Nodes) -> Option<Span>
+    pub(crate) fn add_long(&mut self, nodes: Nodes) -> Option<Span>
         requires { SHORT < length nodes.items }
         ensures { IfSome result (AddsNodes self.old self.new nodes.items) }
     {

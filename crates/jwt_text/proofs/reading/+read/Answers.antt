@@ -5,7 +5,7 @@ use Rattle.json.specs.Json.{after_end_array, read_key}
 use Rattle.json.specs.Reads.{token_of}
 use Rattle.jwt_text.specs.Reads.{ReadsNode, ReadsMembers, ItemsSoFar, MembersSoFar}
 use Rattle.jwt_text.specs.declared.node.Entry.{Entry}
-use Rattle.jwt_text.specs.Growth.{AddsEntries}
+use Rattle.jwt_text.specs.Growth.{AddsNodes, AddsEntries}
 use Rattle.jwt_text.proofs.ReadValues.{text_read, null_read, flag_read, number_read, list_read, object_read, members_are_read}
 use Rattle.jwt_text.proofs.ReadTurns.{items_begin, items_go_on, items_are_read, if_some, refilled, members_begin, members_go_on}
 use Rattle.jwt_text.proofs.reading.+read.Goals as goal
@@ -57,11 +57,18 @@ read_items-items-preserved t c =
     subst (ItemsSoFar c.args.depth c.args.reader.now c.read.new.reader c.args.store.now c.read.new.store) (sym pushed)
     (items_go_on c.args.depth c.args.reader.now l.reader c.args.store.now l.store l.built.items l.invariant c.read.new.reader c.read.new.store c.in_ok-node.node one going.0)
 
-pub read_items-returns : goal.read_items-returns
-read_items-returns t c =
+pub read_items-returns-then-len-le-SHORT : goal.read_items-returns-then-len-le-SHORT
+read_items-returns-then-len-le-SHORT t c =
     let l = c.items in
-    if_some c.add_list.result (λ p adds.
-    items_are_read c.args.depth c.args.reader.now l.reader c.args.store.now l.store l.built.items l.invariant c.take_end_array.new.self c.add_list.new.self p c.items-test.ensures adds) c.add_list.ensures
+    if_some c.add_short.result (λ p adds.
+    items_are_read c.args.depth c.args.reader.now l.reader c.args.store.now l.store l.built.items l.invariant c.take_end_array.new.self c.add_short.new.self p c.items-test.ensures
+    (subst (λ ns. AddsNodes l.store c.add_short.new.self ns p) c.as_slice.ensures adds)) c.add_short.ensures
+
+pub read_items-returns-else-len-le-SHORT : goal.read_items-returns-else-len-le-SHORT
+read_items-returns-else-len-le-SHORT t c =
+    let l = c.items in
+    if_some c.add_long.result (λ p adds.
+    items_are_read c.args.depth c.args.reader.now l.reader c.args.store.now l.store l.built.items l.invariant c.take_end_array.new.self c.add_long.new.self p c.items-test.ensures adds) c.add_long.ensures
 
 pub read_members-members-init : goal.read_members-members-init
 read_members-members-init t c = subst (MembersSoFar c.args.depth c.args.reader.now c.args.reader.now c.args.store.now c.args.store.now) (sym c.new-built.ensures.items) (members_begin c.args.depth c.args.reader.now c.args.store.now)
