@@ -42,7 +42,7 @@ pub(crate) struct Entry {
 pub(crate) type Nodes = SmallVec<Node, 4>;
 
 /// The members of an object. A few stand in place, and more in an allocation.
-pub(crate) type Entries = SmallVec<Entry, 4>;
+pub(crate) type Entries = Vec<Entry>;
 
 pub(crate) fn as_flag(node: Node) -> Option<bool>
     ensures { result ≡ as_flag node }

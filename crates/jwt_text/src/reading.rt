@@ -76,7 +76,7 @@ pub(crate) fn read_members(
     ensures { IfSome result
         (λ es. ReadsMembers depth reader.old reader.new store.old store.new es.items) }
 {
-    let mut built: Entries = SmallVec::new(alloc);
+    let mut built: Entries = Vec::new(alloc);
     'members: while let Some(key) = reader.next_key().ok()? {
         let name = store.add_text(key)?;
         let node = read(alloc, reader, depth, store)?;

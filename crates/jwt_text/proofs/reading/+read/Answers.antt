@@ -1,4 +1,4 @@
-use Rattle.std.proofs.Common.{◌≡◌, [], ◌∷◌, ◌++◌, Some, None, sym, ap, ◌∙◌, subst, arith}
+use Rattle.std.proofs.Common.{◌≡◌, [], ◌∷◌, ◌++◌, take, drop, length, Some, None, sym, ap, ◌∙◌, subst, arith}
 use Rattle.std.specs.List.Sorted.{IsPermutation}
 use Rattle.std.proofs.lemmas.List.Sorted.{length_permutation}
 use Rattle.json.specs.Json.{after_end_array, read_key}
@@ -41,7 +41,7 @@ read-returns-in_ok-add_entries-in-BeginObject t c =
     let first : c.args.reader.now ≡ token_of c.in_ok-text.field-0 ∷ c.next.new.self = grind arith in
     let es = c.in_ok-entries-in-BeginObject.entries.items in
     let adds : AddsEntries c.read_members.new.store c.add_entries.new.self es c.in_ok-add_entries-in-BeginObject.field-0 =
-    subst (λ l. AddsEntries c.read_members.new.store c.add_entries.new.self l c.in_ok-add_entries-in-BeginObject.field-0) c.as_slice.ensures c.in_ok-add_entries-in-BeginObject.ensures in
+    subst (λ l. AddsEntries c.read_members.new.store c.add_entries.new.self l c.in_ok-add_entries-in-BeginObject.field-0) c.as_slice.ensures.value c.in_ok-add_entries-in-BeginObject.ensures in
     object_read c.args.depth _ c.next.new.self _ _ c.read_members.new.store _ es _ (omega (arith, c.if-depth-eq0-2.false)) (first ∙ ap (λ k. token_of k ∷ c.next.new.self) c.in-BeginObject.is) c.in_ok-entries-in-BeginObject.ensures adds
 
 pub read_items-items-init : goal.read_items-items-init
@@ -89,5 +89,7 @@ read_members-returns-then-arrange t c =
     let lent : c.as_mut_slice.result.now ≡ l.built.items = c.as_mut_slice.ensures.value in
     let moved : IsPermutation l.built.items c.arrange.new.entries = subst (λ es. IsPermutation es c.arrange.new.entries) lent c.arrange.ensures.permutation in
     let back = refilled l.built.items c.arrange.new.entries (length_permutation l.built.items c.arrange.new.entries moved) in
-    subst (ReadsMembers c.args.depth c.args.reader.now c.next_key.new.self c.args.store.now l.store) (sym back)
-    (members_are_read c.args.depth c.args.reader.now l.reader c.args.store.now l.store l.built.items l.invariant c.next_key.new.self c.arrange.new.entries over moved (c.arrange.ensures.order c.if-arrange.true))
+    let sized : length l.built.items ≡ l.built.len = ap length (sym lent) ∙ c.as_mut_slice.ensures.len in
+    subst (λ n. ReadsMembers c.args.depth c.args.reader.now c.next_key.new.self c.args.store.now l.store (take n (c.arrange.new.entries ++ drop (length c.arrange.new.entries) l.built.items))) sized
+    (subst (ReadsMembers c.args.depth c.args.reader.now c.next_key.new.self c.args.store.now l.store) (sym back)
+    (members_are_read c.args.depth c.args.reader.now l.reader c.args.store.now l.store l.built.items l.invariant c.next_key.new.self c.arrange.new.entries over moved (c.arrange.ensures.order c.if-arrange.true)))
