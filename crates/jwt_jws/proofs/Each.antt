@@ -1,8 +1,11 @@
 -- The answers of a list's elements, in order.
-use Rattle.std.proofs.Common.{◌≡◌, ℕ, ◌+◌, ◌<◌, List, [], ◌∷◌, ◌++◌, length, take, drop, get_or, Result, Ok, Err, refl, sym, ap, subst, ◌∙◌, arith}
+use Rattle.std.proofs.Common.{◌≡◌, ◌≢◌, ℕ, zero, suc, ◌+◌, ◌-◌, ◌<◌, slice_get, ◌==◌, true, false, List, [], ◌∷◌, ◌++◌, length, take, drop, get_or, Result, Ok, Err, refl, sym, ap, subst, ◌∙◌, arith}
 use Rattle.std.specs.Prelude.{map}
 use Rattle.std.proofs.lemmas.List.{length-take, take_more, drop_more, take-append-drop, map-append}
 use Rattle.jwt_text.specs.Answers.{◌>>=◌, each, Refuses}
+use Rattle.serde_json.specs.Data.{Members}
+use Rattle.jwt_text.specs.ObjectText.{object_of}
+use Rattle.jwt_jws.specs.Forms.{read_as, opens_object, spelled_token, form_of, token_in}
 use Rattle.jwt_jws.specs.declared.fault.FormFault.{FormFault}
 
 -- the value of a step that did not fail
@@ -39,20 +42,37 @@ each_err f n (a ∷ xs) x rest ys e h g =
     let here : f (n + 1 + length xs) x ≡ Err e = subst (λ (k : ℕ). f k x ≡ Err e) (omega arith) g in
     rw (first.1, each_err f (n + 1) xs x rest tail.0 e tail.1 here) refl
 
--- a loop's step, at the element i
+-- a loop's step, at the element i, where the elements are numbered from n
+pub each_more_from : {A B X : Type 0} (f : ℕ → A → Result B FormFault) (n : ℕ) (v : X → B) (xs : List A) (i : ℕ) (d : A) (ys : List X) (y : X) → i < length xs → each f n (take i xs) ≡ Ok (map v ys) → f (n + i) (get_or xs i d) ≡ Ok (v y) → each f n (take (i + 1) xs) ≡ Ok (map v (ys ++ y ∷ []))
+each_more_from f n v xs i d ys y lt so_far here =
+    let at : n + length (take i xs) ≡ n + i = simp length-take (omega arith) in
+    let now : f (n + length (take i xs)) (get_or xs i d) ≡ Ok (v y) = rw at here in
+    rw (take_more xs i d lt, map-append v ys (y ∷ [])) (each_push f n (take i xs) (get_or xs i d) (map v ys) (v y) so_far now)
+
 pub each_more : {A B X : Type 0} (f : ℕ → A → Result B FormFault) (v : X → B) (xs : List A) (i : ℕ) (d : A) (ys : List X) (y : X) → i < length xs → each f 0 (take i xs) ≡ Ok (map v ys) → f i (get_or xs i d) ≡ Ok (v y) → each f 0 (take (i + 1) xs) ≡ Ok (map v (ys ++ y ∷ []))
-each_more f v xs i d ys y lt so_far here =
-    let at : 0 + length (take i xs) ≡ i = simp length-take (omega arith) in
-    let now : f (0 + length (take i xs)) (get_or xs i d) ≡ Ok (v y) = rw at here in
-    rw (take_more xs i d lt, map-append v ys (y ∷ [])) (each_push f 0 (take i xs) (get_or xs i d) (map v ys) (v y) so_far now)
+each_more f v xs i d ys y lt so_far here = each_more_from f 0 v xs i d ys y lt so_far (subst (λ (k : ℕ). f k (get_or xs i d) ≡ Ok (v y)) (omega arith) here)
 
 -- a loop's end by a fault, at the element i
-pub each_stops : {A B : Type 0} (memory : FormFault) (f : ℕ → A → Result B FormFault) (xs : List A) (i : ℕ) (d : A) (ys : List B) (e : FormFault) → i < length xs → each f 0 (take i xs) ≡ Ok ys → Refuses memory e (f i (get_or xs i d)) → Refuses memory e (each f 0 xs)
-each_stops {A = A} memory f xs i d ys e lt so_far fault =
-    let at : 0 + length (take i xs) ≡ i = simp length-take (omega arith) in
+pub each_stops_from : {A B : Type 0} (memory : FormFault) (f : ℕ → A → Result B FormFault) (n : ℕ) (xs : List A) (i : ℕ) (d : A) (ys : List B) (e : FormFault) → i < length xs → each f n (take i xs) ≡ Ok ys → Refuses memory e (f (n + i) (get_or xs i d)) → Refuses memory e (each f n xs)
+each_stops_from {A = A} memory f n xs i d ys e lt so_far fault =
+    let at : n + length (take i xs) ≡ n + i = simp length-take (omega arith) in
     let whole : xs ≡ take i xs ++ (get_or xs i d ∷ drop (i + 1) xs) = sym (take-append-drop i xs) ∙ ap (λ (rest : List A). take i xs ++ rest) (drop_more xs i d lt) in
-    refuses_on memory e (f i (get_or xs i d)) (each f 0 xs)
-    (λ (is : f i (get_or xs i d) ≡ Err e).
-    let now : f (0 + length (take i xs)) (get_or xs i d) ≡ Err e = rw at is in
-    ap (each f 0) whole ∙ each_err f 0 (take i xs) (get_or xs i d) (drop (i + 1) xs) ys e so_far now)
+    refuses_on memory e (f (n + i) (get_or xs i d)) (each f n xs)
+    (λ (is : f (n + i) (get_or xs i d) ≡ Err e).
+    let now : f (n + length (take i xs)) (get_or xs i d) ≡ Err e = rw at is in
+    ap (each f n) whole ∙ each_err f n (take i xs) (get_or xs i d) (drop (i + 1) xs) ys e so_far now)
     fault
+
+pub each_stops : {A B : Type 0} (memory : FormFault) (f : ℕ → A → Result B FormFault) (xs : List A) (i : ℕ) (d : A) (ys : List B) (e : FormFault) → i < length xs → each f 0 (take i xs) ≡ Ok ys → Refuses memory e (f i (get_or xs i d)) → Refuses memory e (each f 0 xs)
+each_stops memory f xs i d ys e lt so_far fault = each_stops_from memory f 0 xs i d ys e lt so_far (subst (λ (k : ℕ). Refuses memory e (f k (get_or xs i d))) (omega arith) fault)
+
+-- an element after the first
+pub later : {A : Type 0} (x : A) (xs : List A) (i : ℕ) → i ≢ 0 → slice_get (x ∷ xs) i ≡ slice_get xs (i - 1)
+later x xs zero some = absurd (some refl)
+later x xs (suc i) some = let e : i ≡ suc i - 1 = omega arith in ap (slice_get xs) e
+
+-- octets in JSON form are the token that their object is
+pub json_form : (most : ℕ) (z : List ℕ) (m : Members) → (length z == 0) ≡ false → opens_object z ≡ true → read_as (object_of z) ≡ Ok m → form_of most z ≡ token_in most m
+unfolding form_of spelled_token
+json_form most [] m some opens read = absurd cc
+json_form most (c ∷ cs) m some opens read = rw (opens, read) refl

@@ -1,5 +1,5 @@
 -- What contracts see of this crate's values.
-use Rattle.std.specs.Prelude.{Option, Some, None, map, All}
+use Rattle.std.specs.Prelude.{Option, Some, None, ◌∷◌, map, All}
 use Rattle.serde_json.specs.Data.{Members}
 use Rattle.jwt_text.specs.Parts.{part_octets, IsLent}
 use Rattle.jwt_jws.specs.Token.{SignatureParts, Token}
@@ -16,11 +16,11 @@ abbrev pub parts : Signature → SignatureParts
 parts s = record { protected_text = part_octets s.protected_text; protected = s.protected; unprotected = s.unprotected; octets = s.octets.items }
 
 abbrev pub token : Signed → Token
-token t = record { form = t.form; payload_text = part_octets t.payload_text; payload = t.payload.items; signatures = map parts t.signatures.items }
+token t = record { form = t.form; payload_text = part_octets t.payload_text; payload = t.payload.items; signatures = parts t.first ∷ map parts t.more.items }
 
 -- no octet of the signing input is copied
 abbrev pub AreLent : Signed → Type 0
-AreLent t = IsLent t.payload_text × All (λ (s : Signature). IsLent s.protected_text) t.signatures.items
+AreLent t = IsLent t.payload_text × All (λ (s : Signature). IsLent s.protected_text) (t.first ∷ t.more.items)
 
 -- ---- while a token is read
 

@@ -16,6 +16,7 @@ use crate::unprotected::Unprotected;
 use jwt_text::{ObjectRef, Part, Scratch};
 use std::alloc::Global;
 
+#[inline(always)]
 #[tactic(auto, unfolding(crate::specs::Forms::signed_of))]
 fn compact_signed<'a>(
     alloc: Global,
@@ -37,13 +38,12 @@ fn compact_signed<'a>(
         segments.signature,
         scratch,
     )?;
-    let mut signatures = Vec::with_capacity(alloc, 1)?;
-    signatures.push(signature)?;
     Ok(Signed {
         form: Form::Compact,
         payload_text: Part::Slice(segments.payload),
         payload,
-        signatures,
+        first: signature,
+        more: Vec::new(alloc),
     })
 }
 
@@ -68,19 +68,20 @@ fn owned_signature<'a>(
     )
 }
 
-fn owned_signatures<'a>(
+// The signatures after the first.
+fn later_signatures<'a>(
     alloc: Global,
     form: Form,
     spelled: &[SpelledSignature<'_>],
     scratch: &mut Scratch,
 ) -> Result<Vec<Signature<'a>>, FormFault>
-    requires { length spelled.now ≤ 32 }
-    ensures value { Answers FormFault.OutOfMemory (λ v. map parts v.items) result (each (signature_of form) 0 (map spelled_view spelled.now)) }
+    requires { length spelled.now ≤ 31 }
+    ensures value { Answers FormFault.OutOfMemory (λ v. map parts v.items) result (each (signature_of form) 1 (map spelled_view spelled.now)) }
     ensures count { IfOk result (λ v. length v.items ≡ length spelled.now) }
 {
     let mut signatures = Vec::with_capacity(alloc, spelled.len())?;
     for (i, signature) in spelled.iter().enumerate() {
-        let made = owned_signature(alloc, form, i as u32, signature, scratch)?;
+        let made = owned_signature(alloc, form, 1 + i as u32, signature, scratch)?;
         signatures.push(made)?;
     }
     Ok(signatures)
@@ -96,14 +97,19 @@ fn json_signed<'a>(
     requires few { length spelled.now.signatures.items ≤ 32 }
     ensures { Answers FormFault.OutOfMemory token result (signed_of (json_view spelled.now)) }
 {
+    let Some((first, later)) = spelled.signatures.split_first() else {
+        unreachable!();
+    };
     let payload = octets_of(alloc, spelled.payload, Place::Payload)?;
-    let signatures = owned_signatures(alloc, spelled.form, spelled.signatures.as_slice(), scratch)?;
+    let first = owned_signature(alloc, spelled.form, 0, first, scratch)?;
+    let more = later_signatures(alloc, spelled.form, later, scratch)?;
     let text = Vec::from_slice(alloc, spelled.payload)?;
     Ok(Signed {
         form: spelled.form,
         payload_text: Part::Owned(text),
         payload,
-        signatures,
+        first,
+        more,
     })
 }
 

@@ -1,5 +1,5 @@
 //! A signed token over the octets that it was read from.
-ghost use Rattle.std.specs.Prelude.{◌≡◌, ◌<◌, ◌≤◌, ◌↔◌, length, option_map, slice_get, IsTrue};
+ghost use Rattle.std.specs.Prelude.{◌≡◌, ◌<◌, ◌≤◌, ◌↔◌, length, map, option_map, slice_get, IsTrue};
 ghost use Rattle.jwt_text.specs.Parts.{part_octets};
 ghost use Rattle.jwt_mac.specs.Verifying.{message_octets};
 ghost use Rattle.jwt_jws.specs.Token.{message_of};
@@ -18,9 +18,9 @@ pub struct Signed<'a> {
     pub(crate) form: Form,
     pub(crate) payload_text: Part<'a>,
     pub(crate) payload: Vec<u8>,
-    pub(crate) signatures: Vec<Signature<'a>>,
-    ghost some: { 0 < length signatures.items },
-    ghost few: { length signatures.items ≤ 32 },
+    pub(crate) first: Signature<'a>,
+    pub(crate) more: Vec<Signature<'a>>,
+    ghost few: { length more.items ≤ 31 },
 }
 
 impl<'a> Signed<'a> {
@@ -59,14 +59,25 @@ impl<'a> Signed<'a> {
         ensures count { result ≡ length (token self.now).signatures }
         ensures range { (0 < length (token self.now).signatures) × (length (token self.now).signatures ≤ 32) }
     {
-        self.signatures.len() as u32
+        1 + self.more.len() as u32
     }
 
     /// Signature `i`, from 0; `None` past the last.
     pub fn signature(&self, i: u32) -> Option<&Signature<'a>>
         ensures { option_map (λ s. parts s.now) result ≡ slice_get (token self.now).signatures i }
     {
-        self.signatures.get(i as usize)
+        if i == 0 {
+            Some(&self.first)
+        } else {
+            self.later(i as usize - 1)
+        }
+    }
+
+    // Of those after the first, the one at this place, from 0.
+    fn later(&self, place: usize) -> Option<&Signature<'a>>
+        ensures { option_map (λ s. parts s.now) result ≡ slice_get (map parts self.now.more.items) place }
+    {
+        self.more.get(place)
     }
 
     /// The signing input of signature `i`, from 0, lent (RFC 7515, section 5.1); `None` past the last.

@@ -37,6 +37,7 @@ fn octets_into(text: &[u8], place: Place, buffer: &mut Vec<u8>) -> Result<(), Fo
     }
 }
 
+#[inline(always)]
 fn header_of(
     alloc: Global,
     octets: &[u8],
@@ -53,6 +54,7 @@ fn header_of(
 }
 
 // The buffer is for the octets that the text spells.
+#[inline(always)]
 #[tactic(auto, unfolding(crate::specs::Forms::protected_of))]
 fn protected_header(
     alloc: Global,
@@ -71,6 +73,7 @@ fn protected_header(
     header_of(alloc, buffer.as_slice(), i, scratch)
 }
 
+#[inline(always)]
 fn unprotected_header(
     alloc: Global,
     i: u32,
@@ -99,6 +102,7 @@ fn names_overlap(protected: &Object, unprotected: &Option<Object>) -> bool
 
 /// Signature `i`, from its three members as they are spelled. The octets of its protected header and then its own are in one
 /// buffer.
+#[inline(always)]
 #[tactic(auto, unfolding(crate::specs::Forms::signature_of))]
 pub(crate) fn make_signature<'a>(
     alloc: Global,

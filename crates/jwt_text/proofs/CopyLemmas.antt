@@ -8,7 +8,7 @@ use Rattle.jwt_text.specs.declared.node.Entry.{Entry}
 use Rattle.jwt_text.specs.declared.node.Node.{Node}
 use Rattle.jwt_text.specs.declared.node.Span.{Span}
 use Rattle.jwt_text.specs.declared.store.Store.{Store}
-use Rattle.jwt_text.specs.Flat.{piece, text_of, members_from, node_data, members_data, entry_names, IsText, Each, AreEntries, IsNode}
+use Rattle.jwt_text.specs.Flat.{piece, text_of, members_from, node_data, members_data, entry_names, IsText, Each, AreEntries, IsNode, run_of, IsRun}
 use Rattle.jwt_text.specs.Growth.{AddsText, AddsNodes, AddsEntries}
 use Rattle.jwt_text.specs.Reads.{pair}
 use Rattle.jwt_text.specs.Copies.{CopiesNode, CopiesNodes, CopiesPairs, CopiesEntries}
@@ -25,11 +25,11 @@ text_inside_node k s p h = (text_level k s p h).0
 below_is : (k : ℕ) → 0 < k → k ≡ suc (k - 1)
 below_is k some = omega arith
 
-list_parts : (m : ℕ) (s : Store) (p : Span) → IsNode (suc m) s (Node.List p) → (p.start + p.len ≤ length s.nodes.items) × Each (IsNode m s) (piece s.nodes.items p)
+list_parts : (m : ℕ) (s : Store) (p : Span) → IsNode (suc m) s (Node.List p) → (IsRun s p) × Each (IsNode m s) (run_of s p)
 unfolding IsNode
 list_parts m s p h = h
 
-pub list_below : (k : ℕ) (s : Store) (p : Span) → 0 < k → IsNode k s (Node.List p) → (p.start + p.len ≤ length s.nodes.items) × Each (IsNode (k - 1) s) (piece s.nodes.items p)
+pub list_below : (k : ℕ) (s : Store) (p : Span) → 0 < k → IsNode k s (Node.List p) → (IsRun s p) × Each (IsNode (k - 1) s) (run_of s p)
 list_below k s p some h = list_parts (k - 1) s p (subst (λ j. IsNode j s (Node.List p)) (below_is k some) h)
 
 object_parts : (m : ℕ) (s : Store) (p : Span) → IsNode (suc m) s (Node.Object p) → (p.start + p.len ≤ length s.entries.items) × AreEntries (IsNode m s) s (piece s.entries.items p)
@@ -52,7 +52,7 @@ text_copied k src p s t xs q is adds = record {
 pub leaf_copied : (k : ℕ) (src s : Store) (n : Node) → node_data k s n ≡ node_data k src n → IsNode k s n → CopiesNode k src n s s n
 leaf_copied k src s n is holds = record { is = is; holds = holds; grows = extends_itself s }
 
-list_above : (m : ℕ) (src : Store) (p : Span) (s t u : Store) (ns : List Node) (q : Span) → CopiesNodes m src (piece src.nodes.items p) s t ns → AddsNodes t u ns q → CopiesNode (suc m) src (Node.List p) s u (Node.List q)
+list_above : (m : ℕ) (src : Store) (p : Span) (s t u : Store) (ns : List Node) (q : Span) → CopiesNodes m src (run_of src p) s t ns → AddsNodes t u ns q → CopiesNode (suc m) src (Node.List p) s u (Node.List q)
 unfolding node_data IsNode
 list_above m src p s t u ns q c adds = record {
   is =
@@ -62,7 +62,7 @@ list_above m src p s t u ns q c adds = record {
   grows = extends_further s t u c.grows adds.grows;
 }
 
-pub list_copied : (k : ℕ) (src : Store) (p : Span) (s t u : Store) (ns : List Node) (q : Span) → 0 < k → CopiesNodes (k - 1) src (piece src.nodes.items p) s t ns → AddsNodes t u ns q → CopiesNode k src (Node.List p) s u (Node.List q)
+pub list_copied : (k : ℕ) (src : Store) (p : Span) (s t u : Store) (ns : List Node) (q : Span) → 0 < k → CopiesNodes (k - 1) src (run_of src p) s t ns → AddsNodes t u ns q → CopiesNode k src (Node.List p) s u (Node.List q)
 list_copied k src p s t u ns q some c adds = at_once (λ m. CopiesNode m src (Node.List p) s u (Node.List q)) k some (list_above (k - 1) src p s t u ns q c adds)
 
 object_above : (m : ℕ) (src : Store) (p : Span) (s t u : Store) (es : List Entry) (q : Span) → CopiesEntries m src (piece src.entries.items p) s t es → AddsEntries t u es q → CopiesNode (suc m) src (Node.Object p) s u (Node.Object q)

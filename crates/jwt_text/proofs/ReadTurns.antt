@@ -1,5 +1,6 @@
 -- Reading into a store, a turn at a time.
-use Rattle.std.proofs.Common.{◌≡◌, ℕ, suc, ◌+◌, ◌-◌, ◌<◌, List, [], ◌∷◌, ◌++◌, map, length, Option, Some, None, refl, sym, ap, ◌∙◌, subst, arith}
+use Rattle.std.proofs.Common.{◌≡◌, ℕ, suc, ◌+◌, ◌-◌, ◌<◌, List, [], ◌∷◌, ◌++◌, map, length, take, drop, Option, Some, None, refl, sym, ap, ◌∙◌, subst, arith}
+use Rattle.std.proofs.Math.Seq.{take-append_seam}
 use Rattle.std.specs.Prelude.{IfSome}
 use Rattle.json.specs.Token.{Token}
 use Rattle.json.specs.Json.{parse_map, after_end_array, read_key, items, members, value}
@@ -13,7 +14,7 @@ use Rattle.jwt_text.specs.declared.node.Entry.{Entry}
 use Rattle.jwt_text.specs.declared.node.Node.{Node}
 use Rattle.jwt_text.specs.declared.node.Span.{Span}
 use Rattle.jwt_text.specs.declared.store.Store.{Store}
-use Rattle.jwt_text.specs.Flat.{piece, text_of, node_data, IsText, Each, IsNode}
+use Rattle.jwt_text.specs.Flat.{piece, text_of, node_data, IsText, Each, IsNode, run_of}
 use Rattle.jwt_text.specs.Growth.{Extends, AddsText, AddsNodes}
 use Rattle.jwt_text.specs.Reads.{ReadsNode, ReadsItems, items_before, ItemsTo, ItemsSoFar, put_all, pair, entries_of, MembersTo, MembersSoFar}
 use Rattle.jwt_text.proofs.Levels.{each_same, each_from}
@@ -92,7 +93,7 @@ module _ (k : ℕ) (old now : List Token) (before after : Store) (built : List N
   items_are_read new further p over adds =
       let to = so.goes json.no_items new (items_end (value k) so.fuel now new so.enough over) in
       let same : map (node_data k further) built ≡ map (node_data k after) built = each_same (IsNode k after) (node_data k further) (node_data k after) (node_stays k after further adds.grows) built so.holds in
-      let seen : map (node_data k further) (piece further.nodes.items p) ≡ map (node_data k after) built = ap (map (node_data k further)) adds.is ∙ same in
+      let seen : map (node_data k further) (run_of further p) ≡ map (node_data k after) built = ap (map (node_data k further)) adds.is ∙ same in
       record {
         trees = to.all;
         parsed = to.parsed;
@@ -105,6 +106,10 @@ module _ (k : ℕ) (old now : List Token) (before after : Store) (built : List N
       }
 
 -- ---- members
+
+-- a slice that is written back as a whole
+pub refilled : {A : Type 0} (xs ys : List A) → length ys ≡ length xs → take (length xs) (ys ++ drop (length ys) xs) ≡ ys
+refilled xs ys e = ap (λ n. take n (ys ++ drop (length ys) xs)) (sym e) ∙ take-append_seam ys (drop (length ys) xs)
 
 put_all_append : (ps : List (List ℕ × Data)) (p : List ℕ × Data) (found : Members) → put_all (ps ++ p ∷ []) found ≡ put p.0 p.1 (put_all ps found)
 put_all_append [] p found = refl

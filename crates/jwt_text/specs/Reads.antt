@@ -8,7 +8,7 @@ use Rattle.serde_json.specs.Read.{of_json, of_items, of_members}
 use Rattle.serde_json.specs.View.{items_of}
 use Rattle.jwt_text.specs.NamesWritten.{names_written, items_names_written, members_names_written}
 use Rattle.jwt_text.specs.ObjectText.{entries, items_entries, members_entries}
-use Rattle.jwt_text.specs.Flat.{piece, text_of, node_data, members_data, IsText, Each, AreEntries, IsNode}
+use Rattle.jwt_text.specs.Flat.{piece, text_of, node_data, members_data, IsText, Each, AreEntries, IsNode, run_of, IsRun}
 use Rattle.jwt_text.specs.Growth.{Extends}
 use Rattle.jwt_text.specs.declared.node.Entry.{Entry}
 use Rattle.jwt_text.specs.declared.node.Node.{Node}
@@ -30,10 +30,10 @@ pub record ReadsNode (depth : ℕ) (old new : List Token) (before after : Store)
 pub record ReadsItems (depth : ℕ) (old new : List Token) (before after : Store) (p : Span) : Type 0 where
   pub trees : json.Items
   pub parsed : items (value depth) (length old) old ≡ Some (trees, new)
-  pub is : of_items trees ≡ Some (items_of (map (node_data depth after) (piece after.nodes.items p)))
-  pub counted : items_entries (items_of (map (node_data depth after) (piece after.nodes.items p))) ≡ items_names_written trees
-  pub within : p.start + p.len ≤ length after.nodes.items
-  pub holds : Each (IsNode depth after) (piece after.nodes.items p)
+  pub is : of_items trees ≡ Some (items_of (map (node_data depth after) (run_of after p)))
+  pub counted : items_entries (items_of (map (node_data depth after) (run_of after p))) ≡ items_names_written trees
+  pub within : IsRun after p
+  pub holds : Each (IsNode depth after) (run_of after p)
   pub grows : Extends before after
   pub shorter : length new ≤ length old
 

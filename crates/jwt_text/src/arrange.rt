@@ -6,17 +6,18 @@ ghost use Rattle.jwt_text.specs.Members.{AreInOrder};
 
 use crate::node::Entry;
 use crate::store::Store;
+use std::alloc::Global;
 use std::cmp::Ordering;
 
 /// Puts entries in ascending byte order of their names; false where a name stands twice, or where memory was refused.
-pub(crate) fn arrange(store: &Store, entries: &mut Vec<Entry>) -> bool
-    ensures permutation { IsPermutation entries.old.items entries.new.items }
-    ensures order { IsTrue result → AreInOrder (entry_names store.now entries.new.items) }
+pub(crate) fn arrange(alloc: Global, store: &Store, entries: &mut [Entry]) -> bool
+    ensures permutation { IsPermutation entries.old entries.new }
+    ensures order { IsTrue result → AreInOrder (entry_names store.now entries.new) }
 {
     if is_ascending(store, entries) {
         return true;
     }
-    let sorted = entries.sort_by(|one: &Entry, other: &Entry| -> Ordering {
+    let sorted = entries.sort_by(alloc, |one: &Entry, other: &Entry| -> Ordering {
         store.octets(one.name).cmp(store.octets(other.name))
     });
     sorted.is_ok() && is_ascending(store, entries)

@@ -3,7 +3,7 @@ ghost use Rattle.std.specs.Prelude.{◌≡◌, IfSome};
 ghost use Rattle.jwt_text.specs.Flat.{AreEntries, Each, IsNode, members_data, most};
 ghost use Rattle.jwt_text.specs.Copies.{CopiesNode, CopiesNodes, CopiesEntries};
 
-use crate::node::{BELOW, Entry, Node, Nodes};
+use crate::node::{BELOW, Entries, Entry, Node, Nodes};
 use crate::owned::Object;
 use crate::store::Store;
 use smallvec::SmallVec;
@@ -32,14 +32,14 @@ fn copy_node(alloc: Global, from: &Store, node: Node, depth: usize, to: &mut Sto
                 return None;
             }
             let nodes = copy_nodes(alloc, from, from.nodes(span), depth - 1, to)?;
-            Some(Node::List(to.add_nodes(&nodes)?))
+            Some(Node::List(to.add_list(nodes)?))
         }
         Node::Object(span) => {
             if depth == 0 {
                 return None;
             }
             let entries = copy_entries(alloc, from, from.entries(span), depth - 1, to)?;
-            Some(Node::Object(to.add_entries(&entries)?))
+            Some(Node::Object(to.add_entries(entries.as_slice())?))
         }
         Node::Null => Some(Node::Null),
         Node::Bool(flag) => Some(Node::Bool(flag)),
@@ -79,12 +79,12 @@ fn copy_entries(
     entries: &[Entry],
     depth: usize,
     to: &mut Store,
-) -> Option<Vec<Entry>>
+) -> Option<Entries>
     requires { AreEntries (IsNode depth from.now) from.now entries.now }
     ensures { IfSome result
         (λ es. CopiesEntries depth from.now entries.now to.old to.new es.items) }
 {
-    let mut copies = Vec::new(alloc);
+    let mut copies: Entries = Vec::new(alloc);
     'entries: for place in 0..entries.len() {
         let entry = entries[place];
         let name = to.add_text(from.text(entry.name))?;

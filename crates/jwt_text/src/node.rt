@@ -7,7 +7,10 @@ use smallvec::SmallVec;
 /// How deep a member of an object may nest.
 pub(crate) const BELOW: usize = 126;
 
-/// A run of elements: `len` from `start` on.
+/// A list of more elements than this has an allocation of its own.
+pub(crate) const SHORT: usize = 4096;
+
+/// A run of elements: `len` from `start` on, or the long list of number `start`.
 #[derive(Clone, Copy, Default, Drop)]
 pub(crate) struct Span {
     pub(crate) start: u32,
@@ -29,7 +32,7 @@ pub(crate) enum Node {
 }
 
 /// A member of an object.
-#[derive(Clone, Copy, Drop)]
+#[derive(Clone, Copy, Default, Drop)]
 pub(crate) struct Entry {
     pub(crate) name: Span,
     pub(crate) node: Node,
@@ -37,6 +40,9 @@ pub(crate) struct Entry {
 
 /// The elements of a list. A few stand in place, and more in an allocation.
 pub(crate) type Nodes = SmallVec<Node, 4>;
+
+/// The members of an object. A few stand in place, and more in an allocation.
+pub(crate) type Entries = Vec<Entry>;
 
 pub(crate) fn as_flag(node: Node) -> Option<bool>
     ensures { result ≡ as_flag node }

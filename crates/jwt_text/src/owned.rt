@@ -6,7 +6,7 @@ ghost use Rattle.jwt_text.specs.Members.{has, text_at, is_number_at, whole_at, f
 
 use crate::TextFault;
 use crate::lent::{List, ObjectRef};
-use crate::node::Entry;
+use crate::node::Entries;
 use crate::store::Store;
 use std::alloc::Global;
 use std::marker::Model;
@@ -17,7 +17,7 @@ use std::marker::Model;
 #[derive(Drop)]
 pub struct Object {
     pub(crate) store: Store,
-    pub(crate) entries: Vec<Entry>,
+    pub(crate) entries: Entries,
 }
 
 impl Model for Object {
@@ -52,7 +52,7 @@ impl Object {
     {
         ObjectRef {
             store: &self.store,
-            entries: &self.entries,
+            entries: self.entries.as_slice(),
         }
     }
 

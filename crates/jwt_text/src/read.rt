@@ -42,6 +42,7 @@ pub fn object_with(alloc: Global, octets: &[u8], scratch: &mut Scratch) -> Resul
 }
 
 /// The object that the octets are the text of; `None` where there is none, or where it can't be held.
+#[inline(always)]
 fn object_in(alloc: Global, octets: &[u8], scratch: &mut Scratch) -> Option<Object>
     ensures { IfSome result (IsObjectText octets.now) }
 {
@@ -50,6 +51,7 @@ fn object_in(alloc: Global, octets: &[u8], scratch: &mut Scratch) -> Option<Obje
 }
 
 /// The same, of text.
+#[inline(always)]
 fn object_in_text(alloc: Global, text: &str, scratch: &mut Scratch) -> Option<Object>
     ensures { IfSome result (IsObjectText text.now) }
 {

@@ -3,7 +3,7 @@ ghost use Rattle.std.specs.Prelude.{◌≡◌, IfSome, OnSome};
 ghost use Rattle.jwt_text.specs.Reads.{ReadsNode, ReadsItems, ReadsMembers};
 
 use crate::arrange::arrange;
-use crate::node::{Entry, Node, Nodes, Span};
+use crate::node::{Entries, Entry, Node, Nodes, SHORT, Span};
 use crate::number::{node_of, parse_number};
 use crate::store::Store;
 use json::{Reader, Token};
@@ -32,7 +32,7 @@ fn read(alloc: Global, reader: &mut Reader<'_>, depth: usize, store: &mut Store)
                 return None;
             }
             let entries = read_members(alloc, reader, depth - 1, store)?;
-            Some(Node::Object(store.add_entries(&entries)?))
+            Some(Node::Object(store.add_entries(entries.as_slice())?))
         }
         Token::EndObject | Token::EndArray | Token::Key(_) | Token::Bad => None,
     }
@@ -56,7 +56,12 @@ fn read_items(
             return None;
         }
     }
-    store.add_nodes(&built)
+    // A short list isn't moved.
+    if built.len() <= SHORT {
+        store.add_short(built.as_slice())
+    } else {
+        store.add_long(built)
+    }
 }
 
 /// The members of an object in order, and the brace that closes it.
@@ -67,11 +72,11 @@ pub(crate) fn read_members(
     reader: &mut Reader<'_>,
     depth: usize,
     store: &mut Store,
-) -> Option<Vec<Entry>>
+) -> Option<Entries>
     ensures { IfSome result
         (λ es. ReadsMembers depth reader.old reader.new store.old store.new es.items) }
 {
-    let mut built = Vec::new(alloc);
+    let mut built: Entries = Vec::new(alloc);
     'members: while let Some(key) = reader.next_key().ok()? {
         let name = store.add_text(key)?;
         let node = read(alloc, reader, depth, store)?;
@@ -79,7 +84,7 @@ pub(crate) fn read_members(
             return None;
         }
     }
-    if arrange(store, &mut built) {
+    if arrange(alloc, store, built.as_mut_slice()) {
         Some(built)
     } else {
         None

@@ -1,19 +1,20 @@
-//! The three flat lists that an object stands in: octets, values and members.
-ghost use Rattle.std.specs.Prelude.{◌≡◌, ◌+◌, ◌≤◌, length, map, option_map, IfSome};
+//! The flat lists that an object stands in: octets, values and members.
+ghost use Rattle.std.specs.Prelude.{◌≡◌, ◌+◌, ◌<◌, ◌≤◌, length, map, option_map, IfSome};
 ghost use Rattle.serde_json.specs.Find.{as_str, as_array, as_object};
 ghost use Rattle.jwt_text.specs.Members.{elements};
 ghost use Rattle.std.specs.Str.{IsUtf8, bytes_eq};
-ghost use Rattle.jwt_text.specs.Flat.{text_of, piece, IsText, IsNode, node_data, members_data, AreEntries, Each, most};
+ghost use Rattle.jwt_text.specs.Flat.{text_of, piece, run_of, IsRun, IsText, IsNode, node_data, members_data, AreEntries, Each, most};
 ghost use Rattle.jwt_text.specs.Growth.{AddsText, AddsNodes, AddsEntries};
 
-use crate::node::{Entry, Node, Span, as_entries, as_list, as_text};
+use crate::node::{Entry, Node, Nodes, SHORT, Span, as_entries, as_list, as_text};
 use std::alloc::Global;
 
-/// The flat lists.
+/// The flat lists. The elements of a short list are a run of `nodes`; a long one is kept as it was gathered.
 #[derive(Drop)]
 pub(crate) struct Store {
     pub(crate) text: Vec<u8>,
     pub(crate) nodes: Vec<Node>,
+    pub(crate) long: Vec<Vec<Node>>,
     pub(crate) entries: Vec<Entry>,
 }
 
@@ -37,6 +38,7 @@ impl Store {
         Store {
             text: Vec::new(alloc),
             nodes: Vec::new(alloc),
+            long: Vec::new(alloc),
             entries: Vec::new(alloc),
         }
     }
@@ -46,6 +48,7 @@ impl Store {
         Some(Store {
             text: Vec::with_capacity(alloc, octets).ok()?,
             nodes: Vec::new(alloc),
+            long: Vec::new(alloc),
             entries: Vec::new(alloc),
         })
     }
@@ -62,13 +65,41 @@ impl Store {
         Some(span)
     }
 
-    /// Adds nodes; `None` where they can't be held.
+    /// Adds the elements of a list; `None` where they can't be held.
     #[inline(always)]
-    pub(crate) fn add_nodes(&mut self, nodes: &[Node]) -> Option<Span>
+    pub(crate) fn add_list(&mut self, nodes: Nodes) -> Option<Span>
+        ensures { IfSome result (AddsNodes self.old self.new nodes.items) }
+    {
+        if nodes.len() <= SHORT {
+            self.add_short(nodes.as_slice())
+        } else {
+            self.add_long(nodes)
+        }
+    }
+
+    /// Adds the elements of a short list.
+    #[inline(always)]
+    pub(crate) fn add_short(&mut self, nodes: &[Node]) -> Option<Span>
+        requires { length nodes.now ≤ SHORT }
         ensures { IfSome result (AddsNodes self.old self.new nodes.now) }
     {
         let span = span(self.nodes.len(), nodes.len())?;
         if self.nodes.extend_from_slice(nodes).is_err() {
+            return None;
+        }
+        Some(span)
+    }
+
+    /// Adds a long list, which isn't copied.
+    #[cold]
+    #[inline(never)]
+    pub(crate) fn add_long(&mut self, nodes: Nodes) -> Option<Span>
+        requires { SHORT < length nodes.items }
+        ensures { IfSome result (AddsNodes self.old self.new nodes.items) }
+    {
+        let nodes = nodes.into_vec().ok()?;
+        let span = span(self.long.len(), nodes.len())?;
+        if self.long.push(nodes).is_err() {
             return None;
         }
         Some(span)
@@ -116,19 +147,22 @@ impl Store {
         requires { IsText self.now span }
         ensures { result.now ≡ text_of self.now span }
     {
-        match std::str::from_utf8(self.octets(span)) {
-            Ok(text) => text,
-            Err(_) => "",
-        }
+        // They are UTF-8, by the condition.
+        unsafe { std::str::from_utf8_unchecked(self.octets(span)) }
     }
 
+    /// The elements of a list.
     pub(crate) fn nodes(&self, span: Span) -> &[Node]
-        requires { span.start + span.len ≤ length self.now.nodes.items }
-        ensures { result.now ≡ piece self.now.nodes.items span }
+        requires { IsRun self.now span }
+        ensures { result.now ≡ run_of self.now span }
     {
         let start = span.start as usize;
-        let end = start + span.len as usize;
-        &self.nodes[start..end]
+        let len = span.len as usize;
+        if len <= SHORT {
+            &self.nodes[start..start + len]
+        } else {
+            &self.long[start]
+        }
     }
 
     pub(crate) fn entries(&self, span: Span) -> &[Entry]

@@ -2,8 +2,8 @@ use Rattle.std.proofs.Common.{rules, ◌≡◌, ◌-◌, [], ◌∷◌, ◌++◌
 use Rattle.jwt_text.specs.declared.node.Entry.{Entry}
 use Rattle.jwt_text.specs.declared.node.Node.TheVariants as Node
 use Rattle.jwt_text.specs.declared.number.Number.TheVariants as Number
-use Rattle.jwt_text.specs.Flat.{piece, AreEntries, Each, IsNode}
-use Rattle.jwt_text.specs.Growth.{AddsNodes, AddsEntries}
+use Rattle.jwt_text.specs.Flat.{piece, AreEntries, Each, IsNode, run_of}
+use Rattle.jwt_text.specs.Growth.{AddsEntries}
 use Rattle.jwt_text.specs.Copies.{CopiesNode, CopiesNodes, CopiesPairs, CopiesEntries}
 use Rattle.jwt_text.proofs.Seen.{each_at}
 use Rattle.jwt_text.proofs.ReadValues.{null_seen, null_holds, flag_seen, flag_holds, number_seen, number_holds}
@@ -56,16 +56,15 @@ copy_node-returns-in_ok-add_text-in-Text t c =
     subst (λ n. CopiesNode c.args.depth c.args.from.now n c.args.to.now c.add_text.new.self (Node.Text q)) (sym c.in-Text.is)
     (text_copied c.args.depth c.args.from.now c.in-Text.span c.args.to.now c.add_text.new.self c.text.result.now q c.text.ensures c.in_ok-add_text-in-Text.ensures)
 
-pub copy_node-returns-in_ok-add_nodes-in-List : goal.copy_node-returns-in_ok-add_nodes-in-List
-copy_node-returns-in_ok-add_nodes-in-List t c =
-    let q = c.in_ok-add_nodes-in-List.field-0 in
+pub copy_node-returns-in_ok-add_list-in-List : goal.copy_node-returns-in_ok-add_list-in-List
+copy_node-returns-in_ok-add_list-in-List t c =
+    let q = c.in_ok-add_list-in-List.field-0 in
     let ns = c.in_ok-nodes-in-List.nodes.items in
     let mid = c.copy_nodes.new.to in
-    let copies : CopiesNodes (c.args.depth - 1) c.args.from.now (piece c.args.from.now.nodes.items c.in-List.span) c.args.to.now mid ns =
+    let copies : CopiesNodes (c.args.depth - 1) c.args.from.now (run_of c.args.from.now c.in-List.span) c.args.to.now mid ns =
     subst (λ l. CopiesNodes (c.args.depth - 1) c.args.from.now l c.args.to.now mid ns) c.nodes.ensures c.in_ok-nodes-in-List.ensures in
-    let adds : AddsNodes mid c.add_nodes.new.self ns q = subst (λ l. AddsNodes mid c.add_nodes.new.self l q) c.deref.ensures c.in_ok-add_nodes-in-List.ensures in
-    subst (λ n. CopiesNode c.args.depth c.args.from.now n c.args.to.now c.add_nodes.new.self (Node.List q)) (sym c.in-List.is)
-    (list_copied c.args.depth c.args.from.now c.in-List.span c.args.to.now mid c.add_nodes.new.self ns q (omega (arith, c.if-depth-eq0.false)) copies adds)
+    subst (λ n. CopiesNode c.args.depth c.args.from.now n c.args.to.now c.add_list.new.self (Node.List q)) (sym c.in-List.is)
+    (list_copied c.args.depth c.args.from.now c.in-List.span c.args.to.now mid c.add_list.new.self ns q (omega (arith, c.if-depth-eq0.false)) copies c.in_ok-add_list-in-List.ensures)
 
 pub copy_node-returns-in_ok-add_entries-in-Object :
     goal.copy_node-returns-in_ok-add_entries-in-Object
@@ -75,7 +74,7 @@ copy_node-returns-in_ok-add_entries-in-Object t c =
     let mid = c.copy_entries.new.to in
     let copies : CopiesEntries (c.args.depth - 1) c.args.from.now (piece c.args.from.now.entries.items c.in-Object.span) c.args.to.now mid es =
     subst (λ l. CopiesEntries (c.args.depth - 1) c.args.from.now l c.args.to.now mid es) c.entries.ensures c.in_ok-entries-in-Object.ensures in
-    let adds : AddsEntries mid c.add_entries.new.self es q = subst (λ l. AddsEntries mid c.add_entries.new.self l q) c.deref-in-Object.ensures.value c.in_ok-add_entries-in-Object.ensures in
+    let adds : AddsEntries mid c.add_entries.new.self es q = subst (λ l. AddsEntries mid c.add_entries.new.self l q) c.as_slice.ensures.value c.in_ok-add_entries-in-Object.ensures in
     subst (λ n. CopiesNode c.args.depth c.args.from.now n c.args.to.now c.add_entries.new.self (Node.Object q)) (sym c.in-Object.is)
     (object_copied c.args.depth c.args.from.now c.in-Object.span c.args.to.now mid c.add_entries.new.self es q (omega (arith, c.if-depth-eq0-2.false)) copies adds)
 

@@ -1,4 +1,4 @@
-use Rattle.std.proofs.Common.{map, w64}
+use Rattle.std.proofs.Common.{map, w64, arith}
 use Rattle.std.proofs.lemmas.Int.{to_z-of_z}
 use Rattle.std.proofs.lemmas.List.{length-map}
 use Rattle.jwt_jws.specs.Views.{token, parts}
@@ -15,7 +15,7 @@ verdict_after-verdict-requires g c =
     let v = map (λ b. (goal.Verifier-dyn g (b.vtable, b.value)).meaning b.value) c.args.verifiers.now in
     let t = table_of c.args.policy.now v (key_set c.args.keys.now).keys (token c.args.signed.now) in
     let n = run_length t (g.B.Budget.ceiling c.args.b.now) c.args.policy.now.max_calls c.try_token-run.new.tries.items c.try_token-run.new.states.items c.in-Ok.end c.in-Ok.ensures.run in
-    rw (c.as_slice.ensures.value, n, length-map c.args.signed.now.signatures.items parts) c.args.signed.now.few
+    rw (c.as_slice.ensures.value, n) (omega (arith, length-map c.args.signed.now.more.items parts, c.args.signed.now.few))
 
 pub returns-clause-verdict : goal.returns-clause-verdict
 returns-clause-verdict g c =

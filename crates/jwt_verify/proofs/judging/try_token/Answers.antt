@@ -1,4 +1,4 @@
-use Rattle.std.proofs.Common.{map, length}
+use Rattle.std.proofs.Common.{map, length, arith}
 use Rattle.std.proofs.lemmas.List.{length-map}
 use Rattle.jwt_jws.specs.Views.{token, parts}
 use Rattle.jwt_keys.specs.KeySets.{key_set}
@@ -20,4 +20,4 @@ returns-in_err-bars-clause-front g c =
 pub run-requires-clause-small : goal.run-requires-clause-small
 unfolding asked_table
 run-requires-clause-small g c = few_pairs (length (token c.args.signed.now).signatures) (length (key_set c.args.keys.now).keys)
-    (rw (length-map c.args.signed.now.signatures.items parts) c.args.signed.now.few) (rw (length-map c.args.keys.now.keys.items key_parts) c.args.keys.now.few)
+    (omega (arith, length-map c.args.signed.now.more.items parts, c.args.signed.now.few)) (rw (length-map c.args.keys.now.keys.items key_parts) c.args.keys.now.few)

@@ -7,4 +7,4 @@ returns c =
     let items : c.extend_from_slice.new.self.items ≡ c.args.self.now.text.items ++ c.args.text.now = grind arith in
     let start : c.in_ok-span.span.start ≡ length c.args.self.now.text.items = grind arith in
     let len : c.in_ok-span.span.len ≡ length c.args.text.now = grind arith in
-    adds_text _ _ c.args.text.now c.in_ok-span.span c.utf8.text items refl refl start len
+    adds_text _ _ c.args.text.now c.in_ok-span.span c.utf8.text items refl refl refl start len

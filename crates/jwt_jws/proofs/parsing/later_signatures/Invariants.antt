@@ -3,10 +3,10 @@ use Rattle.std.specs.Prelude.{map}
 use Rattle.jwt_text.specs.Answers.{each}
 use Rattle.jwt_jws.specs.Forms.{signature_of}
 use Rattle.jwt_jws.specs.Views.{spelled_view, parts}
-use Rattle.jwt_jws.proofs.parsing.owned_signatures.Given as goal
+use Rattle.jwt_jws.proofs.parsing.later_signatures.Given as goal
 
 abbrev pub invariant-loop-i : goal.invariant-loop-i
 invariant-loop-i l = record {
-  made : each (signature_of l.form) 0 (take l.i (map spelled_view l.spelled)) ≡ Ok (map parts l.signatures.items);
+  made : each (signature_of l.form) 1 (take l.i (map spelled_view l.spelled)) ≡ Ok (map parts l.signatures.items);
   count : length l.signatures.items ≡ l.i;
 }
