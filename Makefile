@@ -12,7 +12,7 @@ WARNINGS = -std=c11 -Wall -Wextra -Werror -pedantic
 BUILD = build
 # What the archive of rt needs of C's library, over malloc.
 LIBC = $(dir $(shell readlink -f "$$(command -v rt)"))../c/liblibc_c.a
-CRATES = $(shell find crates -name '*.rt' -o -name '*.antt' -path '*/specs/*' -o -name '*.antt' -path '*/proofs/*') crates.txt
+CRATES = $(shell find crates/*/src crates/*/specs crates/*/proofs -type f) crates.txt
 ARCHIVE = crates/jwt_c/out/libjwt_c.a
 PROGRAM = crates/jwt_tool/out/jwt_tool
 LIBRARIES = $(BUILD)/libfowharimu.a $(BUILD)/libfowharimu.so.0 $(BUILD)/libfowharimu_openssl.a $(BUILD)/libfowharimu_openssl.so.0

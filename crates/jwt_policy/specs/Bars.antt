@@ -59,8 +59,8 @@ bar_rows p s verifiers =
     ∷ (in_header (codes "enc") s ⇒ EncHeader)
     ∷ (in_header (codes "b64") s ⇒ Unencoded)
     ∷ ((in_unprotected (codes "crit") s
-        || (has (codes "crit") s.protected && option_map_or (is_no_name_list s) (list_at (codes "crit") s.protected) true))
-        ⇒ CritShape)
+    || (has (codes "crit") s.protected && option_map_or (is_no_name_list s) (list_at (codes "crit") s.protected) true))
+    ⇒ CritShape)
     ∷ (some_passes (any_text (λ t. not (is_among p.header.understood t))) (list_at (codes "crit") s.protected) ⇒ CritUnknown)
     ∷ ((is_no_text (codes "typ") s.protected || is_no_text (codes "cty") s.protected) ⇒ TypShape)
     ∷ (some_passes (λ t. not (some_passes (same_media_type t) (text_at (codes "typ") s.protected))) p.header.typ ⇒ TypMismatch)

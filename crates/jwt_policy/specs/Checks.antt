@@ -41,7 +41,7 @@ later_rows p ms now =
     ((is_some p.claims.max_age && not (has (codes "iat") ms)) ⇒ ClaimMissing (codes "iat"))
     ∷ ((not (length p.claims.issuers == 0) && not (some_passes (is_among p.claims.issuers) (text_at (codes "iss") ms))) ⇒ Issuer)
     ∷ ((has (codes "aud") ms && not (some_passes (is_among p.claims.audiences) (text_at (codes "aud") ms)
-        || some_passes (any_text (is_among p.claims.audiences)) (list_at (codes "aud") ms))) ⇒ Audience)
+    || some_passes (any_text (is_among p.claims.audiences)) (list_at (codes "aud") ms))) ⇒ Audience)
     ∷ (is_expired p ms now ⇒ Expired)
     ∷ (is_not_yet p ms now ⇒ NotYet)
     ∷ (is_issued_later p ms now ⇒ IssuedLater)
