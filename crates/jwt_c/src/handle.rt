@@ -20,7 +20,7 @@ pub struct Handle {
 }
 
 impl Model for Handle {
-    ghost also_owns = { λ h. handle_owns h.held h.at h.desk };
+    ghost also_owns = { λ h. handle_owns h.alloc h.held h.at h.desk };
 }
 
 impl Handle {

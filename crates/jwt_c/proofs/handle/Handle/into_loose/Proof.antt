@@ -47,7 +47,7 @@ into_loose_spec 𝓤 𝓛 𝓜 𝓡 wired =
     proved_at 𝓛 En hs c 𝓜 𝓡 (Goes-blank 𝓛 0 (plain (λ _. handle.the_row)) En.kept.0 (λ κs x f. tt), tt) #self fn (code.unfolded 𝓤 H 𝓜 𝓡 wired) (λ z are.
     let Post : Val → SProp 𝓤 = (walk_of 𝓛 En hs c).post z in let Run : List Val → SProp 𝓤 = λ ws. WpFn 𝓤 H 𝓣.C 𝓣.Λ fn ws Post in let Out : RattleType = type_at En.signature.result z.0.0 in let v = z.0.3.0 in
     qed 𝓛 ((raw (alive 𝓛 En.signature z.0.0 z.0.1) ⊛ ‵ (owns (types_at En.signature.params z.0.0) z.0.3 z.0.4)) ∷ raw ((c z.0.0 z.0.3).requires z.1) ∷ []) ∵ split ! $ move ! (1 ∷ []) $ fsplit ! $
-    handle_out ! v z.0.4.0 (λ h ws fits. handle_cases ! v.held v.at v.desk
+    handle_out ! v z.0.4.0 (λ h ws fits. handle_cases ! v.alloc v.held v.at v.desk
     (λ b o x eh ep ed. let w : Val = three (vptr b o) (vbool true) h in
     let ws' = subst (λ (q : Ptr). z.0.4.0 ≡ three (ptr_val q) (vbool true) h ∷ []) ep (subst (λ (y : Bool). z.0.4.0 ≡ three (ptr_val v.at) (vbool y) h ∷ []) eh ws) in
     let d : Lr.Denot = record { at = block_ptr b o; alloc = v.alloc; value = x } in let made : Val = both (vptr b o) h in let typed = loose_good D Z LZ ghosts b o h fits in let v₁ : Val = live 1 (vcons made vnil) in
