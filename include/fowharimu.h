@@ -254,7 +254,7 @@ uint32_t fow_judge(fow_validator *validator, const uint8_t *token, size_t token_
 
 /* What became of signature `signature` of the token that was judged last. Proved: FOW_OK: that is what is kept of it, which
  * after an acceptance or a refusal is what validate's report says; FOW_ABSENT, and nothing else, where that has no such
- * signature. After a verdict of another kind nothing is kept. FOW_NOT_OPEN: nothing is held. */
+ * signature. FOW_NOT_OPEN: nothing is held. */
 uint32_t fow_state_of(fow_validator *validator, uint32_t signature, fow_state *state);
 
 /* Try `n`, from 0, of the last judging. Proved as with fow_state_of. */
