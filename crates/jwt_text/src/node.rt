@@ -41,7 +41,7 @@ pub(crate) struct Entry {
 /// The elements of a list. A few stand in place, and more in an allocation.
 pub(crate) type Nodes = SmallVec<Node, 4>;
 
-/// The members of an object. A few stand in place, and more in an allocation.
+/// The members of an object.
 pub(crate) type Entries = Vec<Entry>;
 
 pub(crate) fn as_flag(node: Node) -> Option<bool>
