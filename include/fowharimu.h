@@ -130,7 +130,7 @@ enum fow_fault {
     /* why nothing is issued; pairs of an algorithm and a key are numbered from 0 */
     FOW_ISSUE_NO_KEY = 801,              /* there is no such key */
     FOW_ISSUE_TOO_MANY_SIGNATURES = 802, /* more than 32 keys */
-    FOW_ISSUE_ALG_NOT_HMAC = 803,        /* the algorithm isn't HMAC */
+    FOW_ISSUE_ALG_NOT_HMAC = 803,        /* the algorithm isn't HMAC; it doesn't come from fow_issue, which answers FOW_ABSENT */
     FOW_ISSUE_KEY_UNFIT = 804,           /* the key of this signature doesn't suit the algorithm, or may not sign */
     FOW_ISSUE_TOO_LONG = 805,            /* the token would have more than 1,048,576 octets */
     FOW_ISSUE_SPENT = 806                /* the HMAC of this signature would cost more than 10^12 octets */

@@ -126,8 +126,7 @@ static void check_issuing(const char *name)
     }
     CHECK(fow_issue(&validator, FOW_HS256, FOW_COMPACT, 9, claims, claims_len, out, sizeof out, &written, &report) == FOW_REFUSED);
     CHECK(report.fault == FOW_ISSUE_NO_KEY);
-    CHECK(fow_issue(&validator, FOW_RS256, FOW_COMPACT, 0, claims, claims_len, out, sizeof out, &written, &report) == FOW_REFUSED);
-    CHECK(report.fault == FOW_ISSUE_ALG_NOT_HMAC);
+    CHECK(fow_issue(&validator, FOW_RS256, FOW_COMPACT, 0, claims, claims_len, out, sizeof out, &written, &report) == FOW_ABSENT);
     CHECK(fow_issue(&validator, 99, FOW_COMPACT, 0, claims, claims_len, out, sizeof out, &written, &report) == FOW_ABSENT);
     CHECK(fow_issue(&validator, FOW_HS256, 9, 0, claims, claims_len, out, sizeof out, &written, &report) == FOW_ABSENT);
     fow_close(&validator);
