@@ -8,5 +8,6 @@ pub mod PairLemmas
 pub mod Showing
 pub mod Printing
 pub mod Verifying
+pub mod WalkedLines
 pub mod WordCases
 pub mod SpelledLemmas

@@ -4,6 +4,7 @@ pub mod Examples
 pub mod Faults
 pub mod Input
 pub mod Issue
+pub mod Lines
 pub mod Listed
 pub mod Mac
 pub mod Printed

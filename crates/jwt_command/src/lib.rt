@@ -7,11 +7,13 @@
 //! behind it.
 #![tactic(auto)]
 
+mod ahead;
 pub mod documents;
 mod faults;
 mod input;
 mod issue;
 mod keys;
+pub mod lines;
 mod mac;
 mod nearest;
 mod pieces;

@@ -105,8 +105,8 @@ fn on_token<R: Source>(
     report_line(alloc, &report, budget.octets())
 }
 
-// The verdict on a token in hand.
-fn on_octets(
+/// The verdict on a token in hand.
+pub(crate) fn on_octets(
     alloc: Global,
     verifiers: &[Box<dyn Verifier>],
     now: u64,
