@@ -8,6 +8,7 @@ pub mod Lines
 pub mod Listed
 pub mod Mac
 pub mod Printed
+pub mod RunLines
 pub mod Seen
 pub mod Shown
 pub mod Stops

@@ -230,13 +230,18 @@ pub record LinesOrder : Type 0 where
 abbrev pub named_moment : List Row → Option (Option ℕ)
 named_moment rows = if is_some (first_of (codes "now") rows) then option_map (λ now. Some now) (number_in now_range (one_of (codes "now") rows)) else Some None
 
--- a file of one token has no place beside `--lines`
+abbrev pub is_named : Text → List Row → Bool
+is_named name rows = is_some (first_of name rows)
+
+-- the policy and the key set are in files, and there is no file of one token
 abbrev pub lines_order : List Row → Option LinesOrder
 lines_order rows =
     if lines_asked rows
-    then (if is_some (first_of (codes "token") rows) then None
-    else option_map (λ now. record { now = now; public_keys = public_keys_in rows; files = files_in rows }) (named_moment rows))
-    else None
+    then (if is_named (codes "token") rows then None
+    else (if is_named (codes "policy") rows
+    then (if is_named (codes "keys") rows
+    then option_map (λ now. record { now = now; public_keys = public_keys_in rows; files = files_in rows }) (named_moment rows)
+    else None) else None)) else None
 
 abbrev pub lines_in : Text → List Row → Option LinesOrder
 lines_in name rows = if bytes_eq name (codes "verify") then lines_order rows else None
@@ -256,6 +261,9 @@ files_in_order (Verify now public_keys files) = files
 files_in_order (Issue alg typ form files) = files
 files_in_order order = no_files
 
+abbrev pub files_once : Option ℕ → List Text → Files
+files_once clock words = option_map_or files_in_order (order_of clock words) no_files
+
 -- the files that words name
 abbrev pub files_of : Option ℕ → List Text → Files
-files_of clock words = option_map_or (λ order. order.files) (lines_of (is_some clock) words) (option_map_or files_in_order (order_of clock words) no_files)
+files_of clock words = option_map_or (λ order. order.files) (lines_of (is_some clock) words) (files_once clock words)

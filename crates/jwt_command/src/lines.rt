@@ -1,20 +1,31 @@
 //! The command `verify --lines`: a verdict for each line of an input.
-ghost use Rattle.std.specs.Prelude.{◌≡◌, ◌≤◌, ◌+◌, ◌<◌, ◌++◌, ◌∷◌, [], OnOk, false, true, length, map, take, Err, IfErr, IfNone, IfSome, None, Ok, Some};
+ghost use Rattle.std.specs.Prelude.{◌≡◌, ◌≤◌, ◌+◌, ◌<◌, ◌++◌, ◌∷◌, ◌⊎◌, [], IfOk, OnOk, is_some, false, true, length, map, take, Err, IfErr, IfNone, IfSome, None, Ok, Some};
 ghost use Rattle.std.specs.Io.KnownBytes.{prepend_known};
 ghost use Rattle.jwt_keys.specs.KeySets.{key_set};
 ghost use Rattle.jwt_command.specs.Lines.{GivesLines, IsMoment, LineAnswered, LineEnds};
 ghost use Rattle.jwt_command.specs.TakenLines.{after_line, first_line};
+ghost use Rattle.jwt_keys.specs.KeySets.{key_set_of};
+ghost use Rattle.jwt_policy.specs.Document.{policy_of};
+ghost use Rattle.jwt_command.specs.Printed.{Gives, GivesWrongWords, Prints, out_of_memory};
+ghost use Rattle.jwt_command.specs.RunLines.{LinesByPolicy, Printed, RunsLines};
+ghost use Rattle.jwt_command.specs.Answered.{answer_with};
+ghost use Rattle.jwt_command.specs.Seen.{lines_view};
+ghost use Rattle.jwt_command.specs.Words.{LinesOrder, Order as Asked, lines_of, order_of};
+ghost use Rattle.jwt_command.specs.Views.{held_view, reply_view};
 ghost use Rattle.jwt_command.specs.Verify.{terms, token_answer};
 
 use crate::ahead::Ahead;
-use crate::run::{lack_memory, send};
+use crate::reply::Reply;
+use crate::documents::{Held, file_failed, unread};
+use crate::run::{asked_for, lack_memory, run_files, send};
+use crate::words::{Lines, read_lines};
 use crate::take_line::LineFault;
-use crate::verify::on_octets;
-use jwt_keys::KeySet;
+use crate::verify::{on_octets, refused_policy};
+use jwt_keys::{KeySet, KeysFault};
 use jwt_mac::Verifier;
-use jwt_policy::Policy;
+use jwt_policy::{Policy, PolicyFault};
 use jwt_text::{Sink, Source, write_out};
-use std::alloc::Global;
+use std::alloc::{AllocError, Global};
 
 /// Moments, in seconds since 1970-01-01T00:00:00Z.
 pub trait Clock {
@@ -142,4 +153,111 @@ pub(crate) fn answer_lines<R: Source, W: Sink, C: Clock>(
         }
     }
     lack_memory(w)
+}
+
+// Sends an answer, where memory was there.
+fn give<W: Sink>(w: &mut W, reply: Result<Reply, AllocError>) -> u8
+    ensures ok { IfOk reply (λ a. Prints (reply_view a) (W.contents w.old) (W.contents w.new) (W.failed w.new) result) }
+    ensures err { IfErr reply (λ _. Prints out_of_memory (W.contents w.old) (W.contents w.new) (W.failed w.new) result) }
+{
+    match reply {
+        Ok(reply) => send(w, reply.text.as_slice(), reply.status),
+        Err(_) => lack_memory(w),
+    }
+}
+
+// Answers each line under a policy and a key set in hand.
+fn lines_in_hand<R: Source, W: Sink, C: Clock>(
+    alloc: Global,
+    verifiers: &[Box<dyn Verifier>],
+    now: Option<u64>,
+    clock: &mut C,
+    policy: &[u8],
+    keys: &[u8],
+    r: &mut R,
+    w: &mut W,
+) -> u8
+    requires { IfSome now (λ n. n ≤ 9223372036854775807) }
+    ensures { IfSome (R.remaining r.old) (λ x.
+        Printed out_of_memory (record { before = W.contents w.old; after = W.contents w.new; failed = W.failed w.new; status = result })
+        ⊎ LinesByPolicy (map meaning verifiers.now) now (policy_of policy.now) (key_set_of keys.now) x (R.failed r.new)
+        (record { before = W.contents w.old; after = W.contents w.new; failed = W.failed w.new; status = result })) }
+{
+    let policy = match Policy::read(alloc, policy) {
+        Ok(policy) => policy,
+        Err(PolicyFault::OutOfMemory) => return lack_memory(w),
+        Err(fault) => return give(w, refused_policy(alloc, &fault)),
+    };
+    match KeySet::read(alloc, keys) {
+        Ok(keys) => answer_lines(alloc, verifiers, now, clock, &policy, &keys, r, w),
+        Err(KeysFault::OutOfMemory) => lack_memory(w),
+        Err(fault) => give(w, Reply::refused_keys(alloc, fault.name())),
+    }
+}
+
+// Answers each line, where each document that a file is named for is in hand.
+fn lines_named<R: Source, W: Sink, C: Clock>(
+    alloc: Global,
+    order: Lines<'_>,
+    verifiers: &[Box<dyn Verifier>],
+    clock: &mut C,
+    held: Held<'_>,
+    r: &mut R,
+    w: &mut W,
+) -> u8
+    requires { IfSome order.now (λ n. n ≤ 9223372036854775807) }
+    ensures { IfSome (R.remaining r.old) (λ x. RunsLines (map meaning verifiers.now) (lines_view order) (held_view held.entry) x (R.failed r.new)
+        (record { before = W.contents w.old; after = W.contents w.new; failed = W.failed w.new; status = result })) }
+{
+    if let Some(name) = unread(order.files, held) {
+        return give(w, file_failed(alloc, name));
+    }
+    match (held.policy, held.keys) {
+        (Some(policy), Some(keys)) => lines_in_hand(
+            alloc,
+            asked_for(order.public_keys, verifiers),
+            order.now,
+            clock,
+            policy,
+            keys,
+            r,
+            w,
+        ),
+        _ => send(w, b"failed Read\n", 3),
+    }
+}
+
+/// The same as [`run_files`], and `verify --lines` besides: each line of `r` is answered before the next is waited for. Where `--now`
+/// is left out, `moments` is read for each line. The status of `verify --lines` is 0 where each line was answered.
+pub fn run_lines<R: Source, W: Sink, C: Clock>(
+    alloc: Global,
+    words: &[&str],
+    built_in: &[Box<dyn Verifier>],
+    clock: Option<u64>,
+    moments: &mut C,
+    held: Held<'_>,
+    r: &mut R,
+    w: &mut W,
+) -> u8
+    requires { IfSome clock (λ n. n ≤ 9223372036854775807) }
+    // A verdict for each line.
+    ensures lines { (order : LinesOrder) → lines_of (is_some clock) (map (λ word. word.now) words.now) ≡ Some order
+        → IfSome (R.remaining r.old) (λ x. RunsLines (map meaning built_in.now) order (held_view held.entry) x (R.failed r.new)
+        (record { before = W.contents w.old; after = W.contents w.new; failed = W.failed w.new; status = result })) }
+
+    // One answer.
+    ensures answer { lines_of (is_some clock) (map (λ word. word.now) words.now) ≡ None
+        → (order : Asked) → order_of clock (map (λ word. word.now) words.now) ≡ Some order
+        → IfSome (R.remaining r.old) (λ x.
+        Gives (answer_with (map meaning built_in.now) (held_view held.entry) order (R.failed r.new) x)
+        (W.contents w.old) (W.contents w.new) (W.failed w.new) result) }
+    ensures wrong { lines_of (is_some clock) (map (λ word. word.now) words.now) ≡ None
+        → order_of clock (map (λ word. word.now) words.now) ≡ None
+        → GivesWrongWords (W.contents w.old) (W.contents w.new) (W.failed w.new) result }
+{
+    match read_lines(alloc, words, clock.is_some()) {
+        Ok(Some(order)) => lines_named(alloc, order, built_in, moments, held, r, w),
+        Ok(None) => run_files(alloc, words, built_in, clock, held, r, w),
+        Err(_) => lack_memory(w),
+    }
 }

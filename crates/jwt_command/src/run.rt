@@ -205,8 +205,8 @@ fn version_line(alloc: Global) -> Result<Reply, AllocError>
     )
 }
 
-// The verifiers for public keys, where they are asked for.
-fn asked_for(public_keys: bool, built_in: &[Box<dyn Verifier>]) -> &[Box<dyn Verifier>]
+/// The verifiers for public keys, where they are asked for.
+pub(crate) fn asked_for(public_keys: bool, built_in: &[Box<dyn Verifier>]) -> &[Box<dyn Verifier>]
     ensures { map meaning result.now ≡ asked_for public_keys (map meaning built_in.now) }
 {
     if public_keys {

@@ -185,8 +185,8 @@ fn on_keys<R: Source>(
     }
 }
 
-// The line of a refused policy.
-fn refused_policy(alloc: Global, fault: &PolicyFault) -> Result<Reply, AllocError>
+/// The line of a refused policy.
+pub(crate) fn refused_policy(alloc: Global, fault: &PolicyFault) -> Result<Reply, AllocError>
     ensures { IfOk result (λ a. reply_view a ≡ policy_refused fault.now) }
 {
     let name = policy_fault_text(alloc, fault)?;

@@ -1,9 +1,9 @@
 //! The words of the command, read by `clap`.
-ghost use Rattle.std.specs.Prelude.{◌≡◌, ◌≤◌, IfOk, IfErr, IfSome, None, Some, codes, false, is_some, map, option_and_then, option_map};
-ghost use Rattle.clap.specs.Words.{app_of, first_of, found_of, one_of, rows_of, rule_of, subcommand_rows_of};
+ghost use Rattle.std.specs.Prelude.{◌≡◌, ◌≤◌, IfOk, IfErr, IfSome, None, Some, false, is_some, map, option_and_then, option_map};
+ghost use Rattle.clap.specs.Words.{app_of, found_of, one_of, rows_of, rule_of, subcommand_rows_of};
 ghost use Rattle.clap.specs.declared.builder.command.Command.TheViews.{out-Command as fields_of};
 ghost use Rattle.clap.specs.declared.builder.ValueParser.TheVariants.{Unsigned};
-ghost use Rattle.jwt_command.specs.Words.{HasLimits, alg_in, alg_rule, form_in, form_named, form_rule, asks_version, clap_order, files_in, files_of, issue_app, issue_order, jwt_app, key_file_rule, key_rule, keyed, keys_app, keys_file_in, keys_rule, limit_rule, lines_asked, lines_in, lines_of, lines_order, lines_rule, mac_app, mac_order, moment_in, named_moment, no_files, now_rule, number_in, order_in, order_of, policy_rule, public_keys_in, public_keys_rule, show_app, show_order, token_rule, typ_rule, verify_app, verify_on_input, verify_order};
+ghost use Rattle.jwt_command.specs.Words.{HasLimits, alg_in, alg_rule, form_in, form_named, form_rule, asks_version, clap_order, files_in, files_of, files_once, issue_app, issue_order, jwt_app, key_file_rule, key_rule, keyed, keys_app, keys_file_in, keys_rule, is_named, limit_rule, lines_asked, lines_in, lines_of, lines_order, lines_rule, mac_app, mac_order, moment_in, named_moment, no_files, now_rule, number_in, order_in, order_of, policy_rule, public_keys_in, public_keys_rule, show_app, show_order, token_rule, typ_rule, verify_app, verify_on_input, verify_order};
 ghost use Rattle.jwt_command.specs.Examples.{Examples};
 ghost use Rattle.jwt_command.specs.Seen.{IsWrong, files_view, lines_view, seen};
 
@@ -137,7 +137,7 @@ fn lines_option<'a>(alloc: Global) -> Arg<'a>
     Arg::new(alloc, "lines")
         .long("lines")
         .action(ArgAction::SetTrue)
-        .help("Answers each line behind the policy and the key set as a token, before the next is waited for")
+        .help("Answers each line of standard input as a token, before the next is waited for; needs --policy and --keys")
 }
 
 fn policy_option<'a>(alloc: Global) -> Arg<'a>
@@ -380,12 +380,12 @@ fn wrong_keys(alloc: Global, options: &ArgMatches<'_>) -> Result<String, AllocEr
     format!(in alloc; "error: {wrong}\n\nFor more information, try '--help'.\n")
 }
 
-// The text of `--lines` beside a file of one token, or where lines aren't answered one by one.
+// The text of `--lines` beside a file of one token, without the other two files, or where the whole answer is given at once.
 fn wrong_lines(alloc: Global, options: &ArgMatches<'_>) -> Result<String, AllocError> {
     let wrong = if options.get_str("token").is_some() {
         "the argument '--lines' cannot be used with '--token <FILE>'"
     } else {
-        "the argument '--lines' cannot be used where the whole answer is given at once"
+        "the argument '--lines' needs '--policy <FILE>' and '--keys <FILE>'"
     };
     format!(in alloc; "error: {wrong}\n\nFor more information, try '--help'.\n")
 }
@@ -503,33 +503,40 @@ fn chosen_named_moment(options: &ArgMatches<'_>) -> Option<Option<u64>>
     }
 }
 
-// Whether a file of the token is named.
-fn names_token(options: &ArgMatches<'_>) -> bool
-    ensures { result ≡ is_some (first_of (codes "token") (rows_of (found_of options.now))) }
+// Whether an option has a value.
+fn is_named(options: &ArgMatches<'_>, name: &str) -> bool
+    ensures { result ≡ is_named name.now (rows_of (found_of options.now)) }
 {
-    options.get_str("token").is_some()
+    match options.get_str(name) {
+        Some(_) => true,
+        None => false,
+    }
 }
 
 fn chosen_lines<'a>(options: &ArgMatches<'a>) -> Option<Lines<'a>>
     ensures limits { IfSome result (λ o. IfSome o.now (λ n. n ≤ 9223372036854775807)) }
     ensures order { option_map lines_view result ≡ lines_order (rows_of (found_of options.now)) }
 {
-    if chosen_lines_asked(options) {
-        if names_token(options) {
-            None
-        } else {
-            let now = chosen_named_moment(options)?;
-            let public_keys = chosen_public_keys(options);
-            let files = chosen_files(options);
-            Some(Lines {
-                now,
-                public_keys,
-                files,
-            })
-        }
-    } else {
-        None
+    if !chosen_lines_asked(options) {
+        return None;
     }
+    if is_named(options, "token") {
+        return None;
+    }
+    if !is_named(options, "policy") {
+        return None;
+    }
+    if !is_named(options, "keys") {
+        return None;
+    }
+    let now = chosen_named_moment(options)?;
+    let public_keys = chosen_public_keys(options);
+    let files = chosen_files(options);
+    Some(Lines {
+        now,
+        public_keys,
+        files,
+    })
 }
 
 fn lines_in<'a>(matches: &ArgMatches<'a>) -> Option<Lines<'a>>
@@ -671,6 +678,26 @@ fn number(options: &ArgMatches<'_>, id: &str, low: u64, high: u64) -> Option<u64
     if low <= n && n <= high { Some(n) } else { None }
 }
 
+// The files that the words name, where they ask for one answer.
+fn files_once<'a>(
+    alloc: Global,
+    words: &'a [&'a str],
+    clock: Option<u64>,
+) -> Result<Files<'a>, AllocError>
+    requires { IfSome clock (λ n. n ≤ 9223372036854775807) }
+    ensures { IfOk result (λ f. files_view f ≡ files_once clock (map (λ w. w.now) words.now)) }
+{
+    match read_words(alloc, words, clock) {
+        Ok(Order::Verify { files, .. } | Order::Issue { files, .. }) => Ok(files),
+        Ok(Order::MacFile { name, .. }) => Ok(Files {
+            key: Some(name),
+            ..Files::none()
+        }),
+        Ok(_) | Err(WordsFault::Wrong(_)) => Ok(Files::none()),
+        Err(WordsFault::OutOfMemory) => Err(AllocError),
+    }
+}
+
 /// The files that the words name, at the moment that a clock says or without a clock. Where the words are wrong, they name none.
 /// `AllocError` comes where an allocation was refused.
 pub fn files_named<'a>(
@@ -681,17 +708,9 @@ pub fn files_named<'a>(
     requires { IfSome clock (λ n. n ≤ 9223372036854775807) }
     ensures { IfOk result (λ f. files_view f ≡ files_of clock (map (λ w. w.now) words.now)) }
 {
-    if let Some(lines) = read_lines(alloc, words, clock.is_some())? {
-        return Ok(lines.files);
-    }
-    match read_words(alloc, words, clock) {
-        Ok(Order::Verify { files, .. } | Order::Issue { files, .. }) => Ok(files),
-        Ok(Order::MacFile { name, .. }) => Ok(Files {
-            key: Some(name),
-            ..Files::none()
-        }),
-        Ok(_) | Err(WordsFault::Wrong(_)) => Ok(Files::none()),
-        Err(WordsFault::OutOfMemory) => Err(AllocError),
+    match read_lines(alloc, words, clock.is_some())? {
+        Some(lines) => Ok(lines.files),
+        None => files_once(alloc, words, clock),
     }
 }
 
