@@ -206,7 +206,7 @@ fn lines_named<R: Source, W: Sink, C: Clock>(
     w: &mut W,
 ) -> u8
     requires { IfSome order.now (λ n. n ≤ 9223372036854775807) }
-    ensures { IfSome (R.remaining r.old) (λ x. RunsLines (map meaning verifiers.now) (lines_view order) (held_view held.entry) x (R.failed r.new)
+    ensures { IfSome (R.remaining r.old) (λ x. RunsLines (map meaning verifiers.now) (lines_view order.entry) (held_view held.entry) x (R.failed r.new)
         (record { before = W.contents w.old; after = W.contents w.new; failed = W.failed w.new; status = result })) }
 {
     if let Some(name) = unread(order.files, held) {
