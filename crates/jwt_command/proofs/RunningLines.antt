@@ -5,10 +5,12 @@ use Rattle.jwt_keys.specs.KeySets.{KeyList}
 use Rattle.jwt_keys.specs.declared.fault.KeysFault.{KeysFault}
 use Rattle.jwt_policy.specs.Settings.{Settings}
 use Rattle.jwt_policy.specs.declared.policy_fault.PolicyFault.{PolicyFault}
+use Rattle.jwt_command.specs.Documents.{Held, file_failed, unread}
 use Rattle.jwt_command.specs.Lines.{GivesLines}
-use Rattle.jwt_command.specs.Printed.{Answer, out_of_memory}
-use Rattle.jwt_command.specs.RunLines.{LinesByKeys, LinesByPolicy, Outcome, Printed}
-use Rattle.jwt_command.specs.Verify.{keys_refused, policy_refused, terms, token_answer}
+use Rattle.jwt_command.specs.Printed.{Answer, out_of_memory, read_failed}
+use Rattle.jwt_command.specs.RunLines.{LinesByKeys, LinesByPolicy, LinesInHand, LinesNamed, Outcome, Printed, RunsLines}
+use Rattle.jwt_command.specs.Verify.{asked_for, keys_refused, policy_refused, terms, token_answer}
+use Rattle.jwt_command.specs.Words.{LinesOrder}
 
 -- what holds for each x holds where x is told
 pub where_told : (told : Option (List ℕ)) (P : List ℕ → Type 0) → ((x : List ℕ) → P x) → IfSome told P
@@ -51,3 +53,34 @@ lines_are_given verifiers now None policy set p keys unread o policy_is set_is g
 lines_are_given verifiers now (Some x) policy set p keys unread o policy_is set_is given =
     inr (subst (λ (q : Result Settings PolicyFault). LinesByPolicy verifiers now q set x unread o) (sym policy_is)
     (subst (λ (s : Result KeyList KeysFault). LinesByKeys verifiers now p s x unread o) (sym set_is) given))
+
+pub file_is_unread : {A E : Type 0} (view : A → Answer) (built_in : List Meaning) (order : LinesOrder) (held : Held) (told : Option (List ℕ)) (name : List ℕ)
+    (reply : Result A E) (failed : Bool) (o : Outcome) → Some name ≡ unread order.files held → IfOk reply (λ r. view r ≡ file_failed name)
+    → IfOk reply (λ r. Printed (view r) o) → IfErr reply (λ e. Printed out_of_memory o) → IfSome told (λ x. RunsLines built_in order held x failed o)
+file_is_unread view built_in order held told name reply failed o is line printed lacks =
+    where_told told (λ x. RunsLines built_in order held x failed o) (λ x.
+    or_else (Printed out_of_memory o) (Printed (file_failed name) o) (LinesNamed (unread order.files held) built_in order held x failed o)
+    (λ h. subst (λ (u : Option (List ℕ)). LinesNamed u built_in order held x failed o) is h) (given view reply (file_failed name) o line printed lacks))
+
+policy_lacks : (verifiers : List Meaning) (now : Option ℕ) (policy keys : Option (List ℕ)) (x : List ℕ) (unread : Bool) (o : Outcome)
+    → policy ≡ None → Printed read_failed o → LinesInHand verifiers now policy keys x unread o
+policy_lacks verifiers now policy keys x unread o is printed = subst (λ (p : Option (List ℕ)). LinesInHand verifiers now p keys x unread o) (sym is) printed
+
+keys_lack : (verifiers : List Meaning) (now : Option ℕ) (policy keys : Option (List ℕ)) (x : List ℕ) (unread : Bool) (o : Outcome)
+    → keys ≡ None → Printed read_failed o → LinesInHand verifiers now policy keys x unread o
+keys_lack verifiers now None keys x unread o is printed = printed
+keys_lack verifiers now (Some p) keys x unread o is printed = subst (λ (k : Option (List ℕ)). LinesInHand verifiers now (Some p) k x unread o) (sym is) printed
+
+pub without_policy : (built_in : List Meaning) (order : LinesOrder) (held : Held) (told : Option (List ℕ)) (failed : Bool) (o : Outcome)
+    → None ≡ unread order.files held → held.policy ≡ None → Printed read_failed o → IfSome told (λ x. RunsLines built_in order held x failed o)
+without_policy built_in order held told failed o is lacks printed =
+    where_told told (λ x. RunsLines built_in order held x failed o) (λ x.
+    inr (subst (λ (u : Option (List ℕ)). LinesNamed u built_in order held x failed o) is
+    (policy_lacks (asked_for order.public_keys built_in) order.now held.policy held.keys x failed o lacks printed)))
+
+pub without_keys : (built_in : List Meaning) (order : LinesOrder) (held : Held) (told : Option (List ℕ)) (failed : Bool) (o : Outcome)
+    → None ≡ unread order.files held → held.keys ≡ None → Printed read_failed o → IfSome told (λ x. RunsLines built_in order held x failed o)
+without_keys built_in order held told failed o is lacks printed =
+    where_told told (λ x. RunsLines built_in order held x failed o) (λ x.
+    inr (subst (λ (u : Option (List ℕ)). LinesNamed u built_in order held x failed o) is
+    (keys_lack (asked_for order.public_keys built_in) order.now held.policy held.keys x failed o lacks printed)))

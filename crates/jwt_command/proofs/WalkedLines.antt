@@ -100,9 +100,14 @@ walked_push limit (Some x) left rest held any c (walked, keeps, none, is, empty,
 pub walked_past : (limit : ℕ) (told left rest : Option (List ℕ)) (held : List ℕ) (any : Bool) (c : ℕ) → Walked limit told left held any → Consumes left rest (c ∷ []) → (c == 10) ≡ false
     → limit < length held → Walked limit told rest held true
 walked_past limit None left rest held any c w consumes other past = tt
-walked_past limit (Some x) left rest held any c (walked, keeps, none, is, empty, some) consumes other past =
-    (walked ++ c ∷ [], more_keeps x walked left rest c keeps consumes, no_feed_push walked c none other,
-    is ∙ push_past (limit + 1) walked c (omega (arith, ap length is, length_held (limit + 1) walked, past)), λ e. absurd (cc e), λ e. some_walked walked c)
+walked_past limit (Some x) left rest held any c (walked, keeps, none, is, empty, some) consumes other past = (
+  walked ++ c ∷ [],
+  more_keeps x walked left rest c keeps consumes,
+  no_feed_push walked c none other,
+  is ∙ push_past (limit + 1) walked c (omega (arith, ap length is, length_held (limit + 1) walked, past)),
+  λ e. absurd (cc e),
+  λ e. some_walked walked c,
+)
 
 -- the same, whether the octet was held or not
 pub walked_hold : (limit : ℕ) (told left rest : Option (List ℕ)) (held new : List ℕ) (any : Bool) (c : ℕ) → Walked limit told left held any → Consumes left rest (c ∷ []) → (c == 10) ≡ false
@@ -206,9 +211,12 @@ pub answering_more : (limit : ℕ) (at : ℕ → List ℕ → Answer) (now : Opt
     → Answering at now told left before between → IfSome left (λ y. Line limit y held rest) → LineAnswered at now held between after → Answering at now told rest before after
 answering_more limit at now None left rest held before between after same h line said = tt
 answering_more limit at now (Some x) left rest held before between after same (y, is, done) line (m, moment, text) =
-    let l = subst (λ o. IfSome o (λ y. Line limit y held rest)) is line in
-    (after_line y, l.2, answers_one_more at now x y before between after done l.0
-    (m, moment, subst (λ t. Appends between after t) (ap (λ z. (at m z).text) l.1 ∙ ap (λ a. a.text) (same m (first_line y))) text))
+    let l = subst (λ o. IfSome o (λ y. Line limit y held rest)) is line in (
+      after_line y,
+      l.2,
+      answers_one_more at now x y before between after done l.0
+          (m, moment, subst (λ t. Appends between after t) (ap (λ z. (at m z).text) l.1 ∙ ap (λ a. a.text) (same m (first_line y))) text),
+    )
 
 pub lines_done : (at : ℕ → List ℕ → Answer) (now : Option ℕ) (told left : Option (List ℕ)) (unread : Bool) (before after : Option (List ℕ)) (failed : Bool)
     → Answering at now told left before after → IfSome left (λ y. y ≡ []) → IfSome told (λ x. GivesLines at now x unread before after failed 0)

@@ -15,12 +15,12 @@ ghost use Rattle.jwt_command.specs.Views.{held_view, reply_view};
 ghost use Rattle.jwt_command.specs.Verify.{terms, token_answer};
 
 use crate::ahead::Ahead;
-use crate::reply::Reply;
 use crate::documents::{Held, file_failed, unread};
+use crate::reply::Reply;
 use crate::run::{asked_for, lack_memory, run_files, send};
-use crate::words::{Lines, read_lines};
 use crate::take_line::LineFault;
 use crate::verify::{on_octets, refused_policy};
+use crate::words::{Lines, read_lines};
 use jwt_keys::{KeySet, KeysFault};
 use jwt_mac::Verifier;
 use jwt_policy::{Policy, PolicyFault};
@@ -143,7 +143,16 @@ pub(crate) fn answer_lines<R: Source, W: Sink, C: Clock>(
     'lines: for _ in 0..u64::MAX {
         match take_line(&mut ahead, r, limit, &mut line) {
             Ok(true) => {
-                if let Some(status) = answer_line(alloc, verifiers, now, clock, policy, keys, line.as_slice(), w) {
+                if let Some(status) = answer_line(
+                    alloc,
+                    verifiers,
+                    now,
+                    clock,
+                    policy,
+                    keys,
+                    line.as_slice(),
+                    w,
+                ) {
                     return status;
                 }
             }
@@ -212,18 +221,21 @@ fn lines_named<R: Source, W: Sink, C: Clock>(
     if let Some(name) = unread(order.files, held) {
         return give(w, file_failed(alloc, name));
     }
-    match (held.policy, held.keys) {
-        (Some(policy), Some(keys)) => lines_in_hand(
-            alloc,
-            asked_for(order.public_keys, verifiers),
-            order.now,
-            clock,
-            policy,
-            keys,
-            r,
-            w,
-        ),
-        _ => send(w, b"failed Read\n", 3),
+    match held.policy {
+        Some(policy) => match held.keys {
+            Some(keys) => lines_in_hand(
+                alloc,
+                asked_for(order.public_keys, verifiers),
+                order.now,
+                clock,
+                policy,
+                keys,
+                r,
+                w,
+            ),
+            None => send(w, b"failed Read\n", 3),
+        },
+        None => send(w, b"failed Read\n", 3),
     }
 }
 

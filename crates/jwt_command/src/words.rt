@@ -137,7 +137,9 @@ fn lines_option<'a>(alloc: Global) -> Arg<'a>
     Arg::new(alloc, "lines")
         .long("lines")
         .action(ArgAction::SetTrue)
-        .help("Answers each line of standard input as a token, before the next is waited for; needs --policy and --keys")
+        .help(
+            "Answers each line of standard input as a token, before the next is waited for; needs --policy and --keys",
+        )
 }
 
 fn policy_option<'a>(alloc: Global) -> Arg<'a>

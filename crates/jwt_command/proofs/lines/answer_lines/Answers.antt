@@ -13,7 +13,7 @@ lines-init g c =
     let vs = map (λ b. (goal.Verifier-dyn g (b.vtable, b.value)).meaning b.value) c.args.verifiers.now in
     let at : ℕ → List ℕ → Answer = λ m l. token_answer (terms vs m c.args.policy.now (key_set c.args.keys.now)) l in
     let told = g.R.Source.remaining c.args.r.now in
-    record { answering = answering_none at c.args.now told c.in-Ok.ahead (g.W.Sink.contents c.args.w.now) c.in-Ok.ensures; }
+    record { answering = answering_none at c.args.now told c.in-Ok.ahead (g.W.Sink.contents c.args.w.now) c.in-Ok.ensures }
 
 pub returns-in_default : goal.returns-in_default
 returns-in_default g c =
@@ -66,8 +66,10 @@ lines-preserved g c =
     let left = prepend_known c.lines.ahead (g.R.Source.remaining c.lines.r) in
     let same : Bounded c.limit-limit.result at = subst (λ n. Bounded n at) (sym c.limit-limit.ensures.value) (λ m l. token_bounded (terms vs m c.args.policy.now (key_set c.args.keys.now)) l) in
     let line = IfSome_then left c.take_line.ensures.line (λ y f. f (c.in-Ok-true.is ∙ ap Ok c.in-Ok-true.field-0-test)) in
-    record { answering = answering_more c.limit-limit.result at c.args.now told left _ c.take_line.new.line.items (g.W.Sink.contents c.args.w.now) (g.W.Sink.contents c.lines.w) (g.W.Sink.contents c.answer_line.new.w) same c.lines.invariant.answering line
-    (subst (λ z. LineAnswered at c.args.now z (g.W.Sink.contents c.lines.w) (g.W.Sink.contents c.answer_line.new.w)) c.as_slice.ensures.value c.in_default-answer_line.ensures.answered); }
+    record {
+      answering = answering_more c.limit-limit.result at c.args.now told left _ c.take_line.new.line.items (g.W.Sink.contents c.args.w.now) (g.W.Sink.contents c.lines.w) (g.W.Sink.contents c.answer_line.new.w) same c.lines.invariant.answering line
+          (subst (λ z. LineAnswered at c.args.now z (g.W.Sink.contents c.lines.w) (g.W.Sink.contents c.answer_line.new.w)) c.as_slice.ensures.value c.in_default-answer_line.ensures.answered);
+    }
 
 pub returns : goal.returns
 returns g c =

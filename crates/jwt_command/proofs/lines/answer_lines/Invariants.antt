@@ -9,5 +9,5 @@ use Rattle.jwt_command.proofs.lines.answer_lines.Given as goal
 abbrev pub invariant-lines : goal.invariant-lines
 invariant-lines g l = record {
   answering : Answering (λ m x. token_answer (terms (map (λ b. (goal.Verifier-dyn g (b.vtable, b.value)).meaning b.value) l.fn.verifiers) m l.fn.policy (key_set l.fn.keys)) x) l.fn.now
-  (g.R.Source.remaining l.fn.r) (prepend_known l.ahead (g.R.Source.remaining l.r)) (g.W.Sink.contents l.fn.w) (g.W.Sink.contents l.w);
+      (g.R.Source.remaining l.fn.r) (prepend_known l.ahead (g.R.Source.remaining l.r)) (g.W.Sink.contents l.fn.w) (g.W.Sink.contents l.w);
 }

@@ -6,7 +6,7 @@ use Rattle.jwt_command.proofs.WalkedLines.{some_octet, walked_end, walked_feed, 
 use Rattle.jwt_command.proofs.lines.take_line.Goals as goal
 
 pub octets-init : goal.octets-init
-octets-init g c = record { walked = walked_none c.args.limit (prepend_known c.args.ahead.now (g.R.Source.remaining c.args.r.now)) c.clear.new.self.items c.clear.ensures.items; }
+octets-init g c = record { walked = walked_none c.args.limit (prepend_known c.args.ahead.now (g.R.Source.remaining c.args.r.now)) c.clear.new.self.items c.clear.ensures.items }
 
 pub returns-in-Some-None-clause-line : goal.returns-in-Some-None-clause-line
 returns-in-Some-None-clause-line g c =
@@ -35,5 +35,7 @@ octets-preserved g c =
     let left = prepend_known c.octets.ahead (g.R.Source.remaining c.octets.r) in
     let rest = prepend_known c.next.new.self (g.R.Source.remaining c.next.new.r) in
     let octet = some_octet left rest c.in-Some-Some.field-0 c.in-Some-Some.octet c.in-Some-Some.ensures.octet c.in-Some-Some.field-0-is in
-    record { walked = walked_hold c.args.limit told left rest c.octets.line.items c.hold.new.line.items c.octets.any c.in-Some-Some.octet c.octets.invariant.walked octet
-    (grind (arith, nat_tests, c.in-Some-Some.octet-test)) (λ short. search (c.in_ok-hold-in-Some-Some.ensures.within short)) (λ long. search (c.in_ok-hold-in-Some-Some.ensures.past long)); }
+    record {
+      walked = walked_hold c.args.limit told left rest c.octets.line.items c.hold.new.line.items c.octets.any c.in-Some-Some.octet c.octets.invariant.walked octet
+          (grind (arith, nat_tests, c.in-Some-Some.octet-test)) (λ short. search (c.in_ok-hold-in-Some-Some.ensures.within short)) (λ long. search (c.in_ok-hold-in-Some-Some.ensures.past long));
+    }
