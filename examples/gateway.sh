@@ -41,5 +41,5 @@ done < <(if [ "${1-}" = - ]; then cat; else header_lines; fi)
 
 # At the end of its input the process ends with the status 0.
 gate=$GATE_PID
-exec {to}>&"${GATE[1]}" {GATE[1]}>&- {to}>&-
+exec {GATE[1]}>&-
 wait "$gate"
