@@ -7,6 +7,8 @@ pub mod Orders
 pub mod PairLemmas
 pub mod Showing
 pub mod Printing
+pub mod RunningLines
 pub mod Verifying
+pub mod WalkedLines
 pub mod WordCases
 pub mod SpelledLemmas

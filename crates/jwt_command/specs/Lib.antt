@@ -4,9 +4,11 @@ pub mod Examples
 pub mod Faults
 pub mod Input
 pub mod Issue
+pub mod Lines
 pub mod Listed
 pub mod Mac
 pub mod Printed
+pub mod RunLines
 pub mod Seen
 pub mod Shown
 pub mod Stops

@@ -1,9 +1,10 @@
 -- What a clause sees of the crate's own types.
 use Rattle.std.specs.Prelude.{option_map}
-use Rattle.jwt_command.specs.Words.{Files, Issue, Keys, Mac, MacFile, Order, Show, Verify, Version}
+use Rattle.jwt_command.specs.Words.{Files, Issue, Keys, LinesOrder, Mac, MacFile, Order, Show, Verify, Version}
 use Rattle.jwt_command.specs.declared.words.Order.{Order as Asked}
 use Rattle.jwt_command.specs.declared.words.Order.TheVariants as asked
 use Rattle.jwt_command.specs.declared.words.Files.{Files as CodeFiles}
+use Rattle.jwt_command.specs.declared.words.Lines.{Lines as CodeLines}
 use Rattle.jwt_command.specs.declared.words.WordsFault.{WordsFault}
 use Rattle.jwt_command.specs.declared.words.WordsFault.TheVariants.{OutOfMemory, Wrong}
 
@@ -18,6 +19,9 @@ seen (asked.Show limit) = Show limit
 seen (asked.Verify now public_keys files) = Verify now public_keys (files_view files)
 seen (asked.Issue alg typ form files) = Issue alg (option_map (λ t. t.now) typ) form (files_view files)
 seen asked.Version = Version
+
+abbrev pub lines_view : CodeLines → LinesOrder
+lines_view o = record { now = o.now; public_keys = o.public_keys; files = files_view o.files }
 
 -- the words are wrong, and memory was there
 abbrev pub IsWrong : WordsFault → Type 0

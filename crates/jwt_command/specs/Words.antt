@@ -43,6 +43,10 @@ now_rule has_clock = record (option (codes "now")) { parser = Some now_range; re
 abbrev pub public_keys_rule : Rule
 public_keys_rule = record (new_rule (codes "public-keys")) { long = Some (codes "public-keys"); action = Some SetTrue }
 
+-- a flag `--lines`
+abbrev pub lines_rule : Rule
+lines_rule = record (new_rule (codes "lines")) { long = Some (codes "lines"); action = Some SetTrue }
+
 -- the file of a document, in the place of standard input
 abbrev pub policy_rule : Rule
 policy_rule = option (codes "policy")
@@ -78,7 +82,7 @@ abbrev pub verify_on_input : Bool → App
 verify_on_input has_clock = with_rule (with_rule (new_app (codes "verify")) (now_rule has_clock)) public_keys_rule
 
 abbrev pub verify_app : Bool → App
-verify_app has_clock = with_rule (with_rule (with_rule (verify_on_input has_clock) policy_rule) keys_rule) token_rule
+verify_app has_clock = with_rule (with_rule (with_rule (with_rule (verify_on_input has_clock) policy_rule) keys_rule) token_rule) lines_rule
 
 abbrev pub issue_app : App
 issue_app = with_rule (with_rule (with_rule (with_rule (new_app (codes "issue")) alg_rule) typ_rule) form_rule) keys_rule
@@ -152,6 +156,9 @@ show_order rows = option_map (λ limit. Show limit) (number_in limit_range (one_
 abbrev pub public_keys_in : List Row → Bool
 public_keys_in rows = option_map_or (λ t. bytes_eq t (codes "true")) (first_of (codes "public-keys") rows) false
 
+abbrev pub lines_asked : List Row → Bool
+lines_asked rows = option_map_or (λ t. bytes_eq t (codes "true")) (first_of (codes "lines") rows) false
+
 -- the moment that `--now` names, else the clock's
 abbrev pub moment_in : Option ℕ → List Row → Option ℕ
 moment_in clock rows = if is_some (first_of (codes "now") rows) then number_in now_range (one_of (codes "now") rows) else clock
@@ -160,7 +167,7 @@ abbrev pub files_in : List Row → Files
 files_in rows = record { policy = first_of (codes "policy") rows; keys = first_of (codes "keys") rows; token = first_of (codes "token") rows; key = None }
 
 abbrev pub verify_order : Option ℕ → List Row → Option Order
-verify_order clock rows = option_map (λ now. Verify now (public_keys_in rows) (files_in rows)) (moment_in clock rows)
+verify_order clock rows = if lines_asked rows then None else option_map (λ now. Verify now (public_keys_in rows) (files_in rows)) (moment_in clock rows)
 
 -- the form of a token that a text names
 abbrev pub form_named : Text → Option Form
@@ -211,6 +218,42 @@ asks_version (program ∷ word ∷ more ∷ words) = false
 abbrev pub order_of : Option ℕ → List Text → Option Order
 order_of clock words = if asks_version words then Some Version else clap_order clock words
 
+-- ---- a verdict for each line
+
+-- what `verify --lines` asks for; with no moment, it is the clock's at each line
+pub record LinesOrder : Type 0 where
+  pub now : Option ℕ
+  pub public_keys : Bool
+  pub files : Files
+
+-- the moment that `--now` names, if any
+abbrev pub named_moment : List Row → Option (Option ℕ)
+named_moment rows = if is_some (first_of (codes "now") rows) then option_map (λ now. Some now) (number_in now_range (one_of (codes "now") rows)) else Some None
+
+abbrev pub is_named : Text → List Row → Bool
+is_named name rows = is_some (first_of name rows)
+
+-- the policy and the key set are in files, and there is no file of one token
+abbrev pub lines_order : List Row → Option LinesOrder
+lines_order rows =
+    if lines_asked rows
+    then (if is_named (codes "token") rows then None
+    else (if is_named (codes "policy") rows
+    then (if is_named (codes "keys") rows
+    then option_map (λ now. record { now = now; public_keys = public_keys_in rows; files = files_in rows }) (named_moment rows)
+    else None) else None)) else None
+
+abbrev pub lines_in : Text → List Row → Option LinesOrder
+lines_in name rows = if bytes_eq name (codes "verify") then lines_order rows else None
+
+abbrev pub lines_under : Kinds → Option (Text × List Row) → Option LinesOrder
+lines_under [] matches = option_and_then (λ m. lines_in m.0 m.1) matches
+lines_under (fault ∷ faults) matches = None
+
+-- what the words ask for, where they ask for a verdict on each line, where there is a clock or none
+abbrev pub lines_of : Bool → List Text → Option LinesOrder
+lines_of has_clock words = let app = jwt_app has_clock in lines_under (fault_of app words) (subcommand_of app words)
+
 -- the files that an order names
 abbrev pub files_in_order : Order → Files
 files_in_order (MacFile name limit) = record no_files { key = Some name }
@@ -218,6 +261,9 @@ files_in_order (Verify now public_keys files) = files
 files_in_order (Issue alg typ form files) = files
 files_in_order order = no_files
 
+abbrev pub files_once : Option ℕ → List Text → Files
+files_once clock words = option_map_or files_in_order (order_of clock words) no_files
+
 -- the files that words name
 abbrev pub files_of : Option ℕ → List Text → Files
-files_of clock words = option_map_or files_in_order (order_of clock words) no_files
+files_of clock words = option_map_or (λ order. order.files) (lines_of (is_some clock) words) (files_once clock words)

@@ -183,8 +183,8 @@ pub fn lack_memory<W: Sink>(w: &mut W) -> u8
     send(w, b"failed OutOfMemory\n", 4)
 }
 
-// Sends a whole answer.
-fn send<W: Sink>(w: &mut W, text: &[u8], status: u8) -> u8
+/// Sends a whole answer.
+pub(crate) fn send<W: Sink>(w: &mut W, text: &[u8], status: u8) -> u8
     ensures { Prints (record { text = text.now; status = status })
         (W.contents w.old) (W.contents w.new) (W.failed w.new) result }
 {
@@ -205,8 +205,8 @@ fn version_line(alloc: Global) -> Result<Reply, AllocError>
     )
 }
 
-// The verifiers for public keys, where they are asked for.
-fn asked_for(public_keys: bool, built_in: &[Box<dyn Verifier>]) -> &[Box<dyn Verifier>]
+/// The verifiers for public keys, where they are asked for.
+pub(crate) fn asked_for(public_keys: bool, built_in: &[Box<dyn Verifier>]) -> &[Box<dyn Verifier>]
     ensures { map meaning result.now ≡ asked_for public_keys (map meaning built_in.now) }
 {
     if public_keys {

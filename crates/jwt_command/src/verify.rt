@@ -105,8 +105,8 @@ fn on_token<R: Source>(
     report_line(alloc, &report, budget.octets())
 }
 
-// The verdict on a token in hand.
-fn on_octets(
+/// The verdict on a token in hand.
+pub(crate) fn on_octets(
     alloc: Global,
     verifiers: &[Box<dyn Verifier>],
     now: u64,
@@ -185,8 +185,8 @@ fn on_keys<R: Source>(
     }
 }
 
-// The line of a refused policy.
-fn refused_policy(alloc: Global, fault: &PolicyFault) -> Result<Reply, AllocError>
+/// The line of a refused policy.
+pub(crate) fn refused_policy(alloc: Global, fault: &PolicyFault) -> Result<Reply, AllocError>
     ensures { IfOk result (λ a. reply_view a ≡ policy_refused fault.now) }
 {
     let name = policy_fault_text(alloc, fault)?;

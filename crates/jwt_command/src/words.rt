@@ -1,11 +1,11 @@
 //! The words of the command, read by `clap`.
-ghost use Rattle.std.specs.Prelude.{◌≡◌, ◌≤◌, IfOk, IfErr, IfSome, None, Some, false, map, option_and_then, option_map};
+ghost use Rattle.std.specs.Prelude.{◌≡◌, ◌≤◌, IfOk, IfErr, IfSome, None, Some, false, is_some, map, option_and_then, option_map};
 ghost use Rattle.clap.specs.Words.{app_of, found_of, one_of, rows_of, rule_of, subcommand_rows_of};
 ghost use Rattle.clap.specs.declared.builder.command.Command.TheViews.{out-Command as fields_of};
 ghost use Rattle.clap.specs.declared.builder.ValueParser.TheVariants.{Unsigned};
-ghost use Rattle.jwt_command.specs.Words.{HasLimits, alg_in, alg_rule, form_in, form_named, form_rule, asks_version, clap_order, files_in, files_of, issue_app, issue_order, jwt_app, key_file_rule, key_rule, keyed, keys_app, keys_file_in, keys_rule, limit_rule, mac_app, mac_order, moment_in, no_files, now_rule, number_in, order_in, order_of, policy_rule, public_keys_in, public_keys_rule, show_app, show_order, token_rule, typ_rule, verify_app, verify_on_input, verify_order};
+ghost use Rattle.jwt_command.specs.Words.{HasLimits, alg_in, alg_rule, form_in, form_named, form_rule, asks_version, clap_order, files_in, files_of, files_once, issue_app, issue_order, jwt_app, key_file_rule, key_rule, keyed, keys_app, keys_file_in, keys_rule, is_named, limit_rule, lines_asked, lines_in, lines_of, lines_order, lines_rule, mac_app, mac_order, moment_in, named_moment, no_files, now_rule, number_in, order_in, order_of, policy_rule, public_keys_in, public_keys_rule, show_app, show_order, token_rule, typ_rule, verify_app, verify_on_input, verify_order};
 ghost use Rattle.jwt_command.specs.Examples.{Examples};
-ghost use Rattle.jwt_command.specs.Seen.{IsWrong, files_view, seen};
+ghost use Rattle.jwt_command.specs.Seen.{IsWrong, files_view, lines_view, seen};
 
 use crate::nearest::nearest;
 use clap::builder::ValueParser;
@@ -130,6 +130,18 @@ fn public_keys_option<'a>(alloc: Global) -> Arg<'a>
         .help("Verifies signatures by public keys too: RS256, RS384, RS512, PS256, PS384, PS512")
 }
 
+fn lines_option<'a>(alloc: Global) -> Arg<'a>
+    ensures shape { rule_of result ≡ lines_rule }
+    ensures local { result.global ≡ false }
+{
+    Arg::new(alloc, "lines")
+        .long("lines")
+        .action(ArgAction::SetTrue)
+        .help(
+            "Answers each line of standard input as a token, before the next is waited for; needs --policy and --keys",
+        )
+}
+
 fn policy_option<'a>(alloc: Global) -> Arg<'a>
     ensures shape { rule_of result ≡ policy_rule }
     ensures local { result.global ≡ false }
@@ -239,7 +251,8 @@ fn verify_command<'a>(alloc: Global, has_clock: bool) -> Result<Command<'a>, All
     verify_on_input(alloc, has_clock)?
         .arg(policy_option(alloc))?
         .arg(keys_option(alloc))?
-        .arg(token_option(alloc))
+        .arg(token_option(alloc))?
+        .arg(lines_option(alloc))
 }
 
 fn issue_command<'a>(alloc: Global) -> Result<Command<'a>, AllocError>
@@ -267,6 +280,14 @@ pub fn command<'a>(alloc: Global, has_clock: bool) -> Result<Command<'a>, AllocE
         .subcommand(show_command(alloc)?)?
         .subcommand(verify_command(alloc, has_clock)?)?
         .subcommand(issue_command(alloc)?)
+}
+
+/// What `verify --lines` asks for. With no moment, it is the clock's at each line.
+#[derive(Clone, Copy)]
+pub struct Lines<'a> {
+    pub now: Option<u64>,
+    pub public_keys: bool,
+    pub files: Files<'a>,
 }
 
 /// Why the words ask for nothing.
@@ -345,6 +366,7 @@ fn read_by_clap<'a>(
 fn unknown_name(alloc: Global, matches: &ArgMatches<'_>) -> Result<String, AllocError> {
     match matches.subcommand() {
         Some(("mac", options)) => wrong_keys(alloc, options),
+        Some(("verify", options)) => wrong_lines(alloc, options),
         Some((_, options)) => unknown_option(alloc, options),
         None => unknown_option(alloc, matches),
     }
@@ -356,6 +378,16 @@ fn wrong_keys(alloc: Global, options: &ArgMatches<'_>) -> Result<String, AllocEr
         "the argument '--k <TEXT>' cannot be used with '--key-file <FILE>'"
     } else {
         "one of the following arguments has to be provided:\n  --k <TEXT>\n  --key-file <FILE>"
+    };
+    format!(in alloc; "error: {wrong}\n\nFor more information, try '--help'.\n")
+}
+
+// The text of `--lines` beside a file of one token, without the other two files, or where the whole answer is given at once.
+fn wrong_lines(alloc: Global, options: &ArgMatches<'_>) -> Result<String, AllocError> {
+    let wrong = if options.get_str("token").is_some() {
+        "the argument '--lines' cannot be used with '--token <FILE>'"
+    } else {
+        "the argument '--lines' needs '--policy <FILE>' and '--keys <FILE>'"
     };
     format!(in alloc; "error: {wrong}\n\nFor more information, try '--help'.\n")
 }
@@ -449,6 +481,96 @@ fn chosen_public_keys(options: &ArgMatches<'_>) -> bool
     }
 }
 
+// Whether a verdict on each line is asked for.
+fn chosen_lines_asked(options: &ArgMatches<'_>) -> bool
+    ensures { result ≡ lines_asked (rows_of (found_of options.now)) }
+{
+    match options.get_str("lines") {
+        Some(text) => text == "true",
+        None => false,
+    }
+}
+
+// The moment that `--now` names, if any; none where that is no moment.
+fn chosen_named_moment(options: &ArgMatches<'_>) -> Option<Option<u64>>
+    ensures limits { IfSome result (λ m. IfSome m (λ n. n ≤ 9223372036854775807)) }
+    ensures moment { result ≡ named_moment (rows_of (found_of options.now)) }
+{
+    match options.get_str("now") {
+        Some(_) => match number(options, "now", 0, 9_223_372_036_854_775_807) {
+            Some(now) => Some(Some(now)),
+            None => None,
+        },
+        None => Some(None),
+    }
+}
+
+// Whether an option has a value.
+fn is_named(options: &ArgMatches<'_>, name: &str) -> bool
+    ensures { result ≡ is_named name.now (rows_of (found_of options.now)) }
+{
+    match options.get_str(name) {
+        Some(_) => true,
+        None => false,
+    }
+}
+
+fn chosen_lines<'a>(options: &ArgMatches<'a>) -> Option<Lines<'a>>
+    ensures limits { IfSome result (λ o. IfSome o.now (λ n. n ≤ 9223372036854775807)) }
+    ensures order { option_map lines_view result ≡ lines_order (rows_of (found_of options.now)) }
+{
+    if !chosen_lines_asked(options) {
+        return None;
+    }
+    if is_named(options, "token") {
+        return None;
+    }
+    if !is_named(options, "policy") {
+        return None;
+    }
+    if !is_named(options, "keys") {
+        return None;
+    }
+    let now = chosen_named_moment(options)?;
+    let public_keys = chosen_public_keys(options);
+    let files = chosen_files(options);
+    Some(Lines {
+        now,
+        public_keys,
+        files,
+    })
+}
+
+fn lines_in<'a>(matches: &ArgMatches<'a>) -> Option<Lines<'a>>
+    ensures limits { IfSome result (λ o. IfSome o.now (λ n. n ≤ 9223372036854775807)) }
+    ensures order { option_map lines_view result
+        ≡ option_and_then (λ p. lines_in p.0 p.1) (subcommand_rows_of matches.now) }
+{
+    let (name, options) = matches.subcommand()?;
+    match name {
+        "verify" => chosen_lines(options),
+        _ => None,
+    }
+}
+
+/// What the words ask for, where they ask for a verdict on each line, where there is a clock or none.
+pub(crate) fn read_lines<'a>(
+    alloc: Global,
+    words: &'a [&'a str],
+    has_clock: bool,
+) -> Result<Option<Lines<'a>>, AllocError>
+    ensures limits { IfOk result (λ l. IfSome l (λ o. IfSome o.now (λ n. n ≤ 9223372036854775807))) }
+    ensures order { IfOk result (λ l. option_map lines_view l ≡ lines_of has_clock (map (λ w. w.now) words.now)) }
+{
+    match command(alloc, has_clock)?.try_get_matches_from(words) {
+        Ok(matches) => Ok(lines_in(&matches)),
+        Err(error) => match error.kind() {
+            ErrorKind::OutOfMemory => Err(AllocError),
+            _ => Ok(None),
+        },
+    }
+}
+
 // The moment that `--now` names, or else the clock's.
 fn chosen_moment(options: &ArgMatches<'_>, clock: Option<u64>) -> Option<u64>
     requires { IfSome clock (λ n. n ≤ 9223372036854775807) }
@@ -481,6 +603,9 @@ fn chosen_verify<'a>(options: &ArgMatches<'a>, clock: Option<u64>) -> Option<Ord
     ensures limits { IfSome result (λ o. HasLimits (seen o)) }
     ensures order { option_map seen result ≡ verify_order clock (rows_of (found_of options.now)) }
 {
+    if chosen_lines_asked(options) {
+        return None;
+    }
     let now = chosen_moment(options, clock)?;
     let public_keys = chosen_public_keys(options);
     let files = chosen_files(options);
@@ -555,6 +680,26 @@ fn number(options: &ArgMatches<'_>, id: &str, low: u64, high: u64) -> Option<u64
     if low <= n && n <= high { Some(n) } else { None }
 }
 
+// The files that the words name, where they ask for one answer.
+fn files_once<'a>(
+    alloc: Global,
+    words: &'a [&'a str],
+    clock: Option<u64>,
+) -> Result<Files<'a>, AllocError>
+    requires { IfSome clock (λ n. n ≤ 9223372036854775807) }
+    ensures { IfOk result (λ f. files_view f ≡ files_once clock (map (λ w. w.now) words.now)) }
+{
+    match read_words(alloc, words, clock) {
+        Ok(Order::Verify { files, .. } | Order::Issue { files, .. }) => Ok(files),
+        Ok(Order::MacFile { name, .. }) => Ok(Files {
+            key: Some(name),
+            ..Files::none()
+        }),
+        Ok(_) | Err(WordsFault::Wrong(_)) => Ok(Files::none()),
+        Err(WordsFault::OutOfMemory) => Err(AllocError),
+    }
+}
+
 /// The files that the words name, at the moment that a clock says or without a clock. Where the words are wrong, they name none.
 /// `AllocError` comes where an allocation was refused.
 pub fn files_named<'a>(
@@ -565,14 +710,9 @@ pub fn files_named<'a>(
     requires { IfSome clock (λ n. n ≤ 9223372036854775807) }
     ensures { IfOk result (λ f. files_view f ≡ files_of clock (map (λ w. w.now) words.now)) }
 {
-    match read_words(alloc, words, clock) {
-        Ok(Order::Verify { files, .. } | Order::Issue { files, .. }) => Ok(files),
-        Ok(Order::MacFile { name, .. }) => Ok(Files {
-            key: Some(name),
-            ..Files::none()
-        }),
-        Ok(_) | Err(WordsFault::Wrong(_)) => Ok(Files::none()),
-        Err(WordsFault::OutOfMemory) => Err(AllocError),
+    match read_lines(alloc, words, clock.is_some())? {
+        Some(lines) => Ok(lines.files),
+        None => files_once(alloc, words, clock),
     }
 }
 

@@ -5,6 +5,7 @@ use super::support::{
     Drip, Endless, HS256, KEY_A, KEYS_A2, NOW, Narrow, TOKEN_A, TOKEN_A2, filled,
 };
 use jwt_command::documents::Held;
+use jwt_command::lines::{Clock, run_lines};
 use jwt_command::run::{lack_memory, run, run_files, run_with};
 use jwt_command::take_line::{LineFault, line};
 use jwt_mac::Verifier;
@@ -972,5 +973,81 @@ fn want_of_memory_has_a_line_and_a_status(rt: HostRuntime) -> Result<(), Fail> {
     let status = lack_memory(&mut Writer::new(&mut out));
     assert_eq!(rt; out.as_slice(), b"failed OutOfMemory\n".as_slice());
     assert_eq!(rt; status, 4);
+    Ok(())
+}
+
+// A clock that is a second later at each look.
+#[derive(Drop)]
+struct Ticks {
+    next: u32,
+}
+
+impl Clock for Ticks {
+    fn moment(&mut self) -> Option<u64> {
+        let now = self.next;
+        self.next = now.saturating_add(1);
+        Some(now as u64)
+    }
+}
+
+// What `verify --lines` prints with documents in hand, and its status. The clock begins at the last second of the token.
+fn printed_lines(alloc: Global, words: &[&str], input: &str) -> Result<(Vec<u8>, u8), Fail> {
+    let keys = filled(alloc, KEYS_A)?;
+    let held = Held {
+        policy: Some(HS256.as_bytes()),
+        keys: Some(keys.as_bytes()),
+        ..Held::none()
+    };
+    let mut out: Vec<u8> = Vec::new(alloc);
+    let status = run_lines(
+        alloc,
+        words,
+        &[],
+        Some(0),
+        &mut Ticks {
+            next: 1_300_819_379,
+        },
+        held,
+        &mut Reader::new(input.as_bytes()),
+        &mut Writer::new(&mut out),
+    );
+    Ok((out, status))
+}
+
+// Each line has its answer, by the moment that is named or by the clock's at that line.
+#[test]
+fn each_line_is_answered(rt: HostRuntime) -> Result<(), Fail> {
+    let alloc = rt.alloc();
+    let named = [
+        "jwt",
+        "verify",
+        "--lines",
+        "--policy=p",
+        "--keys=k",
+        "--now",
+        MOMENT,
+    ];
+    let input = format!(in alloc; "{TOKEN_A}\n\nnone\n{TOKEN_A}")?;
+    let (out, status) = printed_lines(alloc, &named, input.as_str())?;
+    assert_eq!(rt; status, 0);
+    let lines: &[u8] =
+        b"accepted sig=0 key=0 tries=1 work=295\nrefused Empty tries=0 work=0\nrefused Segments tries=0 work=0\naccepted sig=0 key=0 tries=1 work=295\n";
+    assert_eq!(rt; out.as_slice(), lines);
+
+    let (out, status) = printed_lines(alloc, &named[..5], input.as_str())?;
+    assert_eq!(rt; status, 0);
+    let lines: &[u8] =
+        b"accepted sig=0 key=0 tries=1 work=295\nrefused Empty tries=0 work=0\nrefused Segments tries=0 work=0\nrefused Expired tries=1 work=295\n";
+    assert_eq!(rt; out.as_slice(), lines);
+    Ok(())
+}
+
+#[test]
+fn lines_without_a_policy_file_are_wrong_words(rt: HostRuntime) -> Result<(), Fail> {
+    let (out, status) = printed_lines(rt.alloc(), &["jwt", "verify", "--lines"], TOKEN_A)?;
+    assert_eq!(rt; status, 2);
+    let needs: &[u8] =
+        b"error: the argument '--lines' needs '--policy <FILE>' and '--keys <FILE>'\n";
+    assert!(rt; out.as_slice().starts_with(needs));
     Ok(())
 }

@@ -5,7 +5,8 @@ ghost use Rattle.std.specs.Prelude.{◌≤◌, IfSome};
 
 use jwt_command::documents::{Held, read_document};
 use jwt_command::files_named;
-use jwt_command::run::{lack_memory, run_files};
+use jwt_command::lines::{Clock, run_lines};
+use jwt_command::run::lack_memory;
 use jwt_mac::Verifier;
 use jwt_rsa::Rsa;
 use jwt_text::{GREATEST_LIMIT, Intake, Reader, Sink, Source, Writer};
@@ -14,8 +15,9 @@ use std::process::ExitCode;
 use std::time::{SystemTime, UNIX_EPOCH};
 use std::{env, io};
 
-// The clock is read once, before anything else. Standard input is read without a buffer, so that exactly what the contract of
-// `run_files` names is taken.
+// The clock is read once, before anything else, and by `verify --lines` for each line. Standard input is read without a buffer, so
+// that exactly what the contract of `run_lines` names is taken, and standard output is written without one, so that an answer is
+// out before the next line is waited for.
 fn main(rt: HostRuntime) -> ExitCode {
     let clock = moment(&rt);
     let mut r = Reader::new(rt.stdin());
@@ -41,6 +43,18 @@ fn moment(rt: &HostRuntime) -> Option<u64>
         Some(seconds)
     } else {
         None
+    }
+}
+
+// The system's clock.
+#[derive(Drop)]
+struct System<'a> {
+    rt: &'a HostRuntime,
+}
+
+impl Clock for System<'_> {
+    fn moment(&mut self) -> Option<u64> {
+        moment(self.rt)
     }
 }
 
@@ -89,5 +103,15 @@ fn run_words<R: Source, W: Sink>(
         token: octets(&token),
         key: octets(&key),
     };
-    Ok(run_files(rt.alloc(), words.as_slice(), &built_in, clock, held, r, w))
+    let mut moments = System { rt };
+    Ok(run_lines(
+        rt.alloc(),
+        words.as_slice(),
+        &built_in,
+        clock,
+        &mut moments,
+        held,
+        r,
+        w,
+    ))
 }

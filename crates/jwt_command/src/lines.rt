@@ -1,0 +1,275 @@
+//! The command `verify --lines`: a verdict for each line of an input.
+ghost use Rattle.std.specs.Prelude.{◌≡◌, ◌≤◌, ◌+◌, ◌<◌, ◌++◌, ◌∷◌, ◌⊎◌, [], IfOk, OnOk, is_some, false, true, length, map, take, Err, IfErr, IfNone, IfSome, None, Ok, Some};
+ghost use Rattle.std.specs.Io.KnownBytes.{prepend_known};
+ghost use Rattle.jwt_keys.specs.KeySets.{key_set};
+ghost use Rattle.jwt_command.specs.Lines.{GivesLines, IsMoment, LineAnswered, LineEnds};
+ghost use Rattle.jwt_command.specs.TakenLines.{after_line, first_line};
+ghost use Rattle.jwt_keys.specs.KeySets.{key_set_of};
+ghost use Rattle.jwt_policy.specs.Document.{policy_of};
+ghost use Rattle.jwt_command.specs.Printed.{Gives, GivesWrongWords, Prints, out_of_memory};
+ghost use Rattle.jwt_command.specs.RunLines.{LinesByPolicy, Printed, RunsLines};
+ghost use Rattle.jwt_command.specs.Answered.{answer_with};
+ghost use Rattle.jwt_command.specs.Seen.{lines_view};
+ghost use Rattle.jwt_command.specs.Words.{LinesOrder, Order as Asked, lines_of, order_of};
+ghost use Rattle.jwt_command.specs.Views.{held_view, reply_view};
+ghost use Rattle.jwt_command.specs.Verify.{terms, token_answer};
+
+use crate::ahead::Ahead;
+use crate::documents::{Held, file_failed, unread};
+use crate::reply::Reply;
+use crate::run::{asked_for, lack_memory, run_files, send};
+use crate::take_line::LineFault;
+use crate::verify::{on_octets, refused_policy};
+use crate::words::{Lines, read_lines};
+use jwt_keys::{KeySet, KeysFault};
+use jwt_mac::Verifier;
+use jwt_policy::{Policy, PolicyFault};
+use jwt_text::{Sink, Source, write_out};
+use std::alloc::{AllocError, Global};
+
+/// Moments, in seconds since 1970-01-01T00:00:00Z.
+pub trait Clock {
+    /// The moment, at most 9,223,372,036,854,775,807; none where it can't be read.
+    fn moment(&mut self) -> Option<u64>
+        ensures { IfSome result (λ m. m ≤ 9223372036854775807) };
+}
+
+// The moment of an answer: the one that `--now` names, else the clock's.
+fn moment<C: Clock>(now: Option<u64>, clock: &mut C) -> Option<u64>
+    requires { IfSome now (λ n. n ≤ 9223372036854775807) }
+    ensures range { IfSome result (λ m. m ≤ 9223372036854775807) }
+    ensures moment { IfSome result (λ m. IsMoment now m) }
+    ensures none { IfNone result (now ≡ None) }
+{
+    match now {
+        Some(now) => Some(now),
+        None => clock.moment(),
+    }
+}
+
+// Answers a line. None: its answer went out; else the status with which the run ends.
+fn answer_line<W: Sink, C: Clock>(
+    alloc: Global,
+    verifiers: &[Box<dyn Verifier>],
+    now: Option<u64>,
+    clock: &mut C,
+    policy: &Policy,
+    keys: &KeySet,
+    line: &[u8],
+    w: &mut W,
+) -> Option<u8>
+    requires { IfSome now (λ n. n ≤ 9223372036854775807) }
+    ensures answered { IfNone result (LineAnswered
+        (λ m l. token_answer (terms (map meaning verifiers.now) m policy.now (key_set keys.now)) l) now line.now
+        (W.contents w.old) (W.contents w.new)) }
+    ensures ends { IfSome result (λ status. LineEnds
+        (λ m l. token_answer (terms (map meaning verifiers.now) m policy.now (key_set keys.now)) l) now line.now
+        (W.contents w.old) (W.contents w.new) (W.failed w.new) status) }
+{
+    let Some(moment) = moment(now, clock) else {
+        return Some(send(w, b"failed Read\n", 3));
+    };
+    let Ok(reply) = on_octets(alloc, verifiers, moment, policy, keys, line) else {
+        return Some(lack_memory(w));
+    };
+    match write_out(w, reply.text.as_slice()) {
+        Ok(()) => None,
+        Err(_) => Some(3),
+    }
+}
+
+// Holds one more octet of a line, unless one past the limit is held.
+fn hold(line: &mut Vec<u8>, limit: u32, octet: u8) -> Result<(), LineFault>
+    ensures within { length line.old.items ≤ limit → OnOk result (line.new.items ≡ line.old.items ++ octet ∷ []) }
+    ensures past { limit < length line.old.items → line.new ≡ line.old }
+    ensures fault { IfErr result (λ e. e ≡ LineFault.OutOfMemory) }
+{
+    if line.len() <= limit as usize {
+        line.push(octet)?;
+    }
+    Ok(())
+}
+
+// Takes the next line, of which one octet past the limit is held at most. `Ok(false)`: the input was at its end.
+fn take_line<R: Source>(
+    ahead: &mut Ahead,
+    r: &mut R,
+    limit: u32,
+    line: &mut Vec<u8>,
+) -> Result<bool, LineFault>
+    ensures line { IfSome (prepend_known ahead.old (R.remaining r.old)) (λ x. result ≡ Ok true
+        → (0 < length x) × (line.new.items ≡ take (limit + 1) (first_line x))
+        × (prepend_known ahead.new (R.remaining r.new) ≡ Some (after_line x))) }
+    ensures end { IfSome (prepend_known ahead.old (R.remaining r.old)) (λ x. result ≡ Ok false → x ≡ []) }
+    ensures read { result ≡ Err LineFault.Read → R.failed r.new ≡ true }
+{
+    line.clear();
+    let mut any = false;
+    'octets: for _ in 0..u64::MAX {
+        match ahead.next(r) {
+            None => return Err(LineFault::Read),
+            Some(None) => return Ok(any),
+            Some(Some(b'\n')) => return Ok(true),
+            Some(Some(octet)) => {
+                any = true;
+                hold(line, limit, octet)?;
+            }
+        }
+    }
+    Err(LineFault::OutOfMemory)
+}
+
+/// Answers each line of an input as `verify` answers it alone, with a budget of its own, before the next is waited for.
+pub(crate) fn answer_lines<R: Source, W: Sink, C: Clock>(
+    alloc: Global,
+    verifiers: &[Box<dyn Verifier>],
+    now: Option<u64>,
+    clock: &mut C,
+    policy: &Policy,
+    keys: &KeySet,
+    r: &mut R,
+    w: &mut W,
+) -> u8
+    requires { IfSome now (λ n. n ≤ 9223372036854775807) }
+    ensures { IfSome (R.remaining r.old) (λ x. GivesLines
+        (λ m l. token_answer (terms (map meaning verifiers.now) m policy.now (key_set keys.now)) l) now x (R.failed r.new)
+        (W.contents w.old) (W.contents w.new) (W.failed w.new) result) }
+{
+    let limit = policy.limit();
+    let Ok(mut ahead) = Ahead::new(alloc) else {
+        return lack_memory(w);
+    };
+    let mut line = Vec::new(alloc);
+    'lines: for _ in 0..u64::MAX {
+        match take_line(&mut ahead, r, limit, &mut line) {
+            Ok(true) => {
+                if let Some(status) = answer_line(
+                    alloc,
+                    verifiers,
+                    now,
+                    clock,
+                    policy,
+                    keys,
+                    line.as_slice(),
+                    w,
+                ) {
+                    return status;
+                }
+            }
+            Ok(false) => return 0,
+            Err(LineFault::Read) => return send(w, b"failed Read\n", 3),
+            Err(_) => return lack_memory(w),
+        }
+    }
+    lack_memory(w)
+}
+
+// Sends an answer, where memory was there.
+fn give<W: Sink>(w: &mut W, reply: Result<Reply, AllocError>) -> u8
+    ensures ok { IfOk reply (λ a. Prints (reply_view a) (W.contents w.old) (W.contents w.new) (W.failed w.new) result) }
+    ensures err { IfErr reply (λ _. Prints out_of_memory (W.contents w.old) (W.contents w.new) (W.failed w.new) result) }
+{
+    match reply {
+        Ok(reply) => send(w, reply.text.as_slice(), reply.status),
+        Err(_) => lack_memory(w),
+    }
+}
+
+// Answers each line under a policy and a key set in hand.
+fn lines_in_hand<R: Source, W: Sink, C: Clock>(
+    alloc: Global,
+    verifiers: &[Box<dyn Verifier>],
+    now: Option<u64>,
+    clock: &mut C,
+    policy: &[u8],
+    keys: &[u8],
+    r: &mut R,
+    w: &mut W,
+) -> u8
+    requires { IfSome now (λ n. n ≤ 9223372036854775807) }
+    ensures { IfSome (R.remaining r.old) (λ x.
+        Printed out_of_memory (record { before = W.contents w.old; after = W.contents w.new; failed = W.failed w.new; status = result })
+        ⊎ LinesByPolicy (map meaning verifiers.now) now (policy_of policy.now) (key_set_of keys.now) x (R.failed r.new)
+        (record { before = W.contents w.old; after = W.contents w.new; failed = W.failed w.new; status = result })) }
+{
+    let policy = match Policy::read(alloc, policy) {
+        Ok(policy) => policy,
+        Err(PolicyFault::OutOfMemory) => return lack_memory(w),
+        Err(fault) => return give(w, refused_policy(alloc, &fault)),
+    };
+    match KeySet::read(alloc, keys) {
+        Ok(keys) => answer_lines(alloc, verifiers, now, clock, &policy, &keys, r, w),
+        Err(KeysFault::OutOfMemory) => lack_memory(w),
+        Err(fault) => give(w, Reply::refused_keys(alloc, fault.name())),
+    }
+}
+
+// Answers each line, where each document that a file is named for is in hand.
+fn lines_named<R: Source, W: Sink, C: Clock>(
+    alloc: Global,
+    order: Lines<'_>,
+    verifiers: &[Box<dyn Verifier>],
+    clock: &mut C,
+    held: Held<'_>,
+    r: &mut R,
+    w: &mut W,
+) -> u8
+    requires { IfSome order.now (λ n. n ≤ 9223372036854775807) }
+    ensures { IfSome (R.remaining r.old) (λ x. RunsLines (map meaning verifiers.now) (lines_view order.entry) (held_view held.entry) x (R.failed r.new)
+        (record { before = W.contents w.old; after = W.contents w.new; failed = W.failed w.new; status = result })) }
+{
+    if let Some(name) = unread(order.files, held) {
+        return give(w, file_failed(alloc, name));
+    }
+    match held.policy {
+        Some(policy) => match held.keys {
+            Some(keys) => lines_in_hand(
+                alloc,
+                asked_for(order.public_keys, verifiers),
+                order.now,
+                clock,
+                policy,
+                keys,
+                r,
+                w,
+            ),
+            None => send(w, b"failed Read\n", 3),
+        },
+        None => send(w, b"failed Read\n", 3),
+    }
+}
+
+/// The same as [`run_files`], and `verify --lines` besides: each line of `r` is answered before the next is waited for. Where `--now`
+/// is left out, `moments` is read for each line. The status of `verify --lines` is 0 where each line was answered.
+pub fn run_lines<R: Source, W: Sink, C: Clock>(
+    alloc: Global,
+    words: &[&str],
+    built_in: &[Box<dyn Verifier>],
+    clock: Option<u64>,
+    moments: &mut C,
+    held: Held<'_>,
+    r: &mut R,
+    w: &mut W,
+) -> u8
+    requires { IfSome clock (λ n. n ≤ 9223372036854775807) }
+    // A verdict for each line.
+    ensures lines { (order : LinesOrder) → lines_of (is_some clock) (map (λ word. word.now) words.now) ≡ Some order
+        → IfSome (R.remaining r.old) (λ x. RunsLines (map meaning built_in.now) order (held_view held.entry) x (R.failed r.new)
+        (record { before = W.contents w.old; after = W.contents w.new; failed = W.failed w.new; status = result })) }
+
+    // One answer.
+    ensures answer { lines_of (is_some clock) (map (λ word. word.now) words.now) ≡ None
+        → (order : Asked) → order_of clock (map (λ word. word.now) words.now) ≡ Some order
+        → IfSome (R.remaining r.old) (λ x.
+        Gives (answer_with (map meaning built_in.now) (held_view held.entry) order (R.failed r.new) x)
+        (W.contents w.old) (W.contents w.new) (W.failed w.new) result) }
+    ensures wrong { lines_of (is_some clock) (map (λ word. word.now) words.now) ≡ None
+        → order_of clock (map (λ word. word.now) words.now) ≡ None
+        → GivesWrongWords (W.contents w.old) (W.contents w.new) (W.failed w.new) result }
+{
+    match read_lines(alloc, words, clock.is_some()) {
+        Ok(Some(order)) => lines_named(alloc, order, built_in, moments, held, r, w),
+        Ok(None) => run_files(alloc, words, built_in, clock, held, r, w),
+        Err(_) => lack_memory(w),
+    }
+}
