@@ -40,6 +40,14 @@ pub lines_start : (o none p form octets rest : List ℕ) → o ≡ none ++ p →
 lines_start o none p form octets rest first none_is p_is =
     rw (first, none_is, p_is) (regroup_start (codes "unverified ") form (codes "payload octets=") octets (10 ∷ []) rest)
 
+-- the same before the first signature
+pub lines_begin : (o none p form octets claims : List ℕ) (payload n : ℕ) (ss : List SignatureParts) → payload ≡ n → o ≡ none ++ p → none ≡ []
+    → p ≡ codes "unverified " ++ (form ++ (10 ∷ codes "payload octets=" ++ (octets ++ 10 ∷ [])))
+    → o ++ (signature_lines payload 0 (drop 0 ss) ++ claims)
+    ≡ joined (codes "unverified " ∷ form ∷ []) ++ (joined (codes "payload octets=" ∷ octets ∷ []) ++ (signature_lines n 0 ss ++ claims))
+lines_begin o none p form octets claims payload n ss same first none_is p_is =
+    rw same (lines_start o none p form octets (signature_lines n 0 ss ++ claims) first none_is p_is)
+
 -- one signature more
 pub signatures_more : (o a whole tail : List ℕ) (payload i : ℕ) (ss : List SignatureParts) (s : SignatureParts) → slice_get ss i ≡ Some s
     → o ++ (signature_lines payload i (drop i ss) ++ tail) ≡ whole → a ≡ o ++ signature_line payload i s

@@ -1,9 +1,10 @@
-use Rattle.std.proofs.Common.{◌<◌, ◌∙◌, arith, refl, sym, length}
+use Rattle.std.proofs.Common.{◌<◌, ◌∙◌, ap, arith, refl, sym, length}
 use Rattle.std.specs.Fmt.{decimal}
 use Rattle.jwt_jws.specs.Views.{parts, token}
-use Rattle.jwt_command.specs.Shown.{form_name}
+use Rattle.jwt_policy.specs.ClaimKinds.{claims_of}
+use Rattle.jwt_command.specs.Shown.{claims_line, form_name}
 use Rattle.jwt_command.proofs.PairLemmas.{slice_within}
-use Rattle.jwt_command.proofs.Showing.{lines_start, signatures_more}
+use Rattle.jwt_command.proofs.Showing.{lines_begin, signatures_more}
 use Rattle.jwt_command.proofs.show.token_lines.Goals.{in-Some+in_ok-put_signature, in_default}
 use Rattle.jwt_command.proofs.show.token_lines.Goals as goal
 
@@ -21,5 +22,6 @@ loop-i-preserved c =
 pub loop-i-init : goal.loop-i-init
 loop-i-init c =
     let t = token c.args.signed.now in
-    rw c.payload_text-payload.ensures (lines_start _ _ c.as_bytes.result.now (form_name t.form) (decimal (length t.payload)) _ c.in_ok-extend_from_slice.ensures.items c.new-out.ensures.items
-    (c.as_bytes.ensures.value ∙ c.in_ok-start.ensures.ok ∙ rw (c.form_name-form.ensures, c.form.ensures, c.payload.ensures) refl))
+    lines_begin _ _ c.as_bytes.result.now (form_name t.form) (decimal (length t.payload)) (claims_line (claims_of t.payload)) _ (length t.payload_text) t.signatures
+    (ap length c.payload_text-payload.ensures) c.in_ok-extend_from_slice.ensures.items c.new-out.ensures.items
+    (c.as_bytes.ensures.value ∙ c.in_ok-start.ensures.ok ∙ rw (c.form_name-form.ensures, c.form.ensures, c.payload.ensures) refl)
