@@ -1,0 +1,5 @@
+//! Verifying signatures by Ed25519.
+#![tactic(auto)]
+
+pub mod field;
+pub mod limbs;
