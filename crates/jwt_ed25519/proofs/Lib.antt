@@ -1,3 +1,4 @@
 pub mod Digits
+pub mod Multiples
 pub mod Powers
 pub mod Residues

@@ -7,9 +7,13 @@ use Rattle.jwt_ed25519.specs.Encoding.{encoded}
 use Rattle.jwt_ed25519.specs.Octets.{number_of}
 use Rattle.jwt_ed25519.specs.Points.{Coordinates, L, base_x, base_y, point, add, double, negated, multiple}
 
+-- the neutral point, in any of its coordinates: x = 0, y = 1
+abbrev pub is_neutral : Coordinates → Bool
+is_neutral P = P.X == 0 && P.Y == P.Z
+
 -- a point of small order: eight times it is the neutral point
 unfoldable pub is_small : Coordinates → Bool
-is_small A = let P = double (double (double A)) in P.X == 0 && P.Y == P.Z
+is_small A = is_neutral (double (double (double A)))
 
 -- k, from the octets of R and of the key (step 2)
 unfoldable pub challenge : List ℕ → List ℕ → List ℕ → ℕ

@@ -16,3 +16,9 @@ pub joined_block : (x p a b d m : List ℕ) → x ≡ p → m ≡ a ++ b ++ d �
 joined_block x p a b d m first rest =
     let regroup : x ++ a ++ b ++ d ≡ x ++ (a ++ b ++ d) = simp append_assoc in
     regroup ∙ (λ i. first i ++ sym rest i)
+
+-- two pieces and three parts
+pub joined_behind : (x y a b d m : List ℕ) → m ≡ a ++ b ++ d → x ++ y ++ a ++ b ++ d ≡ x ++ y ++ m
+joined_behind x y a b d m rest =
+    let regroup : x ++ y ++ a ++ b ++ d ≡ x ++ y ++ (a ++ b ++ d) = simp append_assoc in
+    regroup ∙ ap (λ t. x ++ y ++ t) (sym rest)

@@ -191,3 +191,19 @@ pub fn sha512(parts: [&[u8]; 3]) -> [u8; 64]
     hasher.update(parts[2]);
     hasher.finalize()
 }
+
+/// The SHA-512 digest (FIPS 180-4, section 6.4) of two pieces and the three parts behind them, joined.
+/// It serves signatures by Ed25519 (RFC 8032, section 5.1.7, step 2), is no HMAC work, and is paid from
+/// no budget.
+#[tactic(auto, unfolding(crate::specs::Algorithm::sha512_of))]
+pub fn sha512_behind(first: &[u8], second: &[u8], parts: [&[u8]; 3]) -> [u8; 64]
+    ensures { result ≡ sha512_of (first.now ++ second.now ++ joined parts.entry) }
+{
+    let mut hasher = Sha512::new();
+    hasher.update(first);
+    hasher.update(second);
+    hasher.update(parts[0]);
+    hasher.update(parts[1]);
+    hasher.update(parts[2]);
+    hasher.finalize()
+}
