@@ -2,3 +2,6 @@ pub mod Digits
 pub mod Multiples
 pub mod Powers
 pub mod Residues
+pub mod Roots
+pub mod Verdicts
+pub mod Weights

@@ -1,6 +1,5 @@
 -- The multiples of points, bit by bit.
-use Rattle.std.proofs.Common.{◌≡◌, ℕ, suc, ◌+◌, ◌-◌, ◌*◌, ◌/◌, ◌%◌, ◌<◌, sym, ◌∙◌, ap, refl, Bool, true, false, nat_eq, arith}
-use Rattle.std.specs.Prelude.{if◌then◌else◌}
+use Rattle.std.proofs.Common.{◌≡◌, ℕ, suc, ◌+◌, ◌-◌, ◌*◌, ◌/◌, ◌%◌, ◌<◌, ◌∙◌, ap, refl, Bool, true, false, arith}
 use Rattle.std.specs.Int.{from_bool}
 use Rattle.jwt_ed25519.specs.Points.{Coordinates, add, double, added_multiple}
 

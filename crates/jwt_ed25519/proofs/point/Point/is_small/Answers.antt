@@ -1,5 +1,5 @@
 use Rattle.std.proofs.Common.{◌≡◌, ◌&&◌, true, false, ap, ◌∙◌, sym, nat_eq}
-use Rattle.jwt_ed25519.specs.Elements.{element, coordinates}
+use Rattle.jwt_ed25519.specs.Elements.{element}
 use Rattle.jwt_ed25519.specs.Points.{double}
 use Rattle.jwt_ed25519.specs.Verifying.{is_neutral, is_small}
 use Rattle.jwt_ed25519.proofs.point.Point.is_small.Goals as goal
