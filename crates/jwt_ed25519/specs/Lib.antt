@@ -3,6 +3,7 @@ pub mod Elements
 pub mod Encoding
 pub mod Field
 pub mod Limbs
+pub mod Meanings
 pub mod Octets
 pub mod Points
 pub mod Verifying

@@ -1,10 +1,27 @@
-//! Verifying signatures by Ed25519.
+//! A verifier of Ed25519 signatures: EdDSA (RFC 8037, section 3.1) with the curve Ed25519, by the formulas of RFC 8032, section 5.1.
+//!
+//! ```rust
+//! use jwt_ed25519::Ed25519;
+//! use jwt_mac::{CountDown, Verifier};
+//! use jwt_text::Reader;
+//! use jwt_verify::validate;
+//!
+//! let mut verifiers: Vec<Box<dyn Verifier>> = Vec::new(alloc);
+//! verifiers.push(Box::new(alloc, Ed25519)?)?;
+//! let mut budget = CountDown::new(policy.work());
+//! let report = validate(alloc, &mut Reader::new(input), &keys, &policy, now, &verifiers, &mut budget);
+//! ```
+//!
+//! Nothing here allocates, so the verifier never answers NoMemory. Verifying has no secret: of time nothing is promised.
 #![tactic(auto)]
+
+pub use verifier::Ed25519;
 
 mod decoding;
 mod encoding;
-pub mod field;
-pub mod limbs;
-pub mod point;
+mod field;
+mod limbs;
+mod point;
 mod scalar;
-pub mod verifying;
+pub mod verifier;
+mod verifying;
