@@ -16,6 +16,7 @@
 #![tactic(auto)]
 
 pub use verifier::Ed25519;
+pub use verifying::verifies;
 
 mod decoding;
 mod encoding;
@@ -24,4 +25,4 @@ mod limbs;
 mod point;
 mod scalar;
 pub mod verifier;
-mod verifying;
+pub mod verifying;
