@@ -5,6 +5,7 @@ pub use Rattle.jwt_mac.specs.Algorithm
 pub use Rattle.jwt_mac.specs.Hmac
 pub use Rattle.jwt_mac.specs.Verifying
 pub use Rattle.jwt_rsa.specs.Meanings
+pub use Rattle.jwt_ed25519.specs.Meanings as Ed25519Meanings
 pub use Rattle.jwt_keys.specs.FaultNames as KeysFaultNames
 pub use Rattle.jwt_keys.specs.Keys
 pub use Rattle.jwt_keys.specs.KeySets

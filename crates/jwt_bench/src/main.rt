@@ -16,6 +16,7 @@ mod words;
 mod workload;
 
 use crate::run::run;
+use jwt_ed25519::Ed25519;
 use jwt_mac::Verifier;
 use jwt_rsa::Rsa;
 use jwt_text::{Reader, Sink, Source, Writer};
@@ -36,6 +37,7 @@ fn main(rt: HostRuntime) -> ExitCode {
 fn run_words<R: Source, W: Sink>(rt: &HostRuntime, r: &mut R, w: &mut W) -> io::Result<u8> {
     let args: Vec<String> = env::args(rt)?.collect(rt.alloc())?;
     let words: Vec<&str> = args.iter().map(|word| word.as_str()).collect(rt.alloc())?;
-    let rsa: [Box<dyn Verifier>; 1] = [Box::new(rt.alloc(), Rsa)?];
-    Ok(run(rt.alloc(), words.as_slice(), &rsa, r, w))
+    let built_in: [Box<dyn Verifier>; 2] =
+        [Box::new(rt.alloc(), Rsa)?, Box::new(rt.alloc(), Ed25519)?];
+    Ok(run(rt.alloc(), words.as_slice(), &built_in, r, w))
 }

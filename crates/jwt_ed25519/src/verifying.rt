@@ -27,10 +27,7 @@ fn holds(a: Point, r: &[u8], s: Limbs, k: Limbs) -> bool
     requires { length r.now ≡ 32 }
     ensures { result ≡ holds (coordinates a) r.now (number s) (number k) }
 {
-    is_encoding(
-        Point::base().multiple(s).add(a.negated().multiple(k)),
-        r,
-    )
+    is_encoding(Point::base().multiple(s).add(a.negated().multiple(k)), r)
 }
 
 /// Whether it is the signature of the message that the three parts make, joined, by the public key whose octets these are (RFC 8032,

@@ -9,6 +9,8 @@ mod command;
 #[cfg(test)]
 mod door;
 #[cfg(test)]
+mod ed25519;
+#[cfg(test)]
 mod issue;
 #[cfg(test)]
 mod jws;

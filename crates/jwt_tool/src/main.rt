@@ -7,6 +7,7 @@ use jwt_command::documents::{Held, read_document};
 use jwt_command::files_named;
 use jwt_command::lines::{Clock, run_lines};
 use jwt_command::run::lack_memory;
+use jwt_ed25519::Ed25519;
 use jwt_mac::Verifier;
 use jwt_rsa::Rsa;
 use jwt_text::{GREATEST_LIMIT, Intake, Reader, Sink, Source, Writer};
@@ -91,7 +92,8 @@ fn run_words<R: Source, W: Sink>(
 {
     let args: Vec<String> = env::args(rt)?.collect(rt.alloc())?;
     let words: Vec<&str> = args.iter().map(|word| word.as_str()).collect(rt.alloc())?;
-    let built_in: [Box<dyn Verifier>; 1] = [Box::new(rt.alloc(), Rsa)?];
+    let built_in: [Box<dyn Verifier>; 2] =
+        [Box::new(rt.alloc(), Rsa)?, Box::new(rt.alloc(), Ed25519)?];
     let files = files_named(rt.alloc(), words.as_slice(), clock)?;
     let policy = document(rt, files.policy, 65_536)?;
     let keys = document(rt, files.keys, 4_194_304)?;

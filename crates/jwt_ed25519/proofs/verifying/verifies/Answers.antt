@@ -42,7 +42,7 @@ returns-then-not-is_small c =
     c.holds.ensures ∙ ap (λ s. holds A (take 32 signature) s (number c.challenge.result)) is
     ∙ ap (λ k. holds A (take 32 signature) (number_of (drop 32 signature)) k) c.challenge.ensures
     ∙ ap (λ b. not b && holds A (take 32 signature) (number_of (drop 32 signature)) (challenge (take 32 signature) c.args.key.now message))
-        (sym c.if-not-is_small.true ∙ c.is_small.ensures)
+    (sym c.if-not-is_small.true ∙ c.is_small.ensures)
     ∙ point_tested c.args.key.now message signature A c.if-signature-ne64.false (omega (arith, is, below, c.order.ensures)) c.in-Some.ensures
 
 pub returns-else-not-is_small : goal.returns-else-not-is_small
@@ -54,5 +54,5 @@ returns-else-not-is_small c =
     let below = c.is_less.ensures.0 c.if-not-is_less.false in
     ap not c.if-not-is_small.false
     ∙ ap (λ b. not b && holds A (take 32 signature) (number_of (drop 32 signature)) (challenge (take 32 signature) c.args.key.now message))
-        (sym c.if-not-is_small.false ∙ c.is_small.ensures)
+    (sym c.if-not-is_small.false ∙ c.is_small.ensures)
     ∙ point_tested c.args.key.now message signature A c.if-signature-ne64.false (omega (arith, is, below, c.order.ensures)) c.in-Some.ensures
