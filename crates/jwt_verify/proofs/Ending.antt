@@ -1,7 +1,7 @@
 -- How the tries of a signature and of a run end.
 use Rattle.std.proofs.Common.{◌≡◌, ℕ, ◌+◌, ◌-◌, ◌*◌, ◌<◌, ◌≤◌, Bool, true, false, List, [], ◌∷◌, ◌++◌, map, length, refl, sym, ◌∙◌, ap, arith, length-append, Some, None, Option, eqb, inl, inr, ◌⊎◌}
-use Rattle.std.specs.Prelude.{replicate}
-use Rattle.std.specs.List.{list_any, find}
+use Rattle.std.specs.Prelude.{replicate, if◌then◌else◌}
+use Rattle.std.specs.List.{list_any}
 use Rattle.std.proofs.lemmas.List.{length-map, append-nil}
 use Rattle.jwt_verify.specs.declared.tries.End.{End}
 use Rattle.std.proofs.lemmas.Bool.{lt-ltb, le-ltb}
@@ -12,8 +12,15 @@ use Rattle.jwt_verify.specs.declared.report.Try.{Try}
 use Rattle.jwt_verify.specs.declared.report.SigState.{SigState}
 use Rattle.jwt_verify.specs.declared.report.SigState.TheVariants.{NotReached, Stopped}
 use Rattle.jwt_verify.specs.declared.tries.RowEnd.TheVariants.{Through, Stop}
+use Rattle.jwt_verify.specs.declared.tries.Tried.TheVariants.{Verified as Valid, Failed, Stop as Halt}
+use Rattle.jwt_verify.specs.declared.settled.Settled.{Settled}
+use Rattle.jwt_verify.specs.declared.settled.Settled.TheVariants.{Verified, Barred, NoKey, BadSignature}
+use Rattle.jwt_verify.specs.declared.pair.Pair.{Pair}
+use Rattle.jwt_verify.specs.AskedTable.{Means}
+use Rattle.jwt_verify.specs.Pairs.{pair_entry, IsNextPair, IsTried}
+use Rattle.jwt_verify.specs.Settled.{is_verified, settled_key, settled_state}
 use Rattle.jwt_verify.specs.declared.tries.End.TheVariants.{Done, WorkExceeded, CallsExceeded, VerifierMemory}
-use Rattle.jwt_verify.specs.Table.{Table, below, verifies, reached, entry, work, is_within, outcome, settled, state_at, states_at}
+use Rattle.jwt_verify.specs.Table.{Table, below, reached, entry, work, is_within, outcome, settled, state_at, states_at}
 use Rattle.jwt_verify.specs.Walk.{IsAt, IsThrough, IsPending, IsEnd, IsRowEnd, IsRecorded, goes_on, IsNextKey, NoneEligible}
 use Rattle.jwt_verify.specs.Paying.{IsFront}
 use Rattle.jwt_verify.proofs.Below.{length-below, map-below, map-agree, map-tail, list_any-gap}
@@ -29,14 +36,13 @@ pub stop_work : {t : Table} {i j : ℕ} {es : List Try} (ceiling : ℕ) (calls :
 stop_work {t} {i} {j} {es} ceiling calls p l w f = ((at_pending t i j es p.at l p.within p.eligible, w, f), p.at.reached, (j, refl))
 
 -- a try was paid: it verified the signature
-pub row_verified : {t : Table} {i j : ℕ} {es : List Try} (ceiling : ℕ) (calls : Option ℕ) → IsPending t i j es → t.valid i j ≡ true → IsRowEnd t i ceiling calls (es ++ entry t i j ∷ []) (Through (Some j) true)
-row_verified {t} {i} {j} {es} ceiling calls p v =
+pub row_verified : {t : Table} {i j : ℕ} {es : List Try} (ceiling : ℕ) (calls : Option ℕ) → IsPending t i j es → t.bar i ≡ None → t.valid i j ≡ true
+    → IsRowEnd t i ceiling calls (es ++ entry t i j ∷ []) (Through (Verified j))
+unfolding outcome
+row_verified {t} {i} {j} {es} ceiling calls p b v =
     let l : j < t.keys = p.within in
-    let e : (j + 1) + (t.keys - (j + 1)) ≡ t.keys = omega arith in (
-      at_verified t i j es p.at l p.eligible v,
-      found_at t i j es p.at l p.eligible v,
-      ap (λ n. list_any (t.eligible i) (below n)) (sym e) ∙ seen_at (t.eligible i) j (t.keys - (j + 1)) p.eligible,
-    )
+    let found = found_at t i j es p.at l p.eligible v in
+    (at_verified t i j es p.at l p.eligible v, record { state = rw (b, found) refl; key = found })
 
 -- a try was paid: it did not
 pub row_failed : {t : Table} {i j : ℕ} {es : List Try} → IsPending t i j es → t.valid i j ≡ false → IsAt t i (j + 1) (es ++ entry t i j ∷ [])
@@ -59,18 +65,69 @@ pending_next {t} {i} {from} {j} {es} a n =
       eligible = n.eligible;
     }
 
+-- what a signature that nothing bars comes to, where no key verifies it
+abbrev pub unverified : Bool → Settled
+unverified seen = if seen then BadSignature else NoKey
+
+unverified_not : (seen : Bool) → is_verified (unverified seen) ≡ false
+unverified_not true = refl
+unverified_not false = refl
+
+unverified_state : (seen : Bool) → settled_state (unverified seen) ≡ settled None seen None
+unverified_state true = refl
+unverified_state false = refl
+
+unverified_key : (seen : Bool) → settled_key (unverified seen) ≡ None
+unverified_key true = refl
+unverified_key false = refl
+
 -- no eligible key is left
-pub row_end : {t : Table} {i from : ℕ} {es : List Try} (ceiling : ℕ) (calls : Option ℕ) (seen : Bool) → IsAt t i from es → from ≤ t.keys → list_any (t.eligible i) (below from) ≡ seen → NoneEligible t i from t.keys → IsRowEnd t i ceiling calls es (Through None seen)
-row_end {t} {i} {from} {es} ceiling calls seen a l s none =
+pub row_end : {t : Table} {i from : ℕ} {es : List Try} {s : Settled} (ceiling : ℕ) (calls : Option ℕ) → IsAt t i from es → from ≤ t.keys → t.bar i ≡ None
+    → s ≡ unverified (list_any (t.eligible i) (below from)) → NoneEligible t i from t.keys → IsRowEnd t i ceiling calls es (Through s)
+unfolding outcome
+row_end {t} {i} {from} {es} {s} ceiling calls a l bar settles none =
     let e : from + (t.keys - from) ≡ t.keys = omega arith in
-    let b : IsAt t i t.keys es = subst (λ k. IsAt t i k es) e (at_skip t i from (t.keys - from) es a (λ m lo hi. none m lo (omega (arith, e, hi)))) in (
-      at_end t i es b,
-      found_none t i es b,
-      ap (λ n. list_any (t.eligible i) (below n)) (sym e) ∙ list_any-gap (t.eligible i) from (t.keys - from) (λ m lo hi. none m lo (omega (arith, e, hi))) ∙ s,
+    let b : IsAt t i t.keys es = subst (λ k. IsAt t i k es) e (at_skip t i from (t.keys - from) es a (λ m lo hi. none m lo (omega (arith, e, hi)))) in
+    let seen = list_any (t.eligible i) (below from) in
+    let same : list_any (t.eligible i) (below t.keys) ≡ seen =
+    ap (λ n. list_any (t.eligible i) (below n)) (sym e) ∙ list_any-gap (t.eligible i) from (t.keys - from) (λ m lo hi. none m lo (omega (arith, e, hi))) in
+    let found = found_none t i es b in
+    rw settles (
+      rw unverified_not (at_end t i es b),
+      record { state = rw (bar, found, same) (unverified_state seen); key = found ∙ sym (unverified_key seen) },
     )
 
-pub seen_more : {t : Table} {i from j : ℕ} → IsNextKey t i from j → list_any (t.eligible i) (below (j + 1)) ≡ true
-seen_more {t} {i} {from} {j} n = ap (λ m. list_any (t.eligible i) (below m)) (sym (add-zero (j + 1))) ∙ seen_at (t.eligible i) j 0 n.eligible
+-- no key was looked at
+pub row_barred : {t : Table} {i : ℕ} {es : List Try} {f : SigFault} (ceiling : ℕ) (calls : Option ℕ) → IsAt t i 0 es → t.bar i ≡ Some f → NoneEligible t i 0 t.keys → IsRowEnd t i ceiling calls es (Through (Barred f))
+unfolding outcome
+row_barred {t} {i} {es} {f} ceiling calls a bar none =
+    let e : 0 + t.keys ≡ t.keys = omega arith in
+    let b : IsAt t i t.keys es = subst (λ k. IsAt t i k es) e (at_skip t i 0 t.keys es a (λ m lo hi. none m lo (omega (arith, e, hi)))) in
+    (at_end t i es b, record { state = rw bar refl; key = found_none t i es b })
+
+-- ---- by what the try of a pair came to
+
+entry_is : {V : Type 0} {D : V → Type 0} {means : Means V D} {t : Table} {i from : ℕ} {p : Pair V D} → IsNextPair means t i from p → pair_entry p ≡ entry t i p.key
+entry_is n = rw (n.signature, n.cost) refl
+
+pub tried_verified : {V : Type 0} {D : V → Type 0} {means : Means V D} {t : Table} {i from : ℕ} {es fs : List Try} {p : Pair V D} (ceiling : ℕ) (calls : Option ℕ) → IsPending t i p.key es → t.bar i ≡ None
+    → IsNextPair means t i from p → IsTried means ceiling calls es p fs Valid → IsRowEnd t i ceiling calls fs (Through (Verified p.key))
+tried_verified {means = means} {t = t} {i = i} {from = from} {p = p} ceiling calls q b n h = rw (h.0, entry_is {means = means} {t = t} {i = i} {from = from} {p = p} n) (row_verified ceiling calls q b (n.valid ∙ h.1))
+
+pub tried_failed : {V : Type 0} {D : V → Type 0} {means : Means V D} {t : Table} {i from : ℕ} {es fs : List Try} {p : Pair V D} (ceiling : ℕ) (calls : Option ℕ) → IsPending t i p.key es
+    → IsNextPair means t i from p → IsTried means ceiling calls es p fs Failed → IsAt t i (p.key + 1) fs
+tried_failed {means = means} {t = t} {i = i} {from = from} {p = p} ceiling calls q n h = rw (h.0, entry_is {means = means} {t = t} {i = i} {from = from} {p = p} n) (row_failed q (n.valid ∙ h.1))
+
+pub tried_stopped : {V : Type 0} {D : V → Type 0} {means : Means V D} {t : Table} {i from : ℕ} {es : List Try} {p : Pair V D} {w : ℕ} {most : Option ℕ} (ceiling : ℕ) (calls : Option ℕ) (fs : List Try) (r : End) → w ≡ ceiling → most ≡ calls → IsPending t i p.key es → i < t.signatures
+    → IsNextPair means t i from p → IsTried means w most es p fs (Halt r) → IsRowEnd t i ceiling calls fs (Stop r)
+tried_stopped ceiling calls fs Done c m q l n h = absurd h
+tried_stopped {p = p} ceiling calls fs (WorkExceeded m k) c b q l n h = rw (h.2, h.0 ∙ n.signature, h.1, sym c, sym b) (stop_work _ _ q l (rw n.cost h.3) h.4)
+tried_stopped {p = p} ceiling calls fs (CallsExceeded m k) c b q l n h = rw (h.2, h.0 ∙ n.signature, h.1, sym b) (stop_calls ceiling _ q l h.3)
+tried_stopped {means = means} {t = t} {i = i} {from = from} {p = p} ceiling calls fs (VerifierMemory m k) c b q l n h =
+    rw (h.2, entry_is {means = means} {t = t} {i = i} {from = from} {p = p} n, h.0 ∙ n.signature, h.1) (row_lacking ceiling calls q l (n.may_lack ∙ h.3))
+
+pub seen_more : {t : Table} {i from j : ℕ} → IsNextKey t i from j → BadSignature ≡ unverified (list_any (t.eligible i) (below (j + 1)))
+seen_more {t} {i} {from} {j} n = rw (ap (λ m. list_any (t.eligible i) (below m)) (sym (add-zero (j + 1))) ∙ seen_at (t.eligible i) j 0 n.eligible) refl
 
 pub pending_room : {t : Table} {i j : ℕ} {es : List Try} → IsPending t i j es → i < t.signatures → t.signatures * t.keys < 2 ^ 32 → length es + 1 < 2 ^ 32
 pending_room {t} {i} {j} {es} p l small = omega (arith, at_room p.at l p.within)
@@ -148,10 +205,6 @@ end_front t ceiling calls es Done h = ([], sym h ∙ sym (append-nil es))
 end_front t ceiling calls es (WorkExceeded i j) h = (entry t i j ∷ h.0.0, h.0.1)
 end_front t ceiling calls es (CallsExceeded i j) h = (entry t i j ∷ h.0.0, h.0.1)
 end_front t ceiling calls es (VerifierMemory i j) h = h.0
-
-pub outcome_is : (t : Table) (i : ℕ) (bar : Option SigFault) (seen : Bool) (found : Option ℕ) → bar ≡ t.bar i → find (verifies t i) (below t.keys) ≡ found → list_any (t.eligible i) (below t.keys) ≡ seen → settled bar seen found ≡ outcome t i
-unfolding outcome
-outcome_is t i bar seen found b f s = rw (b, f, s) refl
 
 -- a run's tries are a prefix of what is paid
 pub run_front : (t : Table) {fed called ceiling : ℕ} {calls : Option ℕ} {es : List Try} → IsCounted fed called ceiling calls es → IsFront t es → (more : List Try) × (paid t ceiling calls ≡ es ++ more)

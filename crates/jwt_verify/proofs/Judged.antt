@@ -5,7 +5,7 @@ use Rattle.std.specs.Option.{option_map_or, option_and_then}
 use Rattle.std.specs.List.{prefix_len, range_with_len}
 use Rattle.std.proofs.Math.Nat.{mul-le-mul_right}
 use Rattle.std.proofs.lemmas.Bool.{lt-ltb}
-use Rattle.std.proofs.lemmas.List.{length-map, length-take-le}
+use Rattle.std.proofs.lemmas.List.{length-take-le}
 use Rattle.serde_json.specs.Data.{Members}
 use Rattle.jwt_mac.specs.Verifying.{Meaning}
 use Rattle.jwt_jws.specs.declared.fault.FormFault.{FormFault}
@@ -28,14 +28,16 @@ use Rattle.jwt_verify.specs.declared.report.Fault.{Fault}
 use Rattle.jwt_verify.specs.declared.report.Fault.TheVariants.{OutOfMemory, Text, Form, WorkExceeded, CallsExceeded, VerifierMemory, Signature, Claim}
 use Rattle.jwt_verify.specs.declared.report.Verdict.{Verdict}
 use Rattle.jwt_verify.specs.declared.report.Verdict.TheVariants.{Accepted, Refused}
-use Rattle.jwt_verify.specs.Table.{Table, below, entry, pairs, tries, affords, work, paid, stop, states_at, states, ending, is_within, IsRun}
+use Rattle.jwt_verify.specs.Table.{Table, entry, pairs, tries, affords, work, paid, stop, states_at, states, ending, is_within, IsRun}
 use Rattle.jwt_verify.specs.Trying.{at_pair, table_of}
 use Rattle.jwt_verify.specs.Verdict.{Terms, Signing, VerifiedBy, Unverified, checked, claimed, concluded, ended, token_verdict, signing_of, formed, token_of, table, decided, verdict_of, without_line_feed}
 use Rattle.jwt_verify.specs.Reports.{FoundMemory}
-use Rattle.jwt_verify.specs.Steps.{IsWhole, signing_by}
-use Rattle.jwt_verify.proofs.Below.{below-zero, length-below}
+use Rattle.jwt_verify.specs.Steps.{IsWhole}
+use Rattle.jwt_verify.specs.declared.settled.Signing.{Signing as Decided}
+use Rattle.jwt_verify.specs.Settled.{signing_view}
+use Rattle.jwt_verify.specs.Pairs.{IsSigned}
+use Rattle.jwt_verify.proofs.Below.{below-zero}
 use Rattle.jwt_verify.proofs.Paying.{work-nil}
-use Rattle.jwt_verify.proofs.Signing.{signing_is}
 
 -- at most 32 signatures and 1,024 keys
 pub few_pairs : (m n : ℕ) → m ≤ 32 → n ≤ 1024 → m * n < 2 ^ 32
@@ -77,22 +79,21 @@ done_stop t w calls h = go (stop t w calls) h
     go None h = refl
     go (Some e) h = absurd (exceeded (is_within calls (length (paid t w calls) + 1)) e h)
 
-pub run_says : (q : Terms) (w : ℕ) (t : Token) (es : List Try) (sts : List SigState) (r : End) (v : Verdict)
-    → IsRun (table_of q.policy q.verifiers q.keys t) w q.policy.max_calls es sts r
-    → (v ≢ Refused OutOfMemory → v ≡ ended r (concluded q.policy q.now t.payload (signing_by q.policy.run.mode sts)))
+pub run_says : (q : Terms) (w : ℕ) (t : Token) (es : List Try) (sts : List SigState) (r : End) (s : Decided) (v : Verdict)
+    → IsRun (table_of q.policy q.verifiers q.keys t) w q.policy.max_calls es sts r → IsSigned (table_of q.policy q.verifiers q.keys t) s r
+    → (v ≢ Refused OutOfMemory → v ≡ ended r (concluded q.policy q.now t.payload (signing_view s)))
     → FoundMemory v → v ≡ token_verdict q w t
 unfolding token_verdict
-run_says q w t es sts end.Done v h k found =
+run_says q w t es sts end.Done s v h signed k found =
     let T = table_of q.policy q.verifiers q.keys t in
-    let s : signing_by q.policy.run.mode sts ≡ signing_of T = signing_is T sts (unbarred_by q.policy q.verifiers q.keys t) (h.1 ∙ ap (states_at T) (done_stop T w q.policy.max_calls h.2)) in
-    k (found_not v found) ∙ ap (concluded q.policy q.now t.payload) s ∙ ap (λ r. ended r (concluded q.policy q.now t.payload (signing_of T))) h.2
-run_says q w t es sts (end.WorkExceeded i j) v h k found =
-    let T = table_of q.policy q.verifiers q.keys t in
-    k (found_not v found) ∙ ap (λ r. ended r (concluded q.policy q.now t.payload (signing_of T))) h.2
-run_says q w t es sts (end.CallsExceeded i j) v h k found =
+    k (found_not v found) ∙ ap (concluded q.policy q.now t.payload) signed ∙ ap (λ r. ended r (concluded q.policy q.now t.payload (signing_of T))) h.2
+run_says q w t es sts (end.WorkExceeded i j) s v h signed k found =
     let T = table_of q.policy q.verifiers q.keys t in
     k (found_not v found) ∙ ap (λ r. ended r (concluded q.policy q.now t.payload (signing_of T))) h.2
-run_says q w t es sts (end.VerifierMemory i j) v h k found = absurd (subst FoundMemory (k (found_not v found)) found)
+run_says q w t es sts (end.CallsExceeded i j) s v h signed k found =
+    let T = table_of q.policy q.verifiers q.keys t in
+    k (found_not v found) ∙ ap (λ r. ended r (concluded q.policy q.now t.payload (signing_of T))) h.2
+run_says q w t es sts (end.VerifierMemory i j) s v h signed k found = absurd (subst FoundMemory (k (found_not v found)) found)
 
 -- ---- the report
 
@@ -171,16 +172,6 @@ whole_none t w calls es sts v e = rw e tt
 
 pub read_none : (v : Verdict) → v ≡ Refused OutOfMemory → v ≢ Refused (Text Read)
 read_none v e h = let z = sym e ∙ h in cc
-
-length_run : (t : Table) (o : Option Try) (sts : List SigState) → sts ≡ states_at t o → length sts ≡ t.signatures
-unfolding states_at
-length_run t o sts h = ap length h ∙ length-map (below t.signatures) _ ∙ length-below t.signatures
-
-pub run_length : (t : Table) (w : ℕ) (calls : Option ℕ) (es : List Try) (sts : List SigState) (r : End) → IsRun t w calls es sts r → length sts ≡ t.signatures
-run_length t w calls es sts end.Done h = length_run t (stop t w calls) sts h.1
-run_length t w calls es sts (end.WorkExceeded i j) h = length_run t (stop t w calls) sts h.1
-run_length t w calls es sts (end.CallsExceeded i j) h = length_run t (stop t w calls) sts h.1
-run_length t w calls es sts (end.VerifierMemory i j) h = length_run t (Some (entry t i j)) sts h.2
 
 -- ---- what is no signed token
 

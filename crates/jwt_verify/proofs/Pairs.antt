@@ -1,46 +1,43 @@
 -- What the table says of a pair, from the layers' words.
-use Rattle.std.proofs.Common.{◌≡◌, ℕ, Bool, true, false, List, length, Option, Some, None, refl, ◌∙◌}
-use Rattle.std.specs.Prelude.{◌&&◌, slice_get, option_and_then, is_some, is_none, MatchOption, Result, Ok, Err, IfOk}
+use Rattle.std.proofs.Common.{◌≡◌, ℕ, ◌<◌, ◌≤◌, Bool, true, false, List, length, map, Option, Some, None, refl, sym, ◌∙◌, ap, subst, arith, ◌*◌, ◌^◌, zero, suc, [], ◌∷◌, inl, inr}
+use Rattle.std.specs.Prelude.{◌&&◌, slice_get, option_map, not, MatchOption}
 use Rattle.std.specs.Option.{option_map_or}
+use Rattle.std.proofs.lemmas.Bool.{cases_lt}
+use Rattle.std.proofs.lemmas.List.{length-map}
+use Rattle.jwt_keys.specs.Views.{key_parts}
+use Rattle.std.proofs.lemmas.Option.{slice_get_within}
 use Rattle.jwt_mac.specs.declared.algorithm.Alg.{Alg}
-use Rattle.jwt_mac.specs.Verifying.{Meaning, AnswersBy}
-use Rattle.jwt_mac.specs.declared.message.Answer.{Answer}
-use Rattle.jwt_mac.specs.declared.message.Answer.TheVariants.{Valid, Invalid, NoMemory}
-use Rattle.jwt_mac.specs.declared.mac.Spent.{Spent}
-use Rattle.jwt_jws.specs.Token.{Token, SignatureParts}
+use Rattle.jwt_mac.specs.declared.algorithm.Alg.TheVariants.{HS256, HS384, HS512}
+use Rattle.jwt_mac.specs.Algorithm.{is_hmac_alg}
+use Rattle.jwt_mac.specs.Verifying.{Meaning, KeyOctets, OctKey, RsaKey, EcKey, OkpKey, MessageOctets, first_naming, message_octets}
+use Rattle.jwt_text.specs.Rows.{NoRow}
+use Rattle.jwt_jws.specs.declared.signed.Signed.{Signed}
+use Rattle.jwt_jws.specs.Token.{Token, SignatureParts, message_of}
+use Rattle.jwt_jws.specs.Views.{token, parts}
 use Rattle.jwt_keys.specs.Keys.{KeyParts}
+use Rattle.jwt_keys.specs.KeySets.{key_set}
 use Rattle.jwt_keys.specs.Numbers.{IsLeastFrom}
 use Rattle.jwt_policy.specs.declared.sig_fault.SigFault.{SigFault}
 use Rattle.jwt_policy.specs.Settings.{Settings}
-use Rattle.jwt_policy.specs.Bars.{alg, can_verify, bar_of}
-use Rattle.jwt_policy.specs.Eligible.{suits, fits, eligible_for}
-use Rattle.jwt_policy.specs.Laws.{IsEligible}
-use Rattle.jwt_verify.specs.Trying.{at_pair, table_of}
+use Rattle.jwt_policy.specs.Bars.{alg, can_verify, bar_of, bar_rows}
+use Rattle.jwt_policy.specs.Eligible.{suits, is_for, fits, eligible_for}
+use Rattle.jwt_policy.specs.Texts.{some_passes}
+use Rattle.jwt_verify.specs.declared.asked.Asked.{Asked}
+use Rattle.jwt_verify.specs.declared.unbarred.Numbered.{Numbered}
+use Rattle.jwt_verify.specs.declared.unbarred.Unbarred.{Unbarred}
+use Rattle.jwt_verify.specs.declared.pair.Way.{Way}
+use Rattle.jwt_verify.specs.declared.pair.Way.TheVariants as way
+use Rattle.jwt_verify.specs.declared.pair.Pair.{Pair}
+use Rattle.jwt_verify.specs.AskedTable.{Means, asked_table}
+use Rattle.jwt_verify.specs.Pairs.{IsVerifier, IsOpen, IsFor, IsWay, IsUnbarred, way_accepts, way_may_lack, way_cost, IsNextPair}
+use Rattle.jwt_verify.specs.Trying.{at_pair, table_of, valid_under, may_lack_under, cost_under, valid_by, may_lack_by, cost_by}
 use Rattle.jwt_verify.specs.Table.{Table}
-use Rattle.jwt_verify.specs.Walk.{NoneEligible, IsNextKey, IsAnswer}
+use Rattle.jwt_verify.specs.Walk.{NoneEligible, IsNextKey, goes_on}
+use Rattle.jwt_verify.proofs.Judged.{unbarred_by, few_pairs}
 use Rattle.jwt_verify.proofs.Named.{passes_within}
 
 pub at_pair_is : {A : Type 0} (f : SignatureParts → KeyParts → A) (d : A) (t : Token) (ks : List KeyParts) (i j : ℕ) (s : SignatureParts) (k : KeyParts) → slice_get t.signatures i ≡ Some s → slice_get ks j ≡ Some k → at_pair f d t ks i j ≡ f s k
 at_pair_is f d t ks i j s k e h = rw (e, h) refl
-
-pub eligible_signature : (p : Settings) (v : List Meaning) (t : Token) (ks : List KeyParts) (i j : ℕ) → at_pair (λ s k. eligible_for p s k v) false t ks i j ≡ true → slice_get t.signatures i ≡ None → ⊥
-eligible_signature p v t ks i j h e = let q = rw e at h in cc
-
-pub eligible_key : (p : Settings) (v : List Meaning) (t : Token) (ks : List KeyParts) (i j : ℕ) (s : SignatureParts) → at_pair (λ s k. eligible_for p s k v) false t ks i j ≡ true → slice_get t.signatures i ≡ Some s → slice_get ks j ≡ None → ⊥
-eligible_key p v t ks i j s h e l = let q = rw (e, l) at h in cc
-
--- by what an eligible pair comes to in words
-pub eligible_alg : (p : Settings) (v : List Meaning) (s : SignatureParts) (k : KeyParts) → IsEligible p s k v → alg s ≡ None → ⊥
-eligible_alg p v s k h e = let q = h.named in cc
-
-same_alg : (a b : Alg) (o : Option Alg) → o ≡ Some a → o ≡ Some b → a ≡ b
-same_alg a b o f g = cc
-
-pub eligible_suits : (p : Settings) (v : List Meaning) (s : SignatureParts) (k : KeyParts) (a : Alg) → IsEligible p s k v → alg s ≡ Some a → suits a k.octets ≡ true
-eligible_suits p v s k a h e = rw (same_alg a h.algorithm (alg s) e h.named) h.suited
-
-pub eligible_named : (p : Settings) (v : List Meaning) (s : SignatureParts) (k : KeyParts) (a : Alg) → IsEligible p s k v → alg s ≡ Some a → can_verify v a ≡ true
-eligible_named p v s k a h e = rw (same_alg a h.algorithm (alg s) e h.named) h.verified
 
 -- the next key
 
@@ -66,31 +63,192 @@ next_is p v ks t i from s (Some j) e b h = record {
   least = λ n lo hi. eligible_is p v ks t i n s e b ∙ not_true (option_map_or (fits p s) (slice_get ks n) false) (h.2 n lo hi);
 }
 
-none_by : (p : Settings) (v : List Meaning) (s : SignatureParts) (o : Option KeyParts) → is_some (bar_of p s v) ≡ true → option_map_or (λ k. eligible_for p s k v) o false ≡ false
-unfolding eligible_for
-none_by p v s None h = refl
-none_by p v s (Some k) h = go (bar_of p s v) h
+-- ---- a signature that nothing bars
+
+-- it names an algorithm
+pub named_alg : (p : Settings) (v : List Meaning) (s : SignatureParts) → NoRow (bar_rows p s v) → alg s ≡ None → ⊥
+named_alg p v s h e = let q = rw e at (h 2 _ refl) in cc
+
+passes : (p : Alg → Bool) (o : Option Alg) (a : Alg) → o ≡ Some a → not (some_passes p o) ≡ false → p a ≡ true
+passes p o a e h = let q = rw e at h in go (p a) q
   where
-    go : (o : Option SigFault) → is_some o ≡ true → (is_none o && fits p s k) ≡ false
-    go None q = cc
-    go (Some f) q = refl
+    go : (b : Bool) → not b ≡ false → b ≡ true
+    go true h = refl
+    go false h = cc
 
-pub barred_none : (p : Settings) (v : List Meaning) (ks : List KeyParts) (t : Token) (i from : ℕ) (s : SignatureParts) → slice_get t.signatures i ≡ Some s → is_some (option_and_then (λ s. bar_of p s v) (slice_get t.signatures i)) ≡ true → NoneEligible (table_of p v ks t) i from (length ks)
-barred_none p v ks t i from s e h = λ n lo hi. let q = rw e at h in rw e (none_by p v s (slice_get ks n) q)
+-- by which a verifier is found, or it is HMAC
+pub named_verified : (p : Settings) (v : List Meaning) (s : SignatureParts) (a : Alg) → NoRow (bar_rows p s v) → alg s ≡ Some a → can_verify v a ≡ true
+named_verified p v s a h e = passes (can_verify v) (alg s) a e (h 4 _ refl)
 
--- a row of one try
-pub answer_is : (t : Table) (i j : ℕ) (a l : Bool) (r : Result Answer Spent) → t.valid i j ≡ a → t.may_lack i j ≡ l → IfOk r (AnswersBy a l) → IfOk r (IsAnswer t i j)
-answer_is t i j a l (Err e) v m h = h
-answer_is t i j a l (Ok Valid) v m h = v ∙ h
-answer_is t i j a l (Ok Invalid) v m h = v ∙ h
-answer_is t i j a l (Ok NoMemory) v m h = m ∙ h
+pub verifier_hmac : (v : List Meaning) (a : Alg) (o : Option Meaning) → is_hmac_alg a ≡ true → o ≡ None → IsVerifier v a o
+verifier_hmac v a o h e = rw e h
 
-none_is : (o : Option SigFault) → is_some o ≡ false → o ≡ None
-none_is None h = refl
-none_is (Some f) h = cc
+pub verifier_first : (v : List Meaning) (a : Alg) (o : Option Meaning) → is_hmac_alg a ≡ false → can_verify v a ≡ true → o ≡ first_naming v a → IsVerifier v a o
+verifier_first v a None h c e = let q = rw (h, sym e) at c in cc
+verifier_first v a (Some m) h c e = (h, sym e)
 
-pub unbarred : (p : Settings) (v : List Meaning) (t : Token) (i : ℕ) (s : SignatureParts) → slice_get t.signatures i ≡ Some s → is_some (option_and_then (λ s. bar_of p s v) (slice_get t.signatures i)) ≡ false → bar_of p s v ≡ None
-unbarred p v t i s e h = none_is (bar_of p s v) (rw e at h)
+pub open_bar : {V : Type 0} {D : V → Type 0} (means : Means V D) (a : Asked V D) (u : Unbarred V D) → IsOpen means a u → (asked_table means a u.signed.now).bar u.number ≡ None
+unfolding asked_table
+open_bar means a u o = rw o.signature o.unbarred
 
-pub inside : {A : Type 0} (a b : A) → Some a ≡ Some b → a ≡ b
-inside a b h = cc
+pub open_within : {V : Type 0} {D : V → Type 0} (means : Means V D) (a : Asked V D) (u : Unbarred V D) → IsOpen means a u → u.number < (asked_table means a u.signed.now).signatures
+unfolding asked_table
+open_within means a u o = slice_get_within (token u.signed.now).signatures u.number (parts u.signature.now) o.signature
+
+pub asked_bar : {V : Type 0} {D : V → Type 0} (means : Means V D) (a : Asked V D) (signed : Signed) (i : ℕ) (s : SignatureParts) (r : Option SigFault) → slice_get (token signed).signatures i ≡ Some s
+    → r ≡ bar_of a.policy.now s (map means a.verifiers.now) → (asked_table means a signed).bar i ≡ r
+unfolding asked_table
+asked_bar means a signed i s r e b = rw e (sym b)
+
+pub asked_signatures : {V : Type 0} {D : V → Type 0} (means : Means V D) (a : Asked V D) (signed : Signed) → (asked_table means a signed).signatures ≡ length (token signed).signatures
+unfolding asked_table
+asked_signatures means a signed = refl
+
+pub asked_mode : {V : Type 0} {D : V → Type 0} (means : Means V D) (a : Asked V D) (signed : Signed) (verified goes : Bool) → goes_on a.policy.now.run.mode verified ≡ goes
+    → goes_on (asked_table means a signed).mode verified ≡ goes
+unfolding asked_table
+asked_mode means a signed verified goes h = h
+
+-- no key is eligible for a signature that is barred
+pub barred_none : {V : Type 0} {D : V → Type 0} (means : Means V D) (a : Asked V D) (signed : Signed) (i : ℕ) (f : SigFault) → (asked_table means a signed).bar i ≡ Some f
+    → NoneEligible (asked_table means a signed) i 0 (asked_table means a signed).keys
+unfolding asked_table
+barred_none means a signed i f e n lo hi =
+    not_true _ (λ h. (let q = sym (unbarred_by a.policy.now (map means a.verifiers.now) (key_set a.keys.now).keys (token signed) i n h) ∙ e in cc))
+
+-- ---- how a pair is tried
+
+and_left : (a b : Bool) → (a && b) ≡ true → a ≡ true
+and_left true b h = refl
+and_left false b h = h
+
+fits_suits : (p : Settings) (s : SignatureParts) (k : KeyParts) (a : Alg) → alg s ≡ Some a → fits p s k ≡ true → suits a k.octets ≡ true
+fits_suits p s k a e h = let named : some_passes (is_for k) (alg s) ≡ true = and_left _ _ (and_left _ _ h) in let q : is_for k a ≡ true = rw e at named in and_left _ _ q
+
+secret_hmac : (a : Alg) (k : List ℕ) → suits a (OctKey k) ≡ true → is_hmac_alg a ≡ true
+secret_hmac HS256 k h = refl
+secret_hmac HS384 k h = refl
+secret_hmac HS512 k h = refl
+secret_hmac _ k h = cc
+
+cost_none : (a : Alg) (k : KeyOctets) (m : MessageOctets) → suits a k ≡ true → is_hmac_alg a ≡ false → cost_under a k m ≡ 0
+cost_none a (OctKey k) m h e = let q = sym (secret_hmac a k h) ∙ e in cc
+cost_none a (RsaKey n e) m h o = refl
+cost_none a (EcKey curve x y) m h o = refl
+cost_none a (OkpKey curve x) m h o = refl
+
+module _ {V : Type 0} {D : V → Type 0} (means : Means V D) (v : List Meaning) (a : Alg) (k : KeyOctets) (m : MessageOctets) (x : List ℕ) where
+  way_is_for : (o : Option Meaning) (w : Way V D) → IsVerifier v a o → IsWay means o k (Some w) → IsFor a w
+  way_is_for None (way.Tag s) h i = h
+  way_is_for (Some n) (way.Tag s) h i = let q = i.0 in cc
+  way_is_for None (way.Asked b view) h i = let q = i.0 in cc
+  way_is_for (Some n) (way.Asked b view) h i = h.0
+
+  way_valid : (o : Option Meaning) (w : Way V D) → IsVerifier v a o → IsWay means o k (Some w) → valid_under v a k m x ≡ way_accepts means a m x w
+  way_valid None (way.Tag s) h i = rw (h, i.1) refl
+  way_valid (Some n) (way.Tag s) h i = let q = i.0 in cc
+  way_valid None (way.Asked b view) h i = let q = i.0 in cc
+  way_valid (Some n) (way.Asked b view) h i = rw (h.0, h.1 ∙ i.0, i.1) refl
+
+  way_lacks : (o : Option Meaning) (w : Way V D) → IsVerifier v a o → IsWay means o k (Some w) → may_lack_under v a k m x ≡ way_may_lack means a m x w
+  way_lacks None (way.Tag s) h i = rw h refl
+  way_lacks (Some n) (way.Tag s) h i = let q = i.0 in cc
+  way_lacks None (way.Asked b view) h i = let q = i.0 in cc
+  way_lacks (Some n) (way.Asked b view) h i = rw (h.0, h.1 ∙ i.0, i.1) refl
+
+  way_costs : (o : Option Meaning) (w : Way V D) → suits a k ≡ true → IsVerifier v a o → IsWay means o k (Some w) → cost_under a k m ≡ way_cost a m w
+  way_costs None (way.Tag s) f h i = rw i.1 refl
+  way_costs (Some n) (way.Tag s) f h i = let q = i.0 in cc
+  way_costs None (way.Asked b view) f h i = let q = i.0 in cc
+  way_costs (Some n) (way.Asked b view) f h i = cost_none a k m f h.0
+
+valid_named : (v : List Meaning) (m : MessageOctets) (s : SignatureParts) (k : KeyParts) (a : Alg) → alg s ≡ Some a → valid_by v m s k ≡ valid_under v a k.octets m s.octets
+unfolding valid_by
+valid_named v m s k a e = rw e refl
+
+may_lack_named : (v : List Meaning) (m : MessageOctets) (s : SignatureParts) (k : KeyParts) (a : Alg) → alg s ≡ Some a → may_lack_by v m s k ≡ may_lack_under v a k.octets m s.octets
+unfolding may_lack_by
+may_lack_named v m s k a e = rw e refl
+
+cost_named : (m : MessageOctets) (s : SignatureParts) (k : KeyParts) (a : Alg) → alg s ≡ Some a → cost_by m s k ≡ cost_under a k.octets m
+unfolding cost_by
+cost_named m s k a e = rw e refl
+
+-- ---- the next pair
+
+pub none_next : {V : Type 0} {D : V → Type 0} (means : Means V D) (a : Asked V D) (u : Unbarred V D) (from : ℕ) → IsOpen means a u
+    → IsLeastFrom (fits a.policy.now (parts u.signature.now)) (key_set a.keys.now).keys from None
+    → NoneEligible (asked_table means a u.signed.now) u.number from (asked_table means a u.signed.now).keys
+unfolding asked_table
+none_next means a u from o h = next_is a.policy.now (map means a.verifiers.now) (key_set a.keys.now).keys (token u.signed.now) u.number from (parts u.signature.now) None o.signature o.unbarred h
+
+key_fits : (f : KeyParts → Bool) (ks : List KeyParts) (j : ℕ) (k : KeyParts) → option_map_or f (slice_get ks j) false ≡ true → slice_get ks j ≡ Some k → f k ≡ true
+key_fits f ks j k h e = rw e at h
+
+key_suits : (p : Settings) (s : SignatureParts) (ks : List KeyParts) (from j : ℕ) (k : KeyParts) (a : Alg) → alg s ≡ Some a → IsLeastFrom (fits p s) ks from (Some j) → slice_get ks j ≡ Some k → suits a k.octets ≡ true
+key_suits p s ks from j k a n h e = fits_suits p s k a n (key_fits (fits p s) ks j k h.1 e)
+
+pub some_next : {V : Type 0} {D : V → Type 0} (means : Means V D) (a : Asked V D) (u : Unbarred V D) (from : ℕ) (p : Pair V D) (k : KeyParts) (view : KeyOctets) → IsOpen means a u
+    → IsLeastFrom (fits a.policy.now (parts u.signature.now)) (key_set a.keys.now).keys from (Some p.key)
+    → slice_get (key_set a.keys.now).keys p.key ≡ Some k
+    → view ≡ k.octets → IsWay means (option_map (λ v. means v.now) u.verifier) view (Some p.way)
+    → p.signature ≡ u.number → p.alg ≡ u.alg → message_octets p.message ≡ message_of (token u.signed.now) (parts u.signature.now) → p.octets.now ≡ (parts u.signature.now).octets
+    → IsNextPair means (asked_table means a u.signed.now) u.number from p
+unfolding asked_table
+some_next means a u from p k view o h e same way number named message octets =
+    let v = map means a.verifiers.now in
+    let ks = (key_set a.keys.now).keys in
+    let t = token u.signed.now in
+    let s = parts u.signature.now in
+    let m = message_octets p.message in
+    let z = option_map (λ v. means v.now) u.verifier in
+    let n : alg s ≡ Some p.alg = o.named ∙ ap Some (sym named) in
+    let is_verifier : IsVerifier v p.alg z = rw named o.verifier in
+    let w : IsWay means z k.octets (Some p.way) = subst (λ k. IsWay means z k (Some p.way)) same way in
+    record {
+      next = next_is a.policy.now v ks t u.number from s (Some p.key) o.signature o.unbarred h;
+      signature = number;
+      is_for = way_is_for means v p.alg k.octets m p.octets.now z p.way is_verifier w;
+      valid = at_pair_is (λ s k. valid_by v (message_of t s) s k) false t ks u.number p.key s k o.signature e ∙ valid_named v (message_of t s) s k p.alg n
+          ∙ ap (λ m. valid_under v p.alg k.octets m s.octets) (sym message) ∙ ap (λ x. valid_under v p.alg k.octets m x) (sym octets) ∙ (way_valid means v p.alg k.octets m p.octets.now z p.way is_verifier w);
+      may_lack = at_pair_is (λ s k. may_lack_by v (message_of t s) s k) false t ks u.number p.key s k o.signature e ∙ may_lack_named v (message_of t s) s k p.alg n
+          ∙ ap (λ m. may_lack_under v p.alg k.octets m s.octets) (sym message) ∙ ap (λ x. may_lack_under v p.alg k.octets m x) (sym octets) ∙ (way_lacks means v p.alg k.octets m p.octets.now z p.way is_verifier w);
+      cost = at_pair_is (λ s k. cost_by (message_of t s) s k) 0 t ks u.number p.key s k o.signature e ∙ cost_named (message_of t s) s k p.alg n
+          ∙ ap (λ m. cost_under p.alg k.octets m) (sym message) ∙ (way_costs means v p.alg k.octets m p.octets.now z p.way (key_suits a.policy.now s ks from p.key k p.alg n h e) is_verifier w);
+    }
+
+-- ---- there are few pairs
+
+pub asked_few : {V : Type 0} {D : V → Type 0} (means : Means V D) (a : Asked V D) (signed : Signed) → (asked_table means a signed).keys ≤ 1024
+unfolding asked_table
+asked_few means a signed = rw (length-map a.keys.now.keys.items key_parts) a.keys.now.few
+
+pub asked_small : {V : Type 0} {D : V → Type 0} (means : Means V D) (a : Asked V D) (signed : Signed) → (asked_table means a signed).signatures * (asked_table means a signed).keys < 2 ^ 32
+unfolding asked_table
+asked_small means a signed = few_pairs (length (token signed).signatures) (length (key_set a.keys.now).keys)
+    (omega (arith, length-map signed.more.items parts, signed.few)) (asked_few means a signed)
+
+pub next_few : {V : Type 0} {D : V → Type 0} (means : Means V D) (a : Asked V D) (signed : Signed) {i from j : ℕ} → IsNextKey (asked_table means a signed) i from j → j < 1024
+next_few means a signed n = omega (arith, n.within, asked_few means a signed)
+
+slice_within : {X : Type 0} (xs : List X) (i : ℕ) → i < length xs → slice_get xs i ≡ None → ⊥
+slice_within [] i l h = absurd (omega arith)
+slice_within (x ∷ xs) zero l h = cc
+slice_within (x ∷ xs) (suc i) l h = slice_within xs i (omega arith) h
+
+-- the number of the signatures is reached
+pub none_past : {X : Type 0} (xs : List X) (i : ℕ) → i ≤ length xs → slice_get xs i ≡ None → i ≡ length xs
+none_past xs i l h = elim (cases_lt i (length xs)) [
+  | inl m ↦ absurd (slice_within xs i m h)
+  | inr m ↦ omega arith
+]
+
+-- ---- what is said of an unbarred signature is said of the one of that number
+
+pub of_numbered : {V : Type 0} {D : V → Type 0} {means : Means V D} {a : Asked V D} {n : Numbered} {u : Unbarred V D} (P : Table → ℕ → Type 0) → IsUnbarred means a n u
+    → P (asked_table means a n.signed.now) n.number → P (asked_table means a u.signed.now) u.number
+of_numbered P h p = rw (h.same_token, h.same_number) p
+
+pub to_numbered : {V : Type 0} {D : V → Type 0} {means : Means V D} {a : Asked V D} {n : Numbered} {u : Unbarred V D} (P : Table → ℕ → Type 0) → IsUnbarred means a n u
+    → P (asked_table means a u.signed.now) u.number → P (asked_table means a n.signed.now) n.number
+to_numbered P h p = rw (sym h.same_token, sym h.same_number) p

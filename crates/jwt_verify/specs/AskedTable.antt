@@ -1,17 +1,25 @@
--- The table of what is asked.
-use Rattle.std.specs.Prelude.{◌≡◌, List, map}
+-- What is asked of a token, by what its verifiers mean.
+use Rattle.std.specs.Prelude.{map}
+use Rattle.std.specs.Global.{Global}
+use Rattle.std.specs.declared.dyn_box.DynBox.{DynBox}
 use Rattle.jwt_mac.specs.Verifying.{Meaning}
+use Rattle.jwt_jws.specs.declared.signed.Signed.{Signed}
 use Rattle.jwt_jws.specs.Views.{token}
 use Rattle.jwt_keys.specs.KeySets.{key_set}
-use Rattle.jwt_policy.specs.Bars.{bar_of}
 use Rattle.jwt_verify.specs.Table.{Table}
 use Rattle.jwt_verify.specs.Trying.{table_of}
+use Rattle.jwt_verify.specs.Verdict.{Terms}
+use Rattle.jwt_verify.specs.Reports.{terms}
 use Rattle.jwt_verify.specs.declared.asked.Asked.{Asked}
 
--- the pairs of the token and the keys
-unfoldable pub asked_table : List Meaning → Asked → Table
-asked_table verifiers a = table_of a.policy.now verifiers (key_set a.keys.now).keys (token a.signed.now)
+-- what boxed verifiers mean
+abbrev pub Means : (V : Type 0) → (V → Type 0) → Type 0
+Means V D = DynBox V Global D → Meaning
 
--- each signature's bar stands in the list
-unfoldable pub HasBars : List Meaning → Asked → Type 0
-HasBars verifiers a = a.bars.now ≡ map (λ s. bar_of a.policy.now s verifiers) (token a.signed.now).signatures
+-- the terms of the verdict
+abbrev pub asked_terms : {V : Type 0} {D : V → Type 0} → Means V D → Asked V D → Terms
+asked_terms means a = terms a.policy.now a.keys.now a.moment (map means a.verifiers.now)
+
+-- the pairs of the token and the keys
+unfoldable pub asked_table : {V : Type 0} {D : V → Type 0} → Means V D → Asked V D → Signed → Table
+asked_table means a signed = table_of a.policy.now (map means a.verifiers.now) (key_set a.keys.now).keys (token signed)

@@ -1,10 +1,9 @@
 -- How far a run has come: what the private functions say of the tries that they have listed.
-use Rattle.std.specs.Prelude.{ℕ, ◌+◌, ◌<◌, ◌≤◌, ◌≡◌, ◌++◌, ◌∷◌, [], Bool, true, false, not, List, map, length, Option, None, Some, is_some}
+use Rattle.std.specs.Prelude.{ℕ, ◌+◌, ◌<◌, ◌≤◌, ◌≡◌, ◌++◌, ◌∷◌, [], Bool, true, false, not, List, map, length, Option, None, Some}
 use Rattle.std.specs.List.{list_any, filter, flat_map, find}
-use Rattle.jwt_mac.specs.declared.message.Answer.{Answer}
-use Rattle.jwt_mac.specs.declared.message.Answer.TheVariants.{Valid, Invalid, NoMemory}
 use Rattle.jwt_verify.specs.declared.tries.RowEnd.{RowEnd}
 use Rattle.jwt_verify.specs.declared.tries.RowEnd.TheVariants.{Through, Stop}
+use Rattle.jwt_verify.specs.declared.settled.Settled.{Settled}
 use Rattle.jwt_verify.specs.declared.tries.End.{End}
 use Rattle.jwt_verify.specs.declared.tries.End.TheVariants.{Done, WorkExceeded, CallsExceeded, VerifierMemory}
 use Rattle.jwt_verify.specs.declared.report.SigState.{SigState}
@@ -12,7 +11,8 @@ use Rattle.jwt_verify.specs.declared.report.SigState.TheVariants.{NotReached}
 use Rattle.jwt_policy.specs.declared.mode.Mode.{Mode}
 use Rattle.jwt_policy.specs.declared.mode.Mode.TheVariants.{Any, All}
 use Rattle.jwt_verify.specs.declared.report.Try.{Try}
-use Rattle.jwt_verify.specs.Table.{Table, below, verifies, verified, reached, tried, entry, tries, work, is_within, state_at}
+use Rattle.jwt_verify.specs.Settled.{is_verified, settled_key, settled_state}
+use Rattle.jwt_verify.specs.Table.{Table, below, verifies, verified, reached, tried, entry, tries, work, is_within, outcome, state_at}
 use Rattle.jwt_verify.specs.Paying.{IsFront, IsNext}
 
 abbrev pub is_tried : Table → Try → Bool
@@ -61,11 +61,6 @@ pub record IsCounted (fed called ceiling : ℕ) (max_calls : Option ℕ) (es : L
   pub fits : work es ≤ ceiling
   pub within : is_within max_calls (length es) ≡ true
 
-abbrev pub IsAnswer : Table → ℕ → ℕ → Answer → Type 0
-IsAnswer t i j Valid = t.valid i j ≡ true
-IsAnswer t i j Invalid = t.valid i j ≡ false
-IsAnswer t i j NoMemory = t.may_lack i j ≡ true
-
 -- the tries es were listed, and the run asks for the pair of i and j next
 pub record IsPending (t : Table) (i j : ℕ) (es : List Try) : Type 0 where
   pub at : IsAt t i j es
@@ -86,9 +81,14 @@ stopped_at t (WorkExceeded i j) = Some (entry t i j)
 stopped_at t (CallsExceeded i j) = Some (entry t i j)
 stopped_at t (VerifierMemory i j) = Some (entry t i j)
 
+-- what becomes of signature i, and the key that verifies it
+pub record IsSettled (t : Table) (i : ℕ) (s : Settled) : Type 0 where
+  pub state : settled_state s ≡ outcome t i
+  pub key : find (verifies t i) (below t.keys) ≡ settled_key s
+
 -- how the tries of one signature ended
 abbrev pub IsRowEnd : Table → ℕ → ℕ → Option ℕ → List Try → RowEnd → Type 0
-IsRowEnd t i ceiling calls es (Through found seen) = IsThrough t i (is_some found) es × (find (verifies t i) (below t.keys) ≡ found) × (list_any (t.eligible i) (below t.keys) ≡ seen)
+IsRowEnd t i ceiling calls es (Through s) = IsThrough t i (is_verified s) es × IsSettled t i s
 IsRowEnd t i ceiling calls es (Stop r) = IsEnd t ceiling calls es r × (reached t i ≡ true) × ((j : ℕ) × (stopped_at t r ≡ Some (entry t i j)))
 
 -- the states of the first signatures were recorded, and no later signature is reached

@@ -1,14 +1,14 @@
-//! A token, with what is asked of its signatures.
+//! What is asked of each token.
 
-use jwt_jws::Signed;
 use jwt_keys::KeySet;
-use jwt_policy::{Policy, SigFault};
+use jwt_mac::Verifier;
+use jwt_policy::Policy;
 
-/// A token and a key set under a policy. The bar of each signature was computed once.
+/// All that a verdict rests on but the token and the budget. The moment is in seconds since 1970-01-01T00:00:00Z.
 #[derive(Clone, Copy)]
-pub(crate) struct Asked<'s, 't, 'k, 'p, 'b> {
-    pub(crate) signed: &'s Signed<'t>,
+pub(crate) struct Asked<'k, 'p, 'v> {
     pub(crate) keys: &'k KeySet,
     pub(crate) policy: &'p Policy,
-    pub(crate) bars: &'b [Option<SigFault>],
+    pub(crate) moment: i64,
+    pub(crate) verifiers: &'v [Box<dyn Verifier>],
 }

@@ -4,54 +4,30 @@ ghost use Rattle.std.specs.Prelude.{◌≡◌, ◌≢◌, ◌≤◌, ◌+◌, �
 ghost use Rattle.std.specs.List.{AllPairs};
 ghost use Rattle.jwt_text.specs.Answers.{Answers};
 ghost use Rattle.jwt_jws.specs.Views.{token};
-ghost use Rattle.jwt_keys.specs.KeySets.{key_set};
-ghost use Rattle.jwt_policy.specs.Bars.{bar_of};
-ghost use Rattle.jwt_verify.specs.Table.{work, paid, IsRun};
-ghost use Rattle.jwt_verify.specs.Trying.{table_of};
-ghost use Rattle.jwt_verify.specs.Verdict.{token_verdict, token_of, verdict_of, table, without_line_feed};
+ghost use Rattle.jwt_verify.specs.Table.{work, paid};
+ghost use Rattle.jwt_verify.specs.AskedTable.{asked_terms, asked_table};
+ghost use Rattle.jwt_verify.specs.Verdict.{token_verdict, token_of, without_line_feed};
 ghost use Rattle.jwt_verify.specs.Accepted.{IsVerdict};
 ghost use Rattle.jwt_verify.specs.Laws.{IsBefore};
 ghost use Rattle.jwt_verify.specs.Paying.{IsWithin};
 ghost use Rattle.jwt_verify.specs.Reports.{FoundMemory, IsReport, AreEligible, IsBounded, Failed, TakesAtMost, terms};
-ghost use Rattle.jwt_verify.specs.Steps.{IsWhole, Holds, IsSourceFault};
+ghost use Rattle.jwt_verify.specs.Steps.{IsWhole, IsListed, Holds, IsSourceFault};
 ghost use Rattle.jwt_verify.specs.declared.report.InputFault.TheVariants.{Read};
 ghost use Rattle.jwt_verify.specs.declared.report.Fault.TheVariants.{OutOfMemory, Text};
 ghost use Rattle.jwt_verify.specs.declared.report.Verdict.TheVariants.{Refused};
+ghost use Rattle.jwt_verify.specs.declared.report.Try.{Try};
 
 use crate::asked::Asked;
 use crate::conclusion::verdict_after;
 use crate::laws::reports_in_words;
-use crate::report::{Fault, InputFault, Report, SigState, Try, Verdict};
-use crate::tries::{End, run};
+use crate::report::{Fault, InputFault, Report, Verdict};
+use crate::tries::run;
 use jwt_jws::{FormFault, Signed, parse_with};
 use jwt_keys::KeySet;
 use jwt_mac::{Budget, Verifier};
-use jwt_policy::{Policy, SigFault, bar};
+use jwt_policy::Policy;
 use jwt_text::{Intake, Scratch, Source, TextFault};
-use smallvec::SmallVec;
-use std::alloc::{AllocError, Global};
-
-/// As many bars stand in place; more take an allocation.
-const NEAR: usize = 4;
-
-/// The bar of each signature.
-fn bars_of(
-    alloc: Global,
-    signed: &Signed<'_>,
-    policy: &Policy,
-    verifiers: &[Box<dyn Verifier>],
-) -> Result<SmallVec<Option<SigFault>, NEAR>, AllocError>
-    ensures { IfOk result (λ v. v.items
-        ≡ map (λ s. bar_of policy.now s (map meaning verifiers.now)) (token signed.now).signatures) }
-{
-    let mut bars = SmallVec::new(alloc);
-    'signatures: for i in 0..signed.count() {
-        if let Some(signature) = signed.signature(i) {
-            bars.push(bar(policy, signature, verifiers))?;
-        }
-    }
-    Ok(bars)
-}
+use std::alloc::Global;
 
 /// The octets without one line feed at their end, where that is to be dropped.
 fn without_line_feed(octets: &[u8], drops: bool) -> &[u8]
@@ -85,92 +61,32 @@ fn read_token<'a, 'p>(
     }
 }
 
-/// Tries the pairs of the token and the keys.
-#[tactic(auto, unfolding(crate::specs::AskedTable::asked_table, crate::specs::AskedTable::HasBars))]
-fn try_token<B: Budget>(
-    alloc: Global,
-    signed: &Signed<'_>,
-    keys: &KeySet,
-    policy: &Policy,
-    verifiers: &[Box<dyn Verifier>],
-    b: &mut B,
-    tries: &mut Vec<Try>,
-    states: &mut Vec<SigState>,
-) -> Result<End, AllocError>
-    requires no_tries { tries.old.items ≡ [] }
-    requires no_states { states.old.items ≡ [] }
-    requires no_octets { B.octets b.old ≡ 0 }
-    requires no_calls { B.calls b.old ≡ 0 }
-    ensures ceiling { B.ceiling b.new ≡ B.ceiling b.old }
-    ensures octets { B.octets b.new ≡ work tries.new.items }
-    ensures calls { B.calls b.new ≡ length tries.new.items }
-    ensures front { (more : List Try) × (paid
-        (table_of policy.now (map meaning verifiers.now) (key_set keys.now).keys (token signed.now))
-        (B.ceiling b.old) policy.now.max_calls ≡ tries.new.items ++ more) }
-    ensures run { IfOk result (IsRun
-        (table_of policy.now (map meaning verifiers.now) (key_set keys.now).keys (token signed.now))
-        (B.ceiling b.old) policy.now.max_calls tries.new.items states.new.items) }
-{
-    let bars = bars_of(alloc, signed, policy, verifiers)?;
-    let asked = Asked {
-        signed,
-        keys,
-        policy,
-        bars: bars.as_slice(),
-    };
-    run(&asked, verifiers, policy.max_calls(), b, tries, states)
-}
-
 /// The verdict on a signed token.
 fn judge_token<'p, B: Budget>(
     alloc: Global,
+    asked: &Asked<'_, 'p, '_>,
     signed: &Signed<'_>,
-    keys: &KeySet,
-    policy: &'p Policy,
-    now: i64,
-    verifiers: &[Box<dyn Verifier>],
-    b: &mut B,
+    budget: &mut B,
     scratch: &mut Scratch,
 ) -> Report<'p>
-    requires no_octets { B.octets b.old ≡ 0 }
-    requires no_calls { B.calls b.old ≡ 0 }
+    requires no_octets { B.octets budget.old ≡ 0 }
+    requires no_calls { B.calls budget.old ≡ 0 }
     ensures verdict { FoundMemory result.verdict → result.verdict
-        ≡ token_verdict (terms policy.now keys.now now (map meaning verifiers.now))
-        (B.ceiling b.old) (token signed.now) }
-    ensures tries { IsWhole
-        (table_of policy.now (map meaning verifiers.now) (key_set keys.now).keys (token signed.now))
-        (B.ceiling b.old) policy.now.max_calls
+        ≡ token_verdict (asked_terms meaning asked.now) (B.ceiling budget.old) (token signed.now) }
+    ensures tries { IsWhole (asked_table meaning asked.now signed.now)
+        (B.ceiling budget.old) asked.now.policy.now.max_calls
         result.tries.items result.states.items result.verdict }
-    ensures front { (more : List Try) × (paid
-        (table_of policy.now (map meaning verifiers.now) (key_set keys.now).keys (token signed.now))
-        (B.ceiling b.old) policy.now.max_calls ≡ result.tries.items ++ more) }
-    ensures octets { B.octets b.new ≡ work result.tries.items }
-    ensures calls { B.calls b.new ≡ length result.tries.items }
-    ensures ceiling { B.ceiling b.new ≡ B.ceiling b.old }
+    ensures front { (more : List Try) × (paid (asked_table meaning asked.now signed.now)
+        (B.ceiling budget.old) asked.now.policy.now.max_calls ≡ result.tries.items ++ more) }
+    ensures octets { B.octets budget.new ≡ work result.tries.items }
+    ensures calls { B.calls budget.new ≡ length result.tries.items }
+    ensures ceiling { B.ceiling budget.new ≡ B.ceiling budget.old }
     ensures read { result.verdict ≢ Refused (Text Read) }
 {
     let mut tries = Vec::new(alloc);
     let mut states = Vec::new(alloc);
-    let run = try_token(
-        alloc,
-        signed,
-        keys,
-        policy,
-        verifiers,
-        b,
-        &mut tries,
-        &mut states,
-    );
-    let verdict = match run {
-        Ok(end) => verdict_after(
-            alloc,
-            end,
-            states.as_slice(),
-            signed.payload(),
-            policy,
-            now,
-            scratch,
-        ),
+    let verdict = match run(asked, signed, budget, &mut tries, &mut states) {
+        Ok(outcome) => verdict_after(alloc, asked, signed.payload(), outcome, scratch),
         Err(_) => Verdict::Refused(Fault::OutOfMemory),
     };
     Report {
@@ -196,33 +112,21 @@ fn refused<'p>(alloc: Global, fault: Fault<'p>) -> Report<'p>
 /// The report on octets in hand, by the steps of the definitions.
 fn judge_octets<'p, B: Budget>(
     alloc: Global,
+    asked: &Asked<'_, 'p, '_>,
     octets: &[u8],
-    keys: &KeySet,
-    policy: &'p Policy,
-    now: i64,
-    verifiers: &[Box<dyn Verifier>],
-    b: &mut B,
-    scratch: &mut Scratch,
+    budget: &mut B,
 ) -> Report<'p>
-    requires no_octets { B.octets b.old ≡ 0 }
-    requires no_calls { B.calls b.old ≡ 0 }
-    ensures verdict { FoundMemory result.verdict → result.verdict
-        ≡ verdict_of (terms policy.now keys.now now (map meaning verifiers.now))
-        octets.now (B.ceiling b.old) }
-    ensures tries { IsWhole
-        (table (terms policy.now keys.now now (map meaning verifiers.now)) octets.now)
-        (B.ceiling b.old) policy.now.max_calls
-        result.tries.items result.states.items result.verdict }
-    ensures front { (more : List Try) × (paid
-        (table (terms policy.now keys.now now (map meaning verifiers.now)) octets.now)
-        (B.ceiling b.old) policy.now.max_calls ≡ result.tries.items ++ more) }
+    requires no_octets { B.octets budget.old ≡ 0 }
+    requires no_calls { B.calls budget.old ≡ 0 }
+    ensures listed { IsListed (asked_terms meaning asked.now) octets.now (B.ceiling budget.old) result }
     ensures read { result.verdict ≢ Refused (Text Read) }
-    ensures octets { B.octets b.new ≡ work result.tries.items }
-    ensures calls { B.calls b.new ≡ length result.tries.items }
-    ensures ceiling { B.ceiling b.new ≡ B.ceiling b.old }
+    ensures octets { B.octets budget.new ≡ work result.tries.items }
+    ensures calls { B.calls budget.new ≡ length result.tries.items }
+    ensures ceiling { B.ceiling budget.new ≡ B.ceiling budget.old }
 {
-    match read_token(alloc, octets, policy, scratch) {
-        Ok(signed) => judge_token(alloc, &signed, keys, policy, now, verifiers, b, scratch),
+    let mut scratch = Scratch::new(alloc);
+    match read_token(alloc, octets, asked.policy, &mut scratch) {
+        Ok(signed) => judge_token(alloc, asked, &signed, budget, &mut scratch),
         Err(fault) => refused(alloc, fault),
     }
 }
@@ -279,8 +183,13 @@ pub fn judge<'p, B: Budget>(
     ensures ceiling { B.ceiling b.new ≡ B.ceiling b.old }
 {
     reports_in_words();
-    let mut scratch = Scratch::new(alloc);
-    judge_octets(alloc, octets, keys, policy, now, verifiers, b, &mut scratch)
+    let asked = Asked {
+        keys,
+        policy,
+        moment: now,
+        verifiers,
+    };
+    judge_octets(alloc, &asked, octets, b)
 }
 
 /// The octets of the source, as far as they are looked at: all, or one more than the limit.

@@ -6,14 +6,15 @@
 #![tactic(auto)]
 
 mod asked;
-mod candidates;
 mod conclusion;
 mod judging;
 pub mod laws;
+mod next_key;
 mod pair;
 mod report;
-mod trial;
+mod settled;
 mod tries;
+mod unbarred;
 
 pub use judging::{judge, validate};
 pub use report::{Fault, InputFault, Report, SigState, Try, Verdict};

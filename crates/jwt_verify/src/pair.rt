@@ -1,49 +1,63 @@
 //! The try of one pair.
 
-ghost use Rattle.std.specs.Prelude.{◌≡◌, ◌<◌, ◌+◌, ◌^◌, true, map, OnOk, OnErr, IfOk};
-ghost use Rattle.jwt_mac.specs.Verifying.{AnswersBy, key_octets, message_octets};
-ghost use Rattle.jwt_policy.specs.Bars.{can_verify};
-ghost use Rattle.jwt_policy.specs.Eligible.{suits};
-ghost use Rattle.jwt_verify.specs.Trying.{valid_under, may_lack_under, cost_under};
+ghost use Rattle.std.specs.Prelude.{◌≡◌, ◌≤◌, ◌<◌, ◌+◌, ◌^◌, OnOk, OnErr, IfOk};
+ghost use Rattle.jwt_mac.specs.Verifying.{AnswersBy};
+ghost use Rattle.jwt_verify.specs.Pairs.{IsFor, pair_accepts, pair_may_lack, pair_cost};
 
-use jwt_mac::{Alg, Answer, Budget, KeyView, Message, Spent, Verifier, ask, first_for, hmac};
+use jwt_mac::{Alg, Answer, Budget, KeyView, Message, Spent, Verifier, ask, hmac};
 
-/// Compares the signature with the tag of the message under a secret (RFC 7518, section 3.2), or asks the first verifier that
-/// names the algorithm.
+/// How a signature is compared with a key.
+#[derive(Clone, Copy)]
+pub(crate) enum Way<'k, 'v> {
+    /// With the tag of the message under this secret (RFC 7518, section 3.2).
+    Tag(&'k [u8]),
+    /// By this verifier, which is asked about this key.
+    Asked(&'v Box<dyn Verifier>, KeyView<'k>),
+}
+
+/// A signature and a key that is eligible for it, as they are tried.
+#[derive(Clone, Copy)]
+pub(crate) struct Pair<'s, 'k, 'v> {
+    /// The number of the signature.
+    pub(crate) signature: u32,
+    /// The number of the key.
+    pub(crate) key: u32,
+    pub(crate) alg: Alg,
+    pub(crate) message: Message<'s>,
+    /// The signature's octets.
+    pub(crate) octets: &'s [u8],
+    pub(crate) way: Way<'k, 'v>,
+}
+
+/// Tries the pair: compares the signature with the tag, or asks the verifier.
 ///
 /// Spent comes exactly where the cost exceeds what is left of the budget, and then the budget is as before.
-pub(crate) fn try_key<B: Budget>(
-    b: &mut B,
-    verifiers: &[Box<dyn Verifier>],
-    alg: Alg,
-    key: &KeyView,
-    message: Message,
-    signature: &[u8],
-) -> Result<Answer, Spent>
-    requires room { B.calls b.old + 1 < 2 ^ 32 }
-    requires named { can_verify (map meaning verifiers.now) alg ≡ true }
-    requires suits { suits alg (key_octets key.now) ≡ true }
-    ensures ceiling { B.ceiling b.new ≡ B.ceiling b.old }
-    ensures spent { OnErr result (B.ceiling b.old < B.octets b.old + cost_under alg (key_octets key.now) (message_octets message.entry)) }
-    ensures unchanged { OnErr result (b.new ≡ b.old) }
-    ensures paid { OnOk result (B.octets b.new ≡ B.octets b.old + cost_under alg (key_octets key.now) (message_octets message.entry)) }
-    ensures called { OnOk result (B.calls b.new ≡ B.calls b.old + 1) }
-    ensures answer { IfOk result (AnswersBy
-        (valid_under (map meaning verifiers.now) alg (key_octets key.now) (message_octets message.entry) signature.now)
-        (may_lack_under (map meaning verifiers.now) alg (key_octets key.now) (message_octets message.entry) signature.now)) }
+pub(crate) fn try_pair<B: Budget>(pair: &Pair<'_, '_, '_>, budget: &mut B) -> Result<Answer, Spent>
+    requires way { IsFor pair.now.alg pair.now.way }
+    requires room { B.calls budget.old + 1 < 2 ^ 32 }
+    ensures ceiling { B.ceiling budget.new ≡ B.ceiling budget.old }
+    ensures spent { OnErr result (B.ceiling budget.old < B.octets budget.old + pair_cost pair.now) }
+    ensures unchanged { OnErr result (budget.new ≡ budget.old) }
+    ensures paid { OnOk result (B.octets budget.new ≡ B.octets budget.old + pair_cost pair.now) }
+    ensures fits { OnOk result (B.octets budget.new ≤ B.ceiling budget.new) }
+    ensures called { OnOk result (B.calls budget.new ≡ B.calls budget.old + 1) }
+    ensures answer { IfOk result (AnswersBy (pair_accepts meaning pair.now) (pair_may_lack meaning pair.now)) }
 {
-    match key {
-        KeyView::Oct { k } if alg.is_hmac() => {
-            let tag = hmac(b, alg, k, message.parts())?;
-            if tag.equals(signature) {
+    let Pair {
+        alg,
+        message,
+        octets,
+        ..
+    } = *pair;
+    match pair.way {
+        Way::Tag(secret) => {
+            let tag = hmac(budget, alg, secret, message.parts())?;
+            if tag.equals(octets) {
                 Ok(Answer::Valid)
             } else {
                 Ok(Answer::Invalid)
             }
         }
-        _ => match first_for(verifiers, alg) {
-            Some(verifier) => Ok(ask(b, verifier, alg, key, message, signature)),
-            None => unreachable!(),
-        },
+        Way::Asked(verifier, key) => Ok(ask(budget, verifier, alg, &key, message, octets)),
     }
 }

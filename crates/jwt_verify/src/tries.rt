@@ -1,105 +1,23 @@
 //! Which pairs of signature and key are tried, and what they cost.
-ghost use Rattle.std.specs.Prelude.{◌≡◌, ◌<◌, ◌≤◌, ◌+◌, ◌*◌, ◌-◌, ◌^◌, replicate, OnOk, ◌∷◌, ◌++◌, [], List, true, length, map, OnErr, IfOk, MatchOption, MatchResult};
-ghost use Rattle.jwt_verify.specs.Table.{entry, work, is_within, paid, settled, IsRun};
-ghost use Rattle.jwt_verify.specs.Walk.{IsAt, IsCounted, IsAnswer, IsPending, IsRowEnd, IsEnd, stopped_at, goes_on, IsRecorded};
+
+ghost use Rattle.std.specs.Prelude.{◌≡◌, ◌<◌, ◌≤◌, ◌+◌, ◌-◌, ◌^◌, replicate, OnOk, ◌++◌, [], List, length, OnErr, IfOk, MatchResult};
+ghost use Rattle.jwt_jws.specs.Views.{token};
+ghost use Rattle.jwt_verify.specs.Table.{work, is_within, paid, IsRun};
+ghost use Rattle.jwt_verify.specs.Walk.{IsAt, IsCounted, IsRowEnd, IsEnd, stopped_at, goes_on, IsRecorded};
 ghost use Rattle.jwt_verify.specs.Paying.{IsFront};
-ghost use Rattle.jwt_verify.specs.AskedTable.{asked_table, HasBars};
+ghost use Rattle.jwt_verify.specs.AskedTable.{asked_table};
+ghost use Rattle.jwt_verify.specs.Pairs.{IsFor, IsThere, IsTried, IsSigned};
 
 use crate::asked::Asked;
+use crate::next_key::next_eligible;
+use crate::pair::{Pair, try_pair};
 use crate::report::{SigState, Try};
-use crate::trial::{bar, mode, next_eligible, signatures, try_pair};
-use jwt_mac::{Answer, Budget, Spent, Verifier};
+use crate::settled::{Settled, Signing};
+use crate::unbarred::{Numbered, Unbarred};
+use jwt_jws::Signed;
+use jwt_mac::{Answer, Budget};
 use jwt_policy::{Mode, SigFault};
 use std::alloc::AllocError;
-
-/// Whether one more call is within the ceiling on calls.
-fn allows_call<B: Budget>(b: &B, max_calls: Option<u32>) -> bool
-    ensures { result ≡ is_within max_calls (B.calls b.now + 1) }
-{
-    match max_calls {
-        None => true,
-        Some(most) => b.calls() < most,
-    }
-}
-
-/// Gets room for a try, pays it, and lists it, with the cost that the budget counted. Where the cost exceeds what is left, or
-/// room is refused, nothing is paid and nothing is listed.
-fn charge<B: Budget>(
-    asked: &Asked<'_, '_, '_, '_, '_>,
-    verifiers: &[Box<dyn Verifier>],
-    i: u32,
-    j: u32,
-    max_calls: Option<u32>,
-    b: &mut B,
-    tries: &mut Vec<Try>,
-) -> Result<Result<Answer, Spent>, AllocError>
-    requires bars { HasBars (map meaning verifiers.now) asked.now }
-    requires counted { IsCounted (B.octets b.old) (B.calls b.old) (B.ceiling b.old) max_calls tries.old.items }
-    requires allowed { is_within max_calls (B.calls b.old + 1) ≡ true }
-    requires room { length tries.old.items + 1 < 2 ^ 32 }
-    requires signature { i < (asked_table (map meaning verifiers.now) asked.now).signatures }
-    requires key { j < (asked_table (map meaning verifiers.now) asked.now).keys }
-    requires eligible { (asked_table (map meaning verifiers.now) asked.now).eligible i j ≡ true }
-    ensures ceiling { B.ceiling b.new ≡ B.ceiling b.old }
-    ensures counted { IsCounted (B.octets b.new) (B.calls b.new) (B.ceiling b.old) max_calls tries.new.items }
-    ensures err { OnErr result (tries.new.items ≡ tries.old.items) }
-    ensures spent { IfOk result (λ r. OnErr r ((tries.new.items ≡ tries.old.items) × (B.ceiling b.old < work tries.old.items + (asked_table (map meaning verifiers.now) asked.now).cost i j))) }
-    ensures tried { IfOk result (λ r. IfOk r (λ a. (tries.new.items ≡ tries.old.items ++ entry (asked_table (map meaning verifiers.now) asked.now) i j ∷ []) × IsAnswer (asked_table (map meaning verifiers.now) asked.now) i j a)) }
-{
-    tries.reserve(1)?;
-    let before = b.octets();
-    match try_pair(asked, verifiers, i, j, b) {
-        Err(Spent) => Ok(Err(Spent)),
-        Ok(answer) => {
-            tries.push(Try {
-                signature: i,
-                key: j,
-                cost: b.octets() - before,
-            })?;
-            Ok(Ok(answer))
-        }
-    }
-}
-
-/// Tries an eligible pair, where a ceiling doesn't stop the run before it. `None` goes on with the next key.
-fn pay<B: Budget>(
-    asked: &Asked<'_, '_, '_, '_, '_>,
-    verifiers: &[Box<dyn Verifier>],
-    i: u32,
-    j: u32,
-    max_calls: Option<u32>,
-    b: &mut B,
-    tries: &mut Vec<Try>,
-) -> Result<Option<RowEnd>, AllocError>
-    requires bars { HasBars (map meaning verifiers.now) asked.now }
-    requires pending { IsPending (asked_table (map meaning verifiers.now) asked.now) i j tries.old.items }
-    requires within { i < (asked_table (map meaning verifiers.now) asked.now).signatures }
-    requires small { (asked_table (map meaning verifiers.now) asked.now).signatures * (asked_table (map meaning verifiers.now) asked.now).keys < 2 ^ 32 }
-    requires counted { IsCounted (B.octets b.old) (B.calls b.old) (B.ceiling b.old) max_calls tries.old.items }
-    ensures ceiling { B.ceiling b.new ≡ B.ceiling b.old }
-    ensures counted { IsCounted (B.octets b.new) (B.calls b.new) (B.ceiling b.old) max_calls tries.new.items }
-    ensures err { OnErr result (tries.new.items ≡ tries.old.items) }
-    ensures end { IfOk result (λ r. MatchOption r (IsAt (asked_table (map meaning verifiers.now) asked.now) i (j + 1) tries.new.items) (IsRowEnd (asked_table (map meaning verifiers.now) asked.now) i (B.ceiling b.old) max_calls tries.new.items)) }
-{
-    if !allows_call(b, max_calls) {
-        return Ok(Some(RowEnd::Stop(End::CallsExceeded(i, j))));
-    }
-    match charge(asked, verifiers, i, j, max_calls, b, tries)? {
-        Err(Spent) => Ok(Some(RowEnd::Stop(End::WorkExceeded(i, j)))),
-        Ok(Answer::Valid) => Ok(Some(RowEnd::Through(Some(j), true))),
-        Ok(Answer::Invalid) => Ok(None),
-        Ok(Answer::NoMemory) => Ok(Some(RowEnd::Stop(End::VerifierMemory(i, j)))),
-    }
-}
-
-/// How the tries of one signature ended: the key that verifies it, if any, and whether a key is eligible; or the run's end.
-#[derive(Clone, Copy)]
-enum RowEnd {
-    /// Its keys are gone through.
-    Through(Option<u32>, bool),
-    /// The run ends there.
-    Stop(End),
-}
 
 /// How a run ended.
 #[derive(Clone, Copy)]
@@ -114,46 +32,118 @@ pub(crate) enum End {
     VerifierMemory(u32, u32),
 }
 
-/// The tries of one signature: its eligible keys in ascending order, until one verifies it or the run stops.
-fn try_signature<B: Budget>(
-    asked: &Asked<'_, '_, '_, '_, '_>,
-    verifiers: &[Box<dyn Verifier>],
-    i: u32,
-    max_calls: Option<u32>,
-    b: &mut B,
-    tries: &mut Vec<Try>,
-) -> Result<RowEnd, AllocError>
-    requires bars { HasBars (map meaning verifiers.now) asked.now }
-    requires at { IsAt (asked_table (map meaning verifiers.now) asked.now) i 0 tries.old.items }
-    requires within { i < (asked_table (map meaning verifiers.now) asked.now).signatures }
-    requires small { (asked_table (map meaning verifiers.now) asked.now).signatures * (asked_table (map meaning verifiers.now) asked.now).keys < 2 ^ 32 }
-    requires counted { IsCounted (B.octets b.old) (B.calls b.old) (B.ceiling b.old) max_calls tries.old.items }
-    ensures ceiling { B.ceiling b.new ≡ B.ceiling b.old }
-    ensures counted { IsCounted (B.octets b.new) (B.calls b.new) (B.ceiling b.old) max_calls tries.new.items }
-    ensures end { MatchResult result (IsRowEnd (asked_table (map meaning verifiers.now) asked.now) i (B.ceiling b.old) max_calls tries.new.items) (λ _. IsFront (asked_table (map meaning verifiers.now) asked.now) tries.new.items) }
-{
-    let mut from = 0;
-    let mut seen = false;
-    'keys: while let Some(j) = next_eligible(asked, verifiers, i, from) {
-        seen = true;
-        if let Some(end) = pay(asked, verifiers, i, j, max_calls, b, tries)? {
-            return Ok(end);
-        }
-        from = j + 1;
-    }
-    Ok(RowEnd::Through(None, seen))
+/// How a run ended and, where each try was made, what the signatures come to.
+#[derive(Clone, Copy)]
+pub(crate) struct Outcome {
+    pub(crate) end: End,
+    pub(crate) signing: Signing,
 }
 
-/// What becomes of a signature.
-fn settle(bar: Option<SigFault>, seen: bool, found: Option<u32>) -> SigState
-    ensures { result ≡ settled bar seen found }
+/// How the tries of one signature ended.
+#[derive(Clone, Copy)]
+enum RowEnd {
+    /// Its keys are gone through.
+    Through(Settled),
+    /// The run ends there.
+    Stop(End),
+}
+
+/// What the try of one pair came to.
+#[derive(Clone, Copy)]
+enum Tried {
+    /// The key verifies the signature.
+    Verified,
+    /// It doesn't.
+    Failed,
+    /// The run ends there.
+    Stop(End),
+}
+
+/// Whether one more call is within the ceiling on calls.
+fn allows_call<B: Budget>(budget: &B, max_calls: Option<u32>) -> bool
+    ensures { result ≡ is_within max_calls (B.calls budget.now + 1) }
 {
-    match (bar, found) {
-        (Some(fault), _) => SigState::Barred(fault),
-        (None, Some(j)) => SigState::Verified(j),
-        (None, None) if seen => SigState::BadSignature,
-        (None, None) => SigState::NoKey,
+    match max_calls {
+        None => true,
+        Some(most) => budget.calls() < most,
     }
+}
+
+/// Tries a pair, where no ceiling stops the run before it: gets room for the try, pays it, and lists it with the cost that the
+/// budget counted. Where a ceiling stops it, or room is refused, nothing is paid and nothing is listed.
+fn pay<B: Budget>(
+    pair: &Pair<'_, '_, '_>,
+    max_calls: Option<u32>,
+    budget: &mut B,
+    tries: &mut Vec<Try>,
+) -> Result<Tried, AllocError>
+    requires way { IsFor pair.now.alg pair.now.way }
+    requires room { length tries.old.items + 1 < 2 ^ 32 }
+    requires counted { IsCounted (B.octets budget.old) (B.calls budget.old) (B.ceiling budget.old)
+        max_calls tries.old.items }
+    ensures ceiling { B.ceiling budget.new ≡ B.ceiling budget.old }
+    ensures counted { IsCounted (B.octets budget.new) (B.calls budget.new) (B.ceiling budget.old)
+        max_calls tries.new.items }
+    ensures err { OnErr result (tries.new.items ≡ tries.old.items) }
+    ensures tried { IfOk result
+        (IsTried meaning (B.ceiling budget.old) max_calls tries.old.items pair.now tries.new.items) }
+{
+    if !allows_call(budget, max_calls) {
+        return Ok(Tried::Stop(End::CallsExceeded(pair.signature, pair.key)));
+    }
+    tries.reserve(1)?;
+    let before = budget.octets();
+    let Ok(answer) = try_pair(pair, budget) else {
+        return Ok(Tried::Stop(End::WorkExceeded(pair.signature, pair.key)));
+    };
+    tries.push(Try {
+        signature: pair.signature,
+        key: pair.key,
+        cost: budget.octets() - before,
+    })?;
+    match answer {
+        Answer::Valid => Ok(Tried::Verified),
+        Answer::Invalid => Ok(Tried::Failed),
+        Answer::NoMemory => Ok(Tried::Stop(End::VerifierMemory(pair.signature, pair.key))),
+    }
+}
+
+/// The tries of one signature: where nothing bars it, its eligible keys in ascending order, until one verifies it or the run stops.
+fn try_signature<'v, B: Budget>(
+    asked: &Asked<'_, '_, 'v>,
+    numbered: &Numbered<'_, '_>,
+    budget: &mut B,
+    tries: &mut Vec<Try>,
+) -> Result<RowEnd, AllocError>
+    requires there { IsThere numbered.now }
+    requires at { IsAt (asked_table meaning asked.now numbered.now.signed.now)
+        numbered.now.number 0 tries.old.items }
+    requires counted { IsCounted (B.octets budget.old) (B.calls budget.old) (B.ceiling budget.old)
+        asked.now.policy.now.max_calls tries.old.items }
+    ensures ceiling { B.ceiling budget.new ≡ B.ceiling budget.old }
+    ensures counted { IsCounted (B.octets budget.new) (B.calls budget.new) (B.ceiling budget.old)
+        asked.now.policy.now.max_calls tries.new.items }
+    ensures end { let t = asked_table meaning asked.now numbered.now.signed.now in
+        MatchResult result
+        (IsRowEnd t numbered.now.number
+        (B.ceiling budget.old) asked.now.policy.now.max_calls tries.new.items)
+        (λ _. IsFront t tries.new.items) }
+{
+    let unbarred = match Unbarred::of(asked, numbered) {
+        Ok(unbarred) => unbarred,
+        Err(fault) => return Ok(RowEnd::Through(Settled::Barred(fault))),
+    };
+    let mut settled = Settled::NoKey;
+    let mut from = 0;
+    'keys: while let Some(pair) = next_eligible(asked, &unbarred, from) {
+        match pay(&pair, asked.policy.max_calls(), budget, tries)? {
+            Tried::Verified => return Ok(RowEnd::Through(Settled::Verified(pair.key))),
+            Tried::Failed => settled = Settled::BadSignature,
+            Tried::Stop(end) => return Ok(RowEnd::Stop(end)),
+        }
+        from = pair.key + 1;
+    }
+    Ok(RowEnd::Through(settled))
 }
 
 /// Whether the run goes on after a signature that was found verified or not.
@@ -167,41 +157,62 @@ fn runs_on(mode: Mode, verified: bool) -> bool
 }
 
 /// The tries of the signatures in order, as far as the mode goes on (RFC 7515, section 5.2), and the states of those that were
-/// reached.
+/// reached. The signature that ends the run decides what they come to, or the first one where the run goes through all.
 fn walk<B: Budget>(
-    asked: &Asked<'_, '_, '_, '_, '_>,
-    verifiers: &[Box<dyn Verifier>],
-    max_calls: Option<u32>,
-    b: &mut B,
+    asked: &Asked<'_, '_, '_>,
+    signed: &Signed<'_>,
+    budget: &mut B,
     tries: &mut Vec<Try>,
     states: &mut Vec<SigState>,
-) -> Result<End, AllocError>
-    requires bars { HasBars (map meaning verifiers.now) asked.now }
+) -> Result<Outcome, AllocError>
     requires no_tries { tries.old.items ≡ [] }
     requires no_states { states.old.items ≡ [] }
-    requires no_octets { B.octets b.old ≡ 0 }
-    requires no_calls { B.calls b.old ≡ 0 }
-    requires small { (asked_table (map meaning verifiers.now) asked.now).signatures * (asked_table (map meaning verifiers.now) asked.now).keys < 2 ^ 32 }
-    ensures ceiling { B.ceiling b.new ≡ B.ceiling b.old }
-    ensures counted { IsCounted (B.octets b.new) (B.calls b.new) (B.ceiling b.old) max_calls tries.new.items }
-    ensures end { MatchResult result (IsEnd (asked_table (map meaning verifiers.now) asked.now) (B.ceiling b.old) max_calls tries.new.items) (λ _. IsFront (asked_table (map meaning verifiers.now) asked.now) tries.new.items) }
-    ensures states { IfOk result (λ r. IsRecorded (asked_table (map meaning verifiers.now) asked.now) (stopped_at (asked_table (map meaning verifiers.now) asked.now) r) states.new.items) }
+    requires no_octets { B.octets budget.old ≡ 0 }
+    requires no_calls { B.calls budget.old ≡ 0 }
+    ensures ceiling { B.ceiling budget.new ≡ B.ceiling budget.old }
+    ensures counted { IsCounted (B.octets budget.new) (B.calls budget.new) (B.ceiling budget.old)
+        asked.now.policy.now.max_calls tries.new.items }
+    ensures end { let t = asked_table meaning asked.now signed.now in
+        MatchResult result
+        (λ o. IsEnd t (B.ceiling budget.old) asked.now.policy.now.max_calls tries.new.items o.end)
+        (λ _. IsFront t tries.new.items) }
+    ensures states { let t = asked_table meaning asked.now signed.now in
+        IfOk result (λ o. IsRecorded t (stopped_at t o.end) states.new.items) }
+    ensures signing { IfOk result
+        (λ o. IsSigned (asked_table meaning asked.now signed.now) o.signing o.end) }
 {
-    'signatures: for i in 0..signatures(asked, verifiers) {
-        match try_signature(asked, verifiers, i, max_calls, b, tries)? {
+    let mut signing = Signing::Unverified(0, SigFault::NoKey);
+    let mut number = 0;
+    'signatures: while let Some(signature) = signed.signature(number) {
+        let numbered = Numbered {
+            signed,
+            number,
+            signature,
+        };
+        match try_signature(asked, &numbered, budget, tries)? {
             RowEnd::Stop(end) => {
                 states.push(SigState::Stopped)?;
-                return Ok(end);
+                return Ok(Outcome { end, signing });
             }
-            RowEnd::Through(found, seen) => {
-                states.push(settle(bar(asked, verifiers, i), seen, found))?;
-                if !runs_on(mode(asked, verifiers), found.is_some()) {
-                    return Ok(End::Done);
+            RowEnd::Through(settled) => {
+                states.push(settled.state())?;
+                if !runs_on(asked.policy.mode(), settled.is_verified()) {
+                    return Ok(Outcome {
+                        end: End::Done,
+                        signing: settled.decides(number),
+                    });
+                }
+                if number == 0 {
+                    signing = settled.decides(0);
                 }
             }
         }
+        number += 1;
     }
-    Ok(End::Done)
+    Ok(Outcome {
+        end: End::Done,
+        signing,
+    })
 }
 
 /// The signatures that are left were not reached.
@@ -215,31 +226,32 @@ fn fill(states: &mut Vec<SigState>, count: u32) -> Result<(), AllocError>
     Ok(())
 }
 
-/// Tries the pairs of a token and a list of keys, within the budget's ceiling and `max_calls`.
+/// Tries the pairs of a token and a list of keys, within the budget's ceiling and the policy's `max_calls`.
 pub(crate) fn run<B: Budget>(
-    asked: &Asked<'_, '_, '_, '_, '_>,
-    verifiers: &[Box<dyn Verifier>],
-    max_calls: Option<u32>,
-    b: &mut B,
+    asked: &Asked<'_, '_, '_>,
+    signed: &Signed<'_>,
+    budget: &mut B,
     tries: &mut Vec<Try>,
     states: &mut Vec<SigState>,
-) -> Result<End, AllocError>
-    requires bars { HasBars (map meaning verifiers.now) asked.now }
+) -> Result<Outcome, AllocError>
     requires no_tries { tries.old.items ≡ [] }
     requires no_states { states.old.items ≡ [] }
-    requires no_octets { B.octets b.old ≡ 0 }
-    requires no_calls { B.calls b.old ≡ 0 }
-    requires small { (asked_table (map meaning verifiers.now) asked.now).signatures * (asked_table (map meaning verifiers.now) asked.now).keys < 2 ^ 32 }
+    requires no_octets { B.octets budget.old ≡ 0 }
+    requires no_calls { B.calls budget.old ≡ 0 }
 
     // The budget agrees with the list, also where memory was refused.
-    ensures ceiling { B.ceiling b.new ≡ B.ceiling b.old }
-    ensures octets { B.octets b.new ≡ work tries.new.items }
-    ensures calls { B.calls b.new ≡ length tries.new.items }
-    ensures front { (more : List Try) × (paid (asked_table (map meaning verifiers.now) asked.now) (B.ceiling b.old) max_calls ≡ tries.new.items ++ more) }
+    ensures ceiling { B.ceiling budget.new ≡ B.ceiling budget.old }
+    ensures octets { B.octets budget.new ≡ work tries.new.items }
+    ensures calls { B.calls budget.new ≡ length tries.new.items }
+    ensures front { (more : List Try) × (paid (asked_table meaning asked.now signed.now)
+        (B.ceiling budget.old) asked.now.policy.now.max_calls ≡ tries.new.items ++ more) }
 
-    ensures run { IfOk result (IsRun (asked_table (map meaning verifiers.now) asked.now) (B.ceiling b.old) max_calls tries.new.items states.new.items) }
+    ensures run { IfOk result (λ o. IsRun (asked_table meaning asked.now signed.now)
+        (B.ceiling budget.old) asked.now.policy.now.max_calls tries.new.items states.new.items o.end) }
+    ensures signing { IfOk result
+        (λ o. IsSigned (asked_table meaning asked.now signed.now) o.signing o.end) }
 {
-    let end = walk(asked, verifiers, max_calls, b, tries, states)?;
-    fill(states, signatures(asked, verifiers))?;
-    Ok(end)
+    let outcome = walk(asked, signed, budget, tries, states)?;
+    fill(states, signed.count())?;
+    Ok(outcome)
 }

@@ -12,12 +12,7 @@ returns-clause-verdict g c =
     let v = map (λ b. (goal.Verifier-dyn g (b.vtable, b.value)).meaning b.value) c.args.verifiers.now in
     let q = terms c.args.policy.now c.args.keys.now c.args.now v in
     let w = g.B.Budget.ceiling c.args.b.now in
-    let z = to_z-of_z w64 c.args.now c.ranges.now in
-    let listed : IsListed q c.args.octets.now w c.judge_octets.result = record {
-      verdict = rw z at c.judge_octets.ensures.verdict;
-      whole = rw z at c.judge_octets.ensures.tries;
-      front = rw z at c.judge_octets.ensures.front;
-    } in
+    let listed : IsListed q c.args.octets.now w c.judge_octets.result = rw (to_z-of_z w64 c.args.now c.ranges.now) at c.judge_octets.ensures.listed in
     let words = c.reports_in_words.ensures.listed q c.args.octets.now w c.judge_octets.result listed in
     words.0.verdict
 
@@ -26,12 +21,7 @@ returns-clause-report g c =
     let v = map (λ b. (goal.Verifier-dyn g (b.vtable, b.value)).meaning b.value) c.args.verifiers.now in
     let q = terms c.args.policy.now c.args.keys.now c.args.now v in
     let w = g.B.Budget.ceiling c.args.b.now in
-    let z = to_z-of_z w64 c.args.now c.ranges.now in
-    let listed : IsListed q c.args.octets.now w c.judge_octets.result = record {
-      verdict = rw z at c.judge_octets.ensures.verdict;
-      whole = rw z at c.judge_octets.ensures.tries;
-      front = rw z at c.judge_octets.ensures.front;
-    } in
+    let listed : IsListed q c.args.octets.now w c.judge_octets.result = rw (to_z-of_z w64 c.args.now c.ranges.now) at c.judge_octets.ensures.listed in
     let words = c.reports_in_words.ensures.listed q c.args.octets.now w c.judge_octets.result listed in
     words.0
 
@@ -40,7 +30,8 @@ returns-clause-once g c =
     let v = map (λ b. (goal.Verifier-dyn g (b.vtable, b.value)).meaning b.value) c.args.verifiers.now in
     let q = terms c.args.policy.now c.args.keys.now c.args.now v in
     let w = g.B.Budget.ceiling c.args.b.now in
-    let f = rw (to_z-of_z w64 c.args.now c.ranges.now) at c.judge_octets.ensures.front in
+    let listed : IsListed q c.args.octets.now w c.judge_octets.result = rw (to_z-of_z w64 c.args.now c.ranges.now) at c.judge_octets.ensures.listed in
+    let f = listed.front in
     front_once (table q c.args.octets.now) w c.args.policy.now.max_calls c.judge_octets.result.tries.items f.0 f.1
 
 pub returns-clause-eligible : goal.returns-clause-eligible
@@ -48,12 +39,7 @@ returns-clause-eligible g c =
     let v = map (λ b. (goal.Verifier-dyn g (b.vtable, b.value)).meaning b.value) c.args.verifiers.now in
     let q = terms c.args.policy.now c.args.keys.now c.args.now v in
     let w = g.B.Budget.ceiling c.args.b.now in
-    let z = to_z-of_z w64 c.args.now c.ranges.now in
-    let listed : IsListed q c.args.octets.now w c.judge_octets.result = record {
-      verdict = rw z at c.judge_octets.ensures.verdict;
-      whole = rw z at c.judge_octets.ensures.tries;
-      front = rw z at c.judge_octets.ensures.front;
-    } in
+    let listed : IsListed q c.args.octets.now w c.judge_octets.result = rw (to_z-of_z w64 c.args.now c.ranges.now) at c.judge_octets.ensures.listed in
     let words = c.reports_in_words.ensures.listed q c.args.octets.now w c.judge_octets.result listed in
     words.1
 
@@ -62,12 +48,7 @@ returns-clause-bound g c =
     let v = map (λ b. (goal.Verifier-dyn g (b.vtable, b.value)).meaning b.value) c.args.verifiers.now in
     let q = terms c.args.policy.now c.args.keys.now c.args.now v in
     let w = g.B.Budget.ceiling c.args.b.now in
-    let z = to_z-of_z w64 c.args.now c.ranges.now in
-    let listed : IsListed q c.args.octets.now w c.judge_octets.result = record {
-      verdict = rw z at c.judge_octets.ensures.verdict;
-      whole = rw z at c.judge_octets.ensures.tries;
-      front = rw z at c.judge_octets.ensures.front;
-    } in
+    let listed : IsListed q c.args.octets.now w c.judge_octets.result = rw (to_z-of_z w64 c.args.now c.ranges.now) at c.judge_octets.ensures.listed in
     let words = c.reports_in_words.ensures.listed q c.args.octets.now w c.judge_octets.result listed in
     rw c.judge_octets.ensures.octets words.2
 
@@ -76,5 +57,6 @@ returns-clause-within g c =
     let v = map (λ b. (goal.Verifier-dyn g (b.vtable, b.value)).meaning b.value) c.args.verifiers.now in
     let q = terms c.args.policy.now c.args.keys.now c.args.now v in
     let w = g.B.Budget.ceiling c.args.b.now in
-    let f = rw (to_z-of_z w64 c.args.now c.ranges.now) at c.judge_octets.ensures.front in
+    let listed : IsListed q c.args.octets.now w c.judge_octets.result = rw (to_z-of_z w64 c.args.now c.ranges.now) at c.judge_octets.ensures.listed in
+    let f = listed.front in
     rw c.judge_octets.ensures.calls (front_allowed (table q c.args.octets.now) w c.args.policy.now.max_calls c.judge_octets.result.tries.items f.0 f.1).1

@@ -1,13 +1,20 @@
+use Rattle.std.proofs.Common.{◌≡◌, ◌≤◌, ◌-◌, map, length}
+use Rattle.jwt_jws.specs.Views.{token}
 use Rattle.jwt_verify.specs.AskedTable.{asked_table}
-use Rattle.std.proofs.Common.{◌≡◌, map}
 use Rattle.jwt_verify.specs.Table.{below, outcome}
 use Rattle.jwt_verify.specs.Walk.{IsAt, IsCounted}
+use Rattle.jwt_verify.proofs.Deciding.{IsTracked}
 use Rattle.jwt_verify.proofs.tries.walk.Given as goal
 
 abbrev pub invariant-signatures : goal.invariant-signatures
-invariant-signatures g l = let t = asked_table (map (λ b. (goal.Verifier-dyn g (b.vtable, b.value)).meaning b.value) l.verifiers) l.asked in record {
-  at : IsAt t l.i 0 l.tries.items;
-  counted : IsCounted (g.B.Budget.octets l.b) (g.B.Budget.calls l.b) (g.B.Budget.ceiling l.b) l.max_calls l.tries.items;
-  ceiling : g.B.Budget.ceiling l.b ≡ g.B.Budget.ceiling l.initial.b;
-  states : l.states.items ≡ map (outcome t) (below l.i);
+invariant-signatures g l = let t = asked_table (λ b. (goal.Verifier-dyn g (b.vtable, b.value)).meaning b.value) l.asked l.signed in record {
+  at : IsAt t l.number 0 l.tries.items;
+  within : l.number ≤ length (token l.signed).signatures;
+  counted : IsCounted (g.B.Budget.octets l.budget) (g.B.Budget.calls l.budget) (g.B.Budget.ceiling l.budget) l.asked.policy.now.max_calls l.tries.items;
+  ceiling : g.B.Budget.ceiling l.budget ≡ g.B.Budget.ceiling l.initial.budget;
+  states : l.states.items ≡ map (outcome t) (below l.number);
+  signing : IsTracked t l.number l.signing;
 }
+
+abbrev pub decreases-signatures : goal.decreases-signatures
+decreases-signatures g l = length (token l.signed).signatures - l.number

@@ -3,7 +3,7 @@ use Rattle.jwt_jws.specs.Views.{parts}
 use Rattle.jwt_keys.specs.Numbers.{PassesAt}
 use Rattle.jwt_keys.specs.KeySets.{key_set}
 use Rattle.jwt_policy.specs.Eligible.{fits}
-use Rattle.jwt_verify.proofs.candidates.next_named.Given as goal
+use Rattle.jwt_verify.proofs.next_key.next_named.Given as goal
 
 abbrev pub invariant-named : goal.invariant-named
 invariant-named l = record {

@@ -1,15 +1,23 @@
-//! The keys that fit a signature, through the index where it has a `kid`.
+//! The next eligible key of a signature: through the index where the signature has a `kid`.
 
-ghost use Rattle.std.specs.Prelude.{◌≡◌, Some, slice_get, false};
+ghost use Rattle.std.specs.Prelude.{◌≡◌, Some, slice_get, false, option_map, MatchOption};
 ghost use Rattle.std.specs.Option.{option_map_or};
+ghost use Rattle.jwt_mac.specs.Verifying.{key_octets};
 ghost use Rattle.jwt_jws.specs.Token.{kid};
 ghost use Rattle.jwt_jws.specs.Views.{parts};
 ghost use Rattle.jwt_keys.specs.Numbers.{IsLeastFrom};
 ghost use Rattle.jwt_keys.specs.KeySets.{key_set};
 ghost use Rattle.jwt_policy.specs.Eligible.{fits};
+ghost use Rattle.jwt_verify.specs.AskedTable.{asked_table};
+ghost use Rattle.jwt_verify.specs.Walk.{NoneEligible};
+ghost use Rattle.jwt_verify.specs.Pairs.{IsOpen, IsWay, IsNextPair};
 
+use crate::asked::Asked;
+use crate::pair::{Pair, Way};
+use crate::unbarred::Unbarred;
 use jwt_jws::Signature;
 use jwt_keys::KeySet;
+use jwt_mac::KeyView;
 use jwt_policy::{Policy, fits};
 
 /// Whether key `j` fits.
@@ -56,16 +64,53 @@ fn next_of_all(policy: &Policy, keys: &KeySet, signature: &Signature<'_>, from: 
 }
 
 /// The first key at or after `from` that fits the signature. Where it has a `kid`, only the keys of that name are looked at.
-pub(crate) fn next_fitting(
-    policy: &Policy,
-    keys: &KeySet,
-    signature: &Signature<'_>,
-    from: u32,
-) -> Option<u32>
+fn next_fitting(policy: &Policy, keys: &KeySet, signature: &Signature<'_>, from: u32) -> Option<u32>
     ensures { IsLeastFrom (fits policy.now (parts signature.now)) (key_set keys.now).keys from result }
 {
     match signature.kid() {
         Some(name) => next_named(policy, keys, signature, name, from),
         None => next_of_all(policy, keys, signature, from),
     }
+}
+
+/// How the signature is compared with a key; `None` where the algorithm is HMAC and the key is no secret.
+fn way<'k, 'v>(unbarred: &Unbarred<'_, '_, 'v>, key: KeyView<'k>) -> Option<Way<'k, 'v>>
+    ensures { IsWay meaning (option_map (λ v. meaning v.now) unbarred.now.verifier) (key_octets key.entry) result }
+{
+    match (unbarred.verifier, key) {
+        (Some(verifier), key) => Some(Way::Asked(verifier, key)),
+        (None, KeyView::Oct { k }) => Some(Way::Tag(k)),
+        (None, _) => None,
+    }
+}
+
+/// The first eligible key of the signature at or after a number, as it is tried.
+pub(crate) fn next_eligible<'s, 'k, 'v>(
+    asked: &Asked<'k, '_, 'v>,
+    unbarred: &Unbarred<'s, '_, 'v>,
+    from: u32,
+) -> Option<Pair<'s, 'k, 'v>>
+    requires { IsOpen meaning asked.now unbarred.now }
+    ensures { let t = asked_table meaning asked.now unbarred.now.signed.now in
+        MatchOption result
+        (NoneEligible t unbarred.now.number from t.keys)
+        (IsNextPair meaning t unbarred.now.number from) }
+{
+    let Some(number) = next_fitting(asked.policy, asked.keys, unbarred.signature, from) else {
+        return None;
+    };
+    let Some(key) = asked.keys.key(number) else {
+        return None;
+    };
+    let Some(way) = way(unbarred, key.view()) else {
+        return None;
+    };
+    Some(Pair {
+        signature: unbarred.number,
+        key: number,
+        alg: unbarred.alg,
+        message: unbarred.message(),
+        octets: unbarred.signature.octets(),
+        way,
+    })
 }

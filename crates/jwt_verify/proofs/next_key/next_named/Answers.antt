@@ -5,7 +5,7 @@ use Rattle.jwt_keys.specs.Keys.{names}
 use Rattle.jwt_keys.specs.KeySets.{key_set}
 use Rattle.jwt_keys.specs.Views.{key_parts}
 use Rattle.jwt_verify.proofs.Named.{none_before, none_left, none_after, passes_within}
-use Rattle.jwt_verify.proofs.candidates.next_named.Goals as goal
+use Rattle.jwt_verify.proofs.next_key.next_named.Goals as goal
 
 pub returns-then-fits_at : goal.returns-then-fits_at
 returns-then-fits_at c =
