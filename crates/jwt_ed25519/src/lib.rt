@@ -21,6 +21,7 @@ pub use verifying::verifies;
 mod decoding;
 mod encoding;
 mod field;
+pub mod laws;
 mod limbs;
 mod point;
 mod scalar;
