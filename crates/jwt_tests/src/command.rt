@@ -976,14 +976,24 @@ fn want_of_memory_has_a_line_and_a_status(rt: HostRuntime) -> Result<(), Fail> {
     Ok(())
 }
 
-// A clock that is a second later at each look.
+// A clock that is a second later at each look. It can be read once for each of these lines, in order.
 #[derive(Drop)]
-struct Ticks {
+struct Ticks<'a> {
     next: u32,
+    number: u32,
+    lines: &'a [&'a str],
 }
 
-impl Clock for Ticks {
-    fn moment(&mut self) -> Option<u64> {
+impl Clock for Ticks<'_> {
+    ghost says = { λ _ _ _. Unit {0} };
+
+    fn moment(&mut self, number: u64, line: &[u8]) -> Option<u64> {
+        let (first, rest) = self.lines.split_first()?;
+        if line != first.as_bytes() || number != self.number as u64 {
+            return None;
+        }
+        self.lines = rest;
+        self.number = self.number.saturating_add(1);
         let now = self.next;
         self.next = now.saturating_add(1);
         Some(now as u64)
@@ -1006,6 +1016,8 @@ fn printed_lines(alloc: Global, words: &[&str], input: &str) -> Result<(Vec<u8>,
         Some(0),
         &mut Ticks {
             next: 1_300_819_379,
+            number: 0,
+            lines: &[TOKEN_A, "", "none", TOKEN_A],
         },
         held,
         &mut Reader::new(input.as_bytes()),
