@@ -1,14 +1,17 @@
 -- Lines that are taken octet by octet, and what is answered of them.
-use Rattle.std.proofs.Common.{◌≡◌, ◌≢◌, ◌≤◌, ◌<◌, ◌⊎◌, inl, inr, ◌==◌, ◌||◌, ℕ, zero, suc, ◌+◌, Bool, true, false, List, [], ◌∷◌, ◌++◌, length, take, drop, Option, None, Some, Err, IfSome, refl, sym, ap, subst, if◌then◌else◌, ◌∙◌, append_assoc, append-nil, length-append, arith, nat_lt}
+use Rattle.std.proofs.Common.{◌≡◌, ◌≢◌, ◌≤◌, ◌<◌, ◌⊎◌, inl, inr, ◌==◌, ◌||◌, ℕ, zero, suc, ◌+◌, Bool, true, false, List, [], ◌∷◌, ◌++◌, length, take, drop, Option, None, Some, Result, Ok, Err, IfOk, IfSome, refl, sym, ap, subst, if◌then◌else◌, ◌∙◌, append_assoc, append-nil, length-append, arith, nat_lt}
 use Rattle.std.proofs.lemmas.List.{take_all}
 use Rattle.std.proofs.lemmas.Bool.Decides.{nat_tests}
 use Rattle.std.specs.List.{list_any}
 use Rattle.std.specs.Io.KnownBytes.{Appends, Consumes, IsAtEnd, Keeps, prepend_known}
 use Rattle.jwt_command.specs.Lines.{AnswersLines, AreMoments, GivesLines, IsMoment, LineAnswered, LineEnds, answers, lines, onto_first, with_held}
 use Rattle.jwt_command.specs.Printed.{Answer, Prints, out_of_memory, read_failed}
-use Rattle.jwt_command.specs.Verify.{token_answer}
+use Rattle.jwt_command.specs.Json.{payload_of, token_json, verdict_json}
+use Rattle.jwt_command.specs.Told.{in_json}
+use Rattle.jwt_command.specs.Verify.{paid_tries, token_answer, unless_read_failed}
 use Rattle.jwt_policy.specs.Settings.{Settings}
-use Rattle.jwt_verify.specs.Verdict.{Terms, table, token_of, verdict_of}
+use Rattle.jwt_verify.specs.Verdict.{Terms, table, token_of, token_or_none, verdict_of}
+use Rattle.jwt_verify.specs.Table.{states, work}
 use Rattle.jwt_verify.specs.declared.report.InputFault.TheVariants.{TooLong}
 use Rattle.jwt_verify.specs.declared.report.Fault.TheVariants.{Text}
 use Rattle.jwt_command.specs.TakenLines.{TakesLine, after_line, first_line}
@@ -297,3 +300,34 @@ token_bounded q l = go (nat_lt q.policy.run.limit (length l)) refl
         (token_too_long q.policy (take (q.policy.run.limit + 1) l) (omega (arith, length-take-all l (q.policy.run.limit + 1) (omega (arith, long)))) ∙ sym (token_too_long q.policy l long))
     go false e = let short : length l ≤ q.policy.run.limit = grind (arith, nat_tests, e) in
         ap (token_answer q) (take_all (q.policy.run.limit + 1) l (omega (arith, short)))
+
+-- ---- nor does that in JSON
+
+json_with : Terms → List ℕ → List ℕ → Answer
+json_with q payload x =
+    verdict_json (verdict_of q x q.policy.run.work) payload (states (table q x) q.policy.run.work q.policy.max_calls) (paid_tries q x) (work (paid_tries q x))
+
+json_with_same : (q : Terms) (payload x y : List ℕ) → token_of q.policy x ≡ token_of q.policy y → json_with q payload x ≡ json_with q payload y
+unfolding json_with verdict_of table
+json_with_same q payload x y is = rw is refl
+
+json_by_token : (q : Terms) (x y : List ℕ) → token_of q.policy x ≡ token_of q.policy y → token_json q x ≡ token_json q y
+unfolding json_with
+json_by_token q x y is = json_with_same q (payload_of q x) x y is ∙ ap (λ t. json_with q (token_or_none t).payload y) is
+
+pub json_bounded : (q : Terms) (l : List ℕ) → token_json q (take (q.policy.run.limit + 1) l) ≡ token_json q l
+json_bounded q l = go (nat_lt q.policy.run.limit (length l)) refl
+  where
+    go : (b : Bool) → nat_lt q.policy.run.limit (length l) ≡ b → token_json q (take (q.policy.run.limit + 1) l) ≡ token_json q l
+    go true e = let long : q.policy.run.limit < length l = grind (arith, nat_tests, e) in
+        json_by_token q (take (q.policy.run.limit + 1) l) l
+        (token_too_long q.policy (take (q.policy.run.limit + 1) l) (omega (arith, length-take-all l (q.policy.run.limit + 1) (omega (arith, long)))) ∙ sym (token_too_long q.policy l long))
+    go false e = let short : length l ≤ q.policy.run.limit = grind (arith, nat_tests, e) in
+        ap (token_json q) (take_all (q.policy.run.limit + 1) l (omega (arith, short)))
+
+-- the answer in JSON to what was taken of a token
+pub json_taken : {A E : Type 0} (view : A → Answer) (r : Result A E) (q : Terms) (x octets : List ℕ) (limit : ℕ) (failed : Bool) → limit ≡ q.policy.run.limit → octets ≡ take (limit + 1) x → failed ≡ false
+    → IfOk r (λ a. view a ≡ token_json q octets) → IfOk r (λ a. view a ≡ unless_read_failed in_json failed (token_json q x))
+json_taken view (Ok a) q x octets limit failed l o works is =
+    is ∙ ap (token_json q) (o ∙ ap (λ n. take (n + 1) x) l) ∙ json_bounded q x ∙ sym (ap (λ f. unless_read_failed in_json f (token_json q x)) works)
+json_taken view (Err e) q x octets limit failed l o works is = tt
