@@ -16,7 +16,7 @@ _jwt() {
         issue:--typ | mac:--k | mac:--limit | show:--limit | verify:--now) ;;
         mac:*) choices="--k --key-file --limit" ;;
         show:*) choices="--limit" ;;
-        verify:*) choices="--now --public-keys --lines --policy --keys --token" ;;
+        verify:*) choices="--now --public-keys --lines --json --policy --keys --token" ;;
         issue:*) choices="--alg --typ --form --keys" ;;
         esac
     fi

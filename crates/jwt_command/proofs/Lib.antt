@@ -1,5 +1,6 @@
 pub mod CostLemmas
 pub mod InputLemmas
+pub mod JsonLemmas
 pub mod LineLemmas
 pub mod Listing
 pub mod Numbers

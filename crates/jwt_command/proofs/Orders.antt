@@ -4,7 +4,7 @@ use Rattle.std.specs.Prelude.{is_some, option_and_then}
 use Rattle.clap.specs.Words.{IsAmong, Kinds, Row, Text, fault_of, is_simple, is_simple_and_free, subcommand_of}
 use Rattle.clap.specs.declared.error.ErrorKind.{ErrorKind}
 use Rattle.clap.proofs.OnLiterals.{clap_on_literals}
-use Rattle.jwt_command.specs.Words.{clap_order, jwt_app, lines_in, lines_of, lines_under, order_in, order_under}
+use Rattle.jwt_command.specs.Words.{clap_order, json_in, json_of, json_under, jwt_app, lines_in, lines_of, lines_under, order_in, order_under}
 
 -- the command is one of which `clap` says exactly what it takes
 pub jwt_is_simple : (has_clock : Bool) → is_simple (jwt_app has_clock) ≡ true
@@ -40,3 +40,16 @@ among_lines k (f ∷ fs) rows h = refl
 
 pub lines_refused : (has_clock : Bool) (k : ErrorKind) (words : List Text) → IsAmong k (fault_of (jwt_app has_clock) words) → lines_of has_clock words ≡ None
 lines_refused has_clock k words h = among_lines k (fault_of (jwt_app has_clock) words) (subcommand_of (jwt_app has_clock) words) h
+
+-- ---- an answer in JSON
+
+pub json_accepted : (clock : Option ℕ) (words : List Text) (rows : Option (Text × List Row)) → fault_of (jwt_app (is_some clock)) words ≡ []
+    → rows ≡ subcommand_of (jwt_app (is_some clock)) words → json_of clock words ≡ option_and_then (λ m. json_in clock m.0 m.1) rows
+json_accepted clock words rows none is = ap₂ (json_under clock) none (sym is)
+
+among_json : (clock : Option ℕ) (k : ErrorKind) (faults : Kinds) (rows : Option (Text × List Row)) → IsAmong k faults → json_under clock faults rows ≡ None
+among_json clock k [] rows h = absurd h
+among_json clock k (f ∷ fs) rows h = refl
+
+pub json_refused : (clock : Option ℕ) (k : ErrorKind) (words : List Text) → IsAmong k (fault_of (jwt_app (is_some clock)) words) → json_of clock words ≡ None
+json_refused clock k words h = among_json clock k (fault_of (jwt_app (is_some clock)) words) (subcommand_of (jwt_app (is_some clock)) words) h

@@ -7,8 +7,8 @@ use Rattle.jwt_keys.specs.KeySets.{KeyList, key_set_of}
 use Rattle.jwt_keys.specs.declared.fault.KeysFault.TheVariants as keys
 use Rattle.jwt_policy.specs.Document.{policy_of}
 use Rattle.jwt_policy.specs.declared.policy_fault.PolicyFault.TheVariants as policy
-use Rattle.jwt_verify.specs.Table.{work}
-use Rattle.jwt_verify.specs.Verdict.{Terms, verdict_of}
+use Rattle.jwt_verify.specs.Table.{states, work}
+use Rattle.jwt_verify.specs.Verdict.{Terms, table, verdict_of}
 use Rattle.jwt_verify.specs.Reports.{FoundMemory, Failed, IsReport, TakesAtMost as FrontAtMost}
 use Rattle.jwt_verify.specs.Steps.{TellsReports}
 use Rattle.jwt_verify.specs.declared.report.Report.{Report}
@@ -21,7 +21,8 @@ use Rattle.jwt_policy.specs.Settings.{Settings}
 use Rattle.jwt_command.specs.Documents.{Held, TakesDocument, behind, document, document_most, last_document, last_most}
 use Rattle.jwt_command.specs.Input.{TakesAtMost}
 use Rattle.jwt_command.specs.Issue.{TokenAsked, issue_answer, issue_under}
-use Rattle.jwt_command.specs.Verify.{keys_answer, keys_refused, policy_refused, token_answer, under_keys, under_policy, unless_failed, verify_answer, verify_line}
+use Rattle.jwt_command.specs.Json.{verdict_json, token_json, payload_of}
+use Rattle.jwt_command.specs.Verify.{Telling, in_lines, keys_answer, keys_refused, token_answer, under_keys, under_policy, unless_read_failed, verify_answer, verify_line}
 use Rattle.jwt_command.specs.Printed.{Answer}
 use Rattle.jwt_command.specs.Listed.{keys_answer as keys_answer_alone, listed}
 use Rattle.jwt_command.specs.Stops.{behind_keys, behind_policy, keys_most, verify_most}
@@ -106,12 +107,12 @@ behind_keys_taken most held x octets mid rest failed set h is then =
     (document_then_stops 4194304 (λ y. most) held x octets mid rest failed h then)
 
 -- the answer under a policy that is read
-pub policy_read : {A E : Type 0} (view : A → Answer) (r : Result A E) (vs : List Meaning) (now : ℕ) (h : Held) (p : Settings) (x octets : List ℕ) (mid : Option (List ℕ)) (failed : Bool)
-    → TakesDocument 65536 h.policy x octets mid → policy_of octets ≡ Ok p → IfSome mid (λ y. IfOk r (λ a. view a ≡ unless_failed failed (keys_answer vs now h p y)))
-    → IfOk r (λ a. view a ≡ verify_answer vs now h failed x)
-policy_read view r vs now h p x octets mid failed d is then =
-    subst (λ k. IfOk r (λ a. view a ≡ unless_failed failed (under_policy vs now h k (behind h.policy x)))) (sym is ∙ ap policy_of d.octets_are)
-    (subst (λ m. IfSome m (λ y. IfOk r (λ a. view a ≡ unless_failed failed (keys_answer vs now h p y)))) d.unread then)
+pub policy_read : (tell : Telling) {A E : Type 0} (view : A → Answer) (r : Result A E) (vs : List Meaning) (now : ℕ) (h : Held) (p : Settings) (x octets : List ℕ) (mid : Option (List ℕ)) (failed : Bool)
+    → TakesDocument 65536 h.policy x octets mid → policy_of octets ≡ Ok p → IfSome mid (λ y. IfOk r (λ a. view a ≡ unless_read_failed tell failed (keys_answer tell vs now h p y)))
+    → IfOk r (λ a. view a ≡ verify_answer tell vs now h failed x)
+policy_read tell view r vs now h p x octets mid failed d is then =
+    subst (λ k. IfOk r (λ a. view a ≡ unless_read_failed tell failed (under_policy tell vs now h k (behind h.policy x)))) (sym is ∙ ap policy_of d.octets_are)
+    (subst (λ m. IfSome m (λ y. IfOk r (λ a. view a ≡ unless_read_failed tell failed (keys_answer tell vs now h p y)))) d.unread then)
 
 -- a line as a document
 pub line_document : (limit : ℕ) (x octets : List ℕ) (rest : Option (List ℕ)) → TakesLine limit x octets rest → TakesDocument limit None x octets rest
@@ -138,15 +139,15 @@ pub policy_too_long : (z : List ℕ) → 65536 < length z → policy_of z ≡ Er
 unfolding policy_of
 policy_too_long z long = let is : nat_lt 65536 (length z) ≡ true = grind (arith, nat_tests, long) in rw is refl
 
-pub keys_line_too_long : (vs : List Meaning) (now : ℕ) (h : Held) (p : Settings) (x : List ℕ) (failed : Bool) → failed ≡ false → 4194304 < length (document h.keys x)
-    → keys_refused keys.TooLong ≡ unless_failed failed (keys_answer vs now h p x)
-keys_line_too_long vs now h p x failed works long =
-    sym (ap (λ f. unless_failed f (keys_answer vs now h p x)) works ∙ ap (λ k. under_keys vs now p k (last_document h.token (behind h.keys x))) (keys_too_long (document h.keys x) long))
+pub keys_line_too_long : (tell : Telling) (vs : List Meaning) (now : ℕ) (h : Held) (p : Settings) (x : List ℕ) (failed : Bool) → failed ≡ false → 4194304 < length (document h.keys x)
+    → tell.keys_refused keys.TooLong ≡ unless_read_failed tell failed (keys_answer tell vs now h p x)
+keys_line_too_long tell vs now h p x failed works long =
+    sym (ap (λ f. unless_read_failed tell f (keys_answer tell vs now h p x)) works ∙ ap (λ k. under_keys tell vs now p k (last_document h.token (behind h.keys x))) (keys_too_long (document h.keys x) long))
 
-pub policy_line_too_long : (vs : List Meaning) (now : ℕ) (h : Held) (x : List ℕ) (failed : Bool) → failed ≡ false → 65536 < length (document h.policy x)
-    → policy_refused policy.TooLong ≡ verify_answer vs now h failed x
-policy_line_too_long vs now h x failed works long =
-    sym (ap (λ f. verify_answer vs now h f x) works ∙ ap (λ k. under_policy vs now h k (behind h.policy x)) (policy_too_long (document h.policy x) long))
+pub policy_line_too_long : (tell : Telling) (vs : List Meaning) (now : ℕ) (h : Held) (x : List ℕ) (failed : Bool) → failed ≡ false → 65536 < length (document h.policy x)
+    → tell.policy_refused policy.TooLong ≡ verify_answer tell vs now h failed x
+policy_line_too_long tell vs now h x failed works long =
+    sym (ap (λ f. verify_answer tell vs now h f x) works ∙ ap (λ k. under_policy tell vs now h k (behind h.policy x)) (policy_too_long (document h.policy x) long))
 
 pub set_too_long : (x : List ℕ) (failed : Bool) → failed ≡ false → 4194304 < length x → keys_refused keys.TooLong ≡ keys_answer_alone failed x
 set_too_long x failed works long = sym (ap (λ f. keys_answer_alone f x) works ∙ ap listed (keys_too_long x long))
@@ -189,16 +190,16 @@ failed_read (Refused (CallsExceeded i j)) es found h = absurd h
 -- the line of a report, where memory was there, is that of the verdict on what the source gave
 pub answered : (q : Terms) (x : List ℕ) → TellsReports → (failed : Bool) (r : Report) (octets : ℕ) → (r.verdict ≢ Refused (Text Read) → IsReport q x q.policy.run.work r)
     → (failed ≡ true → Failed r.verdict r.tries.items) → (r.verdict ≡ Refused (Text Read) → failed ≡ true) → octets ≡ work r.tries.items → FoundMemory r.verdict
-    → (a : Answer) → a ≡ verify_line r.verdict (length r.tries.items) octets → a ≡ unless_failed failed (token_answer q x)
+    → (a : Answer) → a ≡ verify_line r.verdict (length r.tries.items) octets → a ≡ unless_read_failed in_lines failed (token_answer q x)
 answered q x tells failed r octets report fails read counted found a line = elim (read_or r.verdict) [
-  | inl e ↦ line ∙ ap (λ v. verify_line v (length r.tries.items) octets) e ∙ sym (ap (λ f. unless_failed f (token_answer q x)) (read e))
+  | inl e ↦ line ∙ ap (λ v. verify_line v (length r.tries.items) octets) e ∙ sym (ap (λ f. unless_read_failed in_lines f (token_answer q x)) (read e))
   | inr n ↦ (let t = tells q x q.policy.run.work r (report n) found in
       let same : a ≡ token_answer q x = line ∙ ap (λ n. verify_line r.verdict (length r.tries.items) n) counted ∙ ap (λ v. verify_line v (length r.tries.items) (work r.tries.items)) t.0
       ∙ ap (λ es. verify_line (verdict_of q x q.policy.run.work) (length es) (work es)) t.1 in
       working failed (λ is. n (failed_read r.verdict r.tries.items found (fails is))) same)
 ]
   where
-    working : (failed : Bool) → (failed ≡ true → ⊥) → a ≡ token_answer q x → a ≡ unless_failed failed (token_answer q x)
+    working : (failed : Bool) → (failed ≡ true → ⊥) → a ≡ token_answer q x → a ≡ unless_read_failed in_lines failed (token_answer q x)
     working true never same = absurd (never refl)
     working false never same = same
 
@@ -209,3 +210,14 @@ answered_in_hand q x tells r octets report counted found a line =
     let t = tells q x q.policy.run.work r report found in
     line ∙ ap (λ n. verify_line r.verdict (length r.tries.items) n) counted ∙ ap (λ v. verify_line v (length r.tries.items) (work r.tries.items)) t.0
     ∙ ap (λ es. verify_line (verdict_of q x q.policy.run.work) (length es) (work es)) t.1
+
+-- the same in JSON
+pub answered_in_json : (q : Terms) (x payload : List ℕ) → TellsReports → (r : Report) (octets : ℕ) → IsReport q x q.policy.run.work r → payload ≡ payload_of q x
+    → octets ≡ work r.tries.items → FoundMemory r.verdict → (a : Answer) → a ≡ verdict_json r.verdict payload r.states.items r.tries.items octets → a ≡ token_json q x
+answered_in_json q x payload tells r octets report payload_is counted found a line =
+    let t = tells q x q.policy.run.work r report found in
+    line ∙ ap (λ p. verdict_json r.verdict p r.states.items r.tries.items octets) payload_is
+    ∙ ap (λ n. verdict_json r.verdict (payload_of q x) r.states.items r.tries.items n) counted
+    ∙ ap (λ v. verdict_json v (payload_of q x) r.states.items r.tries.items (work r.tries.items)) t.0
+    ∙ ap (λ sts. verdict_json (verdict_of q x q.policy.run.work) (payload_of q x) sts r.tries.items (work r.tries.items)) t.2
+    ∙ ap (λ es. verdict_json (verdict_of q x q.policy.run.work) (payload_of q x) (states (table q x) q.policy.run.work q.policy.max_calls) es (work es)) t.1

@@ -1,14 +1,17 @@
 -- Lines that are taken octet by octet, and what is answered of them.
-use Rattle.std.proofs.Common.{◌≡◌, ◌≢◌, ◌≤◌, ◌<◌, ◌⊎◌, inl, inr, ◌==◌, ◌||◌, ℕ, zero, suc, ◌+◌, Bool, true, false, List, [], ◌∷◌, ◌++◌, length, take, drop, Option, None, Some, Err, IfSome, refl, sym, ap, subst, if◌then◌else◌, ◌∙◌, append_assoc, append-nil, length-append, arith, nat_lt}
+use Rattle.std.proofs.Common.{◌≡◌, ◌≢◌, ◌≤◌, ◌<◌, ◌⊎◌, inl, inr, ◌==◌, ◌||◌, ℕ, zero, suc, ◌+◌, Bool, true, false, List, [], ◌∷◌, ◌++◌, length, take, drop, Option, None, Some, Result, Ok, Err, IfOk, IfSome, refl, sym, ap, subst, if◌then◌else◌, ◌∙◌, append_assoc, append-nil, length-append, arith, nat_lt}
 use Rattle.std.proofs.lemmas.List.{take_all}
 use Rattle.std.proofs.lemmas.Bool.Decides.{nat_tests}
 use Rattle.std.specs.List.{list_any}
 use Rattle.std.specs.Io.KnownBytes.{Appends, Consumes, IsAtEnd, Keeps, prepend_known}
-use Rattle.jwt_command.specs.Lines.{AnswersLines, AreMoments, GivesLines, IsMoment, LineAnswered, LineEnds, answers, lines, onto_first}
+use Rattle.jwt_command.specs.Lines.{AnswersLines, AreMoments, GivesLines, IsMoment, LineAnswered, LineEnds, answers, lines, onto_first, with_held}
 use Rattle.jwt_command.specs.Printed.{Answer, Prints, out_of_memory, read_failed}
-use Rattle.jwt_command.specs.Verify.{token_answer}
+use Rattle.jwt_command.specs.Json.{payload_of, token_json, verdict_json}
+use Rattle.jwt_command.specs.Told.{in_json}
+use Rattle.jwt_command.specs.Verify.{paid_tries, token_answer, unless_read_failed}
 use Rattle.jwt_policy.specs.Settings.{Settings}
-use Rattle.jwt_verify.specs.Verdict.{Terms, table, token_of, verdict_of}
+use Rattle.jwt_verify.specs.Verdict.{Terms, table, token_of, token_or_none, verdict_of}
+use Rattle.jwt_verify.specs.Table.{states, work}
 use Rattle.jwt_verify.specs.declared.report.InputFault.TheVariants.{TooLong}
 use Rattle.jwt_verify.specs.declared.report.Fault.TheVariants.{Text}
 use Rattle.jwt_command.specs.TakenLines.{TakesLine, after_line, first_line}
@@ -176,23 +179,34 @@ appends_nothing : (before : Option (List ℕ)) → Appends before before []
 appends_nothing None = tt
 appends_nothing (Some x) = sym (append-nil x)
 
-moments_push : (now : Option ℕ) (ms : List ℕ) (m : ℕ) → AreMoments now ms → IsMoment now m → AreMoments now (ms ++ m ∷ [])
-moments_push now [] m all p = (p, tt)
-moments_push now (n ∷ ns) m all p = (all.0, moments_push now ns m all.1 p)
+moments_push : (says : ℕ → List ℕ → ℕ → Type 0) (now : Option ℕ) (n : ℕ) (ms : List ℕ) (ls : List (List ℕ)) (m : ℕ) (l : List ℕ) → length ms ≡ length ls → AreMoments says now n ms ls
+    → IsMoment (says (n + length ls) l) now m → AreMoments says now n (ms ++ m ∷ []) (ls ++ l ∷ [])
+moments_push says now n [] [] m l each all p = (subst (λ k. IsMoment (says k l) now m) (omega arith) p, tt)
+moments_push says now n [] (k ∷ ks) m l each all p = absurd (omega (arith, each))
+moments_push says now n (i ∷ is) [] m l each all p = absurd (omega (arith, each))
+moments_push says now n (i ∷ is) (k ∷ ks) m l each all p =
+    (all.0, moments_push says now (suc n) is ks m l (omega (arith, each)) all.1 (subst (λ j. IsMoment (says j l) now m) (omega arith) p))
 
-pub answers_none : (at : ℕ → List ℕ → Answer) (now : Option ℕ) (x : List ℕ) (before : Option (List ℕ)) → AnswersLines at now x x before before
-answers_none at now x before = record { done = []; moments = []; done_are = refl; each = refl; said = tt; text = appends_nothing before }
+pub answers_none : (at : ℕ → List ℕ → Answer) (says : ℕ → List ℕ → ℕ → Type 0) (now : Option ℕ) (x : List ℕ) (before : Option (List ℕ)) → AnswersLines at says now x x before before
+answers_none at says now x before = record { done = []; moments = []; done_are = refl; each = refl; said = tt; text = appends_nothing before }
 
-pub answers_one_more : (at : ℕ → List ℕ → Answer) (now : Option ℕ) (x y : List ℕ) (before between after : Option (List ℕ)) → AnswersLines at now x y before between → 0 < length y
-    → LineAnswered at now (first_line y) between after → AnswersLines at now x (after_line y) before after
-answers_one_more at now x y before between after h some (m, is_moment, text) = record {
+pub answers_one_more : (at : ℕ → List ℕ → Answer) (says : ℕ → List ℕ → ℕ → Type 0) (now : Option ℕ) (x y : List ℕ) (before between after : Option (List ℕ))
+    → (h : AnswersLines at says now x y before between) → 0 < length y
+    → LineAnswered at (says (length h.done) (first_line y)) now (first_line y) between after → AnswersLines at says now x (after_line y) before after
+answers_one_more at says now x y before between after h some (m, is_moment, text) = record {
   done = h.done ++ first_line y ∷ [];
   moments = h.moments ++ m ∷ [];
   done_are = h.done_are ∙ ap (λ l. h.done ++ l) (lines_next y some) ∙ sym (append_assoc h.done (first_line y ∷ []) (lines (after_line y)));
   each = omega (arith, h.each, length-append h.moments (m ∷ []), length-append h.done (first_line y ∷ []));
-  said = moments_push now h.moments m h.said is_moment;
+  said = moments_push says now 0 h.moments h.done m (first_line y) h.each h.said (subst (λ k. IsMoment (says k (first_line y)) now m) (omega arith) is_moment);
   text = subst (λ t. Appends before after t) (sym (answers_push at h.moments h.done m (first_line y) h.each)) (appends_more before between after (answers at h.moments h.done) (at m (first_line y)).text h.text text);
 }
+
+one_more_done : (at : ℕ → List ℕ → Answer) (says : ℕ → List ℕ → ℕ → Type 0) (now : Option ℕ) (x y : List ℕ) (before between after : Option (List ℕ))
+    (h : AnswersLines at says now x y before between) (some : 0 < length y) (a : LineAnswered at (says (length h.done) (first_line y)) now (first_line y) between after)
+    → length (answers_one_more at says now x y before between after h some a).done ≡ length h.done + 1
+unfolding answers_one_more
+one_more_done at says now x y before between after h some (m, is_moment, text) = length-append h.done (first_line y ∷ [])
 
 -- ---- a run over lines
 
@@ -200,56 +214,72 @@ answers_one_more at now x y before between after h some (m, is_moment, text) = r
 abbrev pub Bounded : ℕ → (ℕ → List ℕ → Answer) → Type 0
 Bounded limit at = (m : ℕ) (l : List ℕ) → at m (take (limit + 1) l) ≡ at m l
 
-abbrev pub Answering : (ℕ → List ℕ → Answer) → Option ℕ → Option (List ℕ) → Option (List ℕ) → Option (List ℕ) → Option (List ℕ) → Type 0
-Answering at now told left before between = IfSome told (λ x. (y : List ℕ) × (left ≡ Some y) × AnswersLines at now x y before between)
+-- so many lines were answered
+abbrev pub Answering : (ℕ → List ℕ → Answer) → (ℕ → List ℕ → ℕ → Type 0) → Option ℕ → ℕ → Option (List ℕ) → Option (List ℕ) → Option (List ℕ) → Option (List ℕ) → Type 0
+Answering at says now n told left before between = IfSome told (λ x. (y : List ℕ) × (left ≡ Some y) × ((h : AnswersLines at says now x y before between) × (length h.done ≡ n)))
 
-pub answering_none : (at : ℕ → List ℕ → Answer) (now : Option ℕ) (told : Option (List ℕ)) (ahead : List ℕ) (before : Option (List ℕ)) → ahead ≡ [] → Answering at now told (prepend_known ahead told) before before
-answering_none at now None ahead before none = tt
-answering_none at now (Some x) ahead before none = (x, ap (λ a. Some (a ++ x)) none, answers_none at now x before)
+pub answering_none : (at : ℕ → List ℕ → Answer) (says : ℕ → List ℕ → ℕ → Type 0) (now : Option ℕ) (told : Option (List ℕ)) (ahead : List ℕ) (before : Option (List ℕ)) → ahead ≡ []
+    → Answering at says now 0 told (prepend_known ahead told) before before
+unfolding answers_none
+answering_none at says now None ahead before none = tt
+answering_none at says now (Some x) ahead before none = (x, ap (λ a. Some (a ++ x)) none, (answers_none at says now x before, refl))
 
-pub answering_more : (limit : ℕ) (at : ℕ → List ℕ → Answer) (now : Option ℕ) (told left rest : Option (List ℕ)) (held : List ℕ) (before between after : Option (List ℕ)) → Bounded limit at
-    → Answering at now told left before between → IfSome left (λ y. Line limit y held rest) → LineAnswered at now held between after → Answering at now told rest before after
-answering_more limit at now None left rest held before between after same h line said = tt
-answering_more limit at now (Some x) left rest held before between after same (y, is, done) line (m, moment, text) =
-    let l = subst (λ o. IfSome o (λ y. Line limit y held rest)) is line in (
+-- what the clock said of the octets that are held of a line
+held_moment : (limit : ℕ) (says : ℕ → List ℕ → ℕ → Type 0) (now : Option ℕ) (n k m : ℕ) (held l : List ℕ) → held ≡ take (limit + 1) l → k ≡ n
+    → IsMoment (says n held) now m → IsMoment (with_held limit says k l) now m
+held_moment limit says now n k m held l is same p =
+    subst (λ j. IsMoment (says j (take (limit + 1) l)) now m) (sym same) (subst (λ h. IsMoment (says n h) now m) is p)
+
+pub answering_more : (limit : ℕ) (at : ℕ → List ℕ → Answer) (says : ℕ → List ℕ → ℕ → Type 0) (now : Option ℕ) (n : ℕ) (told left rest : Option (List ℕ)) (held : List ℕ) (before between after : Option (List ℕ))
+    → Bounded limit at → Answering at (with_held limit says) now n told left before between → IfSome left (λ y. Line limit y held rest) → LineAnswered at (says n held) now held between after
+    → Answering at (with_held limit says) now (n + 1) told rest before after
+answering_more limit at says now n None left rest held before between after same h line said = tt
+answering_more limit at says now n (Some x) left rest held before between after same (y, is, (done, number)) line (m, moment, text) =
+    let l = subst (λ o. IfSome o (λ y. Line limit y held rest)) is line in
+    let answered : LineAnswered at (with_held limit says (length done.done) (first_line y)) now (first_line y) between after =
+        (m, held_moment limit says now n (length done.done) m held (first_line y) l.1 number moment, subst (λ t. Appends between after t) (ap (λ z. (at m z).text) l.1 ∙ ap (λ a. a.text) (same m (first_line y))) text) in
+    (
       after_line y,
       l.2,
-      answers_one_more at now x y before between after done l.0
-          (m, moment, subst (λ t. Appends between after t) (ap (λ z. (at m z).text) l.1 ∙ ap (λ a. a.text) (same m (first_line y))) text),
+      (
+        answers_one_more at (with_held limit says) now x y before between after done l.0 answered,
+        one_more_done at (with_held limit says) now x y before between after done l.0 answered ∙ ap (λ k. k + 1) number,
+      ),
     )
 
-pub lines_done : (at : ℕ → List ℕ → Answer) (now : Option ℕ) (told left : Option (List ℕ)) (unread : Bool) (before after : Option (List ℕ)) (failed : Bool)
-    → Answering at now told left before after → IfSome left (λ y. y ≡ []) → IfSome told (λ x. GivesLines at now x unread before after failed 0)
-lines_done at now None left unread before after failed h empty = tt
-lines_done at now (Some x) left unread before after failed (y, is, done) empty =
-    inl (subst (λ z. AnswersLines at now x z before after) (subst (λ o. IfSome o (λ y. y ≡ [])) is empty) done, refl)
+pub lines_done : (at : ℕ → List ℕ → Answer) (says : ℕ → List ℕ → ℕ → Type 0) (now : Option ℕ) (n : ℕ) (told left : Option (List ℕ)) (unread : Bool) (before after : Option (List ℕ)) (failed : Bool)
+    → Answering at says now n told left before after → IfSome left (λ y. y ≡ []) → IfSome told (λ x. GivesLines at says now x unread before after failed 0)
+lines_done at says now n None left unread before after failed h empty = tt
+lines_done at says now n (Some x) left unread before after failed (y, is, (done, number)) empty =
+    inl (subst (λ z. AnswersLines at says now x z before after) (subst (λ o. IfSome o (λ y. y ≡ [])) is empty) done, refl)
 
-pub lines_unread : (at : ℕ → List ℕ → Answer) (now : Option ℕ) (told left : Option (List ℕ)) (unread : Bool) (before between after : Option (List ℕ)) (failed : Bool) (status : ℕ)
-    → Answering at now told left before between → unread ≡ true → Prints read_failed between after failed status → IfSome told (λ x. GivesLines at now x unread before after failed status)
-lines_unread at now None left unread before between after failed status h is printed = tt
-lines_unread at now (Some x) left unread before between after failed status (y, left_is, done) is printed =
+pub lines_unread : (at : ℕ → List ℕ → Answer) (says : ℕ → List ℕ → ℕ → Type 0) (now : Option ℕ) (n : ℕ) (told left : Option (List ℕ)) (unread : Bool) (before between after : Option (List ℕ)) (failed : Bool) (status : ℕ)
+    → Answering at says now n told left before between → unread ≡ true → Prints read_failed between after failed status → IfSome told (λ x. GivesLines at says now x unread before after failed status)
+lines_unread at says now n None left unread before between after failed status h is printed = tt
+lines_unread at says now n (Some x) left unread before between after failed status (y, left_is, (done, number)) is printed =
     inr (record { y = y; between = between; done = done; by = inl (is, printed) })
 
-pub lines_memory : (at : ℕ → List ℕ → Answer) (now : Option ℕ) (told left : Option (List ℕ)) (unread : Bool) (before between after : Option (List ℕ)) (failed : Bool) (status : ℕ)
-    → Answering at now told left before between → Prints out_of_memory between after failed status → IfSome told (λ x. GivesLines at now x unread before after failed status)
-lines_memory at now None left unread before between after failed status h printed = tt
-lines_memory at now (Some x) left unread before between after failed status (y, left_is, done) printed =
+pub lines_memory : (at : ℕ → List ℕ → Answer) (says : ℕ → List ℕ → ℕ → Type 0) (now : Option ℕ) (n : ℕ) (told left : Option (List ℕ)) (unread : Bool) (before between after : Option (List ℕ)) (failed : Bool) (status : ℕ)
+    → Answering at says now n told left before between → Prints out_of_memory between after failed status → IfSome told (λ x. GivesLines at says now x unread before after failed status)
+lines_memory at says now n None left unread before between after failed status h printed = tt
+lines_memory at says now n (Some x) left unread before between after failed status (y, left_is, (done, number)) printed =
     inr (record { y = y; between = between; done = done; by = inr (inr (inl printed)) })
 
-ends_at_line : (limit : ℕ) (at : ℕ → List ℕ → Answer) (now : Option ℕ) (held l : List ℕ) (before after : Option (List ℕ)) (failed : Bool) (status : ℕ) → Bounded limit at → held ≡ take (limit + 1) l
-    → LineEnds at now held before after failed status → LineEnds at now l before after failed status
-ends_at_line limit at now held l before after failed status same is (inl clock) = inl clock
-ends_at_line limit at now held l before after failed status same is (inr (inl memory)) = inr (inl memory)
-ends_at_line limit at now held l before after failed status same is (inr (inr (m, moment, fails, three, (n, part)))) =
-    inr (inr (m, moment, fails, three, (n, subst (λ t. Appends before after (take n t)) (ap (λ z. (at m z).text) is ∙ ap (λ a. a.text) (same m l)) part)))
+ends_at_line : (limit : ℕ) (at : ℕ → List ℕ → Answer) (says : ℕ → List ℕ → ℕ → Type 0) (now : Option ℕ) (n k : ℕ) (held l : List ℕ) (before after : Option (List ℕ)) (failed : Bool) (status : ℕ)
+    → Bounded limit at → held ≡ take (limit + 1) l → k ≡ n
+    → LineEnds at (says n held) now held before after failed status → LineEnds at (with_held limit says k l) now l before after failed status
+ends_at_line limit at says now n k held l before after failed status same is number (inl clock) = inl clock
+ends_at_line limit at says now n k held l before after failed status same is number (inr (inl memory)) = inr (inl memory)
+ends_at_line limit at says now n k held l before after failed status same is number (inr (inr (m, moment, fails, three, (j, part)))) =
+    inr (inr (m, held_moment limit says now n k m held l is number moment, fails, three, (j, subst (λ t. Appends before after (take j t)) (ap (λ z. (at m z).text) is ∙ ap (λ a. a.text) (same m l)) part)))
 
-pub lines_ended : (limit : ℕ) (at : ℕ → List ℕ → Answer) (now : Option ℕ) (told left rest : Option (List ℕ)) (held : List ℕ) (unread : Bool) (before between after : Option (List ℕ)) (failed : Bool) (status : ℕ) → Bounded limit at
-    → Answering at now told left before between → IfSome left (λ y. Line limit y held rest) → LineEnds at now held between after failed status
-    → IfSome told (λ x. GivesLines at now x unread before after failed status)
-lines_ended limit at now None left rest held unread before between after failed status same h line ends = tt
-lines_ended limit at now (Some x) left rest held unread before between after failed status same (y, is, done) line ends =
+pub lines_ended : (limit : ℕ) (at : ℕ → List ℕ → Answer) (says : ℕ → List ℕ → ℕ → Type 0) (now : Option ℕ) (n : ℕ) (told left rest : Option (List ℕ)) (held : List ℕ) (unread : Bool) (before between after : Option (List ℕ)) (failed : Bool) (status : ℕ)
+    → Bounded limit at → Answering at (with_held limit says) now n told left before between → IfSome left (λ y. Line limit y held rest) → LineEnds at (says n held) now held between after failed status
+    → IfSome told (λ x. GivesLines at (with_held limit says) now x unread before after failed status)
+lines_ended limit at says now n None left rest held unread before between after failed status same h line ends = tt
+lines_ended limit at says now n (Some x) left rest held unread before between after failed status same (y, is, (done, number)) line ends =
     let l = subst (λ o. IfSome o (λ y. Line limit y held rest)) is line in
-    inr (record { y = y; between = between; done = done; by = inr (ends_at_line limit at now held (first_line y) between after failed status same l.1 ends) })
+    inr (record { y = y; between = between; done = done; by = inr (ends_at_line limit at says now n (length done.done) held (first_line y) between after failed status same l.1 number ends) })
 
 -- ---- the answer to a token looks no further
 
@@ -270,3 +300,34 @@ token_bounded q l = go (nat_lt q.policy.run.limit (length l)) refl
         (token_too_long q.policy (take (q.policy.run.limit + 1) l) (omega (arith, length-take-all l (q.policy.run.limit + 1) (omega (arith, long)))) ∙ sym (token_too_long q.policy l long))
     go false e = let short : length l ≤ q.policy.run.limit = grind (arith, nat_tests, e) in
         ap (token_answer q) (take_all (q.policy.run.limit + 1) l (omega (arith, short)))
+
+-- ---- nor does that in JSON
+
+json_with : Terms → List ℕ → List ℕ → Answer
+json_with q payload x =
+    verdict_json (verdict_of q x q.policy.run.work) payload (states (table q x) q.policy.run.work q.policy.max_calls) (paid_tries q x) (work (paid_tries q x))
+
+json_with_same : (q : Terms) (payload x y : List ℕ) → token_of q.policy x ≡ token_of q.policy y → json_with q payload x ≡ json_with q payload y
+unfolding json_with verdict_of table
+json_with_same q payload x y is = rw is refl
+
+json_by_token : (q : Terms) (x y : List ℕ) → token_of q.policy x ≡ token_of q.policy y → token_json q x ≡ token_json q y
+unfolding json_with
+json_by_token q x y is = json_with_same q (payload_of q x) x y is ∙ ap (λ t. json_with q (token_or_none t).payload y) is
+
+pub json_bounded : (q : Terms) (l : List ℕ) → token_json q (take (q.policy.run.limit + 1) l) ≡ token_json q l
+json_bounded q l = go (nat_lt q.policy.run.limit (length l)) refl
+  where
+    go : (b : Bool) → nat_lt q.policy.run.limit (length l) ≡ b → token_json q (take (q.policy.run.limit + 1) l) ≡ token_json q l
+    go true e = let long : q.policy.run.limit < length l = grind (arith, nat_tests, e) in
+        json_by_token q (take (q.policy.run.limit + 1) l) l
+        (token_too_long q.policy (take (q.policy.run.limit + 1) l) (omega (arith, length-take-all l (q.policy.run.limit + 1) (omega (arith, long)))) ∙ sym (token_too_long q.policy l long))
+    go false e = let short : length l ≤ q.policy.run.limit = grind (arith, nat_tests, e) in
+        ap (token_json q) (take_all (q.policy.run.limit + 1) l (omega (arith, short)))
+
+-- the answer in JSON to what was taken of a token
+pub json_taken : {A E : Type 0} (view : A → Answer) (r : Result A E) (q : Terms) (x octets : List ℕ) (limit : ℕ) (failed : Bool) → limit ≡ q.policy.run.limit → octets ≡ take (limit + 1) x → failed ≡ false
+    → IfOk r (λ a. view a ≡ token_json q octets) → IfOk r (λ a. view a ≡ unless_read_failed in_json failed (token_json q x))
+json_taken view (Ok a) q x octets limit failed l o works is =
+    is ∙ ap (token_json q) (o ∙ ap (λ n. take (n + 1) x) l) ∙ json_bounded q x ∙ sym (ap (λ f. unless_read_failed in_json f (token_json q x)) works)
+json_taken view (Err e) q x octets limit failed l o works is = tt

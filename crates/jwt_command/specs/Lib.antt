@@ -4,6 +4,8 @@ pub mod Examples
 pub mod Faults
 pub mod Input
 pub mod Issue
+pub mod Json
+pub mod JsonTokens
 pub mod Lines
 pub mod Listed
 pub mod Mac
@@ -13,6 +15,7 @@ pub mod Seen
 pub mod Shown
 pub mod Stops
 pub mod TakenLines
+pub mod Told
 pub mod Verify
 pub mod Views
 pub mod Words

@@ -1,5 +1,5 @@
 -- The lines of an input, and the answers to them.
-use Rattle.std.specs.Prelude.{◌≡◌, ◌≤◌, ◌⊎◌, ◌==◌, ℕ, Bool, true, List, [], ◌∷◌, ◌++◌, length, take, Option, Some, None, if◌then◌else◌}
+use Rattle.std.specs.Prelude.{◌≡◌, ◌≤◌, ◌⊎◌, ◌==◌, ◌+◌, ℕ, suc, Bool, true, List, [], ◌∷◌, ◌++◌, length, take, Option, Some, None, if◌then◌else◌}
 use Rattle.std.specs.Io.KnownBytes.{Appends}
 use Rattle.jwt_command.specs.TakenLines.{first_line}
 use Rattle.jwt_command.specs.Printed.{Answer, Prints, out_of_memory, read_failed}
@@ -18,14 +18,21 @@ lines (c ∷ cs) = if c == 10 then [] ∷ lines cs else onto_first c (lines cs)
 
 -- ---- the answers
 
--- the moment of an answer: the one that `--now` names, else one that the clock said
-abbrev pub IsMoment : Option ℕ → ℕ → Type 0
-IsMoment (Some now) m = m ≡ now
-IsMoment None m = m ≤ 9223372036854775807
+-- What a clock says: of the line with a number, from 0, and these octets, that it came at this moment.
 
-abbrev pub AreMoments : Option ℕ → List ℕ → Type 0
-AreMoments now [] = Unit {0}
-AreMoments now (m ∷ ms) = IsMoment now m × AreMoments now ms
+-- the moment of an answer: the one that `--now` names, else one that the clock says for that line
+abbrev pub IsMoment : (ℕ → Type 0) → Option ℕ → ℕ → Type 0
+IsMoment says (Some now) m = m ≡ now
+IsMoment says None m = says m × (m ≤ 9223372036854775807)
+
+-- the moments of lines, the first of which has this number
+abbrev pub AreMoments : (ℕ → List ℕ → ℕ → Type 0) → Option ℕ → ℕ → List ℕ → List (List ℕ) → Type 0
+AreMoments says now n (m ∷ ms) (l ∷ ls) = IsMoment (says n l) now m × AreMoments says now (suc n) ms ls
+AreMoments says now n ms ls = Unit {0}
+
+-- The clock is asked with the line in hand, of which the octets up to one past a limit are held.
+abbrev pub with_held : ℕ → (ℕ → List ℕ → ℕ → Type 0) → ℕ → List ℕ → ℕ → Type 0
+with_held limit says n l = says n (take (limit + 1) l)
 
 -- the answers to lines, one each, in order, at the moments that stand beside them
 abbrev pub answers : (ℕ → List ℕ → Answer) → List ℕ → List (List ℕ) → List ℕ
@@ -33,37 +40,37 @@ answers at (m ∷ ms) (l ∷ ls) = (at m l).text ++ answers at ms ls
 answers at ms ls = []
 
 -- From x still to come to y: the lines between them are answered, each at a moment of its own, and nothing else went out.
-pub record AnswersLines (at : ℕ → List ℕ → Answer) (now : Option ℕ) (x y : List ℕ) (before after : Option (List ℕ)) : Type 0 where
+pub record AnswersLines (at : ℕ → List ℕ → Answer) (says : ℕ → List ℕ → ℕ → Type 0) (now : Option ℕ) (x y : List ℕ) (before after : Option (List ℕ)) : Type 0 where
   pub done : List (List ℕ)
   pub moments : List ℕ
   pub done_are : lines x ≡ done ++ lines y
   pub each : length moments ≡ length done
-  pub said : AreMoments now moments
+  pub said : AreMoments says now 0 moments done
   pub text : Appends before after (answers at moments done)
 
 -- the answer to a line went out
-abbrev pub LineAnswered : (ℕ → List ℕ → Answer) → Option ℕ → List ℕ → Option (List ℕ) → Option (List ℕ) → Type 0
-LineAnswered at now l before after = (m : ℕ) × IsMoment now m × Appends before after (at m l).text
+abbrev pub LineAnswered : (ℕ → List ℕ → Answer) → (ℕ → Type 0) → Option ℕ → List ℕ → Option (List ℕ) → Option (List ℕ) → Type 0
+LineAnswered at says now l before after = (m : ℕ) × IsMoment says now m × Appends before after (at m l).text
 
 -- a write failed, and a prefix of the answer to a line went out
-abbrev pub LineCut : (ℕ → List ℕ → Answer) → Option ℕ → List ℕ → Option (List ℕ) → Option (List ℕ) → Bool → ℕ → Type 0
-LineCut at now l before after failed status = (m : ℕ) × IsMoment now m × (failed ≡ true) × (status ≡ 3) × ((n : ℕ) × Appends before after (take n (at m l).text))
+abbrev pub LineCut : (ℕ → List ℕ → Answer) → (ℕ → Type 0) → Option ℕ → List ℕ → Option (List ℕ) → Option (List ℕ) → Bool → ℕ → Type 0
+LineCut at says now l before after failed status = (m : ℕ) × IsMoment says now m × (failed ≡ true) × (status ≡ 3) × ((n : ℕ) × Appends before after (take n (at m l).text))
 
 -- What ends a run at a line: the clock couldn't be read, and the line says so as of a read; or an allocation was refused; or a write
 -- failed.
-abbrev pub LineEnds : (ℕ → List ℕ → Answer) → Option ℕ → List ℕ → Option (List ℕ) → Option (List ℕ) → Bool → ℕ → Type 0
-LineEnds at now l before after failed status = ((now ≡ None) × Prints read_failed before after failed status)
-    ⊎ (Prints out_of_memory before after failed status ⊎ LineCut at now l before after failed status)
+abbrev pub LineEnds : (ℕ → List ℕ → Answer) → (ℕ → Type 0) → Option ℕ → List ℕ → Option (List ℕ) → Option (List ℕ) → Bool → ℕ → Type 0
+LineEnds at says now l before after failed status = ((now ≡ None) × Prints read_failed before after failed status)
+    ⊎ (Prints out_of_memory before after failed status ⊎ LineCut at says now l before after failed status)
 
 -- What ends a run before x is at its end: a read failed; or else what ends it at the first line of x.
-pub record Ended (at : ℕ → List ℕ → Answer) (now : Option ℕ) (x : List ℕ) (unread : Bool) (before after : Option (List ℕ)) (failed : Bool) (status : ℕ) : Type 0 where
+pub record Ended (at : ℕ → List ℕ → Answer) (says : ℕ → List ℕ → ℕ → Type 0) (now : Option ℕ) (x : List ℕ) (unread : Bool) (before after : Option (List ℕ)) (failed : Bool) (status : ℕ) : Type 0 where
   pub y : List ℕ
   pub between : Option (List ℕ)
-  pub done : AnswersLines at now x y before between
+  pub done : AnswersLines at says now x y before between
   pub by : ((unread ≡ true) × Prints read_failed between after failed status)
-      ⊎ LineEnds at now (first_line y) between after failed status
+      ⊎ LineEnds at (says (length done.done) (first_line y)) now (first_line y) between after failed status
 
 -- each line is answered, and the status is 0; or something ended the run behind some of the answers
-abbrev pub GivesLines : (ℕ → List ℕ → Answer) → Option ℕ → List ℕ → Bool → Option (List ℕ) → Option (List ℕ) → Bool → ℕ → Type 0
-GivesLines at now x unread before after failed status = (AnswersLines at now x [] before after × (status ≡ 0))
-    ⊎ Ended at now x unread before after failed status
+abbrev pub GivesLines : (ℕ → List ℕ → Answer) → (ℕ → List ℕ → ℕ → Type 0) → Option ℕ → List ℕ → Bool → Option (List ℕ) → Option (List ℕ) → Bool → ℕ → Type 0
+GivesLines at says now x unread before after failed status = (AnswersLines at says now x [] before after × (status ≡ 0))
+    ⊎ Ended at says now x unread before after failed status

@@ -59,20 +59,30 @@ token_answer q x = verify_line (verdict_of q x q.policy.run.work) (length (paid_
 abbrev pub keys_refused : KeysFault → Answer
 keys_refused fault = line (codes "refused Keys " ∷ keys_fault_name fault ∷ []) 1
 
-abbrev pub under_keys : List Meaning → ℕ → Settings → Result KeyList KeysFault → List ℕ → Answer
-under_keys verifiers now p (Ok set) x = token_answer (terms verifiers now p set) x
-under_keys verifiers now p (Err fault) x = keys_refused fault
-
--- the key set is in hand, or the first line of x
-abbrev pub keys_answer : List Meaning → ℕ → Held → Settings → List ℕ → Answer
-keys_answer verifiers now held p x = under_keys verifiers now p (key_set_of (document held.keys x)) (last_document held.token (behind held.keys x))
-
 abbrev pub policy_refused : PolicyFault → Answer
 policy_refused fault = line (codes "refused Policy " ∷ joined_parts (policy_fault_parts fault) ∷ []) 1
 
-abbrev pub under_policy : List Meaning → ℕ → Held → Result Settings PolicyFault → List ℕ → Answer
-under_policy verifiers now held (Ok p) x = keys_answer verifiers now held p x
-under_policy verifiers now held (Err fault) x = policy_refused fault
+-- how the answers of `verify` are told: of a token, of a document that is refused, and of a read that failed
+pub record Telling : Type 0 where
+  pub token : Terms → List ℕ → Answer
+  pub keys_refused : KeysFault → Answer
+  pub policy_refused : PolicyFault → Answer
+  pub read_failed : Answer
+
+abbrev pub in_lines : Telling
+in_lines = record { token = token_answer; keys_refused = keys_refused; policy_refused = policy_refused; read_failed = read_failed }
+
+abbrev pub under_keys : Telling → List Meaning → ℕ → Settings → Result KeyList KeysFault → List ℕ → Answer
+under_keys tell verifiers now p (Ok set) x = tell.token (terms verifiers now p set) x
+under_keys tell verifiers now p (Err fault) x = tell.keys_refused fault
+
+-- the key set is in hand, or the first line of x
+abbrev pub keys_answer : Telling → List Meaning → ℕ → Held → Settings → List ℕ → Answer
+keys_answer tell verifiers now held p x = under_keys tell verifiers now p (key_set_of (document held.keys x)) (last_document held.token (behind held.keys x))
+
+abbrev pub under_policy : Telling → List Meaning → ℕ → Held → Result Settings PolicyFault → List ℕ → Answer
+under_policy tell verifiers now held (Ok p) x = keys_answer tell verifiers now held p x
+under_policy tell verifiers now held (Err fault) x = tell.policy_refused fault
 
 -- ---- the answer
 
@@ -80,7 +90,11 @@ abbrev pub unless_failed : Bool → Answer → Answer
 unless_failed true a = read_failed
 unless_failed false a = a
 
+abbrev pub unless_read_failed : Telling → Bool → Answer → Answer
+unless_read_failed tell true a = tell.read_failed
+unless_read_failed tell false a = a
+
 -- by verifiers for public keys, at a moment, of the documents in hand and of an input that has the others, by a reader that has
 -- failed or not
-abbrev pub verify_answer : List Meaning → ℕ → Held → Bool → List ℕ → Answer
-verify_answer verifiers now held failed x = unless_failed failed (under_policy verifiers now held (policy_of (document held.policy x)) (behind held.policy x))
+abbrev pub verify_answer : Telling → List Meaning → ℕ → Held → Bool → List ℕ → Answer
+verify_answer tell verifiers now held failed x = unless_read_failed tell failed (under_policy tell verifiers now held (policy_of (document held.policy x)) (behind held.policy x))

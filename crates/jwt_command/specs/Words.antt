@@ -47,6 +47,10 @@ public_keys_rule = record (new_rule (codes "public-keys")) { long = Some (codes 
 abbrev pub lines_rule : Rule
 lines_rule = record (new_rule (codes "lines")) { long = Some (codes "lines"); action = Some SetTrue }
 
+-- a flag `--json`
+abbrev pub json_rule : Rule
+json_rule = record (new_rule (codes "json")) { long = Some (codes "json"); action = Some SetTrue }
+
 -- the file of a document, in the place of standard input
 abbrev pub policy_rule : Rule
 policy_rule = option (codes "policy")
@@ -81,8 +85,11 @@ show_app = with_rule (new_app (codes "show")) limit_rule
 abbrev pub verify_on_input : Bool → App
 verify_on_input has_clock = with_rule (with_rule (new_app (codes "verify")) (now_rule has_clock)) public_keys_rule
 
+abbrev pub verify_on_files : Bool → App
+verify_on_files has_clock = with_rule (with_rule (with_rule (verify_on_input has_clock) policy_rule) keys_rule) token_rule
+
 abbrev pub verify_app : Bool → App
-verify_app has_clock = with_rule (with_rule (with_rule (with_rule (verify_on_input has_clock) policy_rule) keys_rule) token_rule) lines_rule
+verify_app has_clock = with_rule (with_rule (verify_on_files has_clock) lines_rule) json_rule
 
 abbrev pub issue_app : App
 issue_app = with_rule (with_rule (with_rule (with_rule (new_app (codes "issue")) alg_rule) typ_rule) form_rule) keys_rule
@@ -153,11 +160,8 @@ abbrev pub show_order : List Row → Option Order
 show_order rows = option_map (λ limit. Show limit) (number_in limit_range (one_of (codes "limit") rows))
 
 -- a flag has the value `true` where it is used, and else `false`
-abbrev pub public_keys_in : List Row → Bool
-public_keys_in rows = option_map_or (λ t. bytes_eq t (codes "true")) (first_of (codes "public-keys") rows) false
-
-abbrev pub lines_asked : List Row → Bool
-lines_asked rows = option_map_or (λ t. bytes_eq t (codes "true")) (first_of (codes "lines") rows) false
+abbrev pub is_set : Text → List Row → Bool
+is_set name rows = option_map_or (λ t. bytes_eq t (codes "true")) (first_of name rows) false
 
 -- the moment that `--now` names, else the clock's
 abbrev pub moment_in : Option ℕ → List Row → Option ℕ
@@ -167,7 +171,7 @@ abbrev pub files_in : List Row → Files
 files_in rows = record { policy = first_of (codes "policy") rows; keys = first_of (codes "keys") rows; token = first_of (codes "token") rows; key = None }
 
 abbrev pub verify_order : Option ℕ → List Row → Option Order
-verify_order clock rows = if lines_asked rows then None else option_map (λ now. Verify now (public_keys_in rows) (files_in rows)) (moment_in clock rows)
+verify_order clock rows = if is_set (codes "lines") rows then None else option_map (λ now. Verify now (is_set (codes "public-keys") rows) (files_in rows)) (moment_in clock rows)
 
 -- the form of a token that a text names
 abbrev pub form_named : Text → Option Form
@@ -189,14 +193,17 @@ keys_file_in rows = record { policy = None; keys = first_of (codes "keys") rows;
 abbrev pub issue_order : List Row → Option Order
 issue_order rows = option_and_then (λ alg. option_map (λ form. Issue alg (first_of (codes "typ") rows) form (keys_file_in rows)) (form_in rows)) (alg_in rows)
 
-abbrev pub order_in : Option ℕ → Text → List Row → Option Order
-order_in clock name rows =
+abbrev pub named_order : Option ℕ → Text → List Row → Option Order
+named_order clock name rows =
     if bytes_eq name (codes "mac") then mac_order rows
     else if bytes_eq name (codes "keys") then Some Keys
     else if bytes_eq name (codes "show") then show_order rows
     else if bytes_eq name (codes "verify") then verify_order clock rows
     else if bytes_eq name (codes "issue") then issue_order rows
     else None
+
+abbrev pub order_in : Option ℕ → Text → List Row → Option Order
+order_in clock name rows = if is_set (codes "json") rows then None else named_order clock name rows
 
 -- what a subcommand with its matches asks for, where `clap` has no fault
 abbrev pub order_under : Option ℕ → Kinds → Option (Text × List Row) → Option Order
@@ -233,14 +240,14 @@ named_moment rows = if is_some (first_of (codes "now") rows) then option_map (λ
 abbrev pub is_named : Text → List Row → Bool
 is_named name rows = is_some (first_of name rows)
 
--- the policy and the key set are in files, and there is no file of one token
+-- the policy and the key set are in files, there is no file of one token, and the answers are lines
 abbrev pub lines_order : List Row → Option LinesOrder
 lines_order rows =
-    if lines_asked rows
+    if is_set (codes "json") rows then None else if is_set (codes "lines") rows
     then (if is_named (codes "token") rows then None
     else (if is_named (codes "policy") rows
     then (if is_named (codes "keys") rows
-    then option_map (λ now. record { now = now; public_keys = public_keys_in rows; files = files_in rows }) (named_moment rows)
+    then option_map (λ now. record { now = now; public_keys = is_set (codes "public-keys") rows; files = files_in rows }) (named_moment rows)
     else None) else None)) else None
 
 abbrev pub lines_in : Text → List Row → Option LinesOrder
@@ -254,6 +261,21 @@ lines_under (fault ∷ faults) matches = None
 abbrev pub lines_of : Bool → List Text → Option LinesOrder
 lines_of has_clock words = let app = jwt_app has_clock in lines_under (fault_of app words) (subcommand_of app words)
 
+-- ---- an answer in JSON
+
+abbrev pub json_in : Option ℕ → Text → List Row → Option Order
+json_in clock name rows = if is_set (codes "json") rows then named_order clock name rows else None
+
+abbrev pub json_under : Option ℕ → Kinds → Option (Text × List Row) → Option Order
+json_under clock [] matches = option_and_then (λ m. json_in clock m.0 m.1) matches
+json_under clock (fault ∷ faults) matches = None
+
+-- what the words ask for in JSON, at the moment that a clock says or without a clock
+abbrev pub json_of : Option ℕ → List Text → Option Order
+json_of clock words = let app = jwt_app (is_some clock) in json_under clock (fault_of app words) (subcommand_of app words)
+
+-- ---- files
+
 -- the files that an order names
 abbrev pub files_in_order : Order → Files
 files_in_order (MacFile name limit) = record no_files { key = Some name }
@@ -264,6 +286,9 @@ files_in_order order = no_files
 abbrev pub files_once : Option ℕ → List Text → Files
 files_once clock words = option_map_or files_in_order (order_of clock words) no_files
 
+abbrev pub files_unless_lines : Option ℕ → List Text → Files
+files_unless_lines clock words = option_map_or files_in_order (json_of clock words) (files_once clock words)
+
 -- the files that words name
 abbrev pub files_of : Option ℕ → List Text → Files
-files_of clock words = option_map_or (λ order. order.files) (lines_of (is_some clock) words) (files_once clock words)
+files_of clock words = option_map_or (λ order. order.files) (lines_of (is_some clock) words) (files_unless_lines clock words)

@@ -56,6 +56,7 @@ pub fn read_document<R: Source>(
         IfSome d (λ held. held.octets ≡ take (limit + 1) x))) }
     ensures unread { IfOk result (λ d. IfNone d (R.failed r.new ≡ true)) }
     ensures works { IfOk result (λ d. OnSome d (R.failed r.new ≡ false)) }
+    ensures taken { IfSome (R.remaining r.old) (λ x. (R.failed r.new ≡ true) ⊎ TakesAtMost (limit + 1) x (R.remaining r.new)) }
 {
     let mut intake = Intake::new(alloc, limit);
     match intake.read_from(r) {

@@ -1,8 +1,8 @@
 //! The command `verify --lines`: a verdict for each line of an input.
-ghost use Rattle.std.specs.Prelude.{◌≡◌, ◌≤◌, ◌+◌, ◌<◌, ◌++◌, ◌∷◌, ◌⊎◌, [], IfOk, OnOk, is_some, false, true, length, map, take, Err, IfErr, IfNone, IfSome, None, Ok, Some};
+ghost use Rattle.std.specs.Prelude.{◌≡◌, ◌≤◌, ◌+◌, ◌<◌, ◌++◌, ◌∷◌, ◌⊎◌, ℕ, List, [], IfOk, OnOk, is_some, false, true, length, map, take, Err, IfErr, IfNone, IfSome, None, Ok, Some};
 ghost use Rattle.std.specs.Io.KnownBytes.{prepend_known};
 ghost use Rattle.jwt_keys.specs.KeySets.{key_set};
-ghost use Rattle.jwt_command.specs.Lines.{GivesLines, IsMoment, LineAnswered, LineEnds};
+ghost use Rattle.jwt_command.specs.Lines.{GivesLines, IsMoment, LineAnswered, LineEnds, with_held};
 ghost use Rattle.jwt_command.specs.TakenLines.{after_line, first_line};
 ghost use Rattle.jwt_keys.specs.KeySets.{key_set_of};
 ghost use Rattle.jwt_policy.specs.Document.{policy_of};
@@ -19,7 +19,8 @@ use crate::documents::{Held, file_failed, unread};
 use crate::reply::Reply;
 use crate::run::{asked_for, lack_memory, run_files, send};
 use crate::take_line::LineFault;
-use crate::verify::{on_octets, refused_policy};
+use crate::told::refused_policy;
+use crate::verify::on_octets;
 use crate::words::{Lines, read_lines};
 use jwt_keys::{KeySet, KeysFault};
 use jwt_mac::Verifier;
@@ -27,27 +28,32 @@ use jwt_policy::{Policy, PolicyFault};
 use jwt_text::{Sink, Source, write_out};
 use std::alloc::{AllocError, Global};
 
-/// Moments, in seconds since 1970-01-01T00:00:00Z.
+/// Moments of lines, in seconds since 1970-01-01T00:00:00Z.
 pub trait Clock {
-    /// The moment, at most 9,223,372,036,854,775,807; none where it can't be read.
-    fn moment(&mut self) -> Option<u64>
-        ensures { IfSome result (λ m. m ≤ 9223372036854775807) };
+    /// What it says: of the line with a number, from 0, and these octets, the moment at which it came.
+    ghost says: { ℕ → List ℕ → ℕ → Type 0 };
+
+    /// The moment of the line with this number, from 0, and these octets; of a line that is longer than the limit, those up to one
+    /// past it. It is at most 9,223,372,036,854,775,807. None where the clock can't be read.
+    fn moment(&mut self, number: u64, line: &[u8]) -> Option<u64>
+        ensures range { IfSome result (λ m. m ≤ 9223372036854775807) }
+        ensures said { IfSome result (λ m. says number line.now m) };
 }
 
-// The moment of an answer: the one that `--now` names, else the clock's.
-fn moment<C: Clock>(now: Option<u64>, clock: &mut C) -> Option<u64>
+// The moment of an answer: the one that `--now` names, else the clock's for that line.
+fn moment<C: Clock>(now: Option<u64>, clock: &mut C, number: u64, line: &[u8]) -> Option<u64>
     requires { IfSome now (λ n. n ≤ 9223372036854775807) }
     ensures range { IfSome result (λ m. m ≤ 9223372036854775807) }
-    ensures moment { IfSome result (λ m. IsMoment now m) }
+    ensures moment { IfSome result (λ m. IsMoment (C.says number line.now) now m) }
     ensures none { IfNone result (now ≡ None) }
 {
     match now {
         Some(now) => Some(now),
-        None => clock.moment(),
+        None => clock.moment(number, line),
     }
 }
 
-// Answers a line. None: its answer went out; else the status with which the run ends.
+// Answers the line of this number. None: its answer went out; else the status with which the run ends.
 fn answer_line<W: Sink, C: Clock>(
     alloc: Global,
     verifiers: &[Box<dyn Verifier>],
@@ -55,18 +61,19 @@ fn answer_line<W: Sink, C: Clock>(
     clock: &mut C,
     policy: &Policy,
     keys: &KeySet,
+    number: u64,
     line: &[u8],
     w: &mut W,
 ) -> Option<u8>
     requires { IfSome now (λ n. n ≤ 9223372036854775807) }
     ensures answered { IfNone result (LineAnswered
-        (λ m l. token_answer (terms (map meaning verifiers.now) m policy.now (key_set keys.now)) l) now line.now
+        (λ m l. token_answer (terms (map meaning verifiers.now) m policy.now (key_set keys.now)) l) (C.says number line.now) now line.now
         (W.contents w.old) (W.contents w.new)) }
     ensures ends { IfSome result (λ status. LineEnds
-        (λ m l. token_answer (terms (map meaning verifiers.now) m policy.now (key_set keys.now)) l) now line.now
+        (λ m l. token_answer (terms (map meaning verifiers.now) m policy.now (key_set keys.now)) l) (C.says number line.now) now line.now
         (W.contents w.old) (W.contents w.new) (W.failed w.new) status) }
 {
-    let Some(moment) = moment(now, clock) else {
+    let Some(moment) = moment(now, clock, number, line) else {
         return Some(send(w, b"failed Read\n", 3));
     };
     let Ok(reply) = on_octets(alloc, verifiers, moment, policy, keys, line) else {
@@ -132,7 +139,8 @@ pub(crate) fn answer_lines<R: Source, W: Sink, C: Clock>(
 ) -> u8
     requires { IfSome now (λ n. n ≤ 9223372036854775807) }
     ensures { IfSome (R.remaining r.old) (λ x. GivesLines
-        (λ m l. token_answer (terms (map meaning verifiers.now) m policy.now (key_set keys.now)) l) now x (R.failed r.new)
+        (λ m l. token_answer (terms (map meaning verifiers.now) m policy.now (key_set keys.now)) l)
+        (with_held policy.now.run.limit C.says) now x (R.failed r.new)
         (W.contents w.old) (W.contents w.new) (W.failed w.new) result) }
 {
     let limit = policy.limit();
@@ -140,7 +148,7 @@ pub(crate) fn answer_lines<R: Source, W: Sink, C: Clock>(
         return lack_memory(w);
     };
     let mut line = Vec::new(alloc);
-    'lines: for _ in 0..u64::MAX {
+    'lines: for number in 0..u64::MAX {
         match take_line(&mut ahead, r, limit, &mut line) {
             Ok(true) => {
                 if let Some(status) = answer_line(
@@ -150,6 +158,7 @@ pub(crate) fn answer_lines<R: Source, W: Sink, C: Clock>(
                     clock,
                     policy,
                     keys,
+                    number,
                     line.as_slice(),
                     w,
                 ) {
@@ -189,7 +198,7 @@ fn lines_in_hand<R: Source, W: Sink, C: Clock>(
     requires { IfSome now (λ n. n ≤ 9223372036854775807) }
     ensures { IfSome (R.remaining r.old) (λ x.
         Printed out_of_memory (record { before = W.contents w.old; after = W.contents w.new; failed = W.failed w.new; status = result })
-        ⊎ LinesByPolicy (map meaning verifiers.now) now (policy_of policy.now) (key_set_of keys.now) x (R.failed r.new)
+        ⊎ LinesByPolicy (map meaning verifiers.now) C.says now (policy_of policy.now) (key_set_of keys.now) x (R.failed r.new)
         (record { before = W.contents w.old; after = W.contents w.new; failed = W.failed w.new; status = result })) }
 {
     let policy = match Policy::read(alloc, policy) {
@@ -215,7 +224,7 @@ fn lines_named<R: Source, W: Sink, C: Clock>(
     w: &mut W,
 ) -> u8
     requires { IfSome order.now (λ n. n ≤ 9223372036854775807) }
-    ensures { IfSome (R.remaining r.old) (λ x. RunsLines (map meaning verifiers.now) (lines_view order.entry) (held_view held.entry) x (R.failed r.new)
+    ensures { IfSome (R.remaining r.old) (λ x. RunsLines (map meaning verifiers.now) C.says (lines_view order.entry) (held_view held.entry) x (R.failed r.new)
         (record { before = W.contents w.old; after = W.contents w.new; failed = W.failed w.new; status = result })) }
 {
     if let Some(name) = unread(order.files, held) {
@@ -240,7 +249,7 @@ fn lines_named<R: Source, W: Sink, C: Clock>(
 }
 
 /// The same as [`run_files`], and `verify --lines` besides: each line of `r` is answered before the next is waited for. Where `--now`
-/// is left out, `moments` is read for each line. The status of `verify --lines` is 0 where each line was answered.
+/// is left out, `moments` is asked for each line, with the line in hand. The status of `verify --lines` is 0 where each line was answered.
 pub fn run_lines<R: Source, W: Sink, C: Clock>(
     alloc: Global,
     words: &[&str],
@@ -254,7 +263,7 @@ pub fn run_lines<R: Source, W: Sink, C: Clock>(
     requires { IfSome clock (λ n. n ≤ 9223372036854775807) }
     // A verdict for each line.
     ensures lines { (order : LinesOrder) → lines_of (is_some clock) (map (λ word. word.now) words.now) ≡ Some order
-        → IfSome (R.remaining r.old) (λ x. RunsLines (map meaning built_in.now) order (held_view held.entry) x (R.failed r.new)
+        → IfSome (R.remaining r.old) (λ x. RunsLines (map meaning built_in.now) C.says order (held_view held.entry) x (R.failed r.new)
         (record { before = W.contents w.old; after = W.contents w.new; failed = W.failed w.new; status = result })) }
 
     // One answer.

@@ -1,16 +1,17 @@
 //! The command, over any source and sink.
 ghost use Rattle.std.specs.Prelude.{◌≡◌, ◌≤◌, ◌+◌, ◌⊎◌, ℕ, List, [], None, Some, map, true, IfOk, IfSome};
-ghost use Rattle.jwt_command.specs.Answered.{answer_of, answer_with, version_answer};
+ghost use Rattle.jwt_command.specs.Answered.{answer_of, answer_told, answer_with, version_answer};
 ghost use Rattle.jwt_command.specs.Documents.{most_unless_unread, unless_unread, unread, unread_or};
 ghost use Rattle.jwt_command.specs.Issue.{issue_answer};
 ghost use Rattle.jwt_command.specs.Mac.{key_refused, key_spelled, mac_in_hand, mac_most};
 ghost use Rattle.jwt_command.specs.Input.{TakesAtMost};
 ghost use Rattle.jwt_command.specs.Printed.{Gives, GivesWrongWords, Prints, out_of_memory};
-ghost use Rattle.jwt_command.specs.Seen.{files_view};
+ghost use Rattle.jwt_command.specs.Seen.{files_view, seen};
 ghost use Rattle.jwt_command.specs.Views.{held_view, reply_view, wanted_view};
 ghost use Rattle.jwt_command.specs.Stops.{keys_most, most_taken, most_taken_with, verify_most};
+ghost use Rattle.jwt_command.specs.Told.{told, unless_unread_told};
 ghost use Rattle.jwt_command.specs.Verify.{asked_for, verify_answer};
-ghost use Rattle.jwt_command.specs.Words.{Mac, Order as Asked, Version, input_limit, order_of};
+ghost use Rattle.jwt_command.specs.Words.{HasLimits, Mac, Order as Asked, Version, input_limit, order_of};
 
 use crate::documents::{Held, file_failed, unread, unread_or};
 use crate::issue::{Wanted, issue};
@@ -18,6 +19,7 @@ use crate::keys::keys;
 use crate::mac::{mac, mac_in_hand};
 use crate::reply::Reply;
 use crate::show::show;
+use crate::told::told_file;
 use crate::verify::verify;
 use crate::words::{Files, Order, WordsFault, read_words};
 use jwt_mac::Verifier;
@@ -244,6 +246,7 @@ fn mac_named<R: Source>(
 // The answer of `verify`, where each document that a file is named for is in hand.
 fn verify_named<R: Source>(
     alloc: Global,
+    json: bool,
     verifiers: &[Box<dyn Verifier>],
     now: u64,
     files: Files<'_>,
@@ -252,8 +255,8 @@ fn verify_named<R: Source>(
 ) -> Result<Reply, AllocError>
     requires { now ≤ 9223372036854775807 }
     ensures line { IfSome (R.remaining r.old) (λ x. IfOk result (λ a. reply_view a
-        ≡ unless_unread (unread (files_view files.entry) (held_view held.entry))
-        (verify_answer (map meaning verifiers.now) now (held_view held.entry) (R.failed r.new) x))) }
+        ≡ unless_unread_told json (unread (files_view files.entry) (held_view held.entry))
+        (verify_answer (told json) (map meaning verifiers.now) now (held_view held.entry) (R.failed r.new) x))) }
     ensures taken { IfSome (R.remaining r.old) (λ x. (R.failed r.new ≡ true)
         ⊎ TakesAtMost 5308419 x (R.remaining r.new)) }
     ensures stops { IfSome (R.remaining r.old) (λ x. (R.failed r.new ≡ true)
@@ -261,8 +264,8 @@ fn verify_named<R: Source>(
         (verify_most (held_view held.entry) x)) x (R.remaining r.new)) }
 {
     match unread(files, held) {
-        Some(name) => file_failed(alloc, name),
-        None => verify(alloc, verifiers, now, held, r),
+        Some(name) => told_file(alloc, json, name),
+        None => verify(alloc, json, verifiers, now, held, r),
     }
 }
 
@@ -286,6 +289,52 @@ fn issue_named<R: Source>(
     match unread(files, held) {
         Some(name) => file_failed(alloc, name),
         None => issue(alloc, wanted, held.keys, r),
+    }
+}
+
+/// The answer to an order, in JSON or in lines, before any of it goes out.
+pub(crate) fn reply_of<R: Source>(
+    alloc: Global,
+    order: Order<'_>,
+    json: bool,
+    built_in: &[Box<dyn Verifier>],
+    held: Held<'_>,
+    r: &mut R,
+) -> Result<Reply, AllocError>
+    requires { HasLimits (seen order) }
+    ensures answer { IfSome (R.remaining r.old) (λ x. IfOk result (λ a. reply_view a
+        ≡ answer_told json (map meaning built_in.now) (held_view held.entry) (seen order.entry) (R.failed r.new) x)) }
+    ensures taken { IfSome (R.remaining r.old) (λ x. (R.failed r.new ≡ true)
+        ⊎ TakesAtMost (input_limit (seen order.entry) + 1) x (R.remaining r.new)) }
+    ensures stops { IfSome (R.remaining r.old) (λ x. (R.failed r.new ≡ true)
+        ⊎ TakesAtMost (most_taken_with (held_view held.entry) (seen order.entry) x) x (R.remaining r.new)) }
+    ensures refused_key { (key : List ℕ) (limit : ℕ) → seen order.entry ≡ Mac key limit
+        → key_spelled key ≡ None → IfOk result (λ a. reply_view a ≡ key_refused) }
+    ensures unread_key { (key : List ℕ) (limit : ℕ) → seen order.entry ≡ Mac key limit
+        → key_spelled key ≡ None → r.new ≡ r.old }
+    ensures version { seen order.entry ≡ Version → IfOk result (λ a. reply_view a ≡ version_answer) }
+    ensures unread_version { seen order.entry ≡ Version → r.new ≡ r.old }
+{
+    match order {
+        Order::Mac { key, limit } => mac(alloc, key.as_bytes(), limit, r),
+        Order::MacFile { name, limit } => mac_named(alloc, name, limit, held, r),
+        Order::Keys => keys(alloc, r),
+        Order::Show { limit } => show(alloc, limit, r),
+        Order::Verify {
+            now,
+            public_keys,
+            files,
+        } => {
+            let verifiers = asked_for(public_keys, built_in);
+            verify_named(alloc, json, verifiers, now, files, held, r)
+        }
+        Order::Issue {
+            alg,
+            typ,
+            form,
+            files,
+        } => issue_named(alloc, Wanted { alg, typ, form }, files, held, r),
+        Order::Version => version_line(alloc),
     }
 }
 
@@ -324,26 +373,7 @@ fn reply_to<R: Source>(
     ensures unread { order_of clock (map (λ word. word.now) words.now) ≡ None → r.new ≡ r.old }
 {
     match read_words(alloc, words, clock) {
-        Ok(Order::Mac { key, limit }) => mac(alloc, key.as_bytes(), limit, r),
-        Ok(Order::MacFile { name, limit }) => mac_named(alloc, name, limit, held, r),
-        Ok(Order::Keys) => keys(alloc, r),
-        Ok(Order::Show { limit }) => show(alloc, limit, r),
-        Ok(
-            Order::Verify {
-                now,
-                public_keys,
-                files,
-            },
-        ) => verify_named(alloc, asked_for(public_keys, built_in), now, files, held, r),
-        Ok(
-            Order::Issue {
-                alg,
-                typ,
-                form,
-                files,
-            },
-        ) => issue_named(alloc, Wanted { alg, typ, form }, files, held, r),
-        Ok(Order::Version) => version_line(alloc),
+        Ok(order) => reply_of(alloc, order, false, built_in, held, r),
         Err(WordsFault::Wrong(text)) => Ok(Reply {
             text: text.into_bytes(),
             status: 2,

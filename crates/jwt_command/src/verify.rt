@@ -6,13 +6,17 @@ ghost use Rattle.jwt_verify.specs.declared.report.Verdict.TheVariants.{Refused};
 ghost use Rattle.jwt_command.specs.Documents.{last_document, last_most};
 ghost use Rattle.jwt_command.specs.Input.{TakesAtMost};
 ghost use Rattle.jwt_command.specs.Stops.{keys_most, verify_most};
-ghost use Rattle.jwt_command.specs.Verify.{fault_line, keys_answer, named_line, policy_refused, terms, token_answer, unless_failed, verify_answer, verify_line};
+ghost use Rattle.jwt_command.specs.Json.{token_json};
+ghost use Rattle.jwt_command.specs.Told.{in_json, told};
+ghost use Rattle.jwt_command.specs.Verify.{fault_line, in_lines, keys_answer, named_line, terms, token_answer, unless_read_failed, verify_answer, verify_line};
 ghost use Rattle.jwt_command.specs.Views.{held_view, reply_view};
 
-use crate::documents::{Held, document};
-use crate::faults::{fault_text, policy_fault_text};
+use crate::documents::{Held, document, read_document};
+use crate::faults::fault_text;
+use crate::json_verdict::{payload_of, read_failed_json, report_json};
 use crate::reply::Reply;
 use crate::take_line::LineFault;
+use crate::told::{told_keys, told_policy, told_read};
 use jwt_keys::{KeySet, KeysFault};
 use jwt_mac::{Budget, CountDown, Verifier};
 use jwt_policy::{Policy, PolicyFault};
@@ -89,7 +93,7 @@ fn on_token<R: Source>(
 ) -> Result<Reply, AllocError>
     requires { now ≤ 9223372036854775807 }
     ensures line { IfSome (R.remaining r.old) (λ x. IfOk result (λ a. reply_view a
-        ≡ unless_failed (R.failed r.new)
+        ≡ unless_read_failed in_lines (R.failed r.new)
         (token_answer (terms (map meaning verifiers.now) now policy.now (key_set keys.now)) x))) }
     ensures taken { IfSome (R.remaining r.old) (λ x. (R.failed r.new ≡ true)
         ⊎ TakesAtMost 1048577 x (R.remaining r.new)) }
@@ -126,9 +130,56 @@ pub(crate) fn on_octets(
     report_line(alloc, &report, count.octets())
 }
 
+// The verdict on a token in hand, in JSON.
+fn on_octets_json(
+    alloc: Global,
+    verifiers: &[Box<dyn Verifier>],
+    now: u64,
+    policy: &Policy,
+    keys: &KeySet,
+    token: &[u8],
+) -> Result<Reply, AllocError>
+    requires { now ≤ 9223372036854775807 }
+    ensures { IfOk result (λ a. reply_view a
+        ≡ token_json (terms (map meaning verifiers.now) now policy.now (key_set keys.now)) token.now) }
+{
+    let payload = payload_of(alloc, policy, token)?;
+    let mut count = CountDown::new(policy.work());
+    tells_reports();
+    let report = judge(
+        alloc, token, keys, policy, now as i64, verifiers, &mut count,
+    );
+    report_json(alloc, &report, payload.as_slice(), count.octets())
+}
+
+// The same on the token that is all that is left of the input.
+fn on_token_json<R: Source>(
+    alloc: Global,
+    verifiers: &[Box<dyn Verifier>],
+    now: u64,
+    policy: &Policy,
+    keys: &KeySet,
+    r: &mut R,
+) -> Result<Reply, AllocError>
+    requires { now ≤ 9223372036854775807 }
+    ensures line { IfSome (R.remaining r.old) (λ x. IfOk result (λ a. reply_view a
+        ≡ unless_read_failed in_json (R.failed r.new)
+        (token_json (terms (map meaning verifiers.now) now policy.now (key_set keys.now)) x))) }
+    ensures taken { IfSome (R.remaining r.old) (λ x. (R.failed r.new ≡ true)
+        ⊎ TakesAtMost 1048577 x (R.remaining r.new)) }
+    ensures stops { IfSome (R.remaining r.old) (λ x. (R.failed r.new ≡ true)
+        ⊎ TakesAtMost (policy.now.run.limit + 1) x (R.remaining r.new)) }
+{
+    match read_document(alloc, policy.limit(), r)? {
+        Some(token) => on_octets_json(alloc, verifiers, now, policy, keys, token.octets()),
+        None => read_failed_json(alloc),
+    }
+}
+
 // The verdict on the token: in hand, or all that is left of the input.
 fn on_last<R: Source>(
     alloc: Global,
+    json: bool,
     verifiers: &[Box<dyn Verifier>],
     now: u64,
     policy: &Policy,
@@ -139,23 +190,26 @@ fn on_last<R: Source>(
     requires moment { now ≤ 9223372036854775807 }
     requires works { R.failed r.old ≡ false }
     ensures line { IfSome (R.remaining r.old) (λ x. IfOk result (λ a. reply_view a
-        ≡ unless_failed (R.failed r.new)
-        (token_answer (terms (map meaning verifiers.now) now policy.now (key_set keys.now))
+        ≡ unless_read_failed (told json) (R.failed r.new)
+        ((told json).token (terms (map meaning verifiers.now) now policy.now (key_set keys.now))
         (last_document (option_map (λ t. t.now) token.entry) x)))) }
     ensures taken { IfSome (R.remaining r.old) (λ x. (R.failed r.new ≡ true)
         ⊎ TakesAtMost 1048577 x (R.remaining r.new)) }
     ensures stops { IfSome (R.remaining r.old) (λ x. (R.failed r.new ≡ true)
         ⊎ TakesAtMost (last_most (policy.now.run.limit + 1) (option_map (λ t. t.now) token.entry)) x (R.remaining r.new)) }
 {
-    match token {
-        Some(token) => on_octets(alloc, verifiers, now, policy, keys, token),
-        None => on_token(alloc, verifiers, now, policy, keys, r),
+    match (token, json) {
+        (Some(token), true) => on_octets_json(alloc, verifiers, now, policy, keys, token),
+        (Some(token), false) => on_octets(alloc, verifiers, now, policy, keys, token),
+        (None, true) => on_token_json(alloc, verifiers, now, policy, keys, r),
+        (None, false) => on_token(alloc, verifiers, now, policy, keys, r),
     }
 }
 
 // The key set, in hand or a line, and what is behind it.
 fn on_keys<R: Source>(
     alloc: Global,
+    json: bool,
     verifiers: &[Box<dyn Verifier>],
     now: u64,
     held: Held<'_>,
@@ -164,8 +218,8 @@ fn on_keys<R: Source>(
 ) -> Result<Reply, AllocError>
     requires { now ≤ 9223372036854775807 }
     ensures line { IfSome (R.remaining r.old) (λ x. IfOk result (λ a. reply_view a
-        ≡ unless_failed (R.failed r.new)
-        (keys_answer (map meaning verifiers.now) now (held_view held.entry) policy.now x))) }
+        ≡ unless_read_failed (told json) (R.failed r.new)
+        (keys_answer (told json) (map meaning verifiers.now) now (held_view held.entry) policy.now x))) }
     ensures taken { IfSome (R.remaining r.old) (λ x. (R.failed r.new ≡ true)
         ⊎ TakesAtMost 5242882 x (R.remaining r.new)) }
     ensures stops { IfSome (R.remaining r.old) (λ x. (R.failed r.new ≡ true)
@@ -174,29 +228,22 @@ fn on_keys<R: Source>(
 {
     let text = match document(alloc, held.keys, r, 4_194_304) {
         Ok(text) => text,
-        Err(LineFault::Read) => return Reply::line(alloc, "failed Read", 3),
-        Err(LineFault::TooLong) => return Reply::refused_keys(alloc, "TooLong"),
+        Err(LineFault::Read) => return told_read(alloc, json),
+        Err(LineFault::TooLong) => return told_keys(alloc, json, &KeysFault::TooLong),
         Err(LineFault::OutOfMemory) => return Err(AllocError),
     };
     match KeySet::read(alloc, text.octets()) {
-        Ok(keys) => on_last(alloc, verifiers, now, policy, &keys, held.token, r),
+        Ok(keys) => on_last(alloc, json, verifiers, now, policy, &keys, held.token, r),
         Err(KeysFault::OutOfMemory) => Err(AllocError),
-        Err(fault) => Reply::refused_keys(alloc, fault.name()),
+        Err(fault) => told_keys(alloc, json, &fault),
     }
 }
 
-/// The line of a refused policy.
-pub(crate) fn refused_policy(alloc: Global, fault: &PolicyFault) -> Result<Reply, AllocError>
-    ensures { IfOk result (λ a. reply_view a ≡ policy_refused fault.now) }
-{
-    let name = policy_fault_text(alloc, fault)?;
-    Reply::around(alloc, "refused Policy ", name.as_slice(), "\n", 1)
-}
-
-/// Runs `jwt verify` with verifiers for public keys, at a moment, on an input: the line of a policy, the line of a key set, and a
+/// Runs `jwt verify`, in JSON or in lines, with verifiers for public keys, at a moment, on an input: the line of a policy, the line of a key set, and a
 /// token, each where it isn't in hand. The policy is read and refused before the key set is taken, and that before the token.
 pub(crate) fn verify<R: Source>(
     alloc: Global,
+    json: bool,
     verifiers: &[Box<dyn Verifier>],
     now: u64,
     held: Held<'_>,
@@ -204,7 +251,7 @@ pub(crate) fn verify<R: Source>(
 ) -> Result<Reply, AllocError>
     requires { now ≤ 9223372036854775807 }
     ensures line { IfSome (R.remaining r.old) (λ x. IfOk result (λ a. reply_view a
-        ≡ verify_answer (map meaning verifiers.now) now (held_view held.entry) (R.failed r.new) x)) }
+        ≡ verify_answer (told json) (map meaning verifiers.now) now (held_view held.entry) (R.failed r.new) x)) }
     ensures taken { IfSome (R.remaining r.old) (λ x. (R.failed r.new ≡ true)
         ⊎ TakesAtMost 5308419 x (R.remaining r.new)) }
     ensures stops { IfSome (R.remaining r.old) (λ x. (R.failed r.new ≡ true)
@@ -212,13 +259,13 @@ pub(crate) fn verify<R: Source>(
 {
     let text = match document(alloc, held.policy, r, 65_536) {
         Ok(text) => text,
-        Err(LineFault::Read) => return Reply::line(alloc, "failed Read", 3),
-        Err(LineFault::TooLong) => return Reply::line(alloc, "refused Policy TooLong", 1),
+        Err(LineFault::Read) => return told_read(alloc, json),
+        Err(LineFault::TooLong) => return told_policy(alloc, json, &PolicyFault::TooLong),
         Err(LineFault::OutOfMemory) => return Err(AllocError),
     };
     match Policy::read(alloc, text.octets()) {
-        Ok(policy) => on_keys(alloc, verifiers, now, held, &policy, r),
+        Ok(policy) => on_keys(alloc, json, verifiers, now, held, &policy, r),
         Err(PolicyFault::OutOfMemory) => Err(AllocError),
-        Err(fault) => refused_policy(alloc, &fault),
+        Err(fault) => told_policy(alloc, json, &fault),
     }
 }

@@ -3,7 +3,7 @@ ghost use Rattle.std.specs.Prelude.{◌≡◌, ◌≤◌, IfOk, IfErr, IfSome, N
 ghost use Rattle.clap.specs.Words.{app_of, found_of, one_of, rows_of, rule_of, subcommand_rows_of};
 ghost use Rattle.clap.specs.declared.builder.command.Command.TheViews.{out-Command as fields_of};
 ghost use Rattle.clap.specs.declared.builder.ValueParser.TheVariants.{Unsigned};
-ghost use Rattle.jwt_command.specs.Words.{HasLimits, alg_in, alg_rule, form_in, form_named, form_rule, asks_version, clap_order, files_in, files_of, files_once, issue_app, issue_order, jwt_app, key_file_rule, key_rule, keyed, keys_app, keys_file_in, keys_rule, is_named, limit_rule, lines_asked, lines_in, lines_of, lines_order, lines_rule, mac_app, mac_order, moment_in, named_moment, no_files, now_rule, number_in, order_in, order_of, policy_rule, public_keys_in, public_keys_rule, show_app, show_order, token_rule, typ_rule, verify_app, verify_on_input, verify_order};
+ghost use Rattle.jwt_command.specs.Words.{HasLimits, alg_in, alg_rule, form_in, form_named, form_rule, asks_version, clap_order, files_in, files_in_order, files_of, files_once, files_unless_lines, issue_app, issue_order, jwt_app, key_file_rule, key_rule, keyed, keys_app, keys_file_in, keys_rule, is_named, is_set, json_in, json_of, json_rule, limit_rule, lines_in, lines_of, lines_order, lines_rule, mac_app, mac_order, moment_in, named_moment, named_order, no_files, now_rule, number_in, order_in, order_of, policy_rule, public_keys_rule, show_app, show_order, token_rule, typ_rule, verify_app, verify_on_files, verify_on_input, verify_order};
 ghost use Rattle.jwt_command.specs.Examples.{Examples};
 ghost use Rattle.jwt_command.specs.Seen.{IsWrong, files_view, lines_view, seen};
 
@@ -142,6 +142,16 @@ fn lines_option<'a>(alloc: Global) -> Arg<'a>
         )
 }
 
+fn json_option<'a>(alloc: Global) -> Arg<'a>
+    ensures shape { rule_of result ≡ json_rule }
+    ensures local { result.global ≡ false }
+{
+    Arg::new(alloc, "json")
+        .long("json")
+        .action(ArgAction::SetTrue)
+        .help("Prints one JSON object on one line")
+}
+
 fn policy_option<'a>(alloc: Global) -> Arg<'a>
     ensures shape { rule_of result ≡ policy_rule }
     ensures local { result.global ≡ false }
@@ -244,15 +254,24 @@ fn verify_on_input<'a>(alloc: Global, has_clock: bool) -> Result<Command<'a>, Al
         .arg(public_keys_option(alloc))
 }
 
-fn verify_command<'a>(alloc: Global, has_clock: bool) -> Result<Command<'a>, AllocError>
-    ensures shape { IfOk result (λ c. app_of c ≡ verify_app has_clock) }
+// With files too.
+fn verify_on_files<'a>(alloc: Global, has_clock: bool) -> Result<Command<'a>, AllocError>
+    ensures shape { IfOk result (λ c. app_of c ≡ verify_on_files has_clock) }
     ensures local { IfOk result (λ c. (fields_of c).has_globals ≡ false) }
 {
     verify_on_input(alloc, has_clock)?
         .arg(policy_option(alloc))?
         .arg(keys_option(alloc))?
-        .arg(token_option(alloc))?
-        .arg(lines_option(alloc))
+        .arg(token_option(alloc))
+}
+
+fn verify_command<'a>(alloc: Global, has_clock: bool) -> Result<Command<'a>, AllocError>
+    ensures shape { IfOk result (λ c. app_of c ≡ verify_app has_clock) }
+    ensures local { IfOk result (λ c. (fields_of c).has_globals ≡ false) }
+{
+    verify_on_files(alloc, has_clock)?
+        .arg(lines_option(alloc))?
+        .arg(json_option(alloc))
 }
 
 fn issue_command<'a>(alloc: Global) -> Result<Command<'a>, AllocError>
@@ -382,9 +401,11 @@ fn wrong_keys(alloc: Global, options: &ArgMatches<'_>) -> Result<String, AllocEr
     format!(in alloc; "error: {wrong}\n\nFor more information, try '--help'.\n")
 }
 
-// The text of `--lines` beside a file of one token, without the other two files, or where the whole answer is given at once.
+// The text of `--lines` beside `--json` or a file of one token, without the other two files, or where the whole answer is given at once.
 fn wrong_lines(alloc: Global, options: &ArgMatches<'_>) -> Result<String, AllocError> {
-    let wrong = if options.get_str("token").is_some() {
+    let wrong = if is_set(options, "json") {
+        "the argument '--lines' cannot be used with '--json'"
+    } else if options.get_str("token").is_some() {
         "the argument '--lines' cannot be used with '--token <FILE>'"
     } else {
         "the argument '--lines' needs '--policy <FILE>' and '--keys <FILE>'"
@@ -429,6 +450,22 @@ fn chosen<'a>(matches: &ArgMatches<'a>, clock: Option<u64>) -> Option<Order<'a>>
         ≡ option_and_then (λ p. order_in clock p.0 p.1) (subcommand_rows_of matches.now) }
 {
     let (name, options) = matches.subcommand()?;
+    if is_set(options, "json") {
+        return None;
+    }
+    chosen_named(name, options, clock)
+}
+
+// What a subcommand asks for.
+fn chosen_named<'a>(
+    name: &str,
+    options: &ArgMatches<'a>,
+    clock: Option<u64>,
+) -> Option<Order<'a>>
+    requires { IfSome clock (λ n. n ≤ 9223372036854775807) }
+    ensures limits { IfSome result (λ o. HasLimits (seen o)) }
+    ensures order { option_map seen result ≡ named_order clock name.now (rows_of (found_of options.now)) }
+{
     match name {
         "mac" => chosen_mac(options),
         "keys" => Some(Order::Keys),
@@ -471,21 +508,11 @@ fn chosen_show<'a>(options: &ArgMatches<'a>) -> Option<Order<'a>>
     Some(Order::Show { limit })
 }
 
-// Whether the verifiers for public keys are asked for.
-fn chosen_public_keys(options: &ArgMatches<'_>) -> bool
-    ensures { result ≡ public_keys_in (rows_of (found_of options.now)) }
+// Whether a flag is used.
+fn is_set(options: &ArgMatches<'_>, name: &str) -> bool
+    ensures { result ≡ is_set name.now (rows_of (found_of options.now)) }
 {
-    match options.get_str("public-keys") {
-        Some(text) => text == "true",
-        None => false,
-    }
-}
-
-// Whether a verdict on each line is asked for.
-fn chosen_lines_asked(options: &ArgMatches<'_>) -> bool
-    ensures { result ≡ lines_asked (rows_of (found_of options.now)) }
-{
-    match options.get_str("lines") {
+    match options.get_str(name) {
         Some(text) => text == "true",
         None => false,
     }
@@ -519,7 +546,10 @@ fn chosen_lines<'a>(options: &ArgMatches<'a>) -> Option<Lines<'a>>
     ensures limits { IfSome result (λ o. IfSome o.now (λ n. n ≤ 9223372036854775807)) }
     ensures order { option_map lines_view result ≡ lines_order (rows_of (found_of options.now)) }
 {
-    if !chosen_lines_asked(options) {
+    if is_set(options, "json") {
+        return None;
+    }
+    if !is_set(options, "lines") {
         return None;
     }
     if is_named(options, "token") {
@@ -532,7 +562,7 @@ fn chosen_lines<'a>(options: &ArgMatches<'a>) -> Option<Lines<'a>>
         return None;
     }
     let now = chosen_named_moment(options)?;
-    let public_keys = chosen_public_keys(options);
+    let public_keys = is_set(options, "public-keys");
     let files = chosen_files(options);
     Some(Lines {
         now,
@@ -564,6 +594,39 @@ pub(crate) fn read_lines<'a>(
 {
     match command(alloc, has_clock)?.try_get_matches_from(words) {
         Ok(matches) => Ok(lines_in(&matches)),
+        Err(error) => match error.kind() {
+            ErrorKind::OutOfMemory => Err(AllocError),
+            _ => Ok(None),
+        },
+    }
+}
+
+// What is asked for in JSON.
+fn json_in<'a>(matches: &ArgMatches<'a>, clock: Option<u64>) -> Option<Order<'a>>
+    requires { IfSome clock (λ n. n ≤ 9223372036854775807) }
+    ensures limits { IfSome result (λ o. HasLimits (seen o)) }
+    ensures order { option_map seen result
+        ≡ option_and_then (λ p. json_in clock p.0 p.1) (subcommand_rows_of matches.now) }
+{
+    let (name, options) = matches.subcommand()?;
+    if !is_set(options, "json") {
+        return None;
+    }
+    chosen_named(name, options, clock)
+}
+
+/// What the words ask for, where they ask for an answer in JSON, at the moment that a clock says or without a clock.
+pub(crate) fn read_json<'a>(
+    alloc: Global,
+    words: &'a [&'a str],
+    clock: Option<u64>,
+) -> Result<Option<Order<'a>>, AllocError>
+    requires { IfSome clock (λ n. n ≤ 9223372036854775807) }
+    ensures limits { IfOk result (λ l. IfSome l (λ o. HasLimits (seen o))) }
+    ensures order { IfOk result (λ l. option_map seen l ≡ json_of clock (map (λ w. w.now) words.now)) }
+{
+    match command(alloc, clock.is_some())?.try_get_matches_from(words) {
+        Ok(matches) => Ok(json_in(&matches, clock)),
         Err(error) => match error.kind() {
             ErrorKind::OutOfMemory => Err(AllocError),
             _ => Ok(None),
@@ -603,11 +666,11 @@ fn chosen_verify<'a>(options: &ArgMatches<'a>, clock: Option<u64>) -> Option<Ord
     ensures limits { IfSome result (λ o. HasLimits (seen o)) }
     ensures order { option_map seen result ≡ verify_order clock (rows_of (found_of options.now)) }
 {
-    if chosen_lines_asked(options) {
+    if is_set(options, "lines") {
         return None;
     }
     let now = chosen_moment(options, clock)?;
-    let public_keys = chosen_public_keys(options);
+    let public_keys = is_set(options, "public-keys");
     let files = chosen_files(options);
     Some(Order::Verify {
         now,
@@ -680,7 +743,21 @@ fn number(options: &ArgMatches<'_>, id: &str, low: u64, high: u64) -> Option<u64
     if low <= n && n <= high { Some(n) } else { None }
 }
 
-// The files that the words name, where they ask for one answer.
+// The files that an order names.
+fn files_in_order<'a>(order: Order<'a>) -> Files<'a>
+    ensures { files_view result ≡ files_in_order (seen order.entry) }
+{
+    match order {
+        Order::Verify { files, .. } | Order::Issue { files, .. } => files,
+        Order::MacFile { name, .. } => Files {
+            key: Some(name),
+            ..Files::none()
+        },
+        _ => Files::none(),
+    }
+}
+
+// The files that the words name, where they ask for one answer in lines.
 fn files_once<'a>(
     alloc: Global,
     words: &'a [&'a str],
@@ -690,13 +767,24 @@ fn files_once<'a>(
     ensures { IfOk result (λ f. files_view f ≡ files_once clock (map (λ w. w.now) words.now)) }
 {
     match read_words(alloc, words, clock) {
-        Ok(Order::Verify { files, .. } | Order::Issue { files, .. }) => Ok(files),
-        Ok(Order::MacFile { name, .. }) => Ok(Files {
-            key: Some(name),
-            ..Files::none()
-        }),
-        Ok(_) | Err(WordsFault::Wrong(_)) => Ok(Files::none()),
+        Ok(order) => Ok(files_in_order(order)),
+        Err(WordsFault::Wrong(_)) => Ok(Files::none()),
         Err(WordsFault::OutOfMemory) => Err(AllocError),
+    }
+}
+
+// The files that the words name, where they ask for one answer.
+fn files_unless_lines<'a>(
+    alloc: Global,
+    words: &'a [&'a str],
+    clock: Option<u64>,
+) -> Result<Files<'a>, AllocError>
+    requires { IfSome clock (λ n. n ≤ 9223372036854775807) }
+    ensures { IfOk result (λ f. files_view f ≡ files_unless_lines clock (map (λ w. w.now) words.now)) }
+{
+    match read_json(alloc, words, clock)? {
+        Some(order) => Ok(files_in_order(order)),
+        None => files_once(alloc, words, clock),
     }
 }
 
@@ -712,7 +800,7 @@ pub fn files_named<'a>(
 {
     match read_lines(alloc, words, clock.is_some())? {
         Some(lines) => Ok(lines.files),
-        None => files_once(alloc, words, clock),
+        None => files_unless_lines(alloc, words, clock),
     }
 }
 

@@ -7,6 +7,7 @@ use super::support::{
 use jwt_command::documents::Held;
 use jwt_command::lines::{Clock, run_lines};
 use jwt_command::run::{lack_memory, run, run_files, run_with};
+use jwt_command::run_json::run_json;
 use jwt_command::take_line::{LineFault, line};
 use jwt_mac::Verifier;
 use jwt_rsa::Rsa;
@@ -976,14 +977,24 @@ fn want_of_memory_has_a_line_and_a_status(rt: HostRuntime) -> Result<(), Fail> {
     Ok(())
 }
 
-// A clock that is a second later at each look.
+// A clock that is a second later at each look. It can be read once for each of these lines, in order.
 #[derive(Drop)]
-struct Ticks {
+struct Ticks<'a> {
     next: u32,
+    number: u32,
+    lines: &'a [&'a str],
 }
 
-impl Clock for Ticks {
-    fn moment(&mut self) -> Option<u64> {
+impl Clock for Ticks<'_> {
+    ghost says = { λ _ _ _. Unit {0} };
+
+    fn moment(&mut self, number: u64, line: &[u8]) -> Option<u64> {
+        let (first, rest) = self.lines.split_first()?;
+        if line != first.as_bytes() || number != self.number as u64 {
+            return None;
+        }
+        self.lines = rest;
+        self.number = self.number.saturating_add(1);
         let now = self.next;
         self.next = now.saturating_add(1);
         Some(now as u64)
@@ -1006,6 +1017,8 @@ fn printed_lines(alloc: Global, words: &[&str], input: &str) -> Result<(Vec<u8>,
         Some(0),
         &mut Ticks {
             next: 1_300_819_379,
+            number: 0,
+            lines: &[TOKEN_A, "", "none", TOKEN_A],
         },
         held,
         &mut Reader::new(input.as_bytes()),
@@ -1049,5 +1062,140 @@ fn lines_without_a_policy_file_are_wrong_words(rt: HostRuntime) -> Result<(), Fa
     let needs: &[u8] =
         b"error: the argument '--lines' needs '--policy <FILE>' and '--keys <FILE>'\n";
     assert!(rt; out.as_slice().starts_with(needs));
+    Ok(())
+}
+
+// What `verify --json` prints of a policy, a key set and a token, and its status.
+fn verified_in_json(
+    alloc: Global,
+    policy: &str,
+    keys: &str,
+    token: &str,
+) -> Result<(Vec<u8>, u8), Fail> {
+    let text = format!(in alloc; "{policy}\n{keys}\n{token}")?;
+    let input = filled(alloc, &text)?;
+    printed_in_json(alloc, &["jwt", "verify", "--json", "--now", MOMENT], Held::none(), &input)
+}
+
+fn printed_in_json(
+    alloc: Global,
+    words: &[&str],
+    held: Held<'_>,
+    input: &str,
+) -> Result<(Vec<u8>, u8), Fail> {
+    let mut out: Vec<u8> = Vec::new(alloc);
+    let mut moments = Ticks {
+        next: 0,
+        number: 0,
+        lines: &[],
+    };
+    let status = run_json(
+        alloc,
+        words,
+        &[],
+        None,
+        &mut moments,
+        held,
+        &mut Reader::new(input.as_bytes()),
+        &mut Writer::new(&mut out),
+    );
+    Ok((out, status))
+}
+
+// The claims stand as the payload has them, and only where the token is accepted.
+#[test]
+fn verify_prints_json(rt: HostRuntime) -> Result<(), Fail> {
+    let alloc = rt.alloc();
+    let cases = [
+        (
+            HS256,
+            KEYS_A,
+            TOKEN_A,
+            r#"{"verdict":"accepted","signature":0,"key":0,"claims":{"iss":"joe","exp":1300819380,"http://example.com/is_root":true},"signatures":[{"state":"Verified","key":0}],"tries":[{"signature":0,"key":0,"cost":295}],"work":295}"#,
+            0,
+        ),
+        (
+            r#"{"version":2,"algs":["HS256"],"max_calls":1}"#,
+            KEYS_ZA,
+            TOKEN_A,
+            r#"{"verdict":"refused","fault":"CallsExceeded","signature":0,"key":1,"signatures":[{"state":"Stopped"}],"tries":[{"signature":0,"key":0,"cost":295}],"work":295}"#,
+            1,
+        ),
+        (
+            r#"{"algs":["HS256"],"required":["su\"b"]}"#,
+            KEYS_A,
+            TOKEN_A,
+            r#"{"verdict":"refused","fault":"ClaimMissing","claim":"su\"b","signatures":[{"state":"Verified","key":0}],"tries":[{"signature":0,"key":0,"cost":295}],"work":295}"#,
+            1,
+        ),
+        (
+            HS256,
+            KEYS_A,
+            "eyJhbGciOiJub25lIn0.e30.",
+            r#"{"verdict":"refused","fault":"AlgNone","signature":0,"signatures":[{"state":"Barred","fault":"AlgNone"}],"tries":[],"work":0}"#,
+            1,
+        ),
+        (
+            HS256,
+            KEYS_A,
+            "e30=.e30.",
+            r#"{"verdict":"refused","fault":"Base64","part":"protected","signature":0,"signatures":[],"tries":[],"work":0}"#,
+            1,
+        ),
+        (
+            r#"{"algs":["HS256"],"limit":3}"#,
+            KEYS_A,
+            TOKEN_A,
+            r#"{"verdict":"refused","fault":"TooLong","signatures":[],"tries":[],"work":0}"#,
+            1,
+        ),
+        (
+            r#"{"alg":["HS256"]}"#,
+            "",
+            "",
+            r#"{"verdict":"refused","document":"policy","fault":"Member","member":"alg"}"#,
+            1,
+        ),
+        (
+            HS256,
+            "{}",
+            TOKEN_A,
+            r#"{"verdict":"refused","document":"keys","fault":"NotKeySet"}"#,
+            1,
+        ),
+    ];
+    for (policy, keys, token, line, status) in cases {
+        let (out, code) = verified_in_json(alloc, policy, keys, token)?;
+        let wanted = format!(in alloc; "{line}\n")?;
+        assert_eq!(rt; out.as_slice(), wanted.as_bytes());
+        assert_eq!(rt; code, status);
+    }
+    Ok(())
+}
+
+#[test]
+fn json_names_a_file_that_is_unread(rt: HostRuntime) -> Result<(), Fail> {
+    let alloc = rt.alloc();
+    let words = ["jwt", "verify", "--json", "--now", MOMENT, "--keys", "a \"k\""];
+    let (out, status) = printed_in_json(alloc, &words, Held::none(), "")?;
+    let line: &[u8] = b"{\"verdict\":\"failed\",\"fault\":\"Read\",\"file\":\"a \\\"k\\\"\"}\n";
+    assert_eq!(rt; out.as_slice(), line);
+    assert_eq!(rt; status, 3);
+    Ok(())
+}
+
+// Without `--json` the command is as it was; with `--lines` it is wrong.
+#[test]
+fn json_is_asked_for_by_its_word(rt: HostRuntime) -> Result<(), Fail> {
+    let alloc = rt.alloc();
+    let input = filled(alloc, KEYS_A)?;
+    let (out, status) = printed_in_json(alloc, &["jwt", "keys"], Held::none(), &input)?;
+    assert!(rt; out.as_slice().starts_with(b"key=0 place=0 kty=oct"));
+    assert_eq!(rt; status, 0);
+    let words = ["jwt", "verify", "--json", "--lines", "--now", MOMENT, "--policy=p", "--keys=k"];
+    let (out, status) = printed_in_json(alloc, &words, Held::none(), "")?;
+    let wrong: &[u8] = b"error: the argument '--lines' cannot be used with '--json'\n";
+    assert!(rt; out.as_slice().starts_with(wrong));
+    assert_eq!(rt; status, 2);
     Ok(())
 }

@@ -5,8 +5,9 @@ ghost use Rattle.std.specs.Prelude.{◌≤◌, IfSome};
 
 use jwt_command::documents::{Held, read_document};
 use jwt_command::files_named;
-use jwt_command::lines::{Clock, run_lines};
+use jwt_command::lines::Clock;
 use jwt_command::run::lack_memory;
+use jwt_command::run_json::run_json;
 use jwt_ed25519::Ed25519;
 use jwt_mac::Verifier;
 use jwt_rsa::Rsa;
@@ -17,7 +18,7 @@ use std::time::{SystemTime, UNIX_EPOCH};
 use std::{env, io};
 
 // The clock is read once, before anything else, and by `verify --lines` for each line. Standard input is read without a buffer, so
-// that exactly what the contract of `run_lines` names is taken, and standard output is written without one, so that an answer is
+// that exactly what the contract of `run_json` names is taken, and standard output is written without one, so that an answer is
 // out before the next line is waited for.
 fn main(rt: HostRuntime) -> ExitCode {
     let clock = moment(&rt);
@@ -54,7 +55,10 @@ struct System<'a> {
 }
 
 impl Clock for System<'_> {
-    fn moment(&mut self) -> Option<u64> {
+    // What the system says can't be stated.
+    ghost says = { λ _ _ _. Unit {0} };
+
+    fn moment(&mut self, _number: u64, _line: &[u8]) -> Option<u64> {
         moment(self.rt)
     }
 }
@@ -106,7 +110,7 @@ fn run_words<R: Source, W: Sink>(
         key: octets(&key),
     };
     let mut moments = System { rt };
-    Ok(run_lines(
+    Ok(run_json(
         rt.alloc(),
         words.as_slice(),
         &built_in,

@@ -7,17 +7,17 @@ use Rattle.jwt_command.proofs.lines.lines_named.Goals as goal
 pub returns-in-Some : goal.returns-in-Some
 returns-in-Some g c =
     let vs = map (λ b. (goal.Verifier-dyn g (b.vtable, b.value)).meaning b.value) c.args.verifiers.now in
-    file_is_unread reply_view vs (lines_view c.args.order) (held_view c.args.held) (g.R.Source.remaining c.args.r.now) c.in-Some.name.now c.file_failed.result _ _
+    file_is_unread reply_view vs g.C.Clock.says (lines_view c.args.order) (held_view c.args.held) (g.R.Source.remaining c.args.r.now) c.in-Some.name.now c.file_failed.result _ _
     c.in-Some.ensures c.file_failed.ensures c.give.ensures.ok c.give.ensures.err
 
 pub returns-in-None-keys : goal.returns-in-None-keys
 returns-in-None-keys g c =
     let vs = map (λ b. (goal.Verifier-dyn g (b.vtable, b.value)).meaning b.value) c.args.verifiers.now in
-    without_keys vs (lines_view c.args.order) (held_view c.args.held) (g.R.Source.remaining c.args.r.now) _ _
+    without_keys vs g.C.Clock.says (lines_view c.args.order) (held_view c.args.held) (g.R.Source.remaining c.args.r.now) _ _
     c.in_default.ensures (ap (option_map (λ t. t.now)) c.in-None-keys.is) c.send.ensures
 
 pub returns-in-None : goal.returns-in-None
 returns-in-None g c =
     let vs = map (λ b. (goal.Verifier-dyn g (b.vtable, b.value)).meaning b.value) c.args.verifiers.now in
-    without_policy vs (lines_view c.args.order) (held_view c.args.held) (g.R.Source.remaining c.args.r.now) _ _
+    without_policy vs g.C.Clock.says (lines_view c.args.order) (held_view c.args.held) (g.R.Source.remaining c.args.r.now) _ _
     c.in_default.ensures (ap (option_map (λ t. t.now)) c.in-None.is) c.send-in-None.ensures

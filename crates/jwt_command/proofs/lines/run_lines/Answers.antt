@@ -14,7 +14,7 @@ returns-in-Ok-Some-clause-lines g c = λ order asked.
     let is : lines_of (is_some c.args.clock) words ≡ Some (lines_view c.in-Ok-Some.order) = sym (ap (λ b. lines_of b words) c.is_some.ensures) ∙ sym c.in-Ok-Some.ensures.order ∙ ap (option_map lines_view) c.in-Ok-Some.field-0-is in
     let both : Some (lines_view c.in-Ok-Some.order) ≡ Some order = sym is ∙ asked in
     let same : lines_view c.in-Ok-Some.order ≡ order = cc both in
-    subst (λ (o : LinesOrder). IfSome (g.R.Source.remaining c.args.r.now) (λ x. RunsLines vs o (held_view c.args.held) x (g.R.Source.failed c.lines_named.new.r)
+    subst (λ (o : LinesOrder). IfSome (g.R.Source.remaining c.args.r.now) (λ x. RunsLines vs g.C.Clock.says o (held_view c.args.held) x (g.R.Source.failed c.lines_named.new.r)
     (record { before = g.W.Sink.contents c.args.w.now; after = g.W.Sink.contents c.lines_named.new.w; failed = g.W.Sink.failed c.lines_named.new.w; status = c.lines_named.result })))
     same c.lines_named.ensures
 

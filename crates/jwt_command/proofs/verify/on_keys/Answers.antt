@@ -4,6 +4,7 @@ use Rattle.jwt_command.specs.Printed.{Answer}
 use Rattle.jwt_keys.specs.KeySets.{key_set, key_set_of}
 use Rattle.jwt_command.specs.Documents.{document, last_most}
 use Rattle.jwt_command.specs.Stops.{behind_keys}
+use Rattle.jwt_command.specs.Told.{told}
 use Rattle.jwt_command.specs.Views.{held_view, reply_view}
 use Rattle.jwt_command.proofs.Verifying.{behind_keys_taken, document_bounded, document_stops, document_then_bounded, keys_line_too_long}
 use Rattle.jwt_command.proofs.verify.on_keys.Goals as goal
@@ -12,7 +13,7 @@ pub returns-in-Err-TooLong-clause-line : goal.returns-in-Err-TooLong-clause-line
 returns-in-Err-TooLong-clause-line g c =
     IfSome_then (g.R.Source.remaining c.args.r.now) c.in-Err-TooLong.ensures.fails
     (λ x h. let long = rw c.in-Err-TooLong.field-0-is at h in
-    subst (λ (a : Answer). IfOk c.refused_keys.result (λ r. reply_view r ≡ a)) (keys_line_too_long (map (λ b. (goal.Verifier-dyn g (b.vtable, b.value)).meaning b.value) c.args.verifiers.now) c.args.now (held_view c.args.held) c.args.policy.now x _ long.1 long.0) c.refused_keys.ensures)
+    subst (λ (a : Answer). IfOk c.told_keys.result (λ r. reply_view r ≡ a)) (keys_line_too_long (told c.args.json) (map (λ b. (goal.Verifier-dyn g (b.vtable, b.value)).meaning b.value) c.args.verifiers.now) c.args.now (held_view c.args.held) c.args.policy.now x _ long.1 long.0) c.told_keys.ensures)
 
 pub returns-in-Err-TooLong-clause-taken : goal.returns-in-Err-TooLong-clause-taken
 returns-in-Err-TooLong-clause-taken g c = IfSome_then (g.R.Source.remaining c.args.r.now) c.in-Err-TooLong.ensures.taken (λ x h. document_bounded 4194304 5242882 (omega arith) (held_view c.args.held).keys x _ _ h)

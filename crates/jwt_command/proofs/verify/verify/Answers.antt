@@ -4,6 +4,7 @@ use Rattle.jwt_command.specs.Printed.{Answer}
 use Rattle.jwt_policy.specs.Document.{policy_of}
 use Rattle.jwt_command.specs.Documents.{behind, document, last_most}
 use Rattle.jwt_command.specs.Stops.{behind_policy, keys_most}
+use Rattle.jwt_command.specs.Told.{told}
 use Rattle.jwt_command.specs.Views.{held_view, reply_view}
 use Rattle.jwt_command.proofs.Verifying.{document_bounded, document_stops, document_then_bounded, document_then_stops, policy_line_too_long, policy_read, under_policy_taken}
 use Rattle.jwt_command.proofs.verify.verify.Goals as goal
@@ -12,7 +13,7 @@ pub returns-in-Err-TooLong-clause-line : goal.returns-in-Err-TooLong-clause-line
 returns-in-Err-TooLong-clause-line g c =
     IfSome_then (g.R.Source.remaining c.args.r.now) c.in-Err-TooLong.ensures.fails
     (λ x h. let long = rw c.in-Err-TooLong.field-0-is at h in
-    subst (λ (a : Answer). IfOk c.line-in-Err-TooLong.result (λ r. reply_view r ≡ a)) (policy_line_too_long (map (λ b. (goal.Verifier-dyn g (b.vtable, b.value)).meaning b.value) c.args.verifiers.now) c.args.now (held_view c.args.held) x _ long.1 long.0) c.line-in-Err-TooLong.ensures)
+    subst (λ (a : Answer). IfOk c.told_policy.result (λ r. reply_view r ≡ a)) (policy_line_too_long (told c.args.json) (map (λ b. (goal.Verifier-dyn g (b.vtable, b.value)).meaning b.value) c.args.verifiers.now) c.args.now (held_view c.args.held) x _ long.1 long.0) c.told_policy.ensures)
 
 pub returns-in-Err-TooLong-clause-taken : goal.returns-in-Err-TooLong-clause-taken
 returns-in-Err-TooLong-clause-taken g c = IfSome_then (g.R.Source.remaining c.args.r.now) c.in-Err-TooLong.ensures.taken (λ x h. document_bounded 65536 5308419 (omega arith) (held_view c.args.held).policy x _ _ h)
@@ -32,7 +33,7 @@ returns-in-Ok-read-clause-line g c =
     IfSome_then (g.R.Source.remaining c.args.r.now) c.in-Ok.ensures.document
     (λ x h.
     let is : Ok c.in-Ok-read.policy ≡ policy_of c.octets.result.now = c.in-Ok-read.ensures.answer (λ bad. cc bad) in
-    policy_read reply_view c.on_keys.result vs c.args.now (held_view c.args.held) c.in-Ok-read.policy x _ _ _ h (ap policy_of (sym c.octets.ensures) ∙ sym is) c.on_keys.ensures.line)
+    policy_read (told c.args.json) reply_view c.on_keys.result vs c.args.now (held_view c.args.held) c.in-Ok-read.policy x _ _ _ h (ap policy_of (sym c.octets.ensures) ∙ sym is) c.on_keys.ensures.line)
 
 pub returns-in-Ok-read-clause-taken : goal.returns-in-Ok-read-clause-taken
 returns-in-Ok-read-clause-taken g c =

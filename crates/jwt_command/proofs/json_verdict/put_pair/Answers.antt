@@ -1,0 +1,13 @@
+use Rattle.std.proofs.Common.{rules, ◌≡◌, ◌∙◌, ap, sym, [], ◌∷◌, ◌++◌}
+use Rattle.std.specs.Prelude.{codes}
+use Rattle.std.proofs.lemmas.Result.{IfOk-weaker, on_ok_weaker}
+use Rattle.jwt_command.specs.JsonTokens.{named_tokens}
+use Rattle.jwt_command.specs.Views.{reply_view}
+use Rattle.jwt_command.specs.Json.{count}
+use Rattle.jwt_command.proofs.JsonLemmas.{two_written}
+use Rattle.jwt_command.proofs.json_verdict.put_pair.Goals as goal
+
+pub returns : goal.returns
+returns c =
+    on_ok_weaker c.count-2.result
+    (λ n. two_written (count (codes "signature") c.args.i ∷ []) (count (codes "key") c.args.j ∷ []) c.args.out.now c.count.new.self c.count-2.new.self c.in_ok-count.ensures n) c.count-2.ensures
