@@ -1,9 +1,10 @@
 //! A readable key.
 
-ghost use Rattle.std.specs.Prelude.{◌≡◌, option_map, length, map, string_bytes};
+ghost use Rattle.std.specs.Prelude.{◌≡◌, ◌≤◌, option_map, length, map, string_bytes};
 ghost use Rattle.std.specs.List.{list_any};
 ghost use Rattle.std.specs.Str.{bytes_eq};
-ghost use Rattle.jwt_keys.specs.Keys.{allows, is_for_signatures};
+ghost use Rattle.jwt_keys.specs.Keys.{allows, is_for_signatures, secret_length};
+ghost use Rattle.jwt_keys.specs.Materials.{material_octets};
 
 use crate::material::Material;
 use jwt_mac::KeyView;
@@ -19,6 +20,7 @@ pub struct Key {
     pub(crate) thumbprint: String,
     pub(crate) place: u32,
     ghost sized: { length (string_bytes thumbprint) ≡ 43 },
+    ghost bounded: { secret_length (material_octets material) ≤ 4096 },
 }
 
 impl Key {
@@ -26,9 +28,11 @@ impl Key {
     ghost use Rattle.jwt_keys.specs.Keys.{permits_of, names};
     ghost use Rattle.jwt_keys.specs.Views.{key_parts};
 
-    /// The kind of the key and the octets that its members spell, lent (RFC 7518, section 6; RFC 8037, section 2).
+    /// The kind of the key and the octets that its members spell, lent (RFC 7518, section 6; RFC 8037, section 2). A secret has at
+    /// most 4,096.
     pub fn view(&self) -> KeyView<'_>
-        ensures { key_octets result ≡ (key_parts self.now).octets }
+        ensures octets { key_octets result ≡ (key_parts self.now).octets }
+        ensures secret { secret_length (key_octets result) ≤ 4096 }
     {
         match &self.material {
             Material::Oct { k } => KeyView::Oct { k },
