@@ -6,16 +6,22 @@ use Rattle.serde_json.specs.Find.{as_object}
 use Rattle.jwt_text.specs.Rows.{first_row, IsFirstRow, NoRow}
 use Rattle.jwt_keys.specs.Keys.{KeyParts}
 use Rattle.jwt_keys.specs.SkipTable.{skip_rows}
-use Rattle.jwt_keys.specs.Entries.{key_in}
+use Rattle.jwt_keys.specs.Kinds.{kind_at}
+use Rattle.jwt_keys.specs.Entries.{key_in, parts_of}
 use Rattle.jwt_keys.specs.Numbers.{numbers}
 use Rattle.jwt_keys.specs.KeySets.{KeyList, key_list}
+use Rattle.jwt_keys.specs.declared.kind.Kind.{Kind}
 use Rattle.jwt_keys.specs.declared.skip.SkipReason.{SkipReason}
 
--- an entry is skipped for the first row of the table that holds, and gives a key where none does
+-- the key of an entry: it has the members of that object, by the kind that they name, and its place
+abbrev pub IsKeyOf : ℕ → Option Members → KeyParts → Type 0
+IsKeyOf place entry k = (ms : Members) × (kind : Kind) × (entry ≡ Some ms) × (kind_at ms ≡ Some kind) × (k ≡ parts_of place kind ms)
+
+-- an entry is skipped for the first row of the table that holds, and where none does, it gives that key
 abbrev pub SkipsByTheTable : Type 0
 SkipsByTheTable =
     (place : ℕ) (entry : Option Members)
-    → MatchResult (key_in place entry) (λ k. NoRow (skip_rows entry)) (λ reason. IsFirstRow (skip_rows entry) reason)
+    → MatchResult (key_in place entry) (λ k. NoRow (skip_rows entry) × IsKeyOf place entry k) (λ reason. IsFirstRow (skip_rows entry) reason)
 
 -- no row of the table holds for the entry
 abbrev pub is_readable : Data → Bool

@@ -2,7 +2,8 @@
 
 ghost use Rattle.jwt_keys.specs.Laws.{ListsEachEntry, SkipsByTheTable};
 
-/// An entry is skipped for the first row of the table that holds, and gives a key where none does.
+/// An entry is skipped for the first row of the table that holds; where none does, it gives the key that has its members, by the kind
+/// that they name, and its place.
 pub fn skips_by_the_table()
     ensures { SkipsByTheTable }
 {}

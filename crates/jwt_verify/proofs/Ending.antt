@@ -13,8 +13,8 @@ use Rattle.jwt_verify.specs.declared.report.SigState.{SigState}
 use Rattle.jwt_verify.specs.declared.report.SigState.TheVariants.{NotReached, Stopped}
 use Rattle.jwt_verify.specs.declared.tries.RowEnd.TheVariants.{Through, Stop}
 use Rattle.jwt_verify.specs.declared.tries.End.TheVariants.{Done, WorkExceeded, CallsExceeded, VerifierMemory}
-use Rattle.jwt_verify.specs.Table.{Table, below, verifies, reached, entry, work, is_within, outcome, settled, state_at, states_at}
-use Rattle.jwt_verify.specs.Walk.{IsAt, IsThrough, IsPending, IsEnd, IsRowEnd, IsRecorded, goes_on, IsNextKey, NoneEligible}
+use Rattle.jwt_verify.specs.Table.{Table, below, verifies, reached, entry, work, is_within, outcome, state_at, states_at}
+use Rattle.jwt_verify.specs.Walk.{state_of, IsAt, IsThrough, IsPending, IsEnd, IsRowEnd, IsRecorded, goes_on, IsNextKey, NoneEligible}
 use Rattle.jwt_verify.specs.Paying.{IsFront}
 use Rattle.jwt_verify.proofs.Below.{length-below, map-below, map-agree, map-tail, list_any-gap}
 use Rattle.jwt_verify.specs.Table.{IsRun, paid}
@@ -149,7 +149,7 @@ end_front t ceiling calls es (WorkExceeded i j) h = (entry t i j ∷ h.0.0, h.0.
 end_front t ceiling calls es (CallsExceeded i j) h = (entry t i j ∷ h.0.0, h.0.1)
 end_front t ceiling calls es (VerifierMemory i j) h = h.0
 
-pub outcome_is : (t : Table) (i : ℕ) (bar : Option SigFault) (seen : Bool) (found : Option ℕ) → bar ≡ t.bar i → find (verifies t i) (below t.keys) ≡ found → list_any (t.eligible i) (below t.keys) ≡ seen → settled bar seen found ≡ outcome t i
+pub outcome_is : (t : Table) (i : ℕ) (bar : Option SigFault) (seen : Bool) (found : Option ℕ) → bar ≡ t.bar i → find (verifies t i) (below t.keys) ≡ found → list_any (t.eligible i) (below t.keys) ≡ seen → state_of bar seen found ≡ outcome t i
 unfolding outcome
 outcome_is t i bar seen found b f s = rw (b, f, s) refl
 

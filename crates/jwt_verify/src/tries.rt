@@ -1,7 +1,7 @@
 //! Which pairs of signature and key are tried, and what they cost.
 ghost use Rattle.std.specs.Prelude.{◌≡◌, ◌<◌, ◌≤◌, ◌+◌, ◌*◌, ◌-◌, ◌^◌, replicate, OnOk, ◌∷◌, ◌++◌, [], List, true, length, map, OnErr, IfOk, MatchOption, MatchResult};
-ghost use Rattle.jwt_verify.specs.Table.{entry, work, is_within, paid, settled, IsRun};
-ghost use Rattle.jwt_verify.specs.Walk.{IsAt, IsCounted, IsAnswer, IsPending, IsRowEnd, IsEnd, stopped_at, goes_on, IsRecorded};
+ghost use Rattle.jwt_verify.specs.Table.{entry, work, is_within, paid, IsRun};
+ghost use Rattle.jwt_verify.specs.Walk.{IsAt, IsCounted, IsAnswer, IsPending, IsRowEnd, IsEnd, stopped_at, goes_on, state_of, IsRecorded};
 ghost use Rattle.jwt_verify.specs.Paying.{IsFront};
 ghost use Rattle.jwt_verify.specs.AskedTable.{asked_table, HasBars};
 
@@ -146,7 +146,7 @@ fn try_signature<B: Budget>(
 
 /// What becomes of a signature.
 fn settle(bar: Option<SigFault>, seen: bool, found: Option<u32>) -> SigState
-    ensures { result ≡ settled bar seen found }
+    ensures { result ≡ state_of bar seen found }
 {
     match (bar, found) {
         (Some(fault), _) => SigState::Barred(fault),
