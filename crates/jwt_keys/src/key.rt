@@ -28,11 +28,9 @@ impl Key {
     ghost use Rattle.jwt_keys.specs.Keys.{permits_of, names};
     ghost use Rattle.jwt_keys.specs.Views.{key_parts};
 
-    /// The kind of the key and the octets that its members spell, lent (RFC 7518, section 6; RFC 8037, section 2). A secret has at
-    /// most 4,096.
+    /// The kind of the key and the octets that its members spell, lent (RFC 7518, section 6; RFC 8037, section 2).
     pub fn view(&self) -> KeyView<'_>
-        ensures octets { key_octets result ≡ (key_parts self.now).octets }
-        ensures secret { secret_length (key_octets result) ≤ 4096 }
+        ensures { key_octets result ≡ (key_parts self.now).octets }
     {
         match &self.material {
             Material::Oct { k } => KeyView::Oct { k },

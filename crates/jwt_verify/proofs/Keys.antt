@@ -70,13 +70,13 @@ abbrev barred_or : Option SigFault → SigState → SigState
 barred_or (Some f) s = Barred f
 barred_or None s = s
 
-state_kind : (o : Option SigFault) (seen : Bool) (p : ℕ → Bool) (xs : List ℕ) → kind_of (state_of o seen (find p xs)) ≡ barred_or o (cond (list_any p xs) (Verified 0) (kind_of (cond seen BadSignature NoKey)))
-state_kind (Some f) seen p xs = refl
-state_kind None seen p xs = found_kind p xs (cond seen BadSignature NoKey)
+barred_kind : (o : Option SigFault) (seen : Bool) (p : ℕ → Bool) (xs : List ℕ) → kind_of (state_of o seen (find p xs)) ≡ barred_or o (cond (list_any p xs) (Verified 0) (kind_of (cond seen BadSignature NoKey)))
+barred_kind (Some f) seen p xs = refl
+barred_kind None seen p xs = found_kind p xs (cond seen BadSignature NoKey)
 
 outcome_kind : (t : Table) (i : ℕ) → kind_of (outcome t i) ≡ barred_or (t.bar i) (cond (verified t i) (Verified 0) (kind_of (cond (list_any (t.eligible i) (below t.keys)) BadSignature NoKey)))
 unfolding outcome verified
-outcome_kind t i = state_kind (t.bar i) (list_any (t.eligible i) (below t.keys)) (verifies t i) (below t.keys)
+outcome_kind t i = barred_kind (t.bar i) (list_any (t.eligible i) (below t.keys)) (verifies t i) (below t.keys)
 
 state_kind : (t : Table) (i : ℕ) → kind_of (state_at t None i) ≡ cond (reached t i) (kind_of (outcome t i)) NotReached
 unfolding state_at

@@ -129,11 +129,11 @@ none_bounded q x es n z token is = omega (arith, z)
 memory_report : (q : Terms) (x : List ℕ) (w : ℕ) (r : Report) → r.tries.items ≡ [] → r.verdict ≡ Refused OutOfMemory → IsReport q x w r
 memory_report q x w r nil memory = record {
   verdict = λ found. absurd (subst FoundMemory memory found);
-  run = λ token t asks. record {
-    front = (tries t, ap (λ es. es ++ tries t) (sym nil));
-    allowed = (omega (arith, ap work nil, work-nil), none_within q.policy.max_calls (length r.tries.items) (ap length nil));
-    complete = subst (IsComplete t w q.policy.max_calls r.tries.items r.states.items) (sym memory) tt;
-  };
+  run = λ token t asks. (
+    (tries t, ap (λ es. es ++ tries t) (sym nil)),
+    (omega (arith, ap work nil, work-nil), none_within q.policy.max_calls (length r.tries.items) (ap length nil)),
+    subst (IsComplete t w q.policy.max_calls r.tries.items r.states.items) (sym memory) tt,
+  );
   blank = λ none. (nil, inl memory);
 }
 

@@ -18,7 +18,7 @@ pub unreachable-requires-in_default-key : goal.unreachable-requires-in_default-k
 unfolding asked_table
 unreachable-requires-in_default-key g c =
     let e = rw c.in-Some.is at c.signature.ensures in
-    let k = rw c.in_default-key.is at c.key.ensures in
+    let k = rw c.in_default-key.is at c.key.ensures.key in
     eligible_key _ _ (token c.args.asked.now.signed.now) (key_set c.args.asked.now.keys.now).keys c.args.i c.args.j (parts c.in-Some.signature.now) c.requires.eligible (sym e) (sym k)
 
 pub try_one-requires-clause-eligible : goal.try_one-requires-clause-eligible
@@ -26,7 +26,7 @@ unfolding asked_table
 try_one-requires-clause-eligible g c =
     let v = map (λ b. (goal.Verifier-dyn g (b.vtable, b.value)).meaning b.value) c.args.verifiers.now in
     let e = rw c.in-Some.is at c.signature.ensures in
-    let k = rw c.in-Some-key.is at c.key.ensures in
+    let k = rw c.in-Some-key.is at c.key.ensures.key in
     sym (at_pair_is (λ s k. eligible_for c.args.asked.now.policy.now s k v) false (token c.args.asked.now.signed.now) (key_set c.args.asked.now.keys.now).keys c.args.i c.args.j (parts c.in-Some.signature.now) (key_parts c.in-Some-key.key.now) (sym e) (sym k)) ∙ c.requires.eligible
 
 pub returns-clause-spent : goal.returns-clause-spent
@@ -34,7 +34,7 @@ unfolding asked_table
 returns-clause-spent g c =
     let t = token c.args.asked.now.signed.now in
     let e = rw c.in-Some.is at c.signature.ensures in
-    let k = rw c.in-Some-key.is at c.key.ensures in
+    let k = rw c.in-Some-key.is at c.key.ensures.key in
     let m = inside (message_octets c.in-Some-message.message) (message_of (token c.args.asked.now.signed.now) (parts c.in-Some.signature.now)) (rw (c.in-Some-message.is, sym e) at c.message.ensures) in
     rw (at_pair_is (λ s k. cost_by (message_of t s) s k) 0 t (key_set c.args.asked.now.keys.now).keys c.args.i c.args.j (parts c.in-Some.signature.now) (key_parts c.in-Some-key.key.now) (sym e) (sym k), sym m) c.try_one.ensures.spent
 
@@ -43,7 +43,7 @@ unfolding asked_table
 returns-clause-paid g c =
     let t = token c.args.asked.now.signed.now in
     let e = rw c.in-Some.is at c.signature.ensures in
-    let k = rw c.in-Some-key.is at c.key.ensures in
+    let k = rw c.in-Some-key.is at c.key.ensures.key in
     let m = inside (message_octets c.in-Some-message.message) (message_of (token c.args.asked.now.signed.now) (parts c.in-Some.signature.now)) (rw (c.in-Some-message.is, sym e) at c.message.ensures) in
     rw (at_pair_is (λ s k. cost_by (message_of t s) s k) 0 t (key_set c.args.asked.now.keys.now).keys c.args.i c.args.j (parts c.in-Some.signature.now) (key_parts c.in-Some-key.key.now) (sym e) (sym k), sym m) c.try_one.ensures.paid
 
@@ -56,7 +56,7 @@ returns-clause-answer g c =
     let s = parts c.in-Some.signature.now in
     let key = key_parts c.in-Some-key.key.now in
     let e = rw c.in-Some.is at c.signature.ensures in
-    let k = rw c.in-Some-key.is at c.key.ensures in
+    let k = rw c.in-Some-key.is at c.key.ensures.key in
     let m = inside (message_octets c.in-Some-message.message) (message_of (token c.args.asked.now.signed.now) (parts c.in-Some.signature.now)) (rw (c.in-Some-message.is, sym e) at c.message.ensures) in
     let h = rw m at c.try_one.ensures.answer in
     answer_is (asked_table v c.args.asked.now) c.args.i c.args.j (valid_by v (message_of t s) s key) (may_lack_by v (message_of t s) s key) c.try_one.result
