@@ -143,9 +143,8 @@ impl Validator {
             x (B.ceiling budget.old) result }
         ensures once { AllPairs IsBefore result.tries.items }
         ensures within { IsWithin self.now.policy.max_calls (B.calls budget.new) }
-        ensures failed { R.failed source.new ≡ true → Failed result.verdict result.tries.items }
+        ensures failed { R.failed source.new ≡ true → Failed result.verdict result.tries.items result.states.items }
         ensures read { result.verdict ≡ Refused (Text Read) → R.failed source.new ≡ true }
-        ensures unread { result.verdict ≡ Refused (Text Read) → result.states.items ≡ [] }
         ensures octets { B.octets budget.new ≡ work result.tries.items }
         ensures calls { B.calls budget.new ≡ length result.tries.items }
         ensures ceiling { B.ceiling budget.new ≡ B.ceiling budget.old }

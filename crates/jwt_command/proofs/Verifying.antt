@@ -13,6 +13,7 @@ use Rattle.jwt_verify.specs.Reports.{FoundMemory, Failed, IsReport, TakesAtMost 
 use Rattle.jwt_verify.specs.Steps.{TellsReports}
 use Rattle.jwt_verify.specs.declared.report.Report.{Report}
 use Rattle.jwt_verify.specs.declared.report.Try.{Try}
+use Rattle.jwt_verify.specs.declared.report.SigState.{SigState}
 use Rattle.jwt_verify.specs.declared.report.InputFault.TheVariants.{Read, TooLong}
 use Rattle.jwt_verify.specs.declared.report.Fault.TheVariants.{OutOfMemory, Text, Form, WorkExceeded, CallsExceeded, VerifierMemory, Signature, Claim}
 use Rattle.jwt_verify.specs.declared.report.Verdict.{Verdict}
@@ -175,28 +176,28 @@ read_or (Refused (Claim f)) = inr (λ e. cc)
 read_or (Refused VerifierMemory) = inr (λ e. cc)
 read_or (Refused (CallsExceeded i j)) = inr (λ e. cc)
 
-failed_read : (v : Verdict) (es : List Try) → FoundMemory v → Failed v es → v ≡ Refused (Text Read)
-failed_read (Accepted i j claims) es found h = absurd h
-failed_read (Refused OutOfMemory) es found h = absurd found
-failed_read (Refused (Text Read)) es found h = refl
-failed_read (Refused (Text TooLong)) es found h = absurd h
-failed_read (Refused (Form f)) es found h = absurd h
-failed_read (Refused (WorkExceeded i j)) es found h = absurd h
-failed_read (Refused (Signature i f)) es found h = absurd h
-failed_read (Refused (Claim f)) es found h = absurd h
-failed_read (Refused VerifierMemory) es found h = absurd h
-failed_read (Refused (CallsExceeded i j)) es found h = absurd h
+failed_read : (v : Verdict) (es : List Try) (sts : List SigState) → FoundMemory v → Failed v es sts → v ≡ Refused (Text Read)
+failed_read (Accepted i j claims) es sts found h = absurd h
+failed_read (Refused OutOfMemory) es sts found h = absurd found
+failed_read (Refused (Text Read)) es sts found h = refl
+failed_read (Refused (Text TooLong)) es sts found h = absurd h
+failed_read (Refused (Form f)) es sts found h = absurd h
+failed_read (Refused (WorkExceeded i j)) es sts found h = absurd h
+failed_read (Refused (Signature i f)) es sts found h = absurd h
+failed_read (Refused (Claim f)) es sts found h = absurd h
+failed_read (Refused VerifierMemory) es sts found h = absurd h
+failed_read (Refused (CallsExceeded i j)) es sts found h = absurd h
 
 -- the line of a report, where memory was there, is that of the verdict on what the source gave
 pub answered : (q : Terms) (x : List ℕ) → TellsReports → (failed : Bool) (r : Report) (octets : ℕ) → (r.verdict ≢ Refused (Text Read) → IsReport q x q.policy.run.work r)
-    → (failed ≡ true → Failed r.verdict r.tries.items) → (r.verdict ≡ Refused (Text Read) → failed ≡ true) → octets ≡ work r.tries.items → FoundMemory r.verdict
+    → (failed ≡ true → Failed r.verdict r.tries.items r.states.items) → (r.verdict ≡ Refused (Text Read) → failed ≡ true) → octets ≡ work r.tries.items → FoundMemory r.verdict
     → (a : Answer) → a ≡ verify_line r.verdict (length r.tries.items) octets → a ≡ unless_read_failed in_lines failed (token_answer q x)
 answered q x tells failed r octets report fails read counted found a line = elim (read_or r.verdict) [
   | inl e ↦ line ∙ ap (λ v. verify_line v (length r.tries.items) octets) e ∙ sym (ap (λ f. unless_read_failed in_lines f (token_answer q x)) (read e))
   | inr n ↦ (let t = tells q x q.policy.run.work r (report n) found in
       let same : a ≡ token_answer q x = line ∙ ap (λ n. verify_line r.verdict (length r.tries.items) n) counted ∙ ap (λ v. verify_line v (length r.tries.items) (work r.tries.items)) t.0
       ∙ ap (λ es. verify_line (verdict_of q x q.policy.run.work) (length es) (work es)) t.1 in
-      working failed (λ is. n (failed_read r.verdict r.tries.items found (fails is))) same)
+      working failed (λ is. n (failed_read r.verdict r.tries.items r.states.items found (fails is))) same)
 ]
   where
     working : (failed : Bool) → (failed ≡ true → ⊥) → a ≡ token_answer q x → a ≡ unless_read_failed in_lines failed (token_answer q x)

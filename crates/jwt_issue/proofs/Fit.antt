@@ -5,9 +5,9 @@ use Rattle.std.proofs.lemmas.Bool.Decides.{nat_tests}
 use Rattle.std.specs.Global.{Global}
 use Rattle.serde_json.specs.Data.{object}
 use Rattle.serde_json.specs.Written.{compact_text}
-use Rattle.jwt_text.specs.Answers.{Answers}
+use Rattle.jwt_text.specs.Answers.{Answers, unless}
 use Rattle.jwt_text.specs.Base64url.{spelling}
-use Rattle.jwt_issue.specs.Issued.{PairParts, SignerParts, header, unless, may_sign, or_else, unfit, first_unfit, first_spent, within, signer_of, signing_cost, pair_cost, pair_costs}
+use Rattle.jwt_issue.specs.Issued.{PairParts, SignerParts, header, may_sign, or_else, unfit, first_unfit, first_spent, within, signer_of, signing_cost, pair_cost, pair_costs}
 use Rattle.jwt_mac.specs.Algorithm.{is_hmac_alg}
 use Rattle.jwt_issue.specs.declared.fault.IssueFault.{IssueFault}
 use Rattle.jwt_issue.specs.declared.fault.IssueFault.TheVariants.{OutOfMemory, NoKey, TooManySignatures, AlgNotHmac, KeyUnfit, TooLong, Spent}

@@ -1,5 +1,5 @@
 -- The signatures that are issued, and what is issued in compact form.
-use Rattle.std.proofs.Common.{◌≡◌, Bool, ℕ, ◌<◌, ◌==◌, true, false, not, List, [], ◌∷◌, ◌++◌, Option, None, codes, IsUtf8, length, inl, refl, sym, ap, ◌∙◌, arith, append_assoc}
+use Rattle.std.proofs.Common.{◌||◌, ◌≡◌, Bool, ℕ, ◌<◌, ◌==◌, true, false, not, List, [], ◌∷◌, ◌++◌, Option, None, codes, IsUtf8, length, inl, refl, sym, ap, ◌∙◌, arith, append_assoc}
 use Rattle.std.specs.Prelude.{All}
 use Rattle.std.specs.List.{list_all}
 use Rattle.std.proofs.lemmas.Bool.{and_parts, not-true}
@@ -11,7 +11,7 @@ use Rattle.serde_json.specs.Data.{Members, object}
 use Rattle.serde_json.specs.Written.{compact_text}
 use Rattle.jwt_text.specs.Base64url.{AreOctets, Spells, spelling}
 use Rattle.jwt_text.specs.ObjectText.{IsObjectText}
-use Rattle.jwt_jws.specs.Forms.{Spelled, is_period, is_space, opens_object, compact_token as spelled_compact}
+use Rattle.jwt_jws.specs.Forms.{Spelled, is_period, opens_object, compact_token as spelled_compact}
 use Rattle.jwt_jws.specs.SignedToken.{IsProtected, IsSignature, IsSignedToken}
 use Rattle.jwt_jws.specs.declared.fault.Form.{Form}
 use Rattle.jwt_jws.specs.declared.fault.Form.TheVariants.{Compact, General, Flattened}
@@ -107,7 +107,7 @@ no_period v = λ k d low. not-true _ (AllPass-from_list_all (λ c. not (is_perio
 
 -- no JSON white space
 abbrev is_no_space : ℕ → Bool
-is_no_space c = not (is_space c)
+is_no_space c = not (c == 9 || c == 10 || c == 13 || c == 32)
 
 opens_none : (t rest : List ℕ) → list_all is_no_space t ≡ true → list_all (λ c. not (c == 123)) t ≡ true → 0 < length t → opens_object (t ++ rest) ≡ false
 opens_none [] rest no_space no_brace some = absurd (omega arith)

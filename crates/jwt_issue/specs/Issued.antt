@@ -4,6 +4,7 @@ use Rattle.std.specs.Str.{bytes_eq}
 use Rattle.std.specs.List.{join_with_byte}
 use Rattle.serde_json.specs.Data.{Members, no_members, string, object, put}
 use Rattle.serde_json.specs.Written.{compact_text}
+use Rattle.jwt_text.specs.Answers.{unless}
 use Rattle.jwt_text.specs.Base64url.{spelling}
 use Rattle.jwt_mac.specs.Algorithm.{is_hmac_alg, digest_size, tag_of, cost_of, name_of}
 use Rattle.jwt_mac.specs.Verifying.{KeyOctets, OctKey, RsaKey, EcKey, OkpKey, signing_input}
@@ -138,11 +139,6 @@ first_unfit i (pair ∷ pairs) = or_else (unfit i pair) (first_unfit (i + 1) pai
 abbrev pub first_spent : ℕ → ℕ → List ℕ → Option IssueFault
 first_spent i left [] = None
 first_spent i left (cost ∷ costs) = if nat_lt left cost then Some (Spent i) else first_spent (i + 1) (left - cost) costs
-
--- the answer, unless there is a fault
-abbrev pub unless : {A : Type 0} → Option IssueFault → Result A IssueFault → Result A IssueFault
-unless None answer = answer
-unless (Some fault) answer = Err fault
 
 -- the token, unless it has more than 1,048,576 octets or the costs exceed what is left
 unfoldable pub within : ℕ → List ℕ → List ℕ → Result (List ℕ) IssueFault

@@ -3,9 +3,9 @@ ghost use Rattle.std.specs.Prelude.{◌≡◌, ◌≢◌, ◌+◌, ◌-◌, ◌*
 ghost use Rattle.std.specs.List.{sum, join_with_byte};
 ghost use Rattle.serde_json.specs.Data.{object};
 ghost use Rattle.serde_json.specs.Written.{compact_text};
-ghost use Rattle.jwt_text.specs.Answers.{Answers};
+ghost use Rattle.jwt_text.specs.Answers.{Answers, unless};
 ghost use Rattle.jwt_jws.specs.SignedToken.{IsSignedToken};
-ghost use Rattle.jwt_issue.specs.Issued.{header, general_of, general_token, within, pair_costs, first_unfit, first_spent, signer_of, signing_cost, text_members, element, unless};
+ghost use Rattle.jwt_issue.specs.Issued.{header, general_of, general_token, within, pair_costs, first_unfit, first_spent, signer_of, signing_cost, text_members, element};
 ghost use Rattle.jwt_issue.specs.Paying.{Pays, PaysOnce, due};
 ghost use Rattle.jwt_issue.specs.Signed.{general_signed};
 ghost use Rattle.jwt_issue.specs.Views.{pair_parts, text_of, signer_parts};

@@ -22,8 +22,8 @@ impl<'a> Signer<'a> {
     ghost use Rattle.std.specs.Prelude.{◌≡◌, ◌≢◌, ◌+◌, ◌*◌, ◌<◌, ◌≤◌, ◌^◌, IfOk, IfErr, OnOk, Ok, IsUtf8};
     ghost use Rattle.serde_json.specs.Data.{object};
     ghost use Rattle.serde_json.specs.Written.{compact_text};
-    ghost use Rattle.jwt_text.specs.Answers.{Answers, some_or};
-    ghost use Rattle.jwt_issue.specs.Issued.{unfit, header, signer_of, unless, signature_text, signing_cost};
+    ghost use Rattle.jwt_text.specs.Answers.{Answers, some_or, unless};
+    ghost use Rattle.jwt_issue.specs.Issued.{unfit, header, signer_of, signature_text, signing_cost};
     ghost use Rattle.jwt_issue.specs.Paying.{PaysOnce};
     ghost use Rattle.jwt_issue.specs.Views.{pair_of, text_of, signer_parts};
 

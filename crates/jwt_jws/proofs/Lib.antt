@@ -3,6 +3,7 @@ pub mod CompactLaws
 pub mod CritLemmas
 pub mod Each
 pub mod FaultLaws
+pub mod MessageLengths
 pub mod Periods
 pub mod SignedLaws
 pub mod Shapes

@@ -146,13 +146,9 @@ token_in most m = json_of most m >>= signed_of
 
 -- ---- the whole
 
--- JSON white space (RFC 8259, section 2)
-abbrev pub is_space : ℕ → Bool
-is_space c = c == 9 || c == 10 || c == 13 || c == 32
-
--- the first octet that isn't white space is '{'
+-- the first octet that isn't JSON white space (RFC 8259, section 2) is '{'
 abbrev pub opens_object : List ℕ → Bool
-opens_object z = option_map_or (λ c. c == 123) (find (λ c. not (is_space c)) z) false
+opens_object z = option_map_or (λ c. c == 123) (find (λ c. not (c == 9 || c == 10 || c == 13 || c == 32)) z) false
 
 unfoldable pub spelled_token : ℕ → List ℕ → Result SpelledToken FormFault
 spelled_token most z = if opens_object z then (read_as (object_of z) >>= json_of most) else compact z

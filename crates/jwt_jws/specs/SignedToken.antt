@@ -1,12 +1,13 @@
 -- When octets are a signed token (RFC 7515, sections 5.2 and 7), and of which signatures.
-use Rattle.std.specs.Prelude.{◌≡◌, ℕ, true, false, List, [], ◌∷◌, ◌<◌, ◌≤◌, ◌⊎◌, ◌↔◌, Ok, length, Some, option_map, codes}
+use Rattle.std.specs.Prelude.{◌≡◌, ℕ, true, false, List, [], ◌∷◌, ◌<◌, ◌≤◌, ◌⊎◌, ◌↔◌, Ok, length, Some, All, option_map, codes}
 use Rattle.std.specs.List.{AllZip}
 use Rattle.serde_json.specs.Data.{Data, Members, no_members}
 use Rattle.serde_json.specs.Find.{get_member, as_object}
 use Rattle.jwt_text.specs.Base64url.{Spells}
 use Rattle.jwt_text.specs.Members.{has, text_at, list_at}
 use Rattle.jwt_text.specs.ObjectText.{IsObjectText}
-use Rattle.jwt_jws.specs.Token.{SignatureParts, Token}
+use Rattle.jwt_mac.specs.Verifying.{signing_input}
+use Rattle.jwt_jws.specs.Token.{SignatureParts, Token, message_of}
 use Rattle.jwt_jws.specs.Forms.{Spelled, SpelledToken, opens_object, compact_token, form_of, overlap}
 use Rattle.jwt_jws.specs.CompactForm.{IsCompact}
 use Rattle.jwt_jws.specs.declared.fault.Form.{Form}
@@ -67,3 +68,11 @@ pub record IsSignedToken (most : ℕ) (z : List ℕ) (t : Token) : Type 0 where
 -- what is read is a signed token, and each signed token is read
 abbrev pub ReadsSignedTokens : Type 0
 ReadsSignedTokens = (most : ℕ) (z : List ℕ) (t : Token) → (form_of most z ≡ Ok t) ↔ IsSignedToken most z t
+
+-- a signing input is no longer than the token
+abbrev pub MessagesFit : Type 0
+MessagesFit = (most : ℕ) (z : List ℕ) (t : Token) → IsSignedToken most z t → All (λ s. length (signing_input (message_of t s)) ≤ length z) t.signatures
+
+-- there are at most as many signatures as may be read, which is at least one
+abbrev pub SignaturesAreFew : Type 0
+SignaturesAreFew = (most : ℕ) (z : List ℕ) (t : Token) → 0 < most → IsSignedToken most z t → length t.signatures ≤ most

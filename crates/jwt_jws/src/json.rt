@@ -1,5 +1,5 @@
 //! JSON form, general and flattened: the texts of a token as they are spelled (RFC 7515, section 7.2).
-ghost use Rattle.std.specs.Prelude.{◌≡◌, ◌<◌, ◌≤◌, codes, length, map, not, option_map, IfOk, slice_index_or};
+ghost use Rattle.std.specs.Prelude.{◌||◌, ◌==◌, ◌≡◌, ◌<◌, ◌≤◌, codes, length, map, not, option_map, IfOk, slice_index_or};
 ghost use Rattle.std.specs.List.{find};
 ghost use Rattle.serde_json.specs.Data.{Data, Members};
 ghost use Rattle.serde_json.specs.Find.{get_member, as_object};
@@ -7,7 +7,7 @@ ghost use Rattle.jwt_text.specs.Answers.{Answers, each, some_or};
 ghost use Rattle.jwt_text.specs.Members.{text_at};
 ghost use Rattle.jwt_text.specs.ObjectText.{object_of};
 ghost use Rattle.jwt_jws.specs.declared.fault.FormFault.TheVariants.{Members as WrongMembers};
-ghost use Rattle.jwt_jws.specs.Forms.{spelled_signature, spelled_element, flattened, general, json_of, read_as, is_space, opens_object};
+ghost use Rattle.jwt_jws.specs.Forms.{spelled_signature, spelled_element, flattened, general, json_of, read_as, opens_object};
 ghost use Rattle.jwt_jws.specs.Views.{spelled_view, json_view, header_view};
 
 use crate::fault::{Form, FormFault};
@@ -180,13 +180,13 @@ pub(crate) fn json_object(
 }
 
 fn is_space(c: u8) -> bool
-    ensures { result ≡ is_space c }
+    ensures { result ≡ (c == 9 || c == 10 || c == 13 || c == 32) }
 {
     matches!(c, 9 | 10 | 13 | 32)
 }
 
 fn first_no_space(octets: &[u8]) -> Option<u8>
-    ensures { result ≡ find (λ c. not (is_space c)) octets.now }
+    ensures { result ≡ find (λ c. not (c == 9 || c == 10 || c == 13 || c == 32)) octets.now }
 {
     octets.iter().copied().find(|c| !is_space(*c))
 }

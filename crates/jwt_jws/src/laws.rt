@@ -1,9 +1,9 @@
 //! Laws over the definitions that the contracts cite. The functions do nothing: each is its contract.
 ghost use Rattle.jwt_jws.specs.CompactForm.{ReadsCompact, IsReadCompact};
 ghost use Rattle.jwt_jws.specs.FormFaults.{TellsFormFaults};
-ghost use Rattle.jwt_jws.specs.SignedToken.{ReadsSignedTokens};
+ghost use Rattle.jwt_jws.specs.SignedToken.{ReadsSignedTokens, MessagesFit, SignaturesAreFew};
 
-use jwt_text::laws::{object_texts, octets_are_spelled};
+use jwt_text::laws::{object_texts, octets_are_spelled, texts_fit};
 
 /// What has compact form is read as its three texts, and what is read so has compact form (RFC 7515, section 7.1).
 pub fn compact_form()
@@ -26,4 +26,13 @@ pub fn form_faults()
 {
     octets_are_spelled();
     object_texts();
+}
+
+/// A signing input is no longer than the token that it is of (RFC 7515, section 5.1), and there are at most as many signatures as
+/// may be read.
+pub fn messages_fit()
+    ensures length { MessagesFit }
+    ensures count { SignaturesAreFew }
+{
+    texts_fit();
 }

@@ -5,12 +5,12 @@ use Rattle.std.specs.List.{All}
 use Rattle.std.proofs.lemmas.List.Elements.{All-nil, All-cons, All-append, All-weaker}
 use Rattle.serde_json.specs.Data.{Data, Members}
 use Rattle.serde_json.specs.Find.{as_object}
+use Rattle.jwt_text.specs.Answers.{unless}
 use Rattle.jwt_text.specs.Rows.{Row, first_row}
-use Rattle.jwt_keys.specs.Answers.{unless}
 use Rattle.jwt_keys.specs.Keys.{KeyParts}
 use Rattle.jwt_keys.specs.Kinds.{kind_at}
 use Rattle.jwt_keys.specs.SkipTable.{skip_rows, shape_skip_of, octet_skip_of}
-use Rattle.jwt_keys.specs.Entries.{parts_of, key_of_kind, skipped_or, key_of, key_in, key_if, skip_if}
+use Rattle.jwt_keys.specs.Entries.{parts_of, key_of_kind, key_of, key_in, key_if, skip_if}
 use Rattle.jwt_keys.specs.KeySets.{keys_from, skips_from}
 use Rattle.jwt_keys.specs.Laws.{is_readable, given_at, ListsEachEntry}
 use Rattle.jwt_keys.specs.Numbers.{numbers}
@@ -25,7 +25,7 @@ abbrev HasPlace : ℕ → Result KeyParts SkipReason → Type 0
 HasPlace place (Ok k) = k.place ≡ place
 HasPlace place (Err reason) = Unit {0}
 
-of_octets : (place : ℕ) (kind : Kind) (ms : Members) (o : Option SkipReason) → HasPlace place (unless o (parts_of place kind ms))
+of_octets : (place : ℕ) (kind : Kind) (ms : Members) (o : Option SkipReason) → HasPlace place (unless o (Ok (parts_of place kind ms)))
 of_octets place kind ms None = refl
 of_octets place kind ms (Some reason) = tt
 
@@ -33,7 +33,7 @@ of_kind : (place : ℕ) (kind : Option Kind) (ms : Members) → HasPlace place (
 of_kind place None ms = tt
 of_kind place (Some kind) ms = of_octets place kind ms (octet_skip_of kind ms)
 
-of_shape : (place : ℕ) (o : Option SkipReason) (a : Result KeyParts SkipReason) → HasPlace place a → HasPlace place (skipped_or o a)
+of_shape : (place : ℕ) (o : Option SkipReason) (a : Result KeyParts SkipReason) → HasPlace place a → HasPlace place (unless o a)
 of_shape place None a h = h
 of_shape place (Some reason) a h = tt
 

@@ -1,14 +1,14 @@
 -- The entry's reading answers the first row of the table.
-use Rattle.std.proofs.Common.{◌≡◌, ℕ, true, false, cond, List, [], ◌∷◌, ◌++◌, Option, Some, None, refl, ◌∙◌}
+use Rattle.std.proofs.Common.{◌≡◌, ℕ, true, false, cond, List, [], ◌∷◌, ◌++◌, Option, Some, None, refl, sym, ◌∙◌}
 use Rattle.std.specs.Prelude.{MatchResult, Result, Ok, Err, is_none}
 use Rattle.serde_json.specs.Data.{Members}
+use Rattle.jwt_text.specs.Answers.{unless}
 use Rattle.jwt_text.specs.Rows.{Row, first_row, NoRow, IsFirstRow}
-use Rattle.jwt_keys.specs.Answers.{unless}
 use Rattle.jwt_keys.specs.Keys.{KeyParts}
 use Rattle.jwt_keys.specs.Kinds.{kind_at}
 use Rattle.jwt_keys.specs.SkipTable.{skip_rows, shape_rows, octet_rows, octet_rows_of, shape_skip_of, octet_skip_of}
-use Rattle.jwt_keys.specs.Entries.{key_in, key_of, key_of_kind, skipped_or, parts_of}
-use Rattle.jwt_keys.specs.Laws.{SkipsByTheTable}
+use Rattle.jwt_keys.specs.Entries.{key_in, key_of, key_of_kind, parts_of}
+use Rattle.jwt_keys.specs.Laws.{IsKeyOf, SkipsByTheTable}
 use Rattle.jwt_keys.specs.declared.skip.SkipReason.{SkipReason}
 use Rattle.jwt_keys.specs.declared.kind.Kind.{Kind}
 use Rattle.jwt_keys.proofs.FirstRows.{no_row, first_row_is}
@@ -28,7 +28,7 @@ first_row-append (r ∷ rs) ss = elim r.holds as (λ b. cond b (Some r.answer) (
 abbrev pub ByRows : List (Row SkipReason) → Result KeyParts SkipReason → Type 0
 ByRows rs answer = MatchResult answer (λ k. first_row rs ≡ None) (λ reason. first_row rs ≡ Some reason)
 
-of_octets : (place : ℕ) (kind : Kind) (ms : Members) (o : Option SkipReason) → first_row (octet_rows kind ms) ≡ o → ByRows (octet_rows kind ms) (unless o (parts_of place kind ms))
+of_octets : (place : ℕ) (kind : Kind) (ms : Members) (o : Option SkipReason) → first_row (octet_rows kind ms) ≡ o → ByRows (octet_rows kind ms) (unless o (Ok (parts_of place kind ms)))
 of_octets place kind ms None e = e
 of_octets place kind ms (Some r) e = e
 
@@ -40,7 +40,7 @@ of_kind place ms (Some kind) e = of_octets place kind ms (first_row (octet_rows 
 kind_is_there : (ms : Members) → first_row (shape_rows ms) ≡ None → is_none (kind_at ms) ≡ false
 kind_is_there ms e = no_row (shape_rows ms) e 5 _ refl
 
-after_shape : (rs ss : List (Row SkipReason)) (o : Option SkipReason) (answer : Result KeyParts SkipReason) → first_row rs ≡ o → (o ≡ None → ByRows ss answer) → ByRows (rs ++ ss) (skipped_or o answer)
+after_shape : (rs ss : List (Row SkipReason)) (o : Option SkipReason) (answer : Result KeyParts SkipReason) → first_row rs ≡ o → (o ≡ None → ByRows ss answer) → ByRows (rs ++ ss) (unless o answer)
 after_shape rs ss None (Ok k) e h = first_row-append rs ss ∙ rw e (h refl)
 after_shape rs ss None (Err r) e h = first_row-append rs ss ∙ rw e (h refl)
 after_shape rs ss (Some r) answer e h = first_row-append rs ss ∙ rw e refl
@@ -53,9 +53,25 @@ pub by_rows : (place : ℕ) (entry : Option Members) → ByRows (skip_rows entry
 by_rows place None = refl
 by_rows place (Some ms) = of_members place ms
 
-told : (rs : List (Row SkipReason)) (answer : Result KeyParts SkipReason) → ByRows rs answer → MatchResult answer (λ k. NoRow rs) (λ reason. IsFirstRow rs reason)
-told rs (Ok k) h = no_row rs h
-told rs (Err r) h = first_row_is rs r h
+module _ (place : ℕ) (ms : Members) (k : KeyParts) where
+  of_rows : (o : Option SkipReason) (kind : Kind) → kind_at ms ≡ Some kind → unless o (Ok (parts_of place kind ms)) ≡ Ok k → IsKeyOf place (Some ms) k
+  of_rows None kind is e = let same : parts_of place kind ms ≡ k = cc in (ms, kind, refl, is, sym same)
+  of_rows (Some reason) kind is e = absurd cc
+
+  of_shape : (o : Option SkipReason) (kind : Option Kind) → kind_at ms ≡ kind → unless o (key_of_kind place kind ms) ≡ Ok k → IsKeyOf place (Some ms) k
+  of_shape (Some reason) kind is e = absurd cc
+  of_shape None None is e = absurd cc
+  of_shape None (Some kind) is e = of_rows (octet_skip_of kind ms) kind is e
+
+is_key : (place : ℕ) (entry : Option Members) (k : KeyParts) → key_in place entry ≡ Ok k → IsKeyOf place entry k
+unfolding key_of
+is_key place None k e = absurd cc
+is_key place (Some ms) k e = of_shape place ms k (shape_skip_of ms) (kind_at ms) refl e
+
+told : (place : ℕ) (entry : Option Members) (answer : Result KeyParts SkipReason) → key_in place entry ≡ answer → ByRows (skip_rows entry) answer
+    → MatchResult answer (λ k. NoRow (skip_rows entry) × IsKeyOf place entry k) (λ reason. IsFirstRow (skip_rows entry) reason)
+told place entry (Ok k) e h = (no_row (skip_rows entry) h, is_key place entry k e)
+told place entry (Err r) e h = first_row_is (skip_rows entry) r h
 
 pub skips_by_the_table : SkipsByTheTable
-skips_by_the_table place entry = told (skip_rows entry) (key_in place entry) (by_rows place entry)
+skips_by_the_table place entry = told place entry (key_in place entry) refl (by_rows place entry)

@@ -2,9 +2,9 @@
 use Rattle.std.specs.Prelude.{ℕ, List, [], ◌∷◌, map, Option, Some, None, option_map, unwrap_or, codes, Result, Ok, Err}
 use Rattle.serde_json.specs.Data.{Data, Members}
 use Rattle.serde_json.specs.Find.{as_str}
+use Rattle.jwt_text.specs.Answers.{unless}
 use Rattle.jwt_text.specs.Members.{text_at, list_at}
 use Rattle.jwt_mac.specs.Verifying.{KeyOctets, OctKey, RsaKey, EcKey, OkpKey}
-use Rattle.jwt_keys.specs.Answers.{unless}
 use Rattle.jwt_keys.specs.Keys.{KeyParts}
 use Rattle.jwt_keys.specs.Kinds.{kind_at}
 use Rattle.jwt_keys.specs.SkipTable.{member_octets, shape_skip_of, octet_skip_of}
@@ -38,17 +38,13 @@ parts_of place kind ms = record {
   place = place;
 }
 
-abbrev pub skipped_or : {A : Type 0} → Option SkipReason → Result A SkipReason → Result A SkipReason
-skipped_or None answer = answer
-skipped_or (Some reason) answer = Err reason
-
 abbrev pub key_of_kind : ℕ → Option Kind → Members → Result KeyParts SkipReason
 key_of_kind place None ms = Err CrvUnknown
-key_of_kind place (Some kind) ms = unless (octet_skip_of kind ms) (parts_of place kind ms)
+key_of_kind place (Some kind) ms = unless (octet_skip_of kind ms) (Ok (parts_of place kind ms))
 
 -- the key with these members, at its place, or the first of rows 2 to 9 of the skip table that holds
 unfoldable pub key_of : ℕ → Members → Result KeyParts SkipReason
-key_of place ms = skipped_or (shape_skip_of ms) (key_of_kind place (kind_at ms) ms)
+key_of place ms = unless (shape_skip_of ms) (key_of_kind place (kind_at ms) ms)
 
 -- the key of an entry that is no object or has these members, at its place, or the first row that holds
 abbrev pub key_in : ℕ → Option Members → Result KeyParts SkipReason

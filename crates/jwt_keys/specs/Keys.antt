@@ -1,8 +1,8 @@
 -- A key as contracts see it, and what it answers to.
-use Rattle.std.specs.Prelude.{ℕ, ◌&&◌, ◌||◌, Bool, true, false, List, Option, Some, None, codes}
+use Rattle.std.specs.Prelude.{ℕ, ◌&&◌, ◌||◌, Bool, true, false, List, length, Option, Some, None, codes}
 use Rattle.std.specs.List.{list_any}
 use Rattle.std.specs.Str.{bytes_eq}
-use Rattle.jwt_mac.specs.Verifying.{KeyOctets}
+use Rattle.jwt_mac.specs.Verifying.{KeyOctets, OctKey}
 
 -- a readable key: its members (RFC 7517, section 4), each None where it is absent, the octets that they spell, its
 -- thumbprint (RFC 7638), and the place of its entry in the list `keys`
@@ -14,6 +14,11 @@ pub record KeyParts : Type 0 where
   pub key_ops : Option (List (List ℕ))
   pub thumbprint : List ℕ
   pub place : ℕ
+
+-- the octets of a secret; a public key has none
+abbrev pub secret_length : KeyOctets → ℕ
+secret_length (OctKey k) = length k
+secret_length _ = 0
 
 abbrev pub is_kid : List ℕ → Option (List ℕ) → Bool
 is_kid name None = false

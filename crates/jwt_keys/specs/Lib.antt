@@ -5,6 +5,7 @@ pub mod SkipTable
 pub mod Thumbprints
 pub mod Entries
 pub mod KeySets
+pub mod Materials
 pub mod Numbers
 pub mod Views
 pub mod Laws

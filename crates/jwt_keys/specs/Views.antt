@@ -3,19 +3,11 @@ use Rattle.std.specs.Prelude.{◌≡◌, ℕ, List, [], ◌∷◌, ◌++◌, Boo
 use Rattle.std.specs.Global.{Global}
 use Rattle.std.specs.Option.{option_map_or}
 use Rattle.std.specs.BTreeMap.{BTreeMap, get_by_text}
-use Rattle.jwt_mac.specs.Verifying.{KeyOctets, OctKey, RsaKey, EcKey, OkpKey}
 use Rattle.jwt_keys.specs.Keys.{KeyParts, has_kid, has_thumbprint}
 use Rattle.jwt_keys.specs.Numbers.{numbers}
-use Rattle.jwt_keys.specs.declared.material.Material.{Material}
-use Rattle.jwt_keys.specs.declared.material.Material.TheVariants.{Oct, Rsa, Ec, Okp}
+use Rattle.jwt_keys.specs.Materials.{material_octets}
 use Rattle.jwt_keys.specs.declared.key.Key.{Key}
 use Rattle.jwt_keys.specs.declared.index.Index.{Index}
-
-abbrev pub material_octets : Material → KeyOctets
-material_octets (Oct k) = OctKey k.items
-material_octets (Rsa n e) = RsaKey n.items e.items
-material_octets (Ec curve x y) = EcKey curve x.items y.items
-material_octets (Okp curve x) = OkpKey curve x.items
 
 -- what contracts see of a key
 abbrev pub key_parts : Key → KeyParts

@@ -1,11 +1,13 @@
 //! The entries of a key set, one by one.
 
-ghost use Rattle.std.specs.Prelude.{◌≡◌, ◌++◌, option_map, map, string_bytes, IfOk, OnOk, unwrap_or, option_and_then, slice_get, []};
+ghost use Rattle.std.specs.Prelude.{◌≡◌, ◌≤◌, ◌++◌, option_map, map, string_bytes, IfOk, OnOk, unwrap_or, option_and_then, slice_get, []};
 ghost use Rattle.serde_json.specs.Find.{as_str};
 ghost use Rattle.jwt_text.specs.Members.{text_at, list_at};
 ghost use Rattle.jwt_keys.specs.Answers.{ReadsAs};
 ghost use Rattle.jwt_keys.specs.Entries.{octets_in, text_or_empty, parts_of, key_of, key_in, key_if, skip_if};
-ghost use Rattle.jwt_keys.specs.Views.{material_octets, key_parts};
+ghost use Rattle.jwt_keys.specs.Keys.{secret_length};
+ghost use Rattle.jwt_keys.specs.Materials.{material_octets};
+ghost use Rattle.jwt_keys.specs.Views.{key_parts};
 
 use crate::fault::EntryFault;
 use crate::key::Key;
@@ -73,7 +75,8 @@ fn make_key(
     material: Material,
     members: &ObjectRef<'_>,
 ) -> Result<Key, AllocError>
-    requires { material_octets material ≡ octets_in kind members.now }
+    requires octets { material_octets material ≡ octets_in kind members.now }
+    requires bounded { secret_length (material_octets material) ≤ 4096 }
     ensures { IfOk result (λ k. key_parts k ≡ parts_of place kind members.now) }
 {
     let kid = copy_text(alloc, members, "kid")?;

@@ -1,9 +1,10 @@
 //! A readable key.
 
-ghost use Rattle.std.specs.Prelude.{◌≡◌, option_map, length, map, string_bytes};
+ghost use Rattle.std.specs.Prelude.{◌≡◌, ◌≤◌, option_map, length, map, string_bytes};
 ghost use Rattle.std.specs.List.{list_any};
 ghost use Rattle.std.specs.Str.{bytes_eq};
-ghost use Rattle.jwt_keys.specs.Keys.{allows, is_for_signatures};
+ghost use Rattle.jwt_keys.specs.Keys.{allows, is_for_signatures, secret_length};
+ghost use Rattle.jwt_keys.specs.Materials.{material_octets};
 
 use crate::material::Material;
 use jwt_mac::KeyView;
@@ -19,6 +20,7 @@ pub struct Key {
     pub(crate) thumbprint: String,
     pub(crate) place: u32,
     ghost sized: { length (string_bytes thumbprint) ≡ 43 },
+    ghost bounded: { secret_length (material_octets material) ≤ 4096 },
 }
 
 impl Key {

@@ -1,10 +1,12 @@
 //! The octets of a key.
 
-ghost use Rattle.std.specs.Prelude.{◌≡◌};
-ghost use Rattle.jwt_keys.specs.Answers.{ReadsAs, unless};
+ghost use Rattle.std.specs.Prelude.{◌≡◌, ◌≤◌, IfOk, Ok};
+ghost use Rattle.jwt_text.specs.Answers.{unless};
+ghost use Rattle.jwt_keys.specs.Answers.{ReadsAs};
 ghost use Rattle.jwt_keys.specs.SkipTable.{spelled, octet_skip_of};
 ghost use Rattle.jwt_keys.specs.Entries.{octets_in};
-ghost use Rattle.jwt_keys.specs.Views.{material_octets};
+ghost use Rattle.jwt_keys.specs.Keys.{secret_length};
+ghost use Rattle.jwt_keys.specs.Materials.{material_octets};
 
 use crate::fault::EntryFault;
 use crate::kind::{Kind, fits};
@@ -55,8 +57,9 @@ pub(crate) fn read_material(
     kind: Kind,
     members: &ObjectRef<'_>,
 ) -> Result<Material, EntryFault>
-    ensures { let answer = unless (octet_skip_of kind members.now) (octets_in kind members.now) in
+    ensures answer { let answer = unless (octet_skip_of kind members.now) (Ok (octets_in kind members.now)) in
         ReadsAs material_octets result answer }
+    ensures bounded { IfOk result (λ material. secret_length (material_octets material) ≤ 4096) }
 {
     match kind {
         Kind::Oct => {

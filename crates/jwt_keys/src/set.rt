@@ -1,8 +1,8 @@
 //! A key set: its readable keys in order, found by number and by name.
 
-ghost use Rattle.std.specs.Prelude.{◌≡◌, ◌≤◌, ◌<◌, ◌&&◌, ◌↔◌, [], length, map, Err, IfOk, IsTrue, slice_get, option_map};
+ghost use Rattle.std.specs.Prelude.{◌≡◌, ◌≤◌, ◌<◌, ◌&&◌, ◌↔◌, [], length, map, Err, IfOk, IfSome, IsTrue, slice_get, option_map};
 ghost use Rattle.std.specs.Slice.Iter.{iter_rest};
-ghost use Rattle.jwt_keys.specs.Keys.{has_thumbprint, names};
+ghost use Rattle.jwt_keys.specs.Keys.{has_thumbprint, names, secret_length};
 ghost use Rattle.jwt_keys.specs.Numbers.{IsLeastFrom};
 ghost use Rattle.jwt_keys.specs.Views.{IsIndex, key_parts};
 
@@ -119,9 +119,11 @@ impl KeySet {
         self.keys.is_empty()
     }
 
-    /// The key of this number, counted from 0, skipped entries left out; `None` where there are no more than `j`.
+    /// The key of this number, counted from 0, skipped entries left out; `None` where there are no more than `j`. A secret has at
+    /// most 4,096 octets.
     pub fn key(&self, j: u32) -> Option<&Key>
-        ensures { option_map (λ k. key_parts k.now) result ≡ slice_get (key_set self.now).keys j }
+        ensures key { option_map (λ k. key_parts k.now) result ≡ slice_get (key_set self.now).keys j }
+        ensures secret { IfSome result (λ k. secret_length (key_parts k.now).octets ≤ 4096) }
     {
         self.keys.get(j as usize)
     }

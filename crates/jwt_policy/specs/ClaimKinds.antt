@@ -2,7 +2,7 @@
 use Rattle.std.specs.Prelude.{ℕ, List, [], ◌∷◌, codes, Bool, not, ◌&&◌, is_none, option_and_then, Option, Some, None, Result, Ok, Err}
 use Rattle.serde_json.specs.Data.{Members}
 use Rattle.serde_json.specs.Find.{get_member, as_number}
-use Rattle.jwt_text.specs.Answers.{or_fault, ◌>>=◌}
+use Rattle.jwt_text.specs.Answers.{or_fault, ◌>>=◌, unless}
 use Rattle.jwt_text.specs.Members.{has, list_at, whole_at, are_texts}
 use Rattle.jwt_text.specs.ObjectText.{object_of}
 use Rattle.jwt_text.specs.Rows.{Row, ◌⇒◌, first_row}
@@ -50,10 +50,6 @@ kind_rows ms =
 unfoldable pub kind_fault : Members → Option ClaimFault
 kind_fault ms = first_row (kind_rows ms)
 
-abbrev pub unless : Option ClaimFault → Members → Result Members ClaimFault
-unless None ms = Ok ms
-unless (Some fault) ms = Err fault
-
 -- the claims of a payload: its object, whose registered claims have their kinds; or the first cause to refuse it
 unfoldable pub claims_of : List ℕ → Result Members ClaimFault
-claims_of payload = or_fault ClaimsShape (object_of payload) >>= λ ms. unless (kind_fault ms) ms
+claims_of payload = or_fault ClaimsShape (object_of payload) >>= λ ms. unless (kind_fault ms) (Ok ms)

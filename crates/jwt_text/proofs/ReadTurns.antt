@@ -14,7 +14,7 @@ use Rattle.jwt_text.specs.declared.node.Entry.{Entry}
 use Rattle.jwt_text.specs.declared.node.Node.{Node}
 use Rattle.jwt_text.specs.declared.node.Span.{Span}
 use Rattle.jwt_text.specs.declared.store.Store.{Store}
-use Rattle.jwt_text.specs.Flat.{piece, text_of, node_data, IsText, Each, IsNode, run_of}
+use Rattle.jwt_text.specs.Flat.{text_of, node_data, IsText, Each, IsNode, run_of}
 use Rattle.jwt_text.specs.Growth.{Extends, AddsText, AddsNodes}
 use Rattle.jwt_text.specs.Reads.{ReadsNode, ReadsItems, items_before, ItemsTo, ItemsSoFar, put_all, pair, entries_of, MembersTo, MembersSoFar}
 use Rattle.jwt_text.proofs.Levels.{each_same, each_from}

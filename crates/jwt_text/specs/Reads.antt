@@ -8,7 +8,7 @@ use Rattle.serde_json.specs.Read.{of_json, of_items, of_members}
 use Rattle.serde_json.specs.View.{items_of}
 use Rattle.jwt_text.specs.NamesWritten.{names_written, items_names_written, members_names_written}
 use Rattle.jwt_text.specs.ObjectText.{entries, items_entries, members_entries}
-use Rattle.jwt_text.specs.Flat.{piece, text_of, node_data, members_data, IsText, Each, AreEntries, IsNode, run_of, IsRun}
+use Rattle.jwt_text.specs.Flat.{text_of, node_data, members_data, IsText, Each, AreEntries, IsNode, run_of, IsRun}
 use Rattle.jwt_text.specs.Growth.{Extends}
 use Rattle.jwt_text.specs.declared.node.Entry.{Entry}
 use Rattle.jwt_text.specs.declared.node.Node.{Node}

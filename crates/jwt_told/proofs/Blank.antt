@@ -17,11 +17,7 @@ module _ (q : Terms) (x : List ℕ) (w : ℕ) (r : Report) (verdict : r.verdict 
   unfolding work
   nothing none = record {
     verdict = λ found. absurd (subst FoundMemory verdict found);
-    run = λ token t asking. record {
-      front = subst (IsFront t) (sym none) (tries t, refl);
-      allowed = subst (AreAllowed w q.policy.max_calls) (sym none) (omega arith, λ most e. omega arith);
-      complete = complete t;
-    };
+    run = λ token t asking. (subst (IsFront t) (sym none) (tries t, refl), subst (AreAllowed w q.policy.max_calls) (sym none) (omega arith, λ most e. omega arith), complete t);
     blank = λ other. (none, inl verdict);
   }
 
@@ -29,10 +25,8 @@ module _ (q : Terms) (x : List ℕ) (w : ℕ) (r : Report) (verdict : r.verdict 
   pub after : (o : Report) → IsReport q x w o → r.tries.items ≡ o.tries.items → IsReport q x w r
   after o report same = record {
     verdict = λ found. absurd (subst FoundMemory verdict found);
-    run = λ token t asking. let run = report.run token t asking in record {
-      front = subst (IsFront t) (sym same) run.front;
-      allowed = subst (AreAllowed w q.policy.max_calls) (sym same) run.allowed;
-      complete = complete t;
-    };
+    run = λ token t asking.
+        let run = report.run token t asking in
+        (subst (IsFront t) (sym same) run.0, subst (AreAllowed w q.policy.max_calls) (sym same) run.1, complete t);
     blank = λ other. (same ∙ (report.blank other).0, inl verdict);
   }

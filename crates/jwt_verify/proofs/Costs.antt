@@ -1,26 +1,28 @@
 -- The work in a caller's terms.
-use Rattle.std.proofs.Common.{◌≡◌, ℕ, zero, suc, ◌+◌, ◌*◌, ◌<◌, ◌≤◌, Bool, true, false, List, [], ◌∷◌, length, take, get_or, map, Option, Some, None, refl, sym, ◌∙◌, ap, subst, inl, inr, arith, add-one}
+use Rattle.std.proofs.Common.{◌≡◌, ℕ, zero, suc, ◌+◌, ◌-◌, ◌*◌, ◌==◌, ◌&&◌, ◌<◌, ◌≤◌, Bool, true, false, List, [], ◌∷◌, length, take, get_or, map, Option, Some, None, refl, sym, ◌∙◌, ap, subst, inl, inr, arith, add-one}
 use Rattle.std.specs.Prelude.{slice_get, nat_lt, if◌then◌else◌}
 use Rattle.std.specs.List.{All, sum_by, filter, flat_map}
 use Rattle.std.specs.Option.{option_map_or}
 use Rattle.std.proofs.Math.Nat.{mul-le-mul_right, mul-le-mul_left, suc-mul}
 use Rattle.std.proofs.lemmas.Bool.{cases_Bool}
-use Rattle.std.proofs.lemmas.List.{take_more, take_all}
+use Rattle.std.proofs.lemmas.List.{take_more, take_all, length-take-le}
 use Rattle.std.proofs.lemmas.List.Elements.{All-head, All-tail}
 use Rattle.std.proofs.lemmas.List.Sums.{sum_by-append, sum_by_push, sum_by-cons}
 use Rattle.std.proofs.lemmas.Option.{slice_get-get_or}
 use Rattle.jwt_mac.specs.declared.algorithm.Alg.{Alg}
 use Rattle.jwt_mac.specs.declared.algorithm.Alg.TheVariants.{HS256, HS384, HS512, RS256, RS384, RS512, PS256, PS384, PS512, ES256, ES384, ES512, EdDSA}
 use Rattle.jwt_mac.specs.Algorithm.{is_hmac_alg, block_size, digest_size}
-use Rattle.jwt_mac.specs.Verifying.{KeyOctets, OctKey, RsaKey, EcKey, OkpKey}
-use Rattle.jwt_jws.specs.Token.{Token, SignatureParts}
-use Rattle.jwt_keys.specs.Keys.{KeyParts}
+use Rattle.jwt_mac.specs.Verifying.{KeyOctets, OctKey, RsaKey, EcKey, OkpKey, signing_input}
+use Rattle.jwt_jws.specs.Token.{Token, SignatureParts, message_of}
+use Rattle.jwt_jws.specs.SignedToken.{MessagesFit, SignaturesAreFew}
+use Rattle.jwt_keys.specs.Keys.{KeyParts, secret_length}
 use Rattle.jwt_policy.specs.Bars.{alg}
 use Rattle.jwt_verify.specs.declared.report.Try.{Try}
 use Rattle.jwt_verify.specs.Table.{Table, below, entry, tried, pairs, tries, work}
 use Rattle.jwt_verify.specs.Trying.{at_pair, table_of}
+use Rattle.jwt_verify.specs.Verdict.{without_line_feed}
 use Rattle.jwt_verify.specs.Laws.{greatest, common_cost, long_secret, long_key}
-use Rattle.jwt_verify.specs.Verdicts.{secret_length, secrets, CallersBound, GreatestWork}
+use Rattle.jwt_verify.specs.Verdicts.{secrets, CallersBound, GreatestWork}
 use Rattle.jwt_verify.proofs.Below.{below_more, below-zero, length-below}
 use Rattle.jwt_verify.proofs.Bounds.{work_bounded}
 use Rattle.jwt_verify.proofs.Ceilings.{table_cost}
@@ -104,6 +106,17 @@ most_of : (f : Alg → ℕ) (most : ℕ) → ((a : Alg) → f a ≤ most) → (a
 most_of f most h [] = omega arith
 most_of f most h (a ∷ algs) = omega (arith, h a, most_of f most h algs)
 
+greatest_most : {A : Type 0} (f : A → ℕ) (most : ℕ) (xs : List A) → All (λ x. f x ≤ most) xs → greatest (map f xs) ≤ most
+greatest_most f most [] h = omega arith
+greatest_most f most (x ∷ xs) h = omega (arith, All-head (λ y. f y ≤ most) x xs h, greatest_most f most xs (All-tail (λ y. f y ≤ most) x xs h))
+
+shorter : (drops : Bool) (x : List ℕ) → length (without_line_feed drops x) ≤ length x
+shorter drops x = either (drops && option_map_or (λ octet. octet == 10) (slice_get x (length x - 1)) false)
+  where
+    either : (b : Bool) → length (if b then take (length x - 1) x else x) ≤ length x
+    either true = omega (arith, length-take-le (length x - 1) x)
+    either false = omega arith
+
 block_most : (a : Alg) → block_size a ≤ 128
 block_most HS256 = omega arith
 block_most HS384 = omega arith
@@ -161,13 +174,18 @@ module _ (laws : Laws) where
       subst (λ t. work (tries t) ≤ length token.signatures * length q.keys * common + length token.signatures * secrets q.keys)
       (sym (table_is laws.eligible laws.bar q token t asks.1)) (omega (arith, within, all))
 
-  pub greatest_work : GreatestWork
-  greatest_work q x token t asks few keys short small =
+  pub greatest_work : MessagesFit → SignaturesAreFew → GreatestWork
+  greatest_work fit few q x token t asks some most limit keys small =
+      let signed = asks.0.1 in
+      let z = without_line_feed q.policy.run.line_feed x in
+      let inputs = greatest_most (λ s. length (signing_input (message_of token s))) (length z) token.signatures (fit q.policy.run.max_signatures z token signed) in
+      let short = shorter q.policy.run.line_feed x in
+      let count : length token.signatures ≤ 32 = omega (arith, few q.policy.run.max_signatures z token some signed) in
       let b = callers_bound q x token t asks in
       let blocks = most_of block_size 128 block_most q.policy.run.algs in
       let digests = most_of digest_size 64 digest_most q.policy.run.algs in
-      let common : common_cost q.policy token ≤ 1048896 = omega (arith, short, blocks, digests) in
-      let pairs = product_most (length token.signatures) (length q.keys) (common_cost q.policy token) 32 1024 1048896 few keys common in
+      let common : common_cost q.policy token ≤ 1048896 = omega (arith, inputs, short, asks.0.0, blocks, digests) in
+      let pairs = product_most (length token.signatures) (length q.keys) (common_cost q.policy token) 32 1024 1048896 count keys common in
       let lengths : secrets q.keys ≤ 4194304 = omega (arith, secrets_most q.keys small, keys) in
-      let secret = product_most 1 (length token.signatures) (secrets q.keys) 1 32 4194304 (omega arith) few lengths in
+      let secret = product_most 1 (length token.signatures) (secrets q.keys) 1 32 4194304 (omega arith) count lengths in
       omega (arith, b, pairs, secret)

@@ -16,7 +16,8 @@ use Rattle.jwt_policy.specs.Settings.{Settings}
 use Rattle.jwt_policy.specs.Eligible.{eligible_for}
 use Rattle.jwt_verify.specs.declared.report.SigState.{SigState}
 use Rattle.jwt_verify.specs.declared.report.SigState.TheVariants.{Barred, NoKey, BadSignature, Verified, NotReached}
-use Rattle.jwt_verify.specs.Table.{Table, below, verifies, verified, reached, reached_in, state_at, states_at, outcome, settled}
+use Rattle.jwt_verify.specs.Table.{Table, below, verifies, verified, reached, reached_in, state_at, states_at, outcome}
+use Rattle.jwt_verify.specs.Walk.{state_of}
 use Rattle.jwt_verify.specs.Trying.{valid_by, table_of}
 use Rattle.jwt_verify.specs.Laws.{unplaced, AreAmong, kind_of}
 use Rattle.jwt_verify.proofs.Below.{map-agree}
@@ -69,13 +70,13 @@ abbrev barred_or : Option SigFault → SigState → SigState
 barred_or (Some f) s = Barred f
 barred_or None s = s
 
-settled_kind : (o : Option SigFault) (seen : Bool) (p : ℕ → Bool) (xs : List ℕ) → kind_of (settled o seen (find p xs)) ≡ barred_or o (cond (list_any p xs) (Verified 0) (kind_of (cond seen BadSignature NoKey)))
-settled_kind (Some f) seen p xs = refl
-settled_kind None seen p xs = found_kind p xs (cond seen BadSignature NoKey)
+barred_kind : (o : Option SigFault) (seen : Bool) (p : ℕ → Bool) (xs : List ℕ) → kind_of (state_of o seen (find p xs)) ≡ barred_or o (cond (list_any p xs) (Verified 0) (kind_of (cond seen BadSignature NoKey)))
+barred_kind (Some f) seen p xs = refl
+barred_kind None seen p xs = found_kind p xs (cond seen BadSignature NoKey)
 
 outcome_kind : (t : Table) (i : ℕ) → kind_of (outcome t i) ≡ barred_or (t.bar i) (cond (verified t i) (Verified 0) (kind_of (cond (list_any (t.eligible i) (below t.keys)) BadSignature NoKey)))
 unfolding outcome verified
-outcome_kind t i = settled_kind (t.bar i) (list_any (t.eligible i) (below t.keys)) (verifies t i) (below t.keys)
+outcome_kind t i = barred_kind (t.bar i) (list_any (t.eligible i) (below t.keys)) (verifies t i) (below t.keys)
 
 state_kind : (t : Table) (i : ℕ) → kind_of (state_at t None i) ≡ cond (reached t i) (kind_of (outcome t i)) NotReached
 unfolding state_at

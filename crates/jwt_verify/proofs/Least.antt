@@ -16,8 +16,8 @@ use Rattle.jwt_policy.specs.declared.sig_fault.SigFault.{SigFault}
 use Rattle.jwt_verify.specs.declared.report.Try.{Try}
 use Rattle.jwt_verify.specs.declared.report.SigState.{SigState}
 use Rattle.jwt_verify.specs.declared.report.SigState.TheVariants.{Verified, NotReached, Stopped}
-use Rattle.jwt_verify.specs.Table.{Table, below, verifies, verified, tried, entry, tries, stop, reached, state_at, states_at, outcome, settled, work, is_within, paid, affords}
-use Rattle.jwt_verify.specs.Walk.{IsAt, IsThrough, IsPending, row, rows, goes_on}
+use Rattle.jwt_verify.specs.Table.{Table, below, verifies, verified, tried, entry, tries, stop, reached, state_at, states_at, outcome, work, is_within, paid, affords}
+use Rattle.jwt_verify.specs.Walk.{state_of, IsAt, IsThrough, IsPending, row, rows, goes_on}
 use Rattle.jwt_verify.specs.Laws.{with_valid}
 use Rattle.jwt_verify.proofs.Below.{below-zero, list_any-below, map-agree, grows}
 use Rattle.jwt_verify.proofs.Paying.{paid_is, paid_all, paid_rest, paid_fits, paid_over, slice_get_at, paid_front, within_less, work-append}
@@ -185,7 +185,7 @@ module _ (t : Table) (v : ℕ → ℕ → Bool) where
       let agree' : All Agrees (rows t i ++ row t i t.keys) = subst (All Agrees) (rows-more t i) agree in
       let start : IsAt other i 0 (rows t i) = starts i h (All-left Agrees (rows t i) (row t i t.keys) agree') in
       let a : IsThrough t i (verified t i) (rows t (i + 1)) = record { listed = refl; reached = h; verified = refl } in
-      ap (settled (t.bar i) (list_any (t.eligible i) (below t.keys))) (through i (verified t i) (rows t (i + 1)) start a agree).1
+      ap (state_of (t.bar i) (list_any (t.eligible i) (below t.keys))) (through i (verified t i) (rows t (i + 1)) start a agree).1
 
 -- the first signature that ends the run
 last_reached : (t : Table) (n : ℕ) → reached t n ≡ false → (i : ℕ) × (i < n) × (reached t i ≡ true) × (goes_on t.mode (verified t i) ≡ false)
@@ -312,21 +312,21 @@ find_passes p (x ∷ xs) j h = elim (cases_Bool (p x)) [
   | inr f ↦ find_passes p xs j (rw f at h)
 ]
 
-settled_found : (b : Option SigFault) (seen : Bool) (found : Option ℕ) (j : ℕ) → settled b seen found ≡ Verified j → found ≡ Some j
-settled_found (Some f) seen found j h = cc
-settled_found None seen (Some k) j h = let q : k ≡ j = cc in ap Some q
-settled_found None true None j h = cc
-settled_found None false None j h = cc
+state_found : (b : Option SigFault) (seen : Bool) (found : Option ℕ) (j : ℕ) → state_of b seen found ≡ Verified j → found ≡ Some j
+state_found (Some f) seen found j h = cc
+state_found None seen (Some k) j h = let q : k ≡ j = cc in ap Some q
+state_found None true None j h = cc
+state_found None false None j h = cc
 
 -- a state is Verified(j) only where key j is eligible and valid
 state_verifies : (t : Table) (o : Option Try) (i j : ℕ) → state_at t o i ≡ Verified j → verifies t i j ≡ true
 unfolding state_at outcome
 state_verifies t o i j h = cases (option_map_or (λ e. eqb e.signature i) o false) (reached t i && not (option_map_or (λ e. ltb e.signature i) o false)) h
   where
-    cases : (a b : Bool) → cond a Stopped (cond b (settled (t.bar i) (list_any (t.eligible i) (below t.keys)) (find (verifies t i) (below t.keys))) NotReached) ≡ Verified j → verifies t i j ≡ true
+    cases : (a b : Bool) → cond a Stopped (cond b (state_of (t.bar i) (list_any (t.eligible i) (below t.keys)) (find (verifies t i) (below t.keys))) NotReached) ≡ Verified j → verifies t i j ≡ true
     cases true b k = cc
     cases false false k = cc
-    cases false true k = find_passes (verifies t i) (below t.keys) j (settled_found (t.bar i) (list_any (t.eligible i) (below t.keys)) (find (verifies t i) (below t.keys)) j k)
+    cases false true k = find_passes (verifies t i) (below t.keys) j (state_found (t.bar i) (list_any (t.eligible i) (below t.keys)) (find (verifies t i) (below t.keys)) j k)
 
 valid_of : (t : Table) (i j : ℕ) → verifies t i j ≡ true → t.valid i j ≡ true
 unfolding verifies

@@ -22,7 +22,7 @@ use Rattle.jwt_verify.specs.Verdict.{Terms, token_of, table, verdict_of}
 use Rattle.jwt_verify.specs.Paying.{IsFront, IsWithin, AreAllowed, ArePaid}
 use Rattle.jwt_verify.specs.Asks.{AtPair, IsToken, IsAsking}
 use Rattle.jwt_verify.specs.Laws.{IsBefore, common_cost, long_key}
-use Rattle.jwt_verify.specs.Reports.{FoundMemory, IsComplete, IsRunReport, IsReport, AreEligible, IsBounded}
+use Rattle.jwt_verify.specs.Reports.{FoundMemory, IsComplete, IsReport, AreEligible, IsBounded}
 use Rattle.jwt_verify.specs.Steps.{IsSourceFault, IsWhole, IsListed, ReportsInWords, ReportsOnTaken, TakenTokens, TellsReports}
 use Rattle.jwt_verify.proofs.Bounds.{HasCost, rows_ordered, tries_eligible, length-tries, sum_bound, tries_bounded}
 use Rattle.jwt_verify.proofs.Walking.{tries_are_rows}
@@ -129,11 +129,11 @@ none_bounded q x es n z token is = omega (arith, z)
 memory_report : (q : Terms) (x : List ℕ) (w : ℕ) (r : Report) → r.tries.items ≡ [] → r.verdict ≡ Refused OutOfMemory → IsReport q x w r
 memory_report q x w r nil memory = record {
   verdict = λ found. absurd (subst FoundMemory memory found);
-  run = λ token t asks. record {
-    front = (tries t, ap (λ es. es ++ tries t) (sym nil));
-    allowed = (omega (arith, ap work nil, work-nil), none_within q.policy.max_calls (length r.tries.items) (ap length nil));
-    complete = subst (IsComplete t w q.policy.max_calls r.tries.items r.states.items) (sym memory) tt;
-  };
+  run = λ token t asks. (
+    (tries t, ap (λ es. es ++ tries t) (sym nil)),
+    (omega (arith, ap work nil, work-nil), none_within q.policy.max_calls (length r.tries.items) (ap length nil)),
+    subst (IsComplete t w q.policy.max_calls r.tries.items r.states.items) (sym memory) tt,
+  );
   blank = λ none. (nil, inl memory);
 }
 
@@ -168,15 +168,17 @@ module _ (laws : Laws) where
           let nil : r.tries.items ≡ [] = nil_from_length r.tries.items (omega (arith, ap length p, length-append r.tries.items h.front.0)) in
           (nil, blank_by (table q x) w q.policy.max_calls r.tries.items r.states.items z nil r.verdict h.whole)
 
-  listed_run : (q : Terms) (x : List ℕ) (w : ℕ) (r : Report) → IsListed q x w r → (token : Token) (t : Table) → IsAsking q x token t → IsRunReport t w q.policy.max_calls r
+  listed_run : (q : Terms) (x : List ℕ) (w : ℕ) (r : Report) → IsListed q x w r → (token : Token) (t : Table) → IsAsking q x token t
+      → IsFront t r.tries.items × AreAllowed w q.policy.max_calls r.tries.items × IsComplete t w q.policy.max_calls r.tries.items r.states.items r.verdict
   listed_run q x w r h token t asks =
       let T = table q x in
       let calls = q.policy.max_calls in
-      subst (λ t. IsRunReport t w calls r) (sym (asks_token laws q x token t asks).1) (record {
-        front = front_tries T w calls r.tries.items h.front.0 h.front.1;
-        allowed = front_allowed T w calls r.tries.items h.front.0 h.front.1;
-        complete = complete T w calls r.tries.items r.states.items r.verdict h.whole;
-      })
+      subst (λ t. IsFront t r.tries.items × AreAllowed w calls r.tries.items × IsComplete t w calls r.tries.items r.states.items r.verdict) (sym (asks_token laws q x token t asks).1)
+      (
+        front_tries T w calls r.tries.items h.front.0 h.front.1,
+        front_allowed T w calls r.tries.items h.front.0 h.front.1,
+        complete T w calls r.tries.items r.states.items r.verdict h.whole,
+      )
 
   listed_report : (q : Terms) (x : List ℕ) (w : ℕ) (r : Report) → IsListed q x w r → IsReport q x w r
   listed_report q x w r h = record {
@@ -256,7 +258,7 @@ module _ (laws : Laws) where
           → (r.verdict ≡ verdict_of q x w) × (r.tries.items ≡ paid (table q x) w q.policy.max_calls) × (r.states.items ≡ states (table q x) w q.policy.max_calls)
       go (Ok t) e =
           let asks = token_asks laws q x t (token_is q x t (sym e)) in
-          let l = found_left (table q x) w q.policy.max_calls r.tries.items r.states.items r.verdict found (h.run t (table q x) asks).complete in
+          let l = found_left (table q x) w q.policy.max_calls r.tries.items r.states.items r.verdict found (h.run t (table q x) asks).2 in
           (verdict, l.0, l.1)
       go (Err f) e =
           let none : (token : Token) → ¬ IsToken q x token = λ token is. (let never = e ∙ is_token q x token (is.0, (laws.signed_tokens _ _ token).1 is.1) in cc) in

@@ -10,7 +10,8 @@ use Rattle.jwt_policy.specs.declared.mode.Mode.{Mode}
 use Rattle.jwt_policy.specs.declared.mode.Mode.TheVariants.{Any, All}
 use Rattle.jwt_policy.specs.declared.sig_fault.SigFault.{SigFault}
 use Rattle.jwt_verify.specs.declared.report.SigState.{SigState}
-use Rattle.jwt_verify.specs.Table.{Table, below, verifies, verified, reached_in, reached, settled, outcome, state_at, states_at}
+use Rattle.jwt_verify.specs.Table.{Table, below, verifies, verified, reached_in, reached, outcome, state_at, states_at}
+use Rattle.jwt_verify.specs.Walk.{state_of}
 use Rattle.jwt_verify.specs.Verdict.{first_in, fault_of, key_at, fault_at, signing_in, signing_of}
 use Rattle.jwt_verify.specs.Steps.{key_of, key_in, fault_in, signing_by}
 use Rattle.jwt_verify.proofs.Below.{below-zero, length-below, list_any-gap, list_all-below}
@@ -47,18 +48,18 @@ not_found p (x ∷ xs) h = elim (cases_Bool (p x)) [
 
 -- ---- one signature
 
-settled_key : (seen : Bool) (found : Option ℕ) → key_of (settled None seen found) ≡ found
-settled_key seen (Some j) = refl
-settled_key true None = refl
-settled_key false None = refl
+state_key : (seen : Bool) (found : Option ℕ) → key_of (state_of None seen found) ≡ found
+state_key seen (Some j) = refl
+state_key true None = refl
+state_key false None = refl
 
 -- a barred signature has no eligible key, so the state tells the key
 key_is : (t : Table) (i : ℕ) → ((j : ℕ) → t.eligible i j ≡ true → t.bar i ≡ None) → key_of (outcome t i) ≡ key_at t i
 unfolding outcome
 key_is t i barred = go (t.bar i) refl
   where
-    go : (o : Option SigFault) → o ≡ t.bar i → key_of (settled o (list_any (t.eligible i) (below t.keys)) (find (verifies t i) (below t.keys))) ≡ find (verifies t i) (below t.keys)
-    go None e = settled_key (list_any (t.eligible i) (below t.keys)) (find (verifies t i) (below t.keys))
+    go : (o : Option SigFault) → o ≡ t.bar i → key_of (state_of o (list_any (t.eligible i) (below t.keys)) (find (verifies t i) (below t.keys))) ≡ find (verifies t i) (below t.keys)
+    go None e = state_key (list_any (t.eligible i) (below t.keys)) (find (verifies t i) (below t.keys))
     go (Some f) e = sym (find_none (verifies t i) (below t.keys) (none_below (verifies t i) t.keys
         (λ j l. elim (cases_Bool (t.eligible i j)) [ inl y ↦ (let q = e ∙ barred j y in cc) | inr n ↦ verifies_ineligible t i j n ])))
 
@@ -66,15 +67,15 @@ pub key_none : (t : Table) (i : ℕ) → key_at t i ≡ None → verified t i �
 unfolding verified
 key_none t i h = not_found (verifies t i) (below t.keys) h
 
-settled_fault : (o : Option SigFault) (seen : Bool) (found : Option ℕ) → fault_of (settled o seen found) ≡ None → (j : ℕ) × (found ≡ Some j)
-settled_fault (Some f) seen found h = cc
-settled_fault None seen (Some j) h = (j, refl)
-settled_fault None true None h = cc
-settled_fault None false None h = cc
+state_fault : (o : Option SigFault) (seen : Bool) (found : Option ℕ) → fault_of (state_of o seen found) ≡ None → (j : ℕ) × (found ≡ Some j)
+state_fault (Some f) seen found h = cc
+state_fault None seen (Some j) h = (j, refl)
+state_fault None true None h = cc
+state_fault None false None h = cc
 
 pub fault_none : (t : Table) (i : ℕ) → fault_at t i ≡ None → verified t i ≡ true
 unfolding outcome verified
-fault_none t i h = let q = settled_fault (t.bar i) (list_any (t.eligible i) (below t.keys)) (find (verifies t i) (below t.keys)) h in found_any (verifies t i) (below t.keys) q.0 q.1
+fault_none t i h = let q = state_fault (t.bar i) (list_any (t.eligible i) (below t.keys)) (find (verifies t i) (below t.keys)) h in found_any (verifies t i) (below t.keys) q.0 q.1
 
 reached_any : (t : Table) (i : ℕ) → t.mode ≡ Any → ((k : ℕ) → k < i → verified t k ≡ false) → reached t i ≡ true
 unfolding reached reached_in

@@ -27,7 +27,8 @@ use Rattle.jwt_verify.specs.declared.report.Fault.{Fault}
 use Rattle.jwt_verify.specs.declared.report.Fault.TheVariants.{OutOfMemory, Text, Form, WorkExceeded, CallsExceeded, VerifierMemory, Signature, Claim}
 use Rattle.jwt_verify.specs.declared.report.Try.{Try}
 use Rattle.jwt_verify.specs.declared.report.Verdict.TheVariants.{Accepted, Refused}
-use Rattle.jwt_verify.specs.Table.{Table, below, verified, outcome, settled, tries, stop}
+use Rattle.jwt_verify.specs.Table.{Table, below, verified, outcome, tries, stop}
+use Rattle.jwt_verify.specs.Walk.{state_of}
 use Rattle.jwt_verify.specs.Verdict.{Terms, fault_of, fault_at, table, verdict_of}
 use Rattle.jwt_verify.specs.Paying.{AreAllowed}
 use Rattle.jwt_verify.specs.Asks.{IsTable, IsAsking}
@@ -58,22 +59,22 @@ pub record Laws : Type 0 where
 -- ---- why a signature isn't verified
 
 module _ (t : Table) (i : ℕ) (not : verified t i ≡ false) where
-  fault_settled : fault_at t i ≡ fault_of (settled (t.bar i) (list_any (t.eligible i) (below t.keys)) None)
+  fault_state : fault_at t i ≡ fault_of (state_of (t.bar i) (list_any (t.eligible i) (below t.keys)) None)
   unfolding outcome
-  fault_settled = ap (λ o. fault_of (settled (t.bar i) (list_any (t.eligible i) (below t.keys)) o)) (not_verified t i not)
+  fault_state = ap (λ o. fault_of (state_of (t.bar i) (list_any (t.eligible i) (below t.keys)) o)) (not_verified t i not)
 
   pub reason_words : (f : SigFault) → fault_at t i ≡ Some f → IsReason t i f
-  reason_words f h = go (t.bar i) refl (list_any (t.eligible i) (below t.keys)) refl (sym fault_settled ∙ h)
+  reason_words f h = go (t.bar i) refl (list_any (t.eligible i) (below t.keys)) refl (sym fault_state ∙ h)
     where
-      go : (bar : Option SigFault) → bar ≡ t.bar i → (seen : Bool) → seen ≡ list_any (t.eligible i) (below t.keys) → fault_of (settled bar seen None) ≡ Some f → IsReason t i f
+      go : (bar : Option SigFault) → bar ≡ t.bar i → (seen : Bool) → seen ≡ list_any (t.eligible i) (below t.keys) → fault_of (state_of bar seen None) ≡ Some f → IsReason t i f
       go (Some g) e seen k y = inl (sym e ∙ y)
       go None e true k y = let l = least_found (t.eligible i) t.keys (sym k) in inr (sym e, inr (let s = y in cc, (l.0, l.1, l.2)))
       go None e false k y = inr (sym e, inl (let s = y in cc, λ j l. any_at (t.eligible i) t.keys j (sym k) l))
 
   pub words_reason : (f : SigFault) → IsReason t i f → fault_at t i ≡ Some f
-  words_reason f (inl b) = fault_settled ∙ rw b refl
-  words_reason f (inr (b, inl (e, none))) = fault_settled ∙ rw (b, none_below (t.eligible i) t.keys none) (ap Some (sym e))
-  words_reason f (inr (b, inr (e, (j, l, y)))) = fault_settled ∙ rw (b, any_true (t.eligible i) t.keys j l y) (ap Some (sym e))
+  words_reason f (inl b) = fault_state ∙ rw b refl
+  words_reason f (inr (b, inl (e, none))) = fault_state ∙ rw (b, none_below (t.eligible i) t.keys none) (ap Some (sym e))
+  words_reason f (inr (b, inr (e, (j, l, y)))) = fault_state ∙ rw (b, any_true (t.eligible i) t.keys j l y) (ap Some (sym e))
 
 unverified_here : (m : Mode) (t : Table) (i : ℕ) → 0 < t.signatures → IsFirstUnverified m t i → verified t i ≡ false
 unverified_here Any t i some h = h.1 i (omega (arith, h.0, some))

@@ -40,17 +40,13 @@ IsComplete t w calls es sts (Refused VerifierMemory) =
     (before : List Try) × (e : Try) × (es ≡ before ++ e ∷ []) × (t.may_lack e.signature e.key ≡ true) × (sts ≡ states_at t (Some e))
 IsComplete t w calls es sts _ = ArePaid t w calls es × (sts ≡ states_at t (slice_get (tries t) (length es)))
 
--- the report of a run over the table: the tries listed are a prefix of the tries, and both ceilings allow them
-pub record IsRunReport (t : Table) (w : ℕ) (calls : Option ℕ) (r : Report) : Type 0 where
-  pub front : IsFront t r.tries.items
-  pub allowed : AreAllowed w calls r.tries.items
-  pub complete : IsComplete t w calls r.tries.items r.states.items r.verdict
-
 -- The report on x, w being the budget's ceiling: its verdict, unless memory was refused, is that on x; of a signed token it lists
--- what its run comes to, of anything else no try and no state; after OutOfMemory nothing is said of the states.
+-- a prefix of the tries that both ceilings allow, and what its run comes to; of anything else no try and no state; after
+-- OutOfMemory nothing is said of the states.
 pub record IsReport (q : Terms) (x : List ℕ) (w : ℕ) (r : Report) : Type 0 where
   pub verdict : FoundMemory r.verdict → IsVerdict q x w r.verdict
-  pub run : (token : Token) (t : Table) → IsAsking q x token t → IsRunReport t w q.policy.max_calls r
+  pub run : (token : Token) (t : Table) → IsAsking q x token t → IsFront t r.tries.items × AreAllowed w q.policy.max_calls r.tries.items
+      × IsComplete t w q.policy.max_calls r.tries.items r.states.items r.verdict
   pub blank : ((token : Token) → ¬ IsToken q x token)
       → (r.tries.items ≡ []) × ((r.verdict ≡ Refused OutOfMemory) ⊎ (FoundMemory r.verdict × (r.states.items ≡ [])))
 
@@ -66,10 +62,10 @@ IsBounded q x es octets = (token : Token) → IsToken q x token → octets
     + sum_by (λ e. at_pair long_key 0 token q.keys e.signature e.key) es
 
 -- the source failed, and nothing was tried; or memory was refused before anything was
-abbrev pub Failed : Verdict → List Try → Type 0
-Failed (Refused (Text Read)) es = es ≡ []
-Failed (Refused OutOfMemory) es = es ≡ []
-Failed _ es = ⊥
+abbrev pub Failed : Verdict → List Try → List SigState → Type 0
+Failed (Refused (Text Read)) es sts = (es ≡ []) × (sts ≡ [])
+Failed (Refused OutOfMemory) es sts = (es ≡ []) × (sts ≡ [])
+Failed _ es sts = ⊥
 
 -- at most so many octets of x were taken, and the others are still to come
 abbrev pub TakesAtMost : ℕ → List ℕ → Option (List ℕ) → Type 0

@@ -76,14 +76,10 @@ paid t octets calls = take (prefix_len (affords t octets calls) (range_with_len 
 unfoldable pub stop : Table → ℕ → Option ℕ → Option Try
 stop t octets calls = slice_get (tries t) (length (paid t octets calls))
 
--- what becomes of a signature, by its bar, whether a key is eligible, and the key that verifies it
-abbrev pub settled : Option SigFault → Bool → Option ℕ → SigState
-settled (Some fault) seen found = Barred fault
-settled None seen found = option_map_or Verified found (if seen then BadSignature else NoKey)
-
--- what becomes of a signature that is reached and not stopped
+-- what becomes of a signature that is reached and not stopped: it is barred, some key verifies it, or none does, and some or none
+-- is eligible
 unfoldable pub outcome : Table → ℕ → SigState
-outcome t i = settled (t.bar i) (list_any (t.eligible i) (below t.keys)) (find (verifies t i) (below t.keys))
+outcome t i = option_map_or Barred (t.bar i) (option_map_or Verified (find (verifies t i) (below t.keys)) (if list_any (t.eligible i) (below t.keys) then BadSignature else NoKey))
 
 -- what becomes of signature i, where the run stops at the pair o, if it does
 unfoldable pub state_at : Table → Option Try → ℕ → SigState

@@ -1,10 +1,9 @@
 -- Laws of the verdict and of the tries, in words.
-use Rattle.std.specs.Prelude.{ℕ, ◌+◌, ◌*◌, ◌≤◌, ◌≡◌, ◌≢◌, Bool, not, List, length, map, Option, None}
+use Rattle.std.specs.Prelude.{ℕ, ◌+◌, ◌*◌, ◌<◌, ◌≤◌, ◌≡◌, ◌≢◌, Bool, not, List, length, map, Option, None}
 use Rattle.std.specs.List.{All, Contains, sum_by}
 use Rattle.serde_json.specs.Data.{Members}
-use Rattle.jwt_mac.specs.Verifying.{KeyOctets, OctKey, signing_input}
-use Rattle.jwt_jws.specs.Token.{Token, message_of}
-use Rattle.jwt_keys.specs.Keys.{KeyParts}
+use Rattle.jwt_jws.specs.Token.{Token}
+use Rattle.jwt_keys.specs.Keys.{KeyParts, secret_length}
 use Rattle.jwt_verify.specs.declared.report.Try.{Try}
 use Rattle.jwt_verify.specs.declared.report.Fault.TheVariants.{CallsExceeded}
 use Rattle.jwt_verify.specs.declared.report.Verdict.{Verdict}
@@ -14,7 +13,7 @@ use Rattle.jwt_verify.specs.Verdict.{Terms}
 use Rattle.jwt_verify.specs.Paying.{IsWithin, AreAllowed, ArePaid}
 use Rattle.jwt_verify.specs.Asks.{IsToken, IsAsking}
 use Rattle.jwt_verify.specs.Accepted.{IsVerdict}
-use Rattle.jwt_verify.specs.Laws.{AreAmong, with_keys, kind_of, without_key, common_cost, greatest, with_valid, verdict_by}
+use Rattle.jwt_verify.specs.Laws.{AreAmong, with_keys, kind_of, without_key, common_cost, with_valid, verdict_by}
 
 -- what is paid is the longest prefix of the tries that both ceilings allow, and nothing else is
 abbrev pub PaidIsLongest : Type 0
@@ -27,10 +26,6 @@ CallsSuffice = (q : Terms) (x : List ℕ) (w i j : ℕ) (token : Token) → IsTo
 
 -- ---- the bound in a caller's terms
 
-abbrev pub secret_length : KeyOctets → ℕ
-secret_length (OctKey k) = length k
-secret_length _ = 0
-
 -- the lengths of all secrets together
 abbrev pub secrets : List KeyParts → ℕ
 secrets keys = sum_by (λ key. secret_length key.octets) keys
@@ -40,12 +35,11 @@ abbrev pub CallersBound : Type 0
 CallersBound = (q : Terms) (x : List ℕ) (token : Token) (t : Table) → IsAsking q x token t
     → work (tries t) ≤ length token.signatures * length q.keys * common_cost q.policy token + length token.signatures * secrets q.keys
 
--- its greatest value, with 32 signatures, 1,024 keys, signing inputs of 1,048,576 octets and secrets of 4,096
+-- its greatest value, for every policy and key set: up to 32 signatures and 1,048,576 octets of a token, 1,024 keys, and secrets of 4,096
 abbrev pub GreatestWork : Type 0
 GreatestWork = (q : Terms) (x : List ℕ) (token : Token) (t : Table) → IsAsking q x token t
-    → length token.signatures ≤ 32 → length q.keys ≤ 1024
-    → greatest (map (λ s. length (signing_input (message_of token s))) token.signatures) ≤ 1048576
-    → All (λ key. secret_length key.octets ≤ 4096) q.keys
+    → 0 < q.policy.run.max_signatures → q.policy.run.max_signatures ≤ 32 → q.policy.run.limit ≤ 1048576
+    → length q.keys ≤ 1024 → All (λ key. secret_length key.octets ≤ 4096) q.keys
     → work (tries t) ≤ 34504441856
 
 -- ---- other keys, where no ceiling stops a run

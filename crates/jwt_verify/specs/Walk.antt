@@ -1,13 +1,15 @@
 -- How far a run has come: what the private functions say of the tries that they have listed.
-use Rattle.std.specs.Prelude.{ℕ, ◌+◌, ◌<◌, ◌≤◌, ◌≡◌, ◌++◌, ◌∷◌, [], Bool, true, false, not, List, map, length, Option, None, Some}
+use Rattle.std.specs.Prelude.{ℕ, ◌+◌, ◌<◌, ◌≤◌, ◌≡◌, ◌++◌, ◌∷◌, [], Bool, true, false, not, List, map, length, Option, None, Some, if◌then◌else◌}
 use Rattle.std.specs.List.{list_any, filter, flat_map, find}
+use Rattle.std.specs.Option.{option_map_or}
 use Rattle.jwt_verify.specs.declared.tries.RowEnd.{RowEnd}
 use Rattle.jwt_verify.specs.declared.tries.RowEnd.TheVariants.{Through, Stop}
 use Rattle.jwt_verify.specs.declared.settled.Settled.{Settled}
 use Rattle.jwt_verify.specs.declared.tries.End.{End}
 use Rattle.jwt_verify.specs.declared.tries.End.TheVariants.{Done, WorkExceeded, CallsExceeded, VerifierMemory}
 use Rattle.jwt_verify.specs.declared.report.SigState.{SigState}
-use Rattle.jwt_verify.specs.declared.report.SigState.TheVariants.{NotReached}
+use Rattle.jwt_verify.specs.declared.report.SigState.TheVariants.{Barred, NoKey, BadSignature, Verified, NotReached}
+use Rattle.jwt_policy.specs.declared.sig_fault.SigFault.{SigFault}
 use Rattle.jwt_policy.specs.declared.mode.Mode.{Mode}
 use Rattle.jwt_policy.specs.declared.mode.Mode.TheVariants.{Any, All}
 use Rattle.jwt_verify.specs.declared.report.Try.{Try}
@@ -85,6 +87,10 @@ stopped_at t (VerifierMemory i j) = Some (entry t i j)
 pub record IsSettled (t : Table) (i : ℕ) (s : Settled) : Type 0 where
   pub state : settled_state s ≡ outcome t i
   pub key : find (verifies t i) (below t.keys) ≡ settled_key s
+
+-- what becomes of a signature, by its bar, whether a key is eligible, and the key that verifies it
+abbrev pub state_of : Option SigFault → Bool → Option ℕ → SigState
+state_of bar seen found = option_map_or Barred bar (option_map_or Verified found (if seen then BadSignature else NoKey))
 
 -- how the tries of one signature ended
 abbrev pub IsRowEnd : Table → ℕ → ℕ → Option ℕ → List Try → RowEnd → Type 0

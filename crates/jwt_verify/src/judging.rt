@@ -275,9 +275,8 @@ pub fn validate<'p, R: Source, B: Budget>(
         x (B.ceiling b.old) result }
     ensures once { AllPairs IsBefore result.tries.items }
     ensures within { IsWithin policy.now.max_calls (B.calls b.new) }
-    ensures failed { R.failed r.new ≡ true → Failed result.verdict result.tries.items }
+    ensures failed { R.failed r.new ≡ true → Failed result.verdict result.tries.items result.states.items }
     ensures read { result.verdict ≡ Refused (Text Read) → R.failed r.new ≡ true }
-    ensures unread { result.verdict ≡ Refused (Text Read) → result.states.items ≡ [] }
     ensures octets { B.octets b.new ≡ work result.tries.items }
     ensures calls { B.calls b.new ≡ length result.tries.items }
     ensures ceiling { B.ceiling b.new ≡ B.ceiling b.old }

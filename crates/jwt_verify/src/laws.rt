@@ -5,7 +5,7 @@ ghost use Rattle.jwt_verify.specs.Steps.{ReportsInWords, ReportsOnTaken, TakenTo
 ghost use Rattle.jwt_verify.specs.Laws.{TriesAreBounded, LeastTries, MoreKeys, SameKeys, WorkIsBounded, CeilingSuffices};
 ghost use Rattle.jwt_verify.specs.Verdicts.{PaidIsLongest, CallsSuffice, CallersBound, GreatestWork, MoreKeysAccept, SameKeysAgree, LeastTriesOfToken};
 
-use jwt_jws::laws::{form_faults, signed_tokens};
+use jwt_jws::laws::{form_faults, messages_fit, signed_tokens};
 use jwt_policy::laws::{
     bar_is_first_row, check_is_first_row, claims_hold, eligible_pairs, payload_claims,
 };
@@ -166,11 +166,12 @@ pub fn callers_bound()
     claims_hold();
 }
 
-/// That bound is at most 34,504,441,856 octets, with up to 32 signatures, 1,024 keys, signing inputs of 1,048,576 octets and
-/// secrets of 4,096.
+/// That bound is at most 34,504,441,856 octets for every policy and key set: a token has up to 32 signatures and 1,048,576 octets, and
+/// so has each signing input; a key set has up to 1,024 keys, and secrets of up to 4,096 octets.
 pub fn greatest_work()
     ensures { GreatestWork }
 {
+    messages_fit();
     signed_tokens();
     form_faults();
     object_texts();

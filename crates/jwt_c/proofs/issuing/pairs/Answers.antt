@@ -13,7 +13,7 @@ keys-preserved c =
     let xs = (key_set c.args.keys.now).keys in
     let l : c.keys.j < length xs = omega (arith, c.keys-test.true, c.len-j-end.ensures.count) in
     elim c.match-key.branch [
-      | in-Some+in_ok-push w ↦ (let e = rw w.in-Some.is at c.key.ensures in
+      | in-Some+in_ok-push w ↦ (let e = rw w.in-Some.is at c.key.ensures.key in
           rw (w.pairs-is, w.in_ok-push.ensures.items) (map-append pair_parts c.keys.pairs.items _ ∙ ap (λ ps. ps ++ pair c.args.alg (key_parts w.in-Some.key.now) ∷ []) c.keys.invariant ∙ sym (map_more (pair c.args.alg) xs c.keys.j (key_parts w.in-Some.key.now) (sym e))))
-      | in_default w ↦ (let e = rw w.in_default.is at c.key.ensures in absurd (slice_within xs c.keys.j l (sym e)))
+      | in_default w ↦ (let e = rw w.in_default.is at c.key.ensures.key in absurd (slice_within xs c.keys.j l (sym e)))
     ]

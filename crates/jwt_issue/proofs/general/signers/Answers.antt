@@ -2,7 +2,8 @@ use Rattle.std.proofs.Common.{◌≡◌, ◌<◌, List, ◌∷◌, [], ◌++◌,
 use Rattle.std.proofs.lemmas.List.{length-map, map_push, take_all}
 use Rattle.std.proofs.lemmas.List.Elements.{All-more}
 use Rattle.std.proofs.lemmas.Result.{err_from_is_err_and}
-use Rattle.jwt_issue.specs.Issued.{PairParts, SignerParts, unless, unfit, signer_of}
+use Rattle.jwt_text.specs.Answers.{unless}
+use Rattle.jwt_issue.specs.Issued.{PairParts, SignerParts, unfit, signer_of}
 use Rattle.jwt_issue.specs.Views.{pair_parts, text_of, signer_parts}
 use Rattle.jwt_issue.specs.declared.fault.IssueFault.{IssueFault}
 use Rattle.jwt_issue.specs.declared.signer.Signer.{Signer}

@@ -14,4 +14,4 @@ returns c = greatest_work (record {
   claims_shape = c.payload_claims.ensures.shape;
   check = c.check_is_first_row.ensures.some;
   hold = c.claims_hold.ensures;
-})
+}) c.messages_fit.ensures.length c.messages_fit.ensures.count
