@@ -9,8 +9,6 @@ mod given;
 mod reading;
 mod ready;
 mod run;
-#[cfg(test)]
-mod tests;
 mod totals;
 mod words;
 mod workload;
