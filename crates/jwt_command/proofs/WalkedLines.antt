@@ -237,8 +237,7 @@ answering_more limit at says now n None left rest held before between after same
 answering_more limit at says now n (Some x) left rest held before between after same (y, is, (done, number)) line (m, moment, text) =
     let l = subst (λ o. IfSome o (λ y. Line limit y held rest)) is line in
     let answered : LineAnswered at (with_held limit says (length done.done) (first_line y)) now (first_line y) between after =
-        (m, held_moment limit says now n (length done.done) m held (first_line y) l.1 number moment, subst (λ t. Appends between after t) (ap (λ z. (at m z).text) l.1 ∙ ap (λ a. a.text) (same m (first_line y))) text) in
-    (
+    (m, held_moment limit says now n (length done.done) m held (first_line y) l.1 number moment, subst (λ t. Appends between after t) (ap (λ z. (at m z).text) l.1 ∙ ap (λ a. a.text) (same m (first_line y))) text) in (
       after_line y,
       l.2,
       (
