@@ -989,12 +989,12 @@ impl Clock for Ticks<'_> {
     ghost says = { λ _ _ _. Unit {0} };
 
     fn moment(&mut self, number: u64, line: &[u8]) -> Option<u64> {
-        let (first, rest) = self.lines.split_first()?;
-        if line != first.as_bytes() || number != self.number as u64 {
+        let at = self.number;
+        let wanted = self.lines.get(at as usize)?;
+        if line != wanted.as_bytes() || number != at as u64 {
             return None;
         }
-        self.lines = rest;
-        self.number = self.number.saturating_add(1);
+        self.number = at.saturating_add(1);
         let now = self.next;
         self.next = now.saturating_add(1);
         Some(now as u64)
