@@ -1,5 +1,5 @@
 -- Lines that are taken octet by octet, and what is answered of them.
-use Rattle.std.proofs.Common.{◌≡◌, ◌≢◌, ◌≤◌, ◌<◌, ◌⊎◌, inl, inr, ◌==◌, ◌||◌, ℕ, zero, suc, ◌+◌, Bool, true, false, List, [], ◌∷◌, ◌++◌, length, take, drop, Option, None, Some, Result, Ok, Err, IfOk, IfSome, refl, sym, ap, subst, if◌then◌else◌, ◌∙◌, append_assoc, append-nil, length-append, arith, nat_lt}
+use Rattle.std.proofs.Common.{◌≡◌, ◌≤◌, ◌<◌, inl, inr, ◌==◌, ◌||◌, ℕ, zero, suc, ◌+◌, Bool, true, false, List, [], ◌∷◌, ◌++◌, length, take, Option, None, Some, Result, Ok, Err, IfOk, IfSome, refl, sym, ap, subst, if◌then◌else◌, ◌∙◌, append_assoc, append-nil, length-append, arith, nat_lt}
 use Rattle.std.proofs.lemmas.List.{take_all}
 use Rattle.std.proofs.lemmas.Bool.Decides.{nat_tests}
 use Rattle.std.specs.List.{list_any}
@@ -14,7 +14,7 @@ use Rattle.jwt_verify.specs.Verdict.{Terms, table, token_of, token_or_none, verd
 use Rattle.jwt_verify.specs.Table.{states, work}
 use Rattle.jwt_verify.specs.declared.report.InputFault.TheVariants.{TooLong}
 use Rattle.jwt_verify.specs.declared.report.Fault.TheVariants.{Text}
-use Rattle.jwt_command.specs.TakenLines.{TakesLine, after_line, first_line}
+use Rattle.jwt_command.specs.TakenLines.{after_line, first_line}
 use Rattle.jwt_command.proofs.LineLemmas.{line_at_end, line_at_feed}
 
 -- ---- the first line

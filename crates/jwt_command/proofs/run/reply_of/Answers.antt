@@ -1,4 +1,4 @@
-use Rattle.std.proofs.Common.{◌≡◌, ◌∙◌, ◌⊎◌, sym, ap, subst, map, List, IfOk, IfSome, option_map, true}
+use Rattle.std.proofs.Common.{◌≡◌, ◌⊎◌, sym, ap, subst, map, List, IfOk, IfSome, true}
 use Rattle.jwt_mac.specs.Verifying.{Meaning}
 use Rattle.jwt_command.specs.Answered.{answer_told}
 use Rattle.jwt_command.specs.Documents.{unread}
