@@ -1,5 +1,5 @@
 -- Lines that are taken octet by octet, and what is answered of them.
-use Rattle.std.proofs.Common.{◌≡◌, ◌≢◌, ◌≤◌, ◌<◌, ◌⊎◌, inl, inr, ◌==◌, ◌||◌, ℕ, zero, suc, ◌+◌, Bool, true, false, List, [], ◌∷◌, ◌++◌, length, take, drop, Option, None, Some, Result, Ok, Err, IfOk, IfSome, refl, sym, ap, subst, if◌then◌else◌, ◌∙◌, append_assoc, append-nil, length-append, arith, nat_lt}
+use Rattle.std.proofs.Common.{◌≡◌, ◌≤◌, ◌<◌, inl, inr, ◌==◌, ◌||◌, ℕ, zero, suc, ◌+◌, Bool, true, false, List, [], ◌∷◌, ◌++◌, length, take, Option, None, Some, Result, Ok, Err, IfOk, IfSome, refl, sym, ap, subst, if◌then◌else◌, ◌∙◌, append_assoc, append-nil, length-append, arith, nat_lt}
 use Rattle.std.proofs.lemmas.List.{take_all}
 use Rattle.std.proofs.lemmas.Bool.Decides.{nat_tests}
 use Rattle.std.specs.List.{list_any}
@@ -14,7 +14,7 @@ use Rattle.jwt_verify.specs.Verdict.{Terms, table, token_of, token_or_none, verd
 use Rattle.jwt_verify.specs.Table.{states, work}
 use Rattle.jwt_verify.specs.declared.report.InputFault.TheVariants.{TooLong}
 use Rattle.jwt_verify.specs.declared.report.Fault.TheVariants.{Text}
-use Rattle.jwt_command.specs.TakenLines.{TakesLine, after_line, first_line}
+use Rattle.jwt_command.specs.TakenLines.{after_line, first_line}
 use Rattle.jwt_command.proofs.LineLemmas.{line_at_end, line_at_feed}
 
 -- ---- the first line
@@ -237,8 +237,7 @@ answering_more limit at says now n None left rest held before between after same
 answering_more limit at says now n (Some x) left rest held before between after same (y, is, (done, number)) line (m, moment, text) =
     let l = subst (λ o. IfSome o (λ y. Line limit y held rest)) is line in
     let answered : LineAnswered at (with_held limit says (length done.done) (first_line y)) now (first_line y) between after =
-        (m, held_moment limit says now n (length done.done) m held (first_line y) l.1 number moment, subst (λ t. Appends between after t) (ap (λ z. (at m z).text) l.1 ∙ ap (λ a. a.text) (same m (first_line y))) text) in
-    (
+    (m, held_moment limit says now n (length done.done) m held (first_line y) l.1 number moment, subst (λ t. Appends between after t) (ap (λ z. (at m z).text) l.1 ∙ ap (λ a. a.text) (same m (first_line y))) text) in (
       after_line y,
       l.2,
       (

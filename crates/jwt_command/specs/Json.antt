@@ -1,18 +1,17 @@
 -- What `verify --json` answers: one JSON object on one line, as the kit's writer spells it.
-use Rattle.std.specs.Prelude.{ℕ, List, [], ◌∷◌, ◌++◌, map, length, unwrap_or, if◌then◌else◌, codes}
+use Rattle.std.specs.Prelude.{ℕ, List, [], ◌∷◌, ◌++◌, map, unwrap_or, if◌then◌else◌, codes}
 use Rattle.std.specs.Fmt.{decimal}
 use Rattle.std.specs.Str.{is_utf8}
 use Rattle.json.specs.Json.{Json, null, number, string, array, object, Items, no_items, item, Members, no_members, member, document}
 use Rattle.json.specs.Print.{print}
 use Rattle.json.specs.Tree.{json_tokens}
-use Rattle.jwt_jws.specs.FaultNames.{form_fault_name}
 use Rattle.jwt_jws.specs.declared.fault.FormFault.{FormFault}
 use Rattle.jwt_jws.specs.declared.fault.FormFault.TheVariants as form
 use Rattle.jwt_jws.specs.declared.fault.Place.TheVariants as place
 use Rattle.jwt_keys.specs.FaultNames.{keys_fault_name}
 use Rattle.jwt_keys.specs.declared.fault.KeysFault.{KeysFault}
 use Rattle.jwt_policy.specs.ClaimKinds.{claim_name}
-use Rattle.jwt_policy.specs.FaultNames.{policy_fault_name, claim_fault_name, sig_fault_name}
+use Rattle.jwt_policy.specs.FaultNames.{policy_fault_name, sig_fault_name}
 use Rattle.jwt_policy.specs.declared.policy_fault.PolicyFault.{PolicyFault}
 use Rattle.jwt_policy.specs.declared.policy_fault.PolicyFault.TheVariants as policy
 use Rattle.jwt_policy.specs.declared.claim_fault.ClaimFault.{ClaimFault}

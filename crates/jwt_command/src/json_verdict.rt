@@ -190,7 +190,9 @@ fn put_verdict(
     ensures { OnOk result (out.new ≡ out.old ++ named_tokens (verdict_members verdict.now payload.now)) }
 {
     match verdict {
-        Verdict::Accepted { signature, key, .. } => put_accepted(alloc, out, *signature, *key, payload),
+        Verdict::Accepted { signature, key, .. } => put_accepted(
+            alloc, out, *signature, *key, payload,
+        ),
         Verdict::Refused(fault) => put_refused(out, fault),
     }
 }
@@ -211,7 +213,12 @@ fn said(alloc: Global, report: &Report<'_>, payload: &[u8], work: u64) -> Result
 {
     let mut out = JsonOut::object(alloc)?;
     put_verdict(alloc, &mut out, &report.verdict, payload)?;
-    put_evidence(&mut out, report.states.as_slice(), report.tries.as_slice(), work)?;
+    put_evidence(
+        &mut out,
+        report.states.as_slice(),
+        report.tries.as_slice(),
+        work,
+    )?;
     out.reply(verdict_status(&report.verdict))
 }
 

@@ -67,10 +67,12 @@ fn answer_line<W: Sink, C: Clock>(
 ) -> Option<u8>
     requires { IfSome now (λ n. n ≤ 9223372036854775807) }
     ensures answered { IfNone result (LineAnswered
-        (λ m l. token_answer (terms (map meaning verifiers.now) m policy.now (key_set keys.now)) l) (C.says number line.now) now line.now
+        (λ m l. token_answer (terms (map meaning verifiers.now) m policy.now (key_set keys.now)) l)
+        (C.says number line.now) now line.now
         (W.contents w.old) (W.contents w.new)) }
     ensures ends { IfSome result (λ status. LineEnds
-        (λ m l. token_answer (terms (map meaning verifiers.now) m policy.now (key_set keys.now)) l) (C.says number line.now) now line.now
+        (λ m l. token_answer (terms (map meaning verifiers.now) m policy.now (key_set keys.now)) l)
+        (C.says number line.now) now line.now
         (W.contents w.old) (W.contents w.new) (W.failed w.new) status) }
 {
     let Some(moment) = moment(now, clock, number, line) else {

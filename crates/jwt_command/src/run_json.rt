@@ -69,7 +69,8 @@ pub fn run_json<R: Source, W: Sink, C: Clock>(
     // A verdict for each line.
     ensures lines { json_of clock (map (λ word. word.now) words.now) ≡ None
         → (order : LinesOrder) → lines_of (is_some clock) (map (λ word. word.now) words.now) ≡ Some order
-        → IfSome (R.remaining r.old) (λ x. RunsLines (map meaning built_in.now) C.says order (held_view held.entry) x (R.failed r.new)
+        → IfSome (R.remaining r.old) (λ x.
+        RunsLines (map meaning built_in.now) C.says order (held_view held.entry) x (R.failed r.new)
         (record { before = W.contents w.old; after = W.contents w.new; failed = W.failed w.new; status = result })) }
 
     // One answer in lines.

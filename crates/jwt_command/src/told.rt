@@ -60,11 +60,7 @@ pub(crate) fn told_policy(
 }
 
 /// A key set is refused.
-pub(crate) fn told_keys(
-    alloc: Global,
-    json: bool,
-    fault: &KeysFault,
-) -> Result<Reply, AllocError>
+pub(crate) fn told_keys(alloc: Global, json: bool, fault: &KeysFault) -> Result<Reply, AllocError>
     ensures { IfOk result (λ a. reply_view a ≡ (told json).keys_refused fault.now) }
 {
     if json {

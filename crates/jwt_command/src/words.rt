@@ -457,11 +457,7 @@ fn chosen<'a>(matches: &ArgMatches<'a>, clock: Option<u64>) -> Option<Order<'a>>
 }
 
 // What a subcommand asks for.
-fn chosen_named<'a>(
-    name: &str,
-    options: &ArgMatches<'a>,
-    clock: Option<u64>,
-) -> Option<Order<'a>>
+fn chosen_named<'a>(name: &str, options: &ArgMatches<'a>, clock: Option<u64>) -> Option<Order<'a>>
     requires { IfSome clock (λ n. n ≤ 9223372036854775807) }
     ensures limits { IfSome result (λ o. HasLimits (seen o)) }
     ensures order { option_map seen result ≡ named_order clock name.now (rows_of (found_of options.now)) }

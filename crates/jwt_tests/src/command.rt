@@ -989,12 +989,12 @@ impl Clock for Ticks<'_> {
     ghost says = { λ _ _ _. Unit {0} };
 
     fn moment(&mut self, number: u64, line: &[u8]) -> Option<u64> {
-        let (first, rest) = self.lines.split_first()?;
-        if line != first.as_bytes() || number != self.number as u64 {
+        let at = self.number;
+        let wanted = self.lines.get(at as usize)?;
+        if line != wanted.as_bytes() || number != at as u64 {
             return None;
         }
-        self.lines = rest;
-        self.number = self.number.saturating_add(1);
+        self.number = at.saturating_add(1);
         let now = self.next;
         self.next = now.saturating_add(1);
         Some(now as u64)
@@ -1074,7 +1074,12 @@ fn verified_in_json(
 ) -> Result<(Vec<u8>, u8), Fail> {
     let text = format!(in alloc; "{policy}\n{keys}\n{token}")?;
     let input = filled(alloc, &text)?;
-    printed_in_json(alloc, &["jwt", "verify", "--json", "--now", MOMENT], Held::none(), &input)
+    printed_in_json(
+        alloc,
+        &["jwt", "verify", "--json", "--now", MOMENT],
+        Held::none(),
+        &input,
+    )
 }
 
 fn printed_in_json(
@@ -1176,7 +1181,9 @@ fn verify_prints_json(rt: HostRuntime) -> Result<(), Fail> {
 #[test]
 fn json_names_a_file_that_is_unread(rt: HostRuntime) -> Result<(), Fail> {
     let alloc = rt.alloc();
-    let words = ["jwt", "verify", "--json", "--now", MOMENT, "--keys", "a \"k\""];
+    let words = [
+        "jwt", "verify", "--json", "--now", MOMENT, "--keys", "a \"k\"",
+    ];
     let (out, status) = printed_in_json(alloc, &words, Held::none(), "")?;
     let line: &[u8] = b"{\"verdict\":\"failed\",\"fault\":\"Read\",\"file\":\"a \\\"k\\\"\"}\n";
     assert_eq!(rt; out.as_slice(), line);
@@ -1192,7 +1199,16 @@ fn json_is_asked_for_by_its_word(rt: HostRuntime) -> Result<(), Fail> {
     let (out, status) = printed_in_json(alloc, &["jwt", "keys"], Held::none(), &input)?;
     assert!(rt; out.as_slice().starts_with(b"key=0 place=0 kty=oct"));
     assert_eq!(rt; status, 0);
-    let words = ["jwt", "verify", "--json", "--lines", "--now", MOMENT, "--policy=p", "--keys=k"];
+    let words = [
+        "jwt",
+        "verify",
+        "--json",
+        "--lines",
+        "--now",
+        MOMENT,
+        "--policy=p",
+        "--keys=k",
+    ];
     let (out, status) = printed_in_json(alloc, &words, Held::none(), "")?;
     let wrong: &[u8] = b"error: the argument '--lines' cannot be used with '--json'\n";
     assert!(rt; out.as_slice().starts_with(wrong));

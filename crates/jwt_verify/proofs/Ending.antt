@@ -21,7 +21,7 @@ use Rattle.jwt_verify.specs.Pairs.{pair_entry, IsNextPair, IsTried}
 use Rattle.jwt_verify.specs.Settled.{is_verified, settled_key, settled_state}
 use Rattle.jwt_verify.specs.declared.tries.End.TheVariants.{Done, WorkExceeded, CallsExceeded, VerifierMemory}
 use Rattle.jwt_verify.specs.Table.{Table, below, reached, entry, work, is_within, outcome, state_at, states_at}
-use Rattle.jwt_verify.specs.Walk.{IsAt, IsThrough, IsPending, IsEnd, IsRowEnd, IsRecorded, goes_on, IsNextKey, NoneEligible}
+use Rattle.jwt_verify.specs.Walk.{state_of, IsAt, IsThrough, IsPending, IsEnd, IsRowEnd, IsRecorded, goes_on, IsNextKey, NoneEligible}
 use Rattle.jwt_verify.specs.Paying.{IsFront}
 use Rattle.jwt_verify.proofs.Below.{length-below, map-below, map-agree, map-tail, list_any-gap}
 use Rattle.jwt_verify.specs.Table.{IsRun, paid}
@@ -73,7 +73,7 @@ unverified_not : (seen : Bool) → is_verified (unverified seen) ≡ false
 unverified_not true = refl
 unverified_not false = refl
 
-unverified_state : (seen : Bool) → settled_state (unverified seen) ≡ settled None seen None
+unverified_state : (seen : Bool) → settled_state (unverified seen) ≡ state_of None seen None
 unverified_state true = refl
 unverified_state false = refl
 

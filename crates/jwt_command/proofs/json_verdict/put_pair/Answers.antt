@@ -1,8 +1,6 @@
-use Rattle.std.proofs.Common.{rules, ◌≡◌, ◌∙◌, ap, sym, [], ◌∷◌, ◌++◌}
+use Rattle.std.proofs.Common.{[], ◌∷◌}
 use Rattle.std.specs.Prelude.{codes}
-use Rattle.std.proofs.lemmas.Result.{IfOk-weaker, on_ok_weaker}
-use Rattle.jwt_command.specs.JsonTokens.{named_tokens}
-use Rattle.jwt_command.specs.Views.{reply_view}
+use Rattle.std.proofs.lemmas.Result.{on_ok_weaker}
 use Rattle.jwt_command.specs.Json.{count}
 use Rattle.jwt_command.proofs.JsonLemmas.{two_written}
 use Rattle.jwt_command.proofs.json_verdict.put_pair.Goals as goal

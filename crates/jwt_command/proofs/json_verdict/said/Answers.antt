@@ -1,7 +1,5 @@
-use Rattle.std.proofs.Common.{rules, ◌≡◌, ◌∙◌, ap, sym, [], ◌∷◌, ◌++◌}
-use Rattle.std.specs.Prelude.{codes}
-use Rattle.std.proofs.lemmas.Result.{IfOk-weaker, on_ok_weaker}
-use Rattle.jwt_command.specs.JsonTokens.{named_tokens}
+use Rattle.std.proofs.Common.{◌≡◌, ◌∙◌, ap, ◌++◌}
+use Rattle.std.proofs.lemmas.Result.{IfOk-weaker}
 use Rattle.jwt_command.specs.Views.{reply_view}
 use Rattle.jwt_command.specs.Json.{evidence, json_line, said_json, verdict_members}
 use Rattle.jwt_command.proofs.JsonLemmas.{line_put, two_written}

@@ -1,4 +1,4 @@
-use Rattle.std.proofs.Common.{rules, ◌≡◌, ◌∙◌, ap, sym, subst, inl, inr, refl, take, map}
+use Rattle.std.proofs.Common.{rules, ◌∙◌, ap, subst, inl, inr, refl, take}
 use Rattle.std.specs.Io.KnownBytes.{Appends}
 use Rattle.jwt_command.proofs.lines.answer_line.Goals as goal
 

@@ -1,4 +1,4 @@
-use Rattle.std.proofs.Common.{◌≡◌, ◌∙◌, ap, sym, subst, refl, ℕ, List, [], IfSome, Ok, Err, map}
+use Rattle.std.proofs.Common.{◌∙◌, ap, subst, refl, ℕ, List, [], IfSome, Ok, Err, map}
 use Rattle.std.proofs.lemmas.Option.{IfSome_then}
 use Rattle.std.specs.Io.KnownBytes.{prepend_known}
 use Rattle.jwt_keys.specs.KeySets.{key_set}

@@ -1,4 +1,4 @@
-use Rattle.std.proofs.Common.{rules, ◌≡◌, ◌∙◌, ap, sym, map, Ok, Err}
+use Rattle.std.proofs.Common.{rules, ◌≡◌, sym, map, Ok, Err}
 use Rattle.jwt_keys.specs.KeySets.{key_set, key_set_of}
 use Rattle.jwt_policy.specs.Document.{policy_of}
 use Rattle.jwt_command.specs.Views.{reply_view}

@@ -1,4 +1,4 @@
-use Rattle.std.proofs.Common.{◌≡◌, ◌∙◌, ◌⊎◌, sym, ap, subst, map, List, IfOk, IfSome, option_map, true}
+use Rattle.std.proofs.Common.{◌≡◌, ◌⊎◌, sym, ap, subst, map, List, IfOk, IfSome, true}
 use Rattle.jwt_mac.specs.Verifying.{Meaning}
 use Rattle.jwt_command.specs.Answered.{answer_told}
 use Rattle.jwt_command.specs.Documents.{unread}
@@ -16,8 +16,8 @@ returns-in-Verify-clause-answer g c =
     let vs = map (λ b. (goal.Verifier-dyn g (b.vtable, b.value)).meaning b.value) c.args.built_in.now in
     let h = held_view c.args.held in
     let line = subst (λ (ms : List Meaning). IfSome (g.R.Source.remaining c.args.r.now) (λ x. IfOk c.verify_named.result (λ a. reply_view a
-        ≡ unless_unread_told c.args.json (unread (files_view c.in-Verify.files) h) (verify_answer (told c.args.json) ms c.in-Verify.now h (g.R.Source.failed c.verify_named.new.r) x))))
-        c.asked_for-verifiers.ensures c.verify_named.ensures.line in
+    ≡ unless_unread_told c.args.json (unread (files_view c.in-Verify.files) h) (verify_answer (told c.args.json) ms c.in-Verify.now h (g.R.Source.failed c.verify_named.new.r) x))))
+    c.asked_for-verifiers.ensures c.verify_named.ensures.line in
     subst (λ (o : Order). IfSome (g.R.Source.remaining c.args.r.now) (λ x. IfOk c.verify_named.result (λ a. reply_view a ≡ answer_told c.args.json vs h o (g.R.Source.failed c.verify_named.new.r) x)))
     (ap seen (sym c.in-Verify.is)) line
 

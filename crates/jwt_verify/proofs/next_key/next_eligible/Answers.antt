@@ -10,6 +10,6 @@ returns-in_default g c =
 pub returns : goal.returns
 returns g c =
     let fitting = rw c.in-Some.is at c.next_fitting.ensures in
-    let key = rw c.in-Some-key.is at c.key.ensures in
+    let key = rw c.in-Some-key.is at c.key.ensures.key in
     let way = rw c.in-Some-way.is at c.way.ensures in
     some_next (λ b. (goal.Verifier-dyn g (b.vtable, b.value)).meaning b.value) c.args.asked.now c.args.unbarred.now c.args.from _ (key_parts c.in-Some-key.key.now) _ c.requires fitting (sym key) c.view.ensures way refl refl c.message.ensures c.octets.ensures
