@@ -9,12 +9,13 @@
 //! let report = validator.validate(alloc, &mut Reader::new(stream), now, &mut validator.policy.budget());
 //! ```
 //!
-//! A [`Validator`] is made once and judges each token that comes. Its verifiers are for public keys: [`Rsa`] and [`Ed25519`] are two,
-//! and a caller's own is a [`Verifier`]. The [`Report`] has the [`Verdict`], what became of each signature, and each try of a key
-//! with its cost.
+//! A [`Validator`] is made once and judges each token that comes. Its verifiers are for public keys: [`Rsa`] and [`Ed25519`] are
+//! two, and a caller's own is a [`Verifier`]. The [`Report`] has the [`Verdict`], what became of each signature, and each try of a
+//! key with its cost.
 //!
 //! Each other name here is that of one of the libraries below: `jwt_text`, `jwt_mac`, `jwt_keys`, `jwt_jws`, `jwt_policy`,
-//! `jwt_verify`, `jwt_issue`, `jwt_rsa` and `jwt_ed25519`. Their modules `laws` stand here as `token_laws`, of issuing, and `verdict_laws`.
+//! `jwt_verify`, `jwt_issue`, `jwt_rsa` and `jwt_ed25519`. Their modules `laws` stand here as `token_laws`, of issuing, and
+//! `verdict_laws`.
 #![tactic(auto)]
 
 mod validator;

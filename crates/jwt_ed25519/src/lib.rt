@@ -1,4 +1,4 @@
-//! A verifier of Ed25519 signatures: EdDSA (RFC 8037, section 3.1) with the curve Ed25519, by the formulas of RFC 8032, section 5.1.
+//! A verifier of Ed25519 signatures: EdDSA (RFC 8037, section 3.1) with that curve, by the formulas of RFC 8032, section 5.1.
 //!
 //! ```rust
 //! use jwt_ed25519::Ed25519;
@@ -12,7 +12,8 @@
 //! let report = validate(alloc, &mut Reader::new(input), &keys, &policy, now, &verifiers, &mut budget);
 //! ```
 //!
-//! Nothing here allocates, so the verifier never answers NoMemory. Verifying has no secret: of time nothing is promised.
+//! Keys of small order are refused, and those whose octets aren't canonical. A key of Ed448 is answered Invalid. Nothing here
+//! allocates, so the verifier never answers NoMemory. Verifying has no secret: of time nothing is promised.
 #![tactic(auto)]
 
 pub use verifier::Ed25519;

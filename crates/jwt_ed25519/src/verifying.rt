@@ -30,8 +30,8 @@ fn holds(a: Point, r: &[u8], s: Limbs, k: Limbs) -> bool
     is_encoding(Point::base().multiple(s).add(a.negated().multiple(k)), r)
 }
 
-/// Whether it is the signature of the message that the three parts make, joined, by the public key whose octets these are (RFC 8032,
-/// section 5.1.7). Key and signature may have any length; no part is copied.
+/// Whether it is the signature of the message that the three parts make, joined, by the public key whose octets these are (RFC
+/// 8032, section 5.1.7), and the key isn't of small order. Key and signature may have any length; no part is copied.
 pub fn verifies(key: &[u8], parts: [&[u8]; 3], signature: &[u8]) -> bool
     ensures { result ≡ verifies key.now (joined parts.entry) signature.now }
 {
