@@ -102,8 +102,8 @@ module _ (texts : TextLaw) (member : MemberLaw) (members : MembersLaw) where
       ⊎_elim
       (λ none. omega (arith, ap length none.1, texts z (object m) text.0, member (codes "payload") m p.0 p.1, p.2))
       (λ some.
-          let d = is_string (get_member (codes "protected") m) w.protected some in
-          omega (arith, texts z (object m) text.0, members (codes "payload") (codes "protected") m p.0 d.0 (λ e. absurd cc) p.1 d.1, p.2, d.2)) h.protected
+      let d = is_string (get_member (codes "protected") m) w.protected some in
+      omega (arith, texts z (object m) text.0, members (codes "payload") (codes "protected") m p.0 d.0 (λ e. absurd cc) p.1 d.1, p.2, d.2)) h.protected
 
   flattened_fits : (z : List ℕ) (m : Members) (t : SpelledToken) → IsObjectText z m → IsFlattened m t → All (Fits z t.payload) t.signatures
   flattened_fits z m t text is =

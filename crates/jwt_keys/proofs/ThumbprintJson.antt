@@ -120,8 +120,8 @@ unfolding escape_byte
 rsa_json e n t p q is =
     subst (λ t. rsa_text e n ≡ compact_text (object (put (codes "kty") (string t) (put (codes "n") (string n) (put (codes "e") (string e) no_members))))) (sym is)
     (ap (λ (u : List ℕ). codes "{\"e\":" ++ u) (sym (
-      text_in e (codes ",\"kty\":\"RSA\",\"n\":" ++ (compact_text (string n) ++ codes "}")) p
-      ∙ ap (λ (u : List ℕ). 34 ∷ (e ++ 34 ∷ (codes ",\"kty\":\"RSA\",\"n\":" ++ u))) (text_in n (codes "}") q))))
+    text_in e (codes ",\"kty\":\"RSA\",\"n\":" ++ (compact_text (string n) ++ codes "}")) p
+    ∙ ap (λ (u : List ℕ). 34 ∷ (e ++ 34 ∷ (codes ",\"kty\":\"RSA\",\"n\":" ++ u))) (text_in n (codes "}") q))))
 
 ec_json : (crv x y t : List ℕ) → Plain crv → Plain x → Plain y → t ≡ codes "EC"
     → ec_text crv x y ≡ compact_text (object (put (codes "kty") (string t) (put (codes "crv") (string crv) (put (codes "x") (string x) (put (codes "y") (string y) no_members)))))
@@ -129,10 +129,10 @@ unfolding escape_byte
 ec_json crv x y t p q r is =
     subst (λ t. ec_text crv x y ≡ compact_text (object (put (codes "kty") (string t) (put (codes "crv") (string crv) (put (codes "x") (string x) (put (codes "y") (string y) no_members)))))) (sym is)
     (ap (λ (u : List ℕ). codes "{\"crv\":" ++ u) (sym (
-      text_in crv (codes ",\"kty\":\"EC\",\"x\":" ++ (compact_text (string x) ++ (codes ",\"y\":" ++ (compact_text (string y) ++ codes "}")))) p
-      ∙ ap (λ (u : List ℕ). 34 ∷ (crv ++ 34 ∷ (codes ",\"kty\":\"EC\",\"x\":" ++ u))) (
-        text_in x (codes ",\"y\":" ++ (compact_text (string y) ++ codes "}")) q
-        ∙ ap (λ (u : List ℕ). 34 ∷ (x ++ 34 ∷ (codes ",\"y\":" ++ u))) (text_in y (codes "}") r)))))
+    text_in crv (codes ",\"kty\":\"EC\",\"x\":" ++ (compact_text (string x) ++ (codes ",\"y\":" ++ (compact_text (string y) ++ codes "}")))) p
+    ∙ ap (λ (u : List ℕ). 34 ∷ (crv ++ 34 ∷ (codes ",\"kty\":\"EC\",\"x\":" ++ u))) (
+    text_in x (codes ",\"y\":" ++ (compact_text (string y) ++ codes "}")) q
+    ∙ ap (λ (u : List ℕ). 34 ∷ (x ++ 34 ∷ (codes ",\"y\":" ++ u))) (text_in y (codes "}") r)))))
 
 okp_json : (crv x t : List ℕ) → Plain crv → Plain x → t ≡ codes "OKP"
     → okp_text crv x ≡ compact_text (object (put (codes "kty") (string t) (put (codes "crv") (string crv) (put (codes "x") (string x) no_members))))
@@ -140,8 +140,8 @@ unfolding escape_byte
 okp_json crv x t p q is =
     subst (λ t. okp_text crv x ≡ compact_text (object (put (codes "kty") (string t) (put (codes "crv") (string crv) (put (codes "x") (string x) no_members))))) (sym is)
     (ap (λ (u : List ℕ). codes "{\"crv\":" ++ u) (sym (
-      text_in crv (codes ",\"kty\":\"OKP\",\"x\":" ++ (compact_text (string x) ++ codes "}")) p
-      ∙ ap (λ (u : List ℕ). 34 ∷ (crv ++ 34 ∷ (codes ",\"kty\":\"OKP\",\"x\":" ++ u))) (text_in x (codes "}") q))))
+    text_in crv (codes ",\"kty\":\"OKP\",\"x\":" ++ (compact_text (string x) ++ codes "}")) p
+    ∙ ap (λ (u : List ℕ). 34 ∷ (crv ++ 34 ∷ (codes ",\"kty\":\"OKP\",\"x\":" ++ u))) (text_in x (codes "}") q))))
 
 module _ (spells : (text octets : List ℕ) → (octets_of text ≡ Some octets) ↔ Spells text octets) (plain : (octets : List ℕ) → Plain (spelling octets)) where
   spelled_plain : (o : Option (List ℕ)) → is_some (option_and_then octets_of o) ≡ true → Plain (unwrap_or o [])

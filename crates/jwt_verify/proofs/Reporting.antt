@@ -173,8 +173,7 @@ module _ (laws : Laws) where
   listed_run q x w r h token t asks =
       let T = table q x in
       let calls = q.policy.max_calls in
-      subst (λ t. IsFront t r.tries.items × AreAllowed w calls r.tries.items × IsComplete t w calls r.tries.items r.states.items r.verdict) (sym (asks_token laws q x token t asks).1)
-      (
+      subst (λ t. IsFront t r.tries.items × AreAllowed w calls r.tries.items × IsComplete t w calls r.tries.items r.states.items r.verdict) (sym (asks_token laws q x token t asks).1) (
         front_tries T w calls r.tries.items h.front.0 h.front.1,
         front_allowed T w calls r.tries.items h.front.0 h.front.1,
         complete T w calls r.tries.items r.states.items r.verdict h.whole,
