@@ -37,7 +37,9 @@ fn main(rt: HostRuntime) -> ExitCode {
 fn run_words<R: Source, W: Sink>(rt: &HostRuntime, r: &mut R, w: &mut W) -> io::Result<u8> {
     let args: Vec<String> = env::args(rt)?.collect(rt.alloc())?;
     let words: Vec<&str> = args.iter().map(|word| word.as_str()).collect(rt.alloc())?;
-    let built_in: [Box<dyn Verifier>; 2] =
-        [Box::new(rt.alloc(), Rsa)?, Box::new(rt.alloc(), Ed25519)?];
+    let built_in: [Box<dyn Verifier>; 2] = [
+        Box::new(rt.alloc(), Rsa)?,
+        Box::new(rt.alloc(), Ed25519)?,
+    ];
     Ok(run(rt.alloc(), words.as_slice(), &built_in, r, w))
 }

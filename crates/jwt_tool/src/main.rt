@@ -92,8 +92,10 @@ fn run_words<R: Source, W: Sink>(
 {
     let args: Vec<String> = env::args(rt)?.collect(rt.alloc())?;
     let words: Vec<&str> = args.iter().map(|word| word.as_str()).collect(rt.alloc())?;
-    let built_in: [Box<dyn Verifier>; 2] =
-        [Box::new(rt.alloc(), Rsa)?, Box::new(rt.alloc(), Ed25519)?];
+    let built_in: [Box<dyn Verifier>; 2] = [
+        Box::new(rt.alloc(), Rsa)?,
+        Box::new(rt.alloc(), Ed25519)?,
+    ];
     let files = files_named(rt.alloc(), words.as_slice(), clock)?;
     let policy = document(rt, files.policy, 65_536)?;
     let keys = document(rt, files.keys, 4_194_304)?;
