@@ -127,7 +127,9 @@ fn public_keys_option<'a>(alloc: Global) -> Arg<'a>
     Arg::new(alloc, "public-keys")
         .long("public-keys")
         .action(ArgAction::SetTrue)
-        .help("Verifies signatures by public keys too: RS256, RS384, RS512, PS256, PS384, PS512")
+        .help(
+            "Verifies signatures by public keys too: RS256, RS384, RS512, PS256, PS384, PS512, EdDSA (Ed25519)",
+        )
 }
 
 fn lines_option<'a>(alloc: Global) -> Arg<'a>
