@@ -1,16 +1,46 @@
--- From what the steps of a command say to what the command says, where the streams tell their octets.
-use Rattle.std.proofs.Common.{◌≡◌, inl, inr, ℕ, Bool, List, Option, None, Some, IfSome, subst}
+-- From the answer before it goes out to how the run ends.
+use Rattle.std.proofs.Common.{◌≡◌, ◌∙◌, ◌⊎◌, inl, inr, sym, subst, ℕ, Bool, true, false, List, [], Option, None, Some, Result, Ok, Err, IfOk, IfErr, IfSome, arith}
+use Rattle.jwt_mac.specs.Verifying.{Meaning}
+use Rattle.jwt_command.specs.Documents.{Held}
 use Rattle.jwt_command.specs.Printed.{Answer, Gives, Prints, out_of_memory}
+use Rattle.jwt_command.specs.RunLines.{Outcome, Printed}
+use Rattle.jwt_command.specs.Runs.{Runs}
+use Rattle.jwt_command.specs.Words.{EachLine, Once, Request}
 
-pub gives_answer : (told : Option (List ℕ)) (answer : List ℕ → Answer) (a : Answer) (before after : Option (List ℕ)) (failed : Bool) (status : ℕ)
-    → IfSome told (λ x. a ≡ answer x) → Prints a before after failed status → IfSome told (λ x. Gives (answer x) before after failed status)
-gives_answer None answer a before after failed status is printed = tt
-gives_answer (Some x) answer a before after failed status is printed = inl (subst (λ (b : Answer). Prints b before after failed status) is printed)
+pub gives_reply : {A E : Type 0} (view : A → Answer) (reply : Result A E) (a : Answer) (o : Outcome) → IfOk reply (λ r. view r ≡ a)
+    → IfOk reply (λ r. Printed (view r) o) → IfErr reply (λ e. Printed out_of_memory o) → Gives a o.before o.after o.failed o.status
+gives_reply view (Ok r) a o is printed lacks = inl (subst (λ (b : Answer). Printed b o) is printed)
+gives_reply view (Err e) a o is printed lacks = inr lacks
 
-pub gives_memory : (told : Option (List ℕ)) (answer : List ℕ → Answer) (before after : Option (List ℕ)) (failed : Bool) (status : ℕ)
-    → Prints out_of_memory before after failed status → IfSome told (λ x. Gives (answer x) before after failed status)
-gives_memory None answer before after failed status printed = tt
-gives_memory (Some x) answer before after failed status printed = inr printed
+-- where the source tells its octets
+pub gives_known : {A E : Type 0} (view : A → Answer) (reply : Result A E) (known : Option (List ℕ)) (answer : List ℕ → Answer) (o : Outcome)
+    → IfSome known (λ x. IfOk reply (λ r. view r ≡ answer x)) → IfOk reply (λ r. Printed (view r) o) → IfErr reply (λ e. Printed out_of_memory o)
+    → IfSome known (λ x. Gives (answer x) o.before o.after o.failed o.status)
+gives_known view reply None answer o is printed lacks = tt
+gives_known view reply (Some x) answer o is printed lacks = gives_reply view reply (answer x) o is printed lacks
 
-pub gives_one : (a b : Answer) (before after : Option (List ℕ)) (failed : Bool) (status : ℕ) → a ≡ b → Prints a before after failed status → Gives b before after failed status
-gives_one a b before after failed status is printed = inl (subst (λ (b : Answer). Prints b before after failed status) is printed)
+-- want of memory ends each run
+pub lacks_memory : (built_in : List Meaning) (says : ℕ → List ℕ → ℕ → Type 0) (held : Held) (q : Option Request) (x : List ℕ) (fails : Bool) (o : Outcome) → Printed out_of_memory o → Runs built_in says held q x fails o
+lacks_memory built_in says held None x fails o printed = inr printed
+lacks_memory built_in says held (Some (Once json order)) x fails o printed = inr printed
+lacks_memory built_in says held (Some (EachLine order)) x fails o printed = inl printed
+
+pub lacks_known : (built_in : List Meaning) (says : ℕ → List ℕ → ℕ → Type 0) (held : Held) (q : Option Request) (known : Option (List ℕ)) (fails : Bool) (o : Outcome) → Printed out_of_memory o
+    → IfSome known (λ x. Runs built_in says held q x fails o)
+lacks_known built_in says held q None fails o printed = tt
+lacks_known built_in says held q (Some x) fails o printed = lacks_memory built_in says held q x fails o printed
+
+-- where the status is 3
+pub memory_three : (o : Outcome) → o.status ≡ 3 → Printed out_of_memory o → o.failed ≡ true
+memory_three o three (inl printed) = let four : 4 ≡ 3 = sym printed.2 ∙ three in absurd (omega (arith, four))
+memory_three o three (inr cut) = cut.0
+
+pub three : {A E : Type 0} (view : A → Answer) (reply : Result A E) (P Q : Type 0) (o : Outcome) → o.status ≡ 3 → IfOk reply (λ r. (view r).status ≡ 3 → P ⊎ Q)
+    → IfOk reply (λ r. Printed (view r) o) → IfErr reply (λ e. Printed out_of_memory o) → P ⊎ ((o.failed ≡ true) ⊎ Q)
+three view (Ok r) P Q o is p (inl printed) lacks = either (p (sym printed.2 ∙ is))
+  where
+    either : P ⊎ Q → P ⊎ ((o.failed ≡ true) ⊎ Q)
+    either (inl h) = inl h
+    either (inr h) = inr (inr h)
+three view (Ok r) P Q o is p (inr cut) lacks = inr (inl cut.0)
+three view (Err e) P Q o is p printed lacks = inr (inl (memory_three o is lacks))

@@ -29,7 +29,6 @@ use Rattle.jwt_command.specs.Listed.{keys_answer as keys_answer_alone, listed}
 use Rattle.jwt_command.specs.Stops.{behind_keys, behind_policy, keys_most, verify_most}
 use Rattle.jwt_command.specs.TakenLines.{TakesLine, after_line, first_line, line_most}
 use Rattle.jwt_command.proofs.LineLemmas.{line_taken}
-use Rattle.std.proofs.Math.Nat.{min-le_left}
 
 -- ---- what is taken
 
@@ -37,14 +36,6 @@ pub more_taken : (first second most : ℕ) (x : List ℕ) (rest : Option (List �
     → (y : List ℕ) → TakesAtMost first x (Some y) → (failed ≡ true) ⊎ TakesAtMost second y rest → (failed ≡ true) ⊎ TakesAtMost most x rest
 more_taken first second most x rest failed within y a (inl is) = inl is
 more_taken first second most x rest failed within y (n, n_within, is) (inr (m, m_within, rest_is)) = inr (n + m, omega (arith, n_within, m_within, within), rest_is ∙ ap Some (ap (drop m) (ap (λ o. option_map_or (λ l. l) o y) is) ∙ drop-drop m n x))
-
--- what is taken by a line and behind it
-pub then_stops : (limit : ℕ) (more : List ℕ → ℕ) (x octets : List ℕ) (mid rest : Option (List ℕ)) (failed : Bool)
-    → TakesLine limit x octets mid → IfSome mid (λ y. (failed ≡ true) ⊎ TakesAtMost (more y) y rest) → (failed ≡ true) ⊎ TakesAtMost (line_most limit x + more (after_line x)) x rest
-then_stops limit more x octets mid rest failed h behind =
-    more_taken (line_most limit x) (more (after_line x)) (line_most limit x + more (after_line x)) x rest failed (omega arith) (after_line x)
-    (subst (λ m. TakesAtMost (line_most limit x) x m) h.unread (line_taken limit x octets mid h))
-    (subst (λ m. IfSome m (λ y. (failed ≡ true) ⊎ TakesAtMost (more y) y rest)) h.unread behind)
 
 pub under_policy_taken : (h : Held) (x : List ℕ) (p : Settings) (rest : Option (List ℕ)) (failed : Bool) → policy_of (document h.policy x) ≡ Ok p
     → (failed ≡ true) ⊎ TakesAtMost (document_most 65536 h.policy x + keys_most (last_most (p.run.limit + 1) h.token) h.keys (behind h.policy x)) x rest → (failed ≡ true) ⊎ TakesAtMost (verify_most h x) x rest
@@ -54,35 +45,12 @@ pub most_is : (n most : ℕ) (x : List ℕ) (rest : Option (List ℕ)) (failed :
 most_is n most x rest failed within (inl is) = inl is
 most_is n most x rest failed within (inr (m, m_within, is)) = inr (m, omega (arith, m_within, within), is)
 
--- no more of a line than its limit and one octet
-pub line_within : (limit : ℕ) (x : List ℕ) → line_most limit x ≤ limit + 1
-line_within limit x = min-le_left (limit + 1) (length (first_line x) + 1)
-
--- of a line, and of what is behind it
-pub line_bounded : (limit most : ℕ) → limit + 1 ≤ most → (x : List ℕ) (rest : Option (List ℕ)) (failed : Bool) → (failed ≡ true) ⊎ TakesAtMost (line_most limit x) x rest → (failed ≡ true) ⊎ TakesAtMost most x rest
-line_bounded limit most within x rest failed h = most_is (line_most limit x) most x rest failed (omega (arith, line_within limit x, within)) h
-
-pub line_stops : (limit more : ℕ) (x : List ℕ) (rest : Option (List ℕ)) (failed : Bool) → (failed ≡ true) ⊎ TakesAtMost (line_most limit x) x rest → (failed ≡ true) ⊎ TakesAtMost (line_most limit x + more) x rest
-line_stops limit more x rest failed h = most_is (line_most limit x) (line_most limit x + more) x rest failed (omega arith) h
-
-pub then_bounded : (limit second most : ℕ) → limit + 1 + second ≤ most → (x octets : List ℕ) (mid rest : Option (List ℕ)) (failed : Bool)
-    → TakesLine limit x octets mid → IfSome mid (λ y. (failed ≡ true) ⊎ TakesAtMost second y rest) → (failed ≡ true) ⊎ TakesAtMost most x rest
-then_bounded limit second most within x octets mid rest failed h more =
-    most_is (line_most limit x + second) most x rest failed (omega (arith, line_within limit x, within)) (then_stops limit (λ y. second) x octets mid rest failed h more)
-
 -- ---- documents
 
 -- nothing is taken
-pub none_taken : (most : ℕ) (told : Option (List ℕ)) (failed : Bool) → IfSome told (λ x. (failed ≡ true) ⊎ TakesAtMost most x told)
-none_taken most None failed = tt
-none_taken most (Some x) failed = inr (0, omega arith, refl)
-
-pub document_within : (limit : ℕ) (held : Option (List ℕ)) (x : List ℕ) → document_most limit held x ≤ limit + 1
-document_within limit (Some octets) x = omega arith
-document_within limit None x = line_within limit x
-
-pub document_bounded : (limit most : ℕ) → limit + 1 ≤ most → (held : Option (List ℕ)) (x : List ℕ) (rest : Option (List ℕ)) (failed : Bool) → (failed ≡ true) ⊎ TakesAtMost (document_most limit held x) x rest → (failed ≡ true) ⊎ TakesAtMost most x rest
-document_bounded limit most within held x rest failed h = most_is (document_most limit held x) most x rest failed (omega (arith, document_within limit held x, within)) h
+pub nothing_taken : (most : List ℕ → ℕ) (known : Option (List ℕ)) (failed : Bool) → IfSome known (λ x. (failed ≡ true) ⊎ TakesAtMost (most x) x known)
+nothing_taken most None failed = tt
+nothing_taken most (Some x) failed = inr (0, omega arith, refl)
 
 pub document_stops : (limit more : ℕ) (held : Option (List ℕ)) (x : List ℕ) (rest : Option (List ℕ)) (failed : Bool) → (failed ≡ true) ⊎ TakesAtMost (document_most limit held x) x rest → (failed ≡ true) ⊎ TakesAtMost (document_most limit held x + more) x rest
 document_stops limit more held x rest failed h = most_is (document_most limit held x) (document_most limit held x + more) x rest failed (omega arith) h
@@ -94,11 +62,6 @@ document_then_stops limit more held x octets mid rest failed h then =
     more_taken (document_most limit held x) (more (behind held x)) (document_most limit held x + more (behind held x)) x rest failed (omega arith) (behind held x)
     (subst (λ m. TakesAtMost (document_most limit held x) x m) h.unread h.taken)
     (subst (λ m. IfSome m (λ y. (failed ≡ true) ⊎ TakesAtMost (more y) y rest)) h.unread then)
-
-pub document_then_bounded : (limit second most : ℕ) → limit + 1 + second ≤ most → (held : Option (List ℕ)) (x octets : List ℕ) (mid rest : Option (List ℕ)) (failed : Bool)
-    → TakesDocument limit held x octets mid → IfSome mid (λ y. (failed ≡ true) ⊎ TakesAtMost second y rest) → (failed ≡ true) ⊎ TakesAtMost most x rest
-document_then_bounded limit second most within held x octets mid rest failed h more =
-    most_is (document_most limit held x + second) most x rest failed (omega (arith, document_within limit held x, within)) (document_then_stops limit (λ y. second) held x octets mid rest failed h more)
 
 -- of a key set that is read, and behind it
 pub behind_keys_taken : (most : ℕ) (held : Option (List ℕ)) (x octets : List ℕ) (mid rest : Option (List ℕ)) (failed : Bool) (set : KeyList)

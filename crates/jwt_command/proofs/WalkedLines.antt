@@ -1,13 +1,13 @@
 -- Lines that are taken octet by octet, and what is answered of them.
-use Rattle.std.proofs.Common.{◌≡◌, ◌≤◌, ◌<◌, inl, inr, ◌==◌, ◌||◌, ℕ, zero, suc, ◌+◌, Bool, true, false, List, [], ◌∷◌, ◌++◌, length, take, Option, None, Some, Result, Ok, Err, IfOk, IfSome, refl, sym, ap, subst, if◌then◌else◌, ◌∙◌, append_assoc, append-nil, length-append, arith, nat_lt}
+use Rattle.std.proofs.Common.{◌≡◌, ◌≤◌, ◌<◌, inl, inr, ◌==◌, ◌||◌, ℕ, zero, suc, ◌+◌, Bool, true, false, List, [], ◌∷◌, ◌++◌, length, take, Option, None, Some, Result, Ok, Err, IfErr, IfOk, IfSome, refl, sym, ap, subst, if◌then◌else◌, ◌∙◌, append_assoc, append-nil, length-append, arith, nat_lt}
 use Rattle.std.proofs.lemmas.List.{take_all}
 use Rattle.std.proofs.lemmas.Bool.Decides.{nat_tests}
 use Rattle.std.specs.List.{list_any}
 use Rattle.std.specs.Io.KnownBytes.{Appends, Consumes, IsAtEnd, Keeps, prepend_known}
 use Rattle.jwt_command.specs.Lines.{AnswersLines, AreMoments, GivesLines, IsMoment, LineAnswered, LineEnds, answers, lines, onto_first, with_held}
-use Rattle.jwt_command.specs.Printed.{Answer, Prints, out_of_memory, read_failed}
+use Rattle.jwt_command.specs.Printed.{Answer, Prints, out_of_memory}
 use Rattle.jwt_command.specs.Json.{payload_of, token_json, verdict_json}
-use Rattle.jwt_command.specs.Told.{in_json}
+use Rattle.jwt_command.specs.Told.{in_json, told}
 use Rattle.jwt_command.specs.Verify.{paid_tries, token_answer, unless_read_failed}
 use Rattle.jwt_policy.specs.Settings.{Settings}
 use Rattle.jwt_verify.specs.Verdict.{Terms, table, token_of, token_or_none, verdict_of}
@@ -246,39 +246,57 @@ answering_more limit at says now n (Some x) left rest held before between after 
       ),
     )
 
-pub lines_done : (at : ℕ → List ℕ → Answer) (says : ℕ → List ℕ → ℕ → Type 0) (now : Option ℕ) (n : ℕ) (told left : Option (List ℕ)) (unread : Bool) (before after : Option (List ℕ)) (failed : Bool)
-    → Answering at says now n told left before after → IfSome left (λ y. y ≡ []) → IfSome told (λ x. GivesLines at says now x unread before after failed 0)
-lines_done at says now n None left unread before after failed h empty = tt
-lines_done at says now n (Some x) left unread before after failed (y, is, (done, number)) empty =
+pub lines_done : (at : ℕ → List ℕ → Answer) (unanswered : Answer) (says : ℕ → List ℕ → ℕ → Type 0) (now : Option ℕ) (n : ℕ) (told left : Option (List ℕ)) (unread : Bool) (before after : Option (List ℕ)) (failed : Bool)
+    → Answering at says now n told left before after → IfSome left (λ y. y ≡ []) → IfSome told (λ x. GivesLines at unanswered says now x unread before after failed 0)
+lines_done at unanswered says now n None left unread before after failed h empty = tt
+lines_done at unanswered says now n (Some x) left unread before after failed (y, is, (done, number)) empty =
     inl (subst (λ z. AnswersLines at says now x z before after) (subst (λ o. IfSome o (λ y. y ≡ [])) is empty) done, refl)
 
-pub lines_unread : (at : ℕ → List ℕ → Answer) (says : ℕ → List ℕ → ℕ → Type 0) (now : Option ℕ) (n : ℕ) (told left : Option (List ℕ)) (unread : Bool) (before between after : Option (List ℕ)) (failed : Bool) (status : ℕ)
-    → Answering at says now n told left before between → unread ≡ true → Prints read_failed between after failed status → IfSome told (λ x. GivesLines at says now x unread before after failed status)
-lines_unread at says now n None left unread before between after failed status h is printed = tt
-lines_unread at says now n (Some x) left unread before between after failed status (y, left_is, (done, number)) is printed =
+pub lines_unread : (at : ℕ → List ℕ → Answer) (unanswered : Answer) (says : ℕ → List ℕ → ℕ → Type 0) (now : Option ℕ) (n : ℕ) (told left : Option (List ℕ)) (unread : Bool) (before between after : Option (List ℕ)) (failed : Bool) (status : ℕ)
+    → Answering at says now n told left before between → unread ≡ true → Prints unanswered between after failed status → IfSome told (λ x. GivesLines at unanswered says now x unread before after failed status)
+lines_unread at unanswered says now n None left unread before between after failed status h is printed = tt
+lines_unread at unanswered says now n (Some x) left unread before between after failed status (y, left_is, (done, number)) is printed =
     inr (record { y = y; between = between; done = done; by = inl (is, printed) })
 
-pub lines_memory : (at : ℕ → List ℕ → Answer) (says : ℕ → List ℕ → ℕ → Type 0) (now : Option ℕ) (n : ℕ) (told left : Option (List ℕ)) (unread : Bool) (before between after : Option (List ℕ)) (failed : Bool) (status : ℕ)
-    → Answering at says now n told left before between → Prints out_of_memory between after failed status → IfSome told (λ x. GivesLines at says now x unread before after failed status)
-lines_memory at says now n None left unread before between after failed status h printed = tt
-lines_memory at says now n (Some x) left unread before between after failed status (y, left_is, (done, number)) printed =
+pub lines_memory : (at : ℕ → List ℕ → Answer) (unanswered : Answer) (says : ℕ → List ℕ → ℕ → Type 0) (now : Option ℕ) (n : ℕ) (told left : Option (List ℕ)) (unread : Bool) (before between after : Option (List ℕ)) (failed : Bool) (status : ℕ)
+    → Answering at says now n told left before between → Prints out_of_memory between after failed status → IfSome told (λ x. GivesLines at unanswered says now x unread before after failed status)
+lines_memory at unanswered says now n None left unread before between after failed status h printed = tt
+lines_memory at unanswered says now n (Some x) left unread before between after failed status (y, left_is, (done, number)) printed =
     inr (record { y = y; between = between; done = done; by = inr (inr (inl printed)) })
 
-ends_at_line : (limit : ℕ) (at : ℕ → List ℕ → Answer) (says : ℕ → List ℕ → ℕ → Type 0) (now : Option ℕ) (n k : ℕ) (held l : List ℕ) (before after : Option (List ℕ)) (failed : Bool) (status : ℕ)
+-- a read failed, and that is answered, where memory was there
+pub lines_failed : {A E : Type 0} (view : A → Answer) (reply : Result A E) (at : ℕ → List ℕ → Answer) (unanswered : Answer) (says : ℕ → List ℕ → ℕ → Type 0) (now : Option ℕ) (n : ℕ) (told left : Option (List ℕ)) (unread : Bool)
+    (before between after : Option (List ℕ)) (failed : Bool) (status : ℕ)
+    → Answering at says now n told left before between → unread ≡ true → IfOk reply (λ r. view r ≡ unanswered) → IfOk reply (λ r. Prints (view r) between after failed status)
+    → IfErr reply (λ e. Prints out_of_memory between after failed status) → IfSome told (λ x. GivesLines at unanswered says now x unread before after failed status)
+lines_failed view (Ok r) at unanswered says now n told left unread before between after failed status h is answer printed lacks =
+    lines_unread at unanswered says now n told left unread before between after failed status h is (subst (λ (a : Answer). Prints a between after failed status) answer printed)
+lines_failed view (Err e) at unanswered says now n told left unread before between after failed status h is answer printed lacks =
+    lines_memory at unanswered says now n told left unread before between after failed status h lacks
+
+-- the clock couldn't be read, and that is answered, where memory was there
+pub clock_failed : {A E : Type 0} (view : A → Answer) (reply : Result A E) (at : ℕ → List ℕ → Answer) (unanswered : Answer) (says : ℕ → Type 0) (now : Option ℕ) (l : List ℕ) (before after : Option (List ℕ)) (failed : Bool) (status : ℕ)
+    → now ≡ None → IfOk reply (λ r. view r ≡ unanswered) → IfOk reply (λ r. Prints (view r) before after failed status)
+    → IfErr reply (λ e. Prints out_of_memory before after failed status) → LineEnds at unanswered says now l before after failed status
+clock_failed view (Ok r) at unanswered says now l before after failed status none answer printed lacks =
+    inl (none, subst (λ (a : Answer). Prints a before after failed status) answer printed)
+clock_failed view (Err e) at unanswered says now l before after failed status none answer printed lacks = inr (inl lacks)
+
+ends_at_line : (limit : ℕ) (at : ℕ → List ℕ → Answer) (unanswered : Answer) (says : ℕ → List ℕ → ℕ → Type 0) (now : Option ℕ) (n k : ℕ) (held l : List ℕ) (before after : Option (List ℕ)) (failed : Bool) (status : ℕ)
     → Bounded limit at → held ≡ take (limit + 1) l → k ≡ n
-    → LineEnds at (says n held) now held before after failed status → LineEnds at (with_held limit says k l) now l before after failed status
-ends_at_line limit at says now n k held l before after failed status same is number (inl clock) = inl clock
-ends_at_line limit at says now n k held l before after failed status same is number (inr (inl memory)) = inr (inl memory)
-ends_at_line limit at says now n k held l before after failed status same is number (inr (inr (m, moment, fails, three, (j, part)))) =
+    → LineEnds at unanswered (says n held) now held before after failed status → LineEnds at unanswered (with_held limit says k l) now l before after failed status
+ends_at_line limit at unanswered says now n k held l before after failed status same is number (inl clock) = inl clock
+ends_at_line limit at unanswered says now n k held l before after failed status same is number (inr (inl memory)) = inr (inl memory)
+ends_at_line limit at unanswered says now n k held l before after failed status same is number (inr (inr (m, moment, fails, three, (j, part)))) =
     inr (inr (m, held_moment limit says now n k m held l is number moment, fails, three, (j, subst (λ t. Appends before after (take j t)) (ap (λ z. (at m z).text) is ∙ ap (λ a. a.text) (same m l)) part)))
 
-pub lines_ended : (limit : ℕ) (at : ℕ → List ℕ → Answer) (says : ℕ → List ℕ → ℕ → Type 0) (now : Option ℕ) (n : ℕ) (told left rest : Option (List ℕ)) (held : List ℕ) (unread : Bool) (before between after : Option (List ℕ)) (failed : Bool) (status : ℕ)
-    → Bounded limit at → Answering at (with_held limit says) now n told left before between → IfSome left (λ y. Line limit y held rest) → LineEnds at (says n held) now held between after failed status
-    → IfSome told (λ x. GivesLines at (with_held limit says) now x unread before after failed status)
-lines_ended limit at says now n None left rest held unread before between after failed status same h line ends = tt
-lines_ended limit at says now n (Some x) left rest held unread before between after failed status same (y, is, (done, number)) line ends =
+pub lines_ended : (limit : ℕ) (at : ℕ → List ℕ → Answer) (unanswered : Answer) (says : ℕ → List ℕ → ℕ → Type 0) (now : Option ℕ) (n : ℕ) (told left rest : Option (List ℕ)) (held : List ℕ) (unread : Bool) (before between after : Option (List ℕ)) (failed : Bool) (status : ℕ)
+    → Bounded limit at → Answering at (with_held limit says) now n told left before between → IfSome left (λ y. Line limit y held rest) → LineEnds at unanswered (says n held) now held between after failed status
+    → IfSome told (λ x. GivesLines at unanswered (with_held limit says) now x unread before after failed status)
+lines_ended limit at unanswered says now n None left rest held unread before between after failed status same h line ends = tt
+lines_ended limit at unanswered says now n (Some x) left rest held unread before between after failed status same (y, is, (done, number)) line ends =
     let l = subst (λ o. IfSome o (λ y. Line limit y held rest)) is line in
-    inr (record { y = y; between = between; done = done; by = inr (ends_at_line limit at says now n (length done.done) held (first_line y) between after failed status same l.1 number ends) })
+    inr (record { y = y; between = between; done = done; by = inr (ends_at_line limit at unanswered says now n (length done.done) held (first_line y) between after failed status same l.1 number ends) })
 
 -- ---- the answer to a token looks no further
 
@@ -323,6 +341,11 @@ json_bounded q l = go (nat_lt q.policy.run.limit (length l)) refl
         (token_too_long q.policy (take (q.policy.run.limit + 1) l) (omega (arith, length-take-all l (q.policy.run.limit + 1) (omega (arith, long)))) ∙ sym (token_too_long q.policy l long))
     go false e = let short : length l ≤ q.policy.run.limit = grind (arith, nat_tests, e) in
         ap (token_json q) (take_all (q.policy.run.limit + 1) l (omega (arith, short)))
+
+-- the answer looks at a token no further than one octet past the limit, in JSON or in lines
+pub told_bounded : (json : Bool) (q : Terms) (l : List ℕ) → (told json).token q (take (q.policy.run.limit + 1) l) ≡ (told json).token q l
+told_bounded true q l = json_bounded q l
+told_bounded false q l = token_bounded q l
 
 -- the answer in JSON to what was taken of a token
 pub json_taken : {A E : Type 0} (view : A → Answer) (r : Result A E) (q : Terms) (x octets : List ℕ) (limit : ℕ) (failed : Bool) → limit ≡ q.policy.run.limit → octets ≡ take (limit + 1) x → failed ≡ false

@@ -32,10 +32,6 @@ unread files held = unread_or files.policy held.policy (unread_or files.keys hel
 abbrev pub file_failed : List ℕ → Answer
 file_failed name = line (codes "failed Read file=" ∷ quoted_text name ∷ []) 3
 
-abbrev pub unless_unread : Option (List ℕ) → Answer → Answer
-unless_unread (Some name) a = file_failed name
-unless_unread None a = a
-
 -- ---- what stands where
 
 -- a document: in hand, or the first line of the input

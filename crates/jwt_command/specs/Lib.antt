@@ -11,6 +11,7 @@ pub mod Listed
 pub mod Mac
 pub mod Printed
 pub mod RunLines
+pub mod Runs
 pub mod Seen
 pub mod Shown
 pub mod Stops

@@ -2,7 +2,7 @@
 use Rattle.std.specs.Prelude.{◌≡◌, ◌≤◌, ◌⊎◌, ◌==◌, ◌+◌, ℕ, suc, Bool, true, List, [], ◌∷◌, ◌++◌, length, take, Option, Some, None, if◌then◌else◌}
 use Rattle.std.specs.Io.KnownBytes.{Appends}
 use Rattle.jwt_command.specs.TakenLines.{first_line}
-use Rattle.jwt_command.specs.Printed.{Answer, Prints, out_of_memory, read_failed}
+use Rattle.jwt_command.specs.Printed.{Answer, Prints, out_of_memory}
 
 -- ---- the lines
 
@@ -56,21 +56,21 @@ LineAnswered at says now l before after = (m : ℕ) × IsMoment says now m × Ap
 abbrev pub LineCut : (ℕ → List ℕ → Answer) → (ℕ → Type 0) → Option ℕ → List ℕ → Option (List ℕ) → Option (List ℕ) → Bool → ℕ → Type 0
 LineCut at says now l before after failed status = (m : ℕ) × IsMoment says now m × (failed ≡ true) × (status ≡ 3) × ((n : ℕ) × Appends before after (take n (at m l).text))
 
--- What ends a run at a line: the clock couldn't be read, and the line says so as of a read; or an allocation was refused; or a write
--- failed.
-abbrev pub LineEnds : (ℕ → List ℕ → Answer) → (ℕ → Type 0) → Option ℕ → List ℕ → Option (List ℕ) → Option (List ℕ) → Bool → ℕ → Type 0
-LineEnds at says now l before after failed status = ((now ≡ None) × Prints read_failed before after failed status)
+-- What ends a run at a line: the clock couldn't be read, which is answered as a failed read is; or an allocation was refused; or a
+-- write failed.
+abbrev pub LineEnds : (ℕ → List ℕ → Answer) → Answer → (ℕ → Type 0) → Option ℕ → List ℕ → Option (List ℕ) → Option (List ℕ) → Bool → ℕ → Type 0
+LineEnds at unread says now l before after failed status = ((now ≡ None) × Prints unread before after failed status)
     ⊎ (Prints out_of_memory before after failed status ⊎ LineCut at says now l before after failed status)
 
 -- What ends a run before x is at its end: a read failed; or else what ends it at the first line of x.
-pub record Ended (at : ℕ → List ℕ → Answer) (says : ℕ → List ℕ → ℕ → Type 0) (now : Option ℕ) (x : List ℕ) (unread : Bool) (before after : Option (List ℕ)) (failed : Bool) (status : ℕ) : Type 0 where
+pub record Ended (at : ℕ → List ℕ → Answer) (unread : Answer) (says : ℕ → List ℕ → ℕ → Type 0) (now : Option ℕ) (x : List ℕ) (fails : Bool) (before after : Option (List ℕ)) (failed : Bool) (status : ℕ) : Type 0 where
   pub y : List ℕ
   pub between : Option (List ℕ)
   pub done : AnswersLines at says now x y before between
-  pub by : ((unread ≡ true) × Prints read_failed between after failed status)
-      ⊎ LineEnds at (says (length done.done) (first_line y)) now (first_line y) between after failed status
+  pub by : ((fails ≡ true) × Prints unread between after failed status)
+      ⊎ LineEnds at unread (says (length done.done) (first_line y)) now (first_line y) between after failed status
 
 -- each line is answered, and the status is 0; or something ended the run behind some of the answers
-abbrev pub GivesLines : (ℕ → List ℕ → Answer) → (ℕ → List ℕ → ℕ → Type 0) → Option ℕ → List ℕ → Bool → Option (List ℕ) → Option (List ℕ) → Bool → ℕ → Type 0
-GivesLines at says now x unread before after failed status = (AnswersLines at says now x [] before after × (status ≡ 0))
-    ⊎ Ended at says now x unread before after failed status
+abbrev pub GivesLines : (ℕ → List ℕ → Answer) → Answer → (ℕ → List ℕ → ℕ → Type 0) → Option ℕ → List ℕ → Bool → Option (List ℕ) → Option (List ℕ) → Bool → ℕ → Type 0
+GivesLines at unread says now x fails before after failed status = (AnswersLines at says now x [] before after × (status ≡ 0))
+    ⊎ Ended at unread says now x fails before after failed status

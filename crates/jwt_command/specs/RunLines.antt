@@ -6,10 +6,11 @@ use Rattle.jwt_keys.specs.declared.fault.KeysFault.{KeysFault}
 use Rattle.jwt_policy.specs.Document.{policy_of}
 use Rattle.jwt_policy.specs.Settings.{Settings}
 use Rattle.jwt_policy.specs.declared.policy_fault.PolicyFault.{PolicyFault}
-use Rattle.jwt_command.specs.Documents.{Held, file_failed, unread}
+use Rattle.jwt_command.specs.Documents.{Held, unread}
 use Rattle.jwt_command.specs.Lines.{GivesLines, with_held}
-use Rattle.jwt_command.specs.Printed.{Answer, Prints, out_of_memory, read_failed}
-use Rattle.jwt_command.specs.Verify.{asked_for, keys_refused, policy_refused, terms, token_answer}
+use Rattle.jwt_command.specs.Printed.{Answer, Prints, out_of_memory}
+use Rattle.jwt_command.specs.Told.{told, told_file_failed}
+use Rattle.jwt_command.specs.Verify.{asked_for, terms}
 use Rattle.jwt_command.specs.Words.{LinesOrder}
 
 -- what went out before and after, whether the writer has failed, and the status
@@ -22,24 +23,25 @@ pub record Outcome : Type 0 where
 abbrev pub Printed : Answer → Outcome → Type 0
 Printed a o = Prints a o.before o.after o.failed o.status
 
--- under a policy and a key set: a verdict for each line of x, by what a clock says
-abbrev pub LinesByKeys : List Meaning → (ℕ → List ℕ → ℕ → Type 0) → Option ℕ → Settings → Result KeyList KeysFault → List ℕ → Bool → Outcome → Type 0
-LinesByKeys verifiers says now p (Ok set) x unread o = GivesLines (λ m l. token_answer (terms verifiers m p set) l) (with_held p.run.limit says) now x unread o.before o.after o.failed o.status
-LinesByKeys verifiers says now p (Err fault) x unread o = Printed (keys_refused fault) o
+-- under a policy and a key set: a verdict for each line of x, by what a clock says, told in JSON or in lines
+abbrev pub LinesByKeys : Bool → List Meaning → (ℕ → List ℕ → ℕ → Type 0) → Option ℕ → Settings → Result KeyList KeysFault → List ℕ → Bool → Outcome → Type 0
+LinesByKeys json verifiers says now p (Ok set) x fails o =
+    GivesLines (λ m l. (told json).token (terms verifiers m p set) l) (told json).read_failed (with_held p.run.limit says) now x fails o.before o.after o.failed o.status
+LinesByKeys json verifiers says now p (Err fault) x fails o = Printed ((told json).keys_refused fault) o
 
-abbrev pub LinesByPolicy : List Meaning → (ℕ → List ℕ → ℕ → Type 0) → Option ℕ → Result Settings PolicyFault → Result KeyList KeysFault → List ℕ → Bool → Outcome → Type 0
-LinesByPolicy verifiers says now (Ok p) set x unread o = LinesByKeys verifiers says now p set x unread o
-LinesByPolicy verifiers says now (Err fault) set x unread o = Printed (policy_refused fault) o
+abbrev pub LinesByPolicy : Bool → List Meaning → (ℕ → List ℕ → ℕ → Type 0) → Option ℕ → Result Settings PolicyFault → Result KeyList KeysFault → List ℕ → Bool → Outcome → Type 0
+LinesByPolicy json verifiers says now (Ok p) set x fails o = LinesByKeys json verifiers says now p set x fails o
+LinesByPolicy json verifiers says now (Err fault) set x fails o = Printed ((told json).policy_refused fault) o
 
 -- the policy and the key set are in hand
-abbrev pub LinesInHand : List Meaning → (ℕ → List ℕ → ℕ → Type 0) → Option ℕ → Option (List ℕ) → Option (List ℕ) → List ℕ → Bool → Outcome → Type 0
-LinesInHand verifiers says now (Some policy) (Some keys) x unread o = LinesByPolicy verifiers says now (policy_of policy) (key_set_of keys) x unread o
-LinesInHand verifiers says now policy keys x unread o = Printed read_failed o
+abbrev pub LinesInHand : Bool → List Meaning → (ℕ → List ℕ → ℕ → Type 0) → Option ℕ → Option (List ℕ) → Option (List ℕ) → List ℕ → Bool → Outcome → Type 0
+LinesInHand json verifiers says now (Some policy) (Some keys) x fails o = LinesByPolicy json verifiers says now (policy_of policy) (key_set_of keys) x fails o
+LinesInHand json verifiers says now policy keys x fails o = Printed (told json).read_failed o
 
 abbrev pub LinesNamed : Option (List ℕ) → List Meaning → (ℕ → List ℕ → ℕ → Type 0) → LinesOrder → Held → List ℕ → Bool → Outcome → Type 0
-LinesNamed (Some name) built_in says order held x unread o = Printed (file_failed name) o
-LinesNamed None built_in says order held x unread o = LinesInHand (asked_for order.public_keys built_in) says order.now held.policy held.keys x unread o
+LinesNamed (Some name) built_in says order held x fails o = Printed (told_file_failed order.json name) o
+LinesNamed None built_in says order held x fails o = LinesInHand order.json (asked_for order.public_keys built_in) says order.now held.policy held.keys x fails o
 
 -- a file can't be read, or a document is refused, or a verdict for each line; or an allocation was refused before the first line
 abbrev pub RunsLines : List Meaning → (ℕ → List ℕ → ℕ → Type 0) → LinesOrder → Held → List ℕ → Bool → Outcome → Type 0
-RunsLines built_in says order held x failed o = Printed out_of_memory o ⊎ LinesNamed (unread order.files held) built_in says order held x failed o
+RunsLines built_in says order held x fails o = Printed out_of_memory o ⊎ LinesNamed (unread order.files held) built_in says order held x fails o

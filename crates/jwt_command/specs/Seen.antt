@@ -1,10 +1,12 @@
 -- What a clause sees of the crate's own types.
-use Rattle.std.specs.Prelude.{option_map}
-use Rattle.jwt_command.specs.Words.{Files, Issue, Keys, LinesOrder, Mac, MacFile, Order, Show, Verify, Version}
+use Rattle.std.specs.Prelude.{◌≤◌, IfSome, option_map}
+use Rattle.jwt_command.specs.Words.{EachLine, Files, HasLimits, Issue, Keys, LinesOrder, Mac, MacFile, Once, Order, Request, Show, Verify, Version}
 use Rattle.jwt_command.specs.declared.words.Order.{Order as Asked}
 use Rattle.jwt_command.specs.declared.words.Order.TheVariants as asked
 use Rattle.jwt_command.specs.declared.words.Files.{Files as CodeFiles}
 use Rattle.jwt_command.specs.declared.words.Lines.{Lines as CodeLines}
+use Rattle.jwt_command.specs.declared.words.Request.{Request as CodeRequest}
+use Rattle.jwt_command.specs.declared.words.Request.TheVariants as request
 use Rattle.jwt_command.specs.declared.words.WordsFault.{WordsFault}
 use Rattle.jwt_command.specs.declared.words.WordsFault.TheVariants.{OutOfMemory, Wrong}
 
@@ -21,7 +23,16 @@ seen (asked.Issue alg typ form files) = Issue alg (option_map (λ t. t.now) typ)
 seen asked.Version = Version
 
 abbrev pub lines_view : CodeLines → LinesOrder
-lines_view o = record { now = o.now; public_keys = o.public_keys; files = files_view o.files }
+lines_view o = record { now = o.now; public_keys = o.public_keys; json = o.json; files = files_view o.files }
+
+abbrev pub requested : CodeRequest → Request
+requested (request.Once json order) = Once json (seen order)
+requested (request.EachLine lines) = EachLine (lines_view lines)
+
+-- the numbers of a request are in their ranges
+abbrev pub HasRange : Request → Type 0
+HasRange (Once json order) = HasLimits order
+HasRange (EachLine order) = IfSome order.now (λ n. n ≤ 9223372036854775807)
 
 -- the words are wrong, and memory was there
 abbrev pub IsWrong : WordsFault → Type 0

@@ -1,13 +1,13 @@
--- How much is taken of an input of several lines: nothing behind a line that is refused.
-use Rattle.std.specs.Prelude.{◌+◌, ℕ, List, None, Option, Some, Result, Ok, Err}
+-- How much is taken of an input: nothing behind a line that is refused, and one octet past a limit.
+use Rattle.std.specs.Prelude.{◌+◌, ℕ, List, Option, Result, Ok, Err}
 use Rattle.jwt_keys.specs.KeySets.{KeyList, key_set_of}
 use Rattle.jwt_keys.specs.declared.fault.KeysFault.{KeysFault}
 use Rattle.jwt_policy.specs.Document.{policy_of}
 use Rattle.jwt_policy.specs.Settings.{Settings}
 use Rattle.jwt_policy.specs.declared.policy_fault.PolicyFault.{PolicyFault}
-use Rattle.jwt_command.specs.Documents.{Held, behind, document, document_most, last_most, most_unless_unread, none_held, unread, unread_or}
-use Rattle.jwt_command.specs.Mac.{mac_most}
-use Rattle.jwt_command.specs.Words.{MacFile, Order, Issue, Verify, Version, input_limit}
+use Rattle.jwt_command.specs.Documents.{Held, behind, document, document_most, last_most, most_unless_unread, unread}
+use Rattle.jwt_command.specs.Mac.{behind_key, key_spelled, mac_most}
+use Rattle.jwt_command.specs.Words.{Issue, Keys, Mac, MacFile, Order, Show, Verify, Version, files_in_order}
 
 -- behind the line of a key set, of so many octets at most
 abbrev pub behind_keys : ℕ → Result KeyList KeysFault → ℕ
@@ -26,14 +26,16 @@ behind_policy held (Err fault) x = 0
 abbrev pub verify_most : Held → List ℕ → ℕ
 verify_most held x = document_most 65536 held.policy x + behind_policy held (policy_of (document held.policy x)) (behind held.policy x)
 
--- with these documents in hand
-abbrev pub most_taken_with : Held → Order → List ℕ → ℕ
-most_taken_with held (Verify now public_keys files) x = most_unless_unread (unread files held) (verify_most held x)
-most_taken_with held (Issue alg typ form files) x = most_unless_unread (unread files held) (keys_most 1048577 held.keys x)
-most_taken_with held (MacFile name limit) x = most_unless_unread (unread_or (Some name) held.key None) (mac_most held.key limit)
-most_taken_with held Version x = 0
-most_taken_with held order x = input_limit order + 1
+-- of an order whose files are in hand
+abbrev pub most_in_hand : Held → Order → List ℕ → ℕ
+most_in_hand held (Mac key limit) x = behind_key (key_spelled key) limit
+most_in_hand held (MacFile name limit) x = mac_most held.key limit
+most_in_hand held Keys x = 4194305
+most_in_hand held (Show limit) x = limit + 1
+most_in_hand held (Verify now public_keys files) x = verify_most held x
+most_in_hand held (Issue alg typ form files) x = keys_most 1048577 held.keys x
+most_in_hand held Version x = 0
 
--- with no document in hand
-abbrev pub most_taken : Order → List ℕ → ℕ
-most_taken order x = most_taken_with none_held order x
+-- the same, where a file that is named may not be in hand
+abbrev pub most_taken : Held → Order → List ℕ → ℕ
+most_taken held order x = most_unless_unread (unread (files_in_order order) held) (most_in_hand held order x)

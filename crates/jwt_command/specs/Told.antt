@@ -16,6 +16,6 @@ abbrev pub told_file_failed : Bool → List ℕ → Answer
 told_file_failed true name = file_failed_json name
 told_file_failed false name = file_failed name
 
-abbrev pub unless_unread_told : Bool → Option (List ℕ) → Answer → Answer
-unless_unread_told json (Some name) a = told_file_failed json name
-unless_unread_told json None a = a
+abbrev pub unless_unread : Bool → Option (List ℕ) → Answer → Answer
+unless_unread json (Some name) a = told_file_failed json name
+unless_unread json None a = a

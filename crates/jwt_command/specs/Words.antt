@@ -76,10 +76,10 @@ abbrev pub mac_app : App
 mac_app = with_rule (with_rule (with_rule (new_app (codes "mac")) key_rule) key_file_rule) limit_rule
 
 abbrev pub keys_app : App
-keys_app = new_app (codes "keys")
+keys_app = with_rule (new_app (codes "keys")) json_rule
 
 abbrev pub show_app : App
-show_app = with_rule (new_app (codes "show")) limit_rule
+show_app = with_rule (with_rule (new_app (codes "show")) limit_rule) json_rule
 
 -- `verify` on standard input alone, and with files
 abbrev pub verify_on_input : Bool → App
@@ -132,17 +132,6 @@ HasLimits (Verify now public_keys files) = now ≤ 9223372036854775807
 HasLimits (Issue alg typ form files) = Unit {0}
 HasLimits Version = Unit {0}
 
--- the most octets of an order's input; that of `verify` is a policy of 65,536 octets, a key set of 4,194,304 and a token of
--- 1,048,576, with the two line feeds between them, and that of `issue` a key set and claims of 1,048,576
-abbrev pub input_limit : Order → ℕ
-input_limit (Mac key limit) = limit
-input_limit (MacFile name limit) = limit
-input_limit Keys = 4194304
-input_limit (Show limit) = limit
-input_limit (Verify now public_keys files) = 5308418
-input_limit (Issue alg typ form files) = 5242881
-input_limit Version = 0
-
 -- the number that an option has, where its parser takes it
 abbrev pub number_in : ValueParser → Option Text → Option ℕ
 number_in range text = option_and_then (λ t. if accepts false range t then Some (digits_value 10 (without_leading_plus t)) else None) text
@@ -171,7 +160,7 @@ abbrev pub files_in : List Row → Files
 files_in rows = record { policy = first_of (codes "policy") rows; keys = first_of (codes "keys") rows; token = first_of (codes "token") rows; key = None }
 
 abbrev pub verify_order : Option ℕ → List Row → Option Order
-verify_order clock rows = if is_set (codes "lines") rows then None else option_map (λ now. Verify now (is_set (codes "public-keys") rows) (files_in rows)) (moment_in clock rows)
+verify_order clock rows = option_map (λ now. Verify now (is_set (codes "public-keys") rows) (files_in rows)) (moment_in clock rows)
 
 -- the form of a token that a text names
 abbrev pub form_named : Text → Option Form
@@ -193,8 +182,9 @@ keys_file_in rows = record { policy = None; keys = first_of (codes "keys") rows;
 abbrev pub issue_order : List Row → Option Order
 issue_order rows = option_and_then (λ alg. option_map (λ form. Issue alg (first_of (codes "typ") rows) form (keys_file_in rows)) (form_in rows)) (alg_in rows)
 
-abbrev pub named_order : Option ℕ → Text → List Row → Option Order
-named_order clock name rows =
+-- what a subcommand asks for, where it asks for one answer
+abbrev pub order_in : Option ℕ → Text → List Row → Option Order
+order_in clock name rows =
     if bytes_eq name (codes "mac") then mac_order rows
     else if bytes_eq name (codes "keys") then Some Keys
     else if bytes_eq name (codes "show") then show_order rows
@@ -202,35 +192,13 @@ named_order clock name rows =
     else if bytes_eq name (codes "issue") then issue_order rows
     else None
 
-abbrev pub order_in : Option ℕ → Text → List Row → Option Order
-order_in clock name rows = if is_set (codes "json") rows then None else named_order clock name rows
-
--- what a subcommand with its matches asks for, where `clap` has no fault
-abbrev pub order_under : Option ℕ → Kinds → Option (Text × List Row) → Option Order
-order_under clock [] matches = option_and_then (λ m. order_in clock m.0 m.1) matches
-order_under clock (fault ∷ faults) matches = None
-
--- what the words ask for by `clap`, where it accepts them
-abbrev pub clap_order : Option ℕ → List Text → Option Order
-clap_order clock words = let app = jwt_app (is_some clock) in order_under clock (fault_of app words) (subcommand_of app words)
-
--- behind the name of the program stands `--version` alone
-abbrev pub asks_version : List Text → Bool
-asks_version [] = false
-asks_version (program ∷ []) = false
-asks_version (program ∷ word ∷ []) = bytes_eq word (codes "--version")
-asks_version (program ∷ word ∷ more ∷ words) = false
-
--- what the words ask for at the moment that a clock says, or without a clock
-abbrev pub order_of : Option ℕ → List Text → Option Order
-order_of clock words = if asks_version words then Some Version else clap_order clock words
-
 -- ---- a verdict for each line
 
 -- what `verify --lines` asks for; with no moment, it is the clock's at each line
 pub record LinesOrder : Type 0 where
   pub now : Option ℕ
   pub public_keys : Bool
+  pub json : Bool
   pub files : Files
 
 -- the moment that `--now` names, if any
@@ -240,39 +208,46 @@ named_moment rows = if is_some (first_of (codes "now") rows) then option_map (λ
 abbrev pub is_named : Text → List Row → Bool
 is_named name rows = is_some (first_of name rows)
 
--- the policy and the key set are in files, there is no file of one token, and the answers are lines
+-- the policy and the key set are in files, and there is no file of one token
 abbrev pub lines_order : List Row → Option LinesOrder
 lines_order rows =
-    if is_set (codes "json") rows then None else if is_set (codes "lines") rows
-    then (if is_named (codes "token") rows then None
+    if is_named (codes "token") rows then None
     else (if is_named (codes "policy") rows
     then (if is_named (codes "keys") rows
-    then option_map (λ now. record { now = now; public_keys = is_set (codes "public-keys") rows; files = files_in rows }) (named_moment rows)
-    else None) else None)) else None
+    then option_map (λ now. record { now = now; public_keys = is_set (codes "public-keys") rows; json = is_set (codes "json") rows; files = files_in rows }) (named_moment rows)
+    else None) else None)
 
-abbrev pub lines_in : Text → List Row → Option LinesOrder
-lines_in name rows = if bytes_eq name (codes "verify") then lines_order rows else None
+-- ---- the request
 
-abbrev pub lines_under : Kinds → Option (Text × List Row) → Option LinesOrder
-lines_under [] matches = option_and_then (λ m. lines_in m.0 m.1) matches
-lines_under (fault ∷ faults) matches = None
+-- one answer, in JSON or in lines, or an answer to each line of the input
+pub data Request : Type 0 where
+  Once : Bool → Order → Request
+  EachLine : LinesOrder → Request
 
--- what the words ask for, where they ask for a verdict on each line, where there is a clock or none
-abbrev pub lines_of : Bool → List Text → Option LinesOrder
-lines_of has_clock words = let app = jwt_app has_clock in lines_under (fault_of app words) (subcommand_of app words)
+abbrev pub request_in : Option ℕ → Text → List Row → Option Request
+request_in clock name rows =
+    if is_set (codes "lines") rows then option_map (λ order. EachLine order) (lines_order rows)
+    else option_map (λ order. Once (is_set (codes "json") rows) order) (order_in clock name rows)
 
--- ---- an answer in JSON
+-- what a subcommand with its matches asks for, where `clap` has no fault
+abbrev pub request_under : Option ℕ → Kinds → Option (Text × List Row) → Option Request
+request_under clock [] matches = option_and_then (λ m. request_in clock m.0 m.1) matches
+request_under clock (fault ∷ faults) matches = None
 
-abbrev pub json_in : Option ℕ → Text → List Row → Option Order
-json_in clock name rows = if is_set (codes "json") rows then named_order clock name rows else None
+-- what the words ask for by `clap`, where it accepts them
+abbrev pub clap_request : Option ℕ → List Text → Option Request
+clap_request clock words = let app = jwt_app (is_some clock) in request_under clock (fault_of app words) (subcommand_of app words)
 
-abbrev pub json_under : Option ℕ → Kinds → Option (Text × List Row) → Option Order
-json_under clock [] matches = option_and_then (λ m. json_in clock m.0 m.1) matches
-json_under clock (fault ∷ faults) matches = None
+-- behind the name of the program stands `--version` alone
+abbrev pub asks_version : List Text → Bool
+asks_version [] = false
+asks_version (program ∷ []) = false
+asks_version (program ∷ word ∷ []) = bytes_eq word (codes "--version")
+asks_version (program ∷ word ∷ more ∷ words) = false
 
--- what the words ask for in JSON, at the moment that a clock says or without a clock
-abbrev pub json_of : Option ℕ → List Text → Option Order
-json_of clock words = let app = jwt_app (is_some clock) in json_under clock (fault_of app words) (subcommand_of app words)
+-- what the words ask for at the moment that a clock says, or without a clock
+abbrev pub request_of : Option ℕ → List Text → Option Request
+request_of clock words = if asks_version words then Some (Once false Version) else clap_request clock words
 
 -- ---- files
 
@@ -283,12 +258,10 @@ files_in_order (Verify now public_keys files) = files
 files_in_order (Issue alg typ form files) = files
 files_in_order order = no_files
 
-abbrev pub files_once : Option ℕ → List Text → Files
-files_once clock words = option_map_or files_in_order (order_of clock words) no_files
-
-abbrev pub files_unless_lines : Option ℕ → List Text → Files
-files_unless_lines clock words = option_map_or files_in_order (json_of clock words) (files_once clock words)
+abbrev pub files_in_request : Request → Files
+files_in_request (Once json order) = files_in_order order
+files_in_request (EachLine order) = order.files
 
 -- the files that words name
 abbrev pub files_of : Option ℕ → List Text → Files
-files_of clock words = option_map_or (λ order. order.files) (lines_of (is_some clock) words) (files_unless_lines clock words)
+files_of clock words = option_map_or files_in_request (request_of clock words) no_files

@@ -1,5 +1,5 @@
 //! The documents of a command: in hand, or in the lines of the input.
-ghost use Rattle.std.specs.Prelude.{◌≡◌, ◌≤◌, ◌+◌, ◌⊎◌, false, true, option_map, take, IfErr, IfNone, IfOk, IfSome, OnOk, OnSome};
+ghost use Rattle.std.specs.Prelude.{◌≡◌, ◌≤◌, ◌+◌, ◌⊎◌, false, true, option_map, take, Err, IfErr, IfNone, IfOk, IfSome, OnOk, OnSome};
 ghost use Rattle.jwt_command.specs.Documents.{DocumentFails, TakesDocument, document_most, file_failed, none_held, unread, unread_or};
 ghost use Rattle.jwt_command.specs.Input.{TakesAtMost};
 ghost use Rattle.jwt_command.specs.Seen.{files_view};
@@ -100,6 +100,7 @@ pub(crate) fn document<'a, R: Source>(
     ensures document { IfSome (R.remaining r.old) (λ x. IfOk result (λ d.
         TakesDocument limit (option_map (λ t. t.now) held.entry) x (document_octets d) (R.remaining r.new))) }
     ensures works { OnOk result (R.failed r.new ≡ false) }
+    ensures read { result ≡ Err LineFault.Read → R.failed r.new ≡ true }
     ensures fails { IfSome (R.remaining r.old) (λ x. IfErr result
         (DocumentFails limit (option_map (λ t. t.now) held.entry) (R.failed r.new) x)) }
     ensures taken { IfSome (R.remaining r.old) (λ x. (R.failed r.new ≡ true)

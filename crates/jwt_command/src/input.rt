@@ -1,5 +1,5 @@
 //! A command's input.
-ghost use Rattle.std.specs.Prelude.{◌≡◌, ◌≤◌, ◌+◌, ◌⊎◌, true, length, IfOk, IfSome};
+ghost use Rattle.std.specs.Prelude.{◌≡◌, ◌≤◌, ◌+◌, ◌⊎◌, true, length, Err, IfOk, IfSome};
 ghost use Rattle.jwt_command.specs.Input.{ReadsInput, TakesAtMost, without_line_feed};
 
 use jwt_text::{GREATEST_LIMIT, Intake, Source, TextFault};
@@ -15,6 +15,7 @@ pub(crate) fn read_input<R: Source>(
     requires greatest { limit ≤ GREATEST_LIMIT }
     ensures input { IfSome (R.remaining r.old) (λ x. ReadsInput limit (R.failed r.new) x result) }
     ensures short { IfOk result (λ held. length held.octets ≤ limit) }
+    ensures read { result ≡ Err TextFault.Read → R.failed r.new ≡ true }
     ensures taken { IfSome (R.remaining r.old) (λ x. (R.failed r.new ≡ true) ⊎ TakesAtMost (limit + 1) x (R.remaining r.new)) }
 {
     let mut intake = Intake::new(alloc, limit);

@@ -1,5 +1,5 @@
 //! The command `issue`: a token of some claims by a key set.
-ghost use Rattle.std.specs.Prelude.{◌≡◌, ◌⊎◌, true, map, option_map, string_bytes, IfOk, IfSome};
+ghost use Rattle.std.specs.Prelude.{◌≡◌, ◌≢◌, ◌⊎◌, true, map, option_map, string_bytes, IfOk, IfSome};
 ghost use Rattle.jwt_text.specs.Answers.{Answers};
 ghost use Rattle.jwt_keys.specs.KeySets.{key_set};
 ghost use Rattle.jwt_issue.specs.Views.{pair_parts, text_of};
@@ -95,7 +95,8 @@ fn of_claims(
     keys: &KeySet,
     claims: &ClaimSet,
 ) -> Result<Reply, AllocError>
-    ensures { IfOk result (λ a. reply_view a ≡ token_answer (issued (wanted_view wanted.entry) (key_set keys.now).keys claims.now)) }
+    ensures line { IfOk result (λ a. reply_view a ≡ token_answer (issued (wanted_view wanted.entry) (key_set keys.now).keys claims.now)) }
+    ensures done { IfOk result (λ a. a.status ≢ 3) }
 {
     match issued(alloc, wanted, keys, claims) {
         Ok(text) => Ok(Reply { text, status: 0 }),
@@ -122,7 +123,8 @@ fn on_text(
     keys: &KeySet,
     text: &[u8],
 ) -> Result<Reply, AllocError>
-    ensures { IfOk result (λ a. reply_view a ≡ of_claims (wanted_view wanted.entry) (key_set keys.now).keys (claim_set_of text.now)) }
+    ensures line { IfOk result (λ a. reply_view a ≡ of_claims (wanted_view wanted.entry) (key_set keys.now).keys (claim_set_of text.now)) }
+    ensures done { IfOk result (λ a. a.status ≢ 3) }
 {
     let octets = text.to_vec(alloc)?;
     match ClaimSet::from_octets(alloc, octets) {
@@ -142,6 +144,7 @@ fn on_claims<R: Source>(
     ensures line { IfSome (R.remaining r.old) (λ x. IfOk result (λ a. reply_view a
         ≡ unless_failed (R.failed r.new) (claims_answer (wanted_view wanted.entry) (key_set keys.now).keys x))) }
     ensures taken { IfSome (R.remaining r.old) (λ x. (R.failed r.new ≡ true) ⊎ TakesAtMost 1048577 x (R.remaining r.new)) }
+    ensures failed { IfOk result (λ a. a.status ≡ 3 → R.failed r.new ≡ true) }
 {
     match read_input(alloc, 1_048_576, r) {
         Err(TextFault::Read) => Reply::line(alloc, "failed Read", 3),
@@ -161,10 +164,9 @@ pub(crate) fn issue<R: Source>(
 ) -> Result<Reply, AllocError>
     ensures line { IfSome (R.remaining r.old) (λ x. IfOk result (λ a. reply_view a
         ≡ issue_answer (wanted_view wanted.entry) (option_map (λ t. t.now) keys.entry) (R.failed r.new) x)) }
-    ensures taken { IfSome (R.remaining r.old) (λ x. (R.failed r.new ≡ true)
-        ⊎ TakesAtMost 5242882 x (R.remaining r.new)) }
     ensures stops { IfSome (R.remaining r.old) (λ x. (R.failed r.new ≡ true)
         ⊎ TakesAtMost (keys_most 1048577 (option_map (λ t. t.now) keys.entry) x) x (R.remaining r.new)) }
+    ensures failed { IfOk result (λ a. a.status ≡ 3 → R.failed r.new ≡ true) }
 {
     let text = match document(alloc, keys, r, 4_194_304) {
         Ok(text) => text,

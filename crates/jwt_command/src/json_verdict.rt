@@ -4,6 +4,8 @@ ghost use Rattle.json.specs.Tree.{json_tokens};
 ghost use Rattle.jwt_verify.specs.FaultNames.{fault_name};
 ghost use Rattle.jwt_verify.specs.Reports.{FoundMemory};
 ghost use Rattle.jwt_verify.specs.Verdict.{token_of, token_or_none, without_line_feed};
+ghost use Rattle.jwt_verify.specs.declared.report.InputFault.TheVariants.{Read};
+ghost use Rattle.jwt_verify.specs.declared.report.Fault.TheVariants.{Text};
 ghost use Rattle.jwt_verify.specs.declared.report.Verdict.TheVariants.{Refused};
 ghost use Rattle.jwt_command.specs.Json.{claim_place, count, evidence, file_failed_json, form_place, keys_refused_json, list, place_of, policy_place, policy_refused_json, read_failed_json, said_json, state_json, state_members, text, try_json, value_of, verdict_json, verdict_members, verdict_status};
 ghost use Rattle.jwt_command.specs.JsonTokens.{named_tokens};
@@ -232,6 +234,7 @@ pub(crate) fn report_json(
     ensures line { IfOk result (λ a. reply_view a
         ≡ verdict_json report.now.verdict payload.now report.now.states.items report.now.tries.items work) }
     ensures memory { IfOk result (λ a. FoundMemory report.now.verdict) }
+    ensures failed { IfOk result (λ a. a.status ≡ 3 → report.now.verdict ≡ Refused (Text Read)) }
 {
     match &report.verdict {
         Verdict::Refused(Fault::OutOfMemory | Fault::VerifierMemory) => Err(AllocError),

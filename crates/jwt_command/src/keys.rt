@@ -111,6 +111,7 @@ fn set_lines(alloc: Global, set: &KeySet) -> Result<Vec<u8>, AllocError>
 pub(crate) fn keys<R: Source>(alloc: Global, r: &mut R) -> Result<Reply, AllocError>
     ensures line { IfSome (R.remaining r.old) (λ x. IfOk result (λ a. reply_view a ≡ keys_answer (R.failed r.new) x)) }
     ensures taken { IfSome (R.remaining r.old) (λ x. (R.failed r.new ≡ true) ⊎ TakesAtMost 4194305 x (R.remaining r.new)) }
+    ensures failed { IfOk result (λ a. a.status ≡ 3 → R.failed r.new ≡ true) }
 {
     let input = match read_input(alloc, GREATEST_LIMIT, r) {
         Ok(input) => input,

@@ -1,32 +1,29 @@
 //! The command `verify --lines`: a verdict for each line of an input.
-ghost use Rattle.std.specs.Prelude.{◌≡◌, ◌≤◌, ◌+◌, ◌<◌, ◌++◌, ◌∷◌, ◌⊎◌, ℕ, List, [], IfOk, OnOk, is_some, false, true, length, map, take, Err, IfErr, IfNone, IfSome, None, Ok, Some};
+ghost use Rattle.std.specs.Prelude.{◌≡◌, ◌≤◌, ◌+◌, ◌<◌, ◌++◌, ◌∷◌, ◌⊎◌, ℕ, List, [], IfOk, OnOk, false, true, length, map, take, Err, IfErr, IfNone, IfSome, None, Ok, Some};
 ghost use Rattle.std.specs.Io.KnownBytes.{prepend_known};
-ghost use Rattle.jwt_keys.specs.KeySets.{key_set};
-ghost use Rattle.jwt_command.specs.Lines.{GivesLines, IsMoment, LineAnswered, LineEnds, with_held};
-ghost use Rattle.jwt_command.specs.TakenLines.{after_line, first_line};
-ghost use Rattle.jwt_keys.specs.KeySets.{key_set_of};
+ghost use Rattle.jwt_keys.specs.KeySets.{key_set, key_set_of};
 ghost use Rattle.jwt_policy.specs.Document.{policy_of};
-ghost use Rattle.jwt_command.specs.Printed.{Gives, GivesWrongWords, Prints, out_of_memory};
+ghost use Rattle.jwt_command.specs.Lines.{GivesLines, IsMoment, LineAnswered, LineEnds, with_held};
+ghost use Rattle.jwt_command.specs.Printed.{out_of_memory};
 ghost use Rattle.jwt_command.specs.RunLines.{LinesByPolicy, Printed, RunsLines};
-ghost use Rattle.jwt_command.specs.Answered.{answer_with};
 ghost use Rattle.jwt_command.specs.Seen.{lines_view};
-ghost use Rattle.jwt_command.specs.Words.{LinesOrder, Order as Asked, lines_of, order_of};
-ghost use Rattle.jwt_command.specs.Views.{held_view, reply_view};
-ghost use Rattle.jwt_command.specs.Verify.{terms, token_answer};
+ghost use Rattle.jwt_command.specs.TakenLines.{after_line, first_line};
+ghost use Rattle.jwt_command.specs.Told.{told};
+ghost use Rattle.jwt_command.specs.Verify.{terms};
+ghost use Rattle.jwt_command.specs.Views.{held_view};
 
 use crate::ahead::Ahead;
-use crate::documents::{Held, file_failed, unread};
-use crate::reply::Reply;
-use crate::run::{asked_for, lack_memory, run_files, send};
+use crate::documents::{Held, unread};
+use crate::run::{asked_for, give, lack_memory};
 use crate::take_line::LineFault;
-use crate::told::refused_policy;
+use crate::told::{told_file, told_keys, told_policy, told_read};
 use crate::verify::on_octets;
-use crate::words::{Lines, read_lines};
+use crate::words::Lines;
 use jwt_keys::{KeySet, KeysFault};
 use jwt_mac::Verifier;
 use jwt_policy::{Policy, PolicyFault};
 use jwt_text::{Sink, Source, write_out};
-use std::alloc::{AllocError, Global};
+use std::alloc::Global;
 
 /// Moments of lines, in seconds since 1970-01-01T00:00:00Z.
 pub trait Clock {
@@ -38,6 +35,18 @@ pub trait Clock {
     fn moment(&mut self, number: u64, line: &[u8]) -> Option<u64>
         ensures range { IfSome result (λ m. m ≤ 9223372036854775807) }
         ensures said { IfSome result (λ m. says number line.now m) };
+}
+
+/// No clock: it says no moment of any line.
+#[derive(Clone, Copy, Debug)]
+pub struct NoClock;
+
+impl Clock for NoClock {
+    ghost says = { λ _ _ _. ⊥ };
+
+    fn moment(&mut self, _number: u64, _line: &[u8]) -> Option<u64> {
+        None
+    }
 }
 
 // The moment of an answer: the one that `--now` names, else the clock's for that line.
@@ -56,6 +65,7 @@ fn moment<C: Clock>(now: Option<u64>, clock: &mut C, number: u64, line: &[u8]) -
 // Answers the line of this number. None: its answer went out; else the status with which the run ends.
 fn answer_line<W: Sink, C: Clock>(
     alloc: Global,
+    json: bool,
     verifiers: &[Box<dyn Verifier>],
     now: Option<u64>,
     clock: &mut C,
@@ -67,18 +77,18 @@ fn answer_line<W: Sink, C: Clock>(
 ) -> Option<u8>
     requires { IfSome now (λ n. n ≤ 9223372036854775807) }
     ensures answered { IfNone result (LineAnswered
-        (λ m l. token_answer (terms (map meaning verifiers.now) m policy.now (key_set keys.now)) l)
+        (λ m l. (told json).token (terms (map meaning verifiers.now) m policy.now (key_set keys.now)) l)
         (C.says number line.now) now line.now
         (W.contents w.old) (W.contents w.new)) }
     ensures ends { IfSome result (λ status. LineEnds
-        (λ m l. token_answer (terms (map meaning verifiers.now) m policy.now (key_set keys.now)) l)
-        (C.says number line.now) now line.now
+        (λ m l. (told json).token (terms (map meaning verifiers.now) m policy.now (key_set keys.now)) l)
+        (told json).read_failed (C.says number line.now) now line.now
         (W.contents w.old) (W.contents w.new) (W.failed w.new) status) }
 {
     let Some(moment) = moment(now, clock, number, line) else {
-        return Some(send(w, b"failed Read\n", 3));
+        return Some(give(w, told_read(alloc, json)));
     };
-    let Ok(reply) = on_octets(alloc, verifiers, moment, policy, keys, line) else {
+    let Ok(reply) = on_octets(alloc, json, verifiers, moment, policy, keys, line) else {
         return Some(lack_memory(w));
     };
     match write_out(w, reply.text.as_slice()) {
@@ -128,9 +138,10 @@ fn take_line<R: Source>(
     Err(LineFault::OutOfMemory)
 }
 
-/// Answers each line of an input as `verify` answers it alone, with a budget of its own, before the next is waited for.
-pub(crate) fn answer_lines<R: Source, W: Sink, C: Clock>(
+// Answers each line of an input as `verify` answers it alone, with a budget of its own, before the next is waited for.
+fn answer_lines<R: Source, W: Sink, C: Clock>(
     alloc: Global,
+    json: bool,
     verifiers: &[Box<dyn Verifier>],
     now: Option<u64>,
     clock: &mut C,
@@ -141,8 +152,8 @@ pub(crate) fn answer_lines<R: Source, W: Sink, C: Clock>(
 ) -> u8
     requires { IfSome now (λ n. n ≤ 9223372036854775807) }
     ensures { IfSome (R.remaining r.old) (λ x. GivesLines
-        (λ m l. token_answer (terms (map meaning verifiers.now) m policy.now (key_set keys.now)) l)
-        (with_held policy.now.run.limit C.says) now x (R.failed r.new)
+        (λ m l. (told json).token (terms (map meaning verifiers.now) m policy.now (key_set keys.now)) l)
+        (told json).read_failed (with_held policy.now.run.limit C.says) now x (R.failed r.new)
         (W.contents w.old) (W.contents w.new) (W.failed w.new) result) }
 {
     let limit = policy.limit();
@@ -155,6 +166,7 @@ pub(crate) fn answer_lines<R: Source, W: Sink, C: Clock>(
             Ok(true) => {
                 if let Some(status) = answer_line(
                     alloc,
+                    json,
                     verifiers,
                     now,
                     clock,
@@ -168,27 +180,17 @@ pub(crate) fn answer_lines<R: Source, W: Sink, C: Clock>(
                 }
             }
             Ok(false) => return 0,
-            Err(LineFault::Read) => return send(w, b"failed Read\n", 3),
+            Err(LineFault::Read) => return give(w, told_read(alloc, json)),
             Err(_) => return lack_memory(w),
         }
     }
     lack_memory(w)
 }
 
-// Sends an answer, where memory was there.
-fn give<W: Sink>(w: &mut W, reply: Result<Reply, AllocError>) -> u8
-    ensures ok { IfOk reply (λ a. Prints (reply_view a) (W.contents w.old) (W.contents w.new) (W.failed w.new) result) }
-    ensures err { IfErr reply (λ _. Prints out_of_memory (W.contents w.old) (W.contents w.new) (W.failed w.new) result) }
-{
-    match reply {
-        Ok(reply) => send(w, reply.text.as_slice(), reply.status),
-        Err(_) => lack_memory(w),
-    }
-}
-
 // Answers each line under a policy and a key set in hand.
 fn lines_in_hand<R: Source, W: Sink, C: Clock>(
     alloc: Global,
+    json: bool,
     verifiers: &[Box<dyn Verifier>],
     now: Option<u64>,
     clock: &mut C,
@@ -200,23 +202,23 @@ fn lines_in_hand<R: Source, W: Sink, C: Clock>(
     requires { IfSome now (λ n. n ≤ 9223372036854775807) }
     ensures { IfSome (R.remaining r.old) (λ x.
         Printed out_of_memory (record { before = W.contents w.old; after = W.contents w.new; failed = W.failed w.new; status = result })
-        ⊎ LinesByPolicy (map meaning verifiers.now) C.says now (policy_of policy.now) (key_set_of keys.now) x (R.failed r.new)
+        ⊎ LinesByPolicy json (map meaning verifiers.now) C.says now (policy_of policy.now) (key_set_of keys.now) x (R.failed r.new)
         (record { before = W.contents w.old; after = W.contents w.new; failed = W.failed w.new; status = result })) }
 {
     let policy = match Policy::read(alloc, policy) {
         Ok(policy) => policy,
         Err(PolicyFault::OutOfMemory) => return lack_memory(w),
-        Err(fault) => return give(w, refused_policy(alloc, &fault)),
+        Err(fault) => return give(w, told_policy(alloc, json, &fault)),
     };
     match KeySet::read(alloc, keys) {
-        Ok(keys) => answer_lines(alloc, verifiers, now, clock, &policy, &keys, r, w),
+        Ok(keys) => answer_lines(alloc, json, verifiers, now, clock, &policy, &keys, r, w),
         Err(KeysFault::OutOfMemory) => lack_memory(w),
-        Err(fault) => give(w, Reply::refused_keys(alloc, fault.name())),
+        Err(fault) => give(w, told_keys(alloc, json, &fault)),
     }
 }
 
-// Answers each line, where each document that a file is named for is in hand.
-fn lines_named<R: Source, W: Sink, C: Clock>(
+/// Runs `jwt verify --lines`, where each document that a file is named for is in hand.
+pub(crate) fn run_lines<R: Source, W: Sink, C: Clock>(
     alloc: Global,
     order: Lines<'_>,
     verifiers: &[Box<dyn Verifier>],
@@ -230,12 +232,13 @@ fn lines_named<R: Source, W: Sink, C: Clock>(
         (record { before = W.contents w.old; after = W.contents w.new; failed = W.failed w.new; status = result })) }
 {
     if let Some(name) = unread(order.files, held) {
-        return give(w, file_failed(alloc, name));
+        return give(w, told_file(alloc, order.json, name));
     }
     match held.policy {
         Some(policy) => match held.keys {
             Some(keys) => lines_in_hand(
                 alloc,
+                order.json,
                 asked_for(order.public_keys, verifiers),
                 order.now,
                 clock,
@@ -244,43 +247,8 @@ fn lines_named<R: Source, W: Sink, C: Clock>(
                 r,
                 w,
             ),
-            None => send(w, b"failed Read\n", 3),
+            None => give(w, told_read(alloc, order.json)),
         },
-        None => send(w, b"failed Read\n", 3),
-    }
-}
-
-/// The same as [`run_files`], and `verify --lines` besides: each line of `r` is answered before the next is waited for. Where `--now`
-/// is left out, `moments` is asked for each line, with the line in hand. The status of `verify --lines` is 0 where each line was answered.
-pub fn run_lines<R: Source, W: Sink, C: Clock>(
-    alloc: Global,
-    words: &[&str],
-    built_in: &[Box<dyn Verifier>],
-    clock: Option<u64>,
-    moments: &mut C,
-    held: Held<'_>,
-    r: &mut R,
-    w: &mut W,
-) -> u8
-    requires { IfSome clock (λ n. n ≤ 9223372036854775807) }
-    // A verdict for each line.
-    ensures lines { (order : LinesOrder) → lines_of (is_some clock) (map (λ word. word.now) words.now) ≡ Some order
-        → IfSome (R.remaining r.old) (λ x. RunsLines (map meaning built_in.now) C.says order (held_view held.entry) x (R.failed r.new)
-        (record { before = W.contents w.old; after = W.contents w.new; failed = W.failed w.new; status = result })) }
-
-    // One answer.
-    ensures answer { lines_of (is_some clock) (map (λ word. word.now) words.now) ≡ None
-        → (order : Asked) → order_of clock (map (λ word. word.now) words.now) ≡ Some order
-        → IfSome (R.remaining r.old) (λ x.
-        Gives (answer_with (map meaning built_in.now) (held_view held.entry) order (R.failed r.new) x)
-        (W.contents w.old) (W.contents w.new) (W.failed w.new) result) }
-    ensures wrong { lines_of (is_some clock) (map (λ word. word.now) words.now) ≡ None
-        → order_of clock (map (λ word. word.now) words.now) ≡ None
-        → GivesWrongWords (W.contents w.old) (W.contents w.new) (W.failed w.new) result }
-{
-    match read_lines(alloc, words, clock.is_some()) {
-        Ok(Some(order)) => lines_named(alloc, order, built_in, moments, held, r, w),
-        Ok(None) => run_files(alloc, words, built_in, clock, held, r, w),
-        Err(_) => lack_memory(w),
+        None => give(w, told_read(alloc, order.json)),
     }
 }

@@ -1,5 +1,5 @@
 //! The command `mac`: the tag of a token in compact form under a key, and whether its signature is that tag.
-ghost use Rattle.std.specs.Prelude.{◌≡◌, ◌≤◌, ◌+◌, ◌⊎◌, true, None, IfOk, IfSome, IsTrue, length, option_map};
+ghost use Rattle.std.specs.Prelude.{◌≡◌, ◌≢◌, ◌≤◌, ◌+◌, ◌⊎◌, true, None, IfOk, IfSome, IsTrue, length, option_map};
 ghost use Rattle.std.specs.Str.{bytes_eq};
 ghost use Rattle.jwt_text.specs.Answers.{Answers, or_fault};
 ghost use Rattle.jwt_text.specs.Base64url.{spelled};
@@ -141,7 +141,8 @@ fn fault_name(fault: MacFault) -> &'static str
 
 // The line of a digest.
 fn digest_line(alloc: Global, digest: &Digest) -> Result<Reply, AllocError>
-    ensures { IfOk result (λ r. reply_view r ≡ digest_line (digest_view digest.now)) }
+    ensures line { IfOk result (λ r. reply_view r ≡ digest_line (digest_view digest.now)) }
+    ensures done { IfOk result (λ r. r.status ≢ 3) }
 {
     let tag = hex::encode(alloc, digest.tag.octets())?;
     if digest.equal {
@@ -157,7 +158,8 @@ fn digest_line(alloc: Global, digest: &Digest) -> Result<Reply, AllocError>
 fn token_line(alloc: Global, key: &[u8], token: &[u8]) -> Result<Reply, AllocError>
     requires key { length key.now ≤ 4096 }
     requires token { length token.now ≤ 1048576 }
-    ensures { IfOk result (λ r. reply_view r ≡ mac_line (digest_of key.now token.now)) }
+    ensures line { IfOk result (λ r. reply_view r ≡ mac_line (digest_of key.now token.now)) }
+    ensures done { IfOk result (λ r. r.status ≢ 3) }
 {
     match token_digest(alloc, key, token) {
         Ok(digest) => digest_line(alloc, &digest),
@@ -196,9 +198,9 @@ pub(crate) fn mac<R: Source>(
     requires least { 1 ≤ limit }
     requires most { limit ≤ 1048576 }
     ensures line { IfSome (R.remaining r.old) (λ x. IfOk result (λ a. reply_view a ≡ mac_answer key.now limit (R.failed r.new) x)) }
-    ensures taken { IfSome (R.remaining r.old) (λ x. (R.failed r.new ≡ true) ⊎ TakesAtMost (limit + 1) x (R.remaining r.new)) }
     ensures stops { IfSome (R.remaining r.old) (λ x. (R.failed r.new ≡ true)
         ⊎ TakesAtMost (behind_key (key_spelled key.now) limit) x (R.remaining r.new)) }
+    ensures failed { IfOk result (λ a. a.status ≡ 3 → R.failed r.new ≡ true) }
     ensures key { key_spelled key.now ≡ None → IfOk result (λ a. reply_view a ≡ key_refused) }
     ensures unread { key_spelled key.now ≡ None → r.new ≡ r.old }
 {
@@ -224,9 +226,9 @@ pub(crate) fn mac_in_hand<R: Source>(
     requires most { limit ≤ 1048576 }
     ensures line { IfSome (R.remaining r.old) (λ x. IfOk result (λ a. reply_view a
         ≡ mac_in_hand (option_map (λ t. t.now) key.entry) limit (R.failed r.new) x)) }
-    ensures taken { IfSome (R.remaining r.old) (λ x. (R.failed r.new ≡ true) ⊎ TakesAtMost (limit + 1) x (R.remaining r.new)) }
     ensures stops { IfSome (R.remaining r.old) (λ x. (R.failed r.new ≡ true)
         ⊎ TakesAtMost (mac_most (option_map (λ t. t.now) key.entry) limit) x (R.remaining r.new)) }
+    ensures failed { IfOk result (λ a. a.status ≡ 3 → R.failed r.new ≡ true) }
 {
     match key {
         Some(text) => mac(alloc, without_line_feed(text), limit, r),

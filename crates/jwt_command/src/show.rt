@@ -173,6 +173,7 @@ pub(crate) fn show<R: Source>(alloc: Global, limit: u64, r: &mut R) -> Result<Re
     requires most { limit ≤ 1048576 }
     ensures line { IfSome (R.remaining r.old) (λ x. IfOk result (λ a. reply_view a ≡ show_answer limit (R.failed r.new) x)) }
     ensures taken { IfSome (R.remaining r.old) (λ x. (R.failed r.new ≡ true) ⊎ TakesAtMost (limit + 1) x (R.remaining r.new)) }
+    ensures failed { IfOk result (λ a. a.status ≡ 3 → R.failed r.new ≡ true) }
 {
     let input = match read_input(alloc, limit as u32, r) {
         Ok(input) => input,

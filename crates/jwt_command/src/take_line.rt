@@ -1,5 +1,5 @@
 //! Taking one line of an input.
-ghost use Rattle.std.specs.Prelude.{◌≡◌, ◌≤◌, ◌⊎◌, false, true, IfErr, IfOk, IfSome, OnOk};
+ghost use Rattle.std.specs.Prelude.{◌≡◌, ◌≤◌, ◌⊎◌, false, true, Err, IfErr, IfOk, IfSome, OnOk};
 ghost use Rattle.jwt_command.specs.Input.{TakesAtMost};
 ghost use Rattle.jwt_command.specs.TakenLines.{LineFails, TakesLine, line_most};
 
@@ -39,6 +39,7 @@ pub fn line<R: Source>(alloc: Global, r: &mut R, limit: u32) -> Result<Vec<u8>, 
     requires greatest { limit ≤ GREATEST_LIMIT }
     ensures line { IfSome (R.remaining r.old) (λ x. IfOk result (λ v. TakesLine limit x v.items (R.remaining r.new))) }
     ensures works { OnOk result (R.failed r.new ≡ false) }
+    ensures read { result ≡ Err LineFault.Read → R.failed r.new ≡ true }
     ensures fails { IfSome (R.remaining r.old) (λ x. IfErr result (LineFails limit (R.failed r.new) x (R.remaining r.new))) }
     ensures taken { IfSome (R.remaining r.old) (λ x. (R.failed r.new ≡ true) ⊎ TakesAtMost (line_most limit x) x (R.remaining r.new)) }
 {

@@ -1,7 +1,9 @@
 //! The command `verify`: the verdict on a token by a policy and a key set.
-ghost use Rattle.std.specs.Prelude.{◌≡◌, ◌≤◌, ◌+◌, ◌⊎◌, false, true, length, map, option_map, IfOk, IfSome};
+ghost use Rattle.std.specs.Prelude.{◌≡◌, ◌≢◌, ◌≤◌, ◌+◌, ◌⊎◌, false, true, length, map, option_map, IfOk, IfSome};
 ghost use Rattle.jwt_keys.specs.KeySets.{key_set};
 ghost use Rattle.jwt_verify.specs.Reports.{FoundMemory};
+ghost use Rattle.jwt_verify.specs.declared.report.InputFault.TheVariants.{Read};
+ghost use Rattle.jwt_verify.specs.declared.report.Fault.TheVariants.{Text};
 ghost use Rattle.jwt_verify.specs.declared.report.Verdict.TheVariants.{Refused};
 ghost use Rattle.jwt_command.specs.Documents.{last_document, last_most};
 ghost use Rattle.jwt_command.specs.Input.{TakesAtMost};
@@ -48,6 +50,7 @@ fn fault_line(
 ) -> Result<Reply, AllocError>
     ensures line { IfOk result (λ a. reply_view a ≡ fault_line fault.now tries work) }
     ensures memory { IfOk result (λ a. FoundMemory (Refused fault.now)) }
+    ensures failed { IfOk result (λ a. a.status ≡ 3 → fault.now ≡ Text Read) }
 {
     match fault {
         Fault::OutOfMemory | Fault::VerifierMemory => Err(AllocError),
@@ -66,6 +69,7 @@ fn report_line(alloc: Global, report: &Report<'_>, work: u64) -> Result<Reply, A
     ensures line { IfOk result (λ a. reply_view a
         ≡ verify_line report.now.verdict (length report.now.tries.items) work) }
     ensures memory { IfOk result (λ a. FoundMemory report.now.verdict) }
+    ensures failed { IfOk result (λ a. a.status ≡ 3 → report.now.verdict ≡ Refused (Text Read)) }
 {
     let tries = report.tries.len();
     match &report.verdict {
@@ -95,22 +99,18 @@ fn on_token<R: Source>(
     ensures line { IfSome (R.remaining r.old) (λ x. IfOk result (λ a. reply_view a
         ≡ unless_read_failed in_lines (R.failed r.new)
         (token_answer (terms (map meaning verifiers.now) now policy.now (key_set keys.now)) x))) }
-    ensures taken { IfSome (R.remaining r.old) (λ x. (R.failed r.new ≡ true)
-        ⊎ TakesAtMost 1048577 x (R.remaining r.new)) }
     ensures stops { IfSome (R.remaining r.old) (λ x. (R.failed r.new ≡ true)
         ⊎ TakesAtMost (policy.now.run.limit + 1) x (R.remaining r.new)) }
+    ensures failed { IfOk result (λ a. a.status ≡ 3 → R.failed r.new ≡ true) }
 {
-    // No policy allows a token of more.
-    let limit = policy.limit();
-    prove!(limit <= 1_048_576);
     let mut budget = CountDown::new(policy.work());
     tells_reports();
     let report = validate(alloc, r, keys, policy, now as i64, verifiers, &mut budget);
     report_line(alloc, &report, budget.octets())
 }
 
-/// The verdict on a token in hand.
-pub(crate) fn on_octets(
+// The verdict on a token in hand, in lines.
+fn on_octets_in_lines(
     alloc: Global,
     verifiers: &[Box<dyn Verifier>],
     now: u64,
@@ -119,8 +119,9 @@ pub(crate) fn on_octets(
     token: &[u8],
 ) -> Result<Reply, AllocError>
     requires { now ≤ 9223372036854775807 }
-    ensures { IfOk result (λ a. reply_view a
+    ensures line { IfOk result (λ a. reply_view a
         ≡ token_answer (terms (map meaning verifiers.now) now policy.now (key_set keys.now)) token.now) }
+    ensures done { IfOk result (λ a. a.status ≢ 3) }
 {
     let mut count = CountDown::new(policy.work());
     tells_reports();
@@ -131,7 +132,7 @@ pub(crate) fn on_octets(
 }
 
 // The verdict on a token in hand, in JSON.
-fn on_octets_json(
+fn on_octets_in_json(
     alloc: Global,
     verifiers: &[Box<dyn Verifier>],
     now: u64,
@@ -140,8 +141,9 @@ fn on_octets_json(
     token: &[u8],
 ) -> Result<Reply, AllocError>
     requires { now ≤ 9223372036854775807 }
-    ensures { IfOk result (λ a. reply_view a
+    ensures line { IfOk result (λ a. reply_view a
         ≡ token_json (terms (map meaning verifiers.now) now policy.now (key_set keys.now)) token.now) }
+    ensures done { IfOk result (λ a. a.status ≢ 3) }
 {
     let payload = payload_of(alloc, policy, token)?;
     let mut count = CountDown::new(policy.work());
@@ -152,7 +154,29 @@ fn on_octets_json(
     report_json(alloc, &report, payload.as_slice(), count.octets())
 }
 
-// The same on the token that is all that is left of the input.
+/// The verdict on a token in hand, in JSON or in lines.
+pub(crate) fn on_octets(
+    alloc: Global,
+    json: bool,
+    verifiers: &[Box<dyn Verifier>],
+    now: u64,
+    policy: &Policy,
+    keys: &KeySet,
+    token: &[u8],
+) -> Result<Reply, AllocError>
+    requires { now ≤ 9223372036854775807 }
+    ensures line { IfOk result (λ a. reply_view a
+        ≡ (told json).token (terms (map meaning verifiers.now) now policy.now (key_set keys.now)) token.now) }
+    ensures done { IfOk result (λ a. a.status ≢ 3) }
+{
+    if json {
+        on_octets_in_json(alloc, verifiers, now, policy, keys, token)
+    } else {
+        on_octets_in_lines(alloc, verifiers, now, policy, keys, token)
+    }
+}
+
+// The verdict on the token, which is all that is left of the input, in JSON.
 fn on_token_json<R: Source>(
     alloc: Global,
     verifiers: &[Box<dyn Verifier>],
@@ -165,13 +189,12 @@ fn on_token_json<R: Source>(
     ensures line { IfSome (R.remaining r.old) (λ x. IfOk result (λ a. reply_view a
         ≡ unless_read_failed in_json (R.failed r.new)
         (token_json (terms (map meaning verifiers.now) now policy.now (key_set keys.now)) x))) }
-    ensures taken { IfSome (R.remaining r.old) (λ x. (R.failed r.new ≡ true)
-        ⊎ TakesAtMost 1048577 x (R.remaining r.new)) }
     ensures stops { IfSome (R.remaining r.old) (λ x. (R.failed r.new ≡ true)
         ⊎ TakesAtMost (policy.now.run.limit + 1) x (R.remaining r.new)) }
+    ensures failed { IfOk result (λ a. a.status ≡ 3 → R.failed r.new ≡ true) }
 {
     match read_document(alloc, policy.limit(), r)? {
-        Some(token) => on_octets_json(alloc, verifiers, now, policy, keys, token.octets()),
+        Some(token) => on_octets_in_json(alloc, verifiers, now, policy, keys, token.octets()),
         None => read_failed_json(alloc),
     }
 }
@@ -193,14 +216,12 @@ fn on_last<R: Source>(
         ≡ unless_read_failed (told json) (R.failed r.new)
         ((told json).token (terms (map meaning verifiers.now) now policy.now (key_set keys.now))
         (last_document (option_map (λ t. t.now) token.entry) x)))) }
-    ensures taken { IfSome (R.remaining r.old) (λ x. (R.failed r.new ≡ true)
-        ⊎ TakesAtMost 1048577 x (R.remaining r.new)) }
     ensures stops { IfSome (R.remaining r.old) (λ x. (R.failed r.new ≡ true)
         ⊎ TakesAtMost (last_most (policy.now.run.limit + 1) (option_map (λ t. t.now) token.entry)) x (R.remaining r.new)) }
+    ensures failed { IfOk result (λ a. a.status ≡ 3 → R.failed r.new ≡ true) }
 {
     match (token, json) {
-        (Some(token), true) => on_octets_json(alloc, verifiers, now, policy, keys, token),
-        (Some(token), false) => on_octets(alloc, verifiers, now, policy, keys, token),
+        (Some(token), json) => on_octets(alloc, json, verifiers, now, policy, keys, token),
         (None, true) => on_token_json(alloc, verifiers, now, policy, keys, r),
         (None, false) => on_token(alloc, verifiers, now, policy, keys, r),
     }
@@ -220,11 +241,10 @@ fn on_keys<R: Source>(
     ensures line { IfSome (R.remaining r.old) (λ x. IfOk result (λ a. reply_view a
         ≡ unless_read_failed (told json) (R.failed r.new)
         (keys_answer (told json) (map meaning verifiers.now) now (held_view held.entry) policy.now x))) }
-    ensures taken { IfSome (R.remaining r.old) (λ x. (R.failed r.new ≡ true)
-        ⊎ TakesAtMost 5242882 x (R.remaining r.new)) }
     ensures stops { IfSome (R.remaining r.old) (λ x. (R.failed r.new ≡ true)
         ⊎ TakesAtMost (keys_most (last_most (policy.now.run.limit + 1) (held_view held.entry).token)
         (held_view held.entry).keys x) x (R.remaining r.new)) }
+    ensures failed { IfOk result (λ a. a.status ≡ 3 → R.failed r.new ≡ true) }
 {
     let text = match document(alloc, held.keys, r, 4_194_304) {
         Ok(text) => text,
@@ -239,8 +259,8 @@ fn on_keys<R: Source>(
     }
 }
 
-/// Runs `jwt verify`, in JSON or in lines, with verifiers for public keys, at a moment, on an input: the line of a policy, the line of a key set, and a
-/// token, each where it isn't in hand. The policy is read and refused before the key set is taken, and that before the token.
+/// Runs `jwt verify`, in JSON or in lines, with verifiers for public keys, at a moment, on an input: the line of a policy, the line
+/// of a key set, and a token, each where it isn't in hand. The policy is read and refused before the key set is taken, and that before the token.
 pub(crate) fn verify<R: Source>(
     alloc: Global,
     json: bool,
@@ -252,10 +272,9 @@ pub(crate) fn verify<R: Source>(
     requires { now ≤ 9223372036854775807 }
     ensures line { IfSome (R.remaining r.old) (λ x. IfOk result (λ a. reply_view a
         ≡ verify_answer (told json) (map meaning verifiers.now) now (held_view held.entry) (R.failed r.new) x)) }
-    ensures taken { IfSome (R.remaining r.old) (λ x. (R.failed r.new ≡ true)
-        ⊎ TakesAtMost 5308419 x (R.remaining r.new)) }
     ensures stops { IfSome (R.remaining r.old) (λ x. (R.failed r.new ≡ true)
         ⊎ TakesAtMost (verify_most (held_view held.entry) x) x (R.remaining r.new)) }
+    ensures failed { IfOk result (λ a. a.status ≡ 3 → R.failed r.new ≡ true) }
 {
     let text = match document(alloc, held.policy, r, 65_536) {
         Ok(text) => text,

@@ -3,9 +3,9 @@ ghost use Rattle.std.specs.Prelude.{◌≡◌, ◌≤◌, IfOk, IfErr, IfSome, N
 ghost use Rattle.clap.specs.Words.{app_of, found_of, one_of, rows_of, rule_of, subcommand_rows_of};
 ghost use Rattle.clap.specs.declared.builder.command.Command.TheViews.{out-Command as fields_of};
 ghost use Rattle.clap.specs.declared.builder.ValueParser.TheVariants.{Unsigned};
-ghost use Rattle.jwt_command.specs.Words.{HasLimits, alg_in, alg_rule, form_in, form_named, form_rule, asks_version, clap_order, files_in, files_in_order, files_of, files_once, files_unless_lines, issue_app, issue_order, jwt_app, key_file_rule, key_rule, keyed, keys_app, keys_file_in, keys_rule, is_named, is_set, json_in, json_of, json_rule, limit_rule, lines_in, lines_of, lines_order, lines_rule, mac_app, mac_order, moment_in, named_moment, named_order, no_files, now_rule, number_in, order_in, order_of, policy_rule, public_keys_rule, show_app, show_order, token_rule, typ_rule, verify_app, verify_on_files, verify_on_input, verify_order};
+ghost use Rattle.jwt_command.specs.Words.{HasLimits, alg_in, alg_rule, asks_version, clap_request, files_in, files_in_order, files_in_request, files_of, form_in, form_named, form_rule, is_named, is_set, issue_app, issue_order, json_rule, jwt_app, key_file_rule, key_rule, keyed, keys_app, keys_file_in, keys_rule, limit_rule, lines_order, lines_rule, mac_app, mac_order, moment_in, named_moment, no_files, now_rule, number_in, order_in, policy_rule, public_keys_rule, request_in, request_of, show_app, show_order, token_rule, typ_rule, verify_app, verify_on_files, verify_on_input, verify_order};
 ghost use Rattle.jwt_command.specs.Examples.{Examples};
-ghost use Rattle.jwt_command.specs.Seen.{IsWrong, files_view, lines_view, seen};
+ghost use Rattle.jwt_command.specs.Seen.{IsWrong, files_view, HasRange, lines_view, requested, seen};
 
 use crate::nearest::nearest;
 use clap::builder::ValueParser;
@@ -227,11 +227,13 @@ fn mac_command<'a>(alloc: Global) -> Result<Command<'a>, AllocError>
         .arg(limit_option(alloc))
 }
 
-fn keys_command<'a>(alloc: Global) -> Command<'a>
-    ensures shape { app_of result ≡ keys_app }
-    ensures local { (fields_of result).has_globals ≡ false }
+fn keys_command<'a>(alloc: Global) -> Result<Command<'a>, AllocError>
+    ensures shape { IfOk result (λ c. app_of c ≡ keys_app) }
+    ensures local { IfOk result (λ c. (fields_of c).has_globals ≡ false) }
 {
-    Command::new(alloc, "keys").about("Lists the keys of a key set, which standard input holds")
+    Command::new(alloc, "keys")
+        .about("Lists the keys of a key set, which standard input holds")
+        .arg(json_option(alloc))
 }
 
 fn show_command<'a>(alloc: Global) -> Result<Command<'a>, AllocError>
@@ -240,7 +242,8 @@ fn show_command<'a>(alloc: Global) -> Result<Command<'a>, AllocError>
 {
     Command::new(alloc, "show")
         .about("Shows a token without verifying it; standard input holds it")
-        .arg(limit_option(alloc))
+        .arg(limit_option(alloc))?
+        .arg(json_option(alloc))
 }
 
 // `verify` on standard input alone.
@@ -297,7 +300,7 @@ pub fn command<'a>(alloc: Global, has_clock: bool) -> Result<Command<'a>, AllocE
         .after_help("'jwt --version' prints the version.")
         .subcommand_required(true)
         .subcommand(mac_command(alloc)?)?
-        .subcommand(keys_command(alloc))?
+        .subcommand(keys_command(alloc)?)?
         .subcommand(show_command(alloc)?)?
         .subcommand(verify_command(alloc, has_clock)?)?
         .subcommand(issue_command(alloc)?)
@@ -308,7 +311,15 @@ pub fn command<'a>(alloc: Global, has_clock: bool) -> Result<Command<'a>, AllocE
 pub struct Lines<'a> {
     pub now: Option<u64>,
     pub public_keys: bool,
+    pub json: bool,
     pub files: Files<'a>,
+}
+
+/// What the words ask for: one answer, in JSON or in lines, or an answer to each line of the input.
+#[derive(Clone, Copy)]
+pub enum Request<'a> {
+    Once { json: bool, order: Order<'a> },
+    EachLine(Lines<'a>),
 }
 
 /// Why the words ask for nothing.
@@ -340,19 +351,22 @@ fn asks_version(words: &[&str]) -> bool
 }
 
 /// What the words ask for at the moment that a clock says, or without a clock.
-pub fn read_words<'a>(
+pub(crate) fn read_words<'a>(
     alloc: Global,
     words: &'a [&'a str],
     clock: Option<u64>,
-) -> Result<Order<'a>, WordsFault>
+) -> Result<Request<'a>, WordsFault>
     requires { IfSome clock (λ n. n ≤ 9223372036854775807) }
-    ensures limits { IfOk result (λ o. HasLimits (seen o)) }
-    ensures ok { IfOk result (λ o. order_of clock (map (λ w. w.now) words.now) ≡ Some (seen o)) }
+    ensures limits { IfOk result (λ q. HasRange (requested q)) }
+    ensures ok { IfOk result (λ q. request_of clock (map (λ w. w.now) words.now) ≡ Some (requested q)) }
     ensures err { IfErr result (λ f. IsWrong f
-        → order_of clock (map (λ w. w.now) words.now) ≡ None) }
+        → request_of clock (map (λ w. w.now) words.now) ≡ None) }
 {
     if asks_version(words) {
-        Ok(Order::Version)
+        Ok(Request::Once {
+            json: false,
+            order: Order::Version,
+        })
     } else {
         read_by_clap(alloc, words, clock)
     }
@@ -363,16 +377,16 @@ fn read_by_clap<'a>(
     alloc: Global,
     words: &'a [&'a str],
     clock: Option<u64>,
-) -> Result<Order<'a>, WordsFault>
+) -> Result<Request<'a>, WordsFault>
     requires { IfSome clock (λ n. n ≤ 9223372036854775807) }
-    ensures limits { IfOk result (λ o. HasLimits (seen o)) }
-    ensures ok { IfOk result (λ o. clap_order clock (map (λ w. w.now) words.now) ≡ Some (seen o)) }
+    ensures limits { IfOk result (λ q. HasRange (requested q)) }
+    ensures ok { IfOk result (λ q. clap_request clock (map (λ w. w.now) words.now) ≡ Some (requested q)) }
     ensures err { IfErr result (λ f. IsWrong f
-        → clap_order clock (map (λ w. w.now) words.now) ≡ None) }
+        → clap_request clock (map (λ w. w.now) words.now) ≡ None) }
 {
     match command(alloc, clock.is_some())?.try_get_matches_from(words) {
         Ok(matches) => match chosen(&matches, clock) {
-            Some(order) => Ok(order),
+            Some(request) => Ok(request),
             None => Err(WordsFault::Wrong(unknown_name(alloc, &matches)?)),
         },
         Err(error) => match error.kind() {
@@ -403,11 +417,9 @@ fn wrong_keys(alloc: Global, options: &ArgMatches<'_>) -> Result<String, AllocEr
     format!(in alloc; "error: {wrong}\n\nFor more information, try '--help'.\n")
 }
 
-// The text of `--lines` beside `--json` or a file of one token, without the other two files, or where the whole answer is given at once.
+// The text of `--lines` beside a file of one token, or without the other two files.
 fn wrong_lines(alloc: Global, options: &ArgMatches<'_>) -> Result<String, AllocError> {
-    let wrong = if is_set(options, "json") {
-        "the argument '--lines' cannot be used with '--json'"
-    } else if options.get_str("token").is_some() {
+    let wrong = if options.get_str("token").is_some() {
         "the argument '--lines' cannot be used with '--token <FILE>'"
     } else {
         "the argument '--lines' needs '--policy <FILE>' and '--keys <FILE>'"
@@ -445,24 +457,40 @@ fn unknown_value(
     Ok(text)
 }
 
-fn chosen<'a>(matches: &ArgMatches<'a>, clock: Option<u64>) -> Option<Order<'a>>
+fn chosen<'a>(matches: &ArgMatches<'a>, clock: Option<u64>) -> Option<Request<'a>>
     requires { IfSome clock (λ n. n ≤ 9223372036854775807) }
-    ensures limits { IfSome result (λ o. HasLimits (seen o)) }
-    ensures order { option_map seen result
-        ≡ option_and_then (λ p. order_in clock p.0 p.1) (subcommand_rows_of matches.now) }
+    ensures limits { IfSome result (λ q. HasRange (requested q)) }
+    ensures request { option_map requested result
+        ≡ option_and_then (λ p. request_in clock p.0 p.1) (subcommand_rows_of matches.now) }
 {
     let (name, options) = matches.subcommand()?;
-    if is_set(options, "json") {
-        return None;
-    }
-    chosen_named(name, options, clock)
+    chosen_request(name, options, clock)
 }
 
 // What a subcommand asks for.
-fn chosen_named<'a>(name: &str, options: &ArgMatches<'a>, clock: Option<u64>) -> Option<Order<'a>>
+fn chosen_request<'a>(
+    name: &str,
+    options: &ArgMatches<'a>,
+    clock: Option<u64>,
+) -> Option<Request<'a>>
+    requires { IfSome clock (λ n. n ≤ 9223372036854775807) }
+    ensures limits { IfSome result (λ q. HasRange (requested q)) }
+    ensures request { option_map requested result ≡ request_in clock name.now (rows_of (found_of options.now)) }
+{
+    if is_set(options, "lines") {
+        let lines = chosen_lines(options)?;
+        return Some(Request::EachLine(lines));
+    }
+    let json = is_set(options, "json");
+    let order = chosen_order(name, options, clock)?;
+    Some(Request::Once { json, order })
+}
+
+// What a subcommand asks for, where it asks for one answer.
+fn chosen_order<'a>(name: &str, options: &ArgMatches<'a>, clock: Option<u64>) -> Option<Order<'a>>
     requires { IfSome clock (λ n. n ≤ 9223372036854775807) }
     ensures limits { IfSome result (λ o. HasLimits (seen o)) }
-    ensures order { option_map seen result ≡ named_order clock name.now (rows_of (found_of options.now)) }
+    ensures order { option_map seen result ≡ order_in clock name.now (rows_of (found_of options.now)) }
 {
     match name {
         "mac" => chosen_mac(options),
@@ -544,12 +572,6 @@ fn chosen_lines<'a>(options: &ArgMatches<'a>) -> Option<Lines<'a>>
     ensures limits { IfSome result (λ o. IfSome o.now (λ n. n ≤ 9223372036854775807)) }
     ensures order { option_map lines_view result ≡ lines_order (rows_of (found_of options.now)) }
 {
-    if is_set(options, "json") {
-        return None;
-    }
-    if !is_set(options, "lines") {
-        return None;
-    }
     if is_named(options, "token") {
         return None;
     }
@@ -561,75 +583,14 @@ fn chosen_lines<'a>(options: &ArgMatches<'a>) -> Option<Lines<'a>>
     }
     let now = chosen_named_moment(options)?;
     let public_keys = is_set(options, "public-keys");
+    let json = is_set(options, "json");
     let files = chosen_files(options);
     Some(Lines {
         now,
         public_keys,
+        json,
         files,
     })
-}
-
-fn lines_in<'a>(matches: &ArgMatches<'a>) -> Option<Lines<'a>>
-    ensures limits { IfSome result (λ o. IfSome o.now (λ n. n ≤ 9223372036854775807)) }
-    ensures order { option_map lines_view result
-        ≡ option_and_then (λ p. lines_in p.0 p.1) (subcommand_rows_of matches.now) }
-{
-    let (name, options) = matches.subcommand()?;
-    match name {
-        "verify" => chosen_lines(options),
-        _ => None,
-    }
-}
-
-/// What the words ask for, where they ask for a verdict on each line, where there is a clock or none.
-pub(crate) fn read_lines<'a>(
-    alloc: Global,
-    words: &'a [&'a str],
-    has_clock: bool,
-) -> Result<Option<Lines<'a>>, AllocError>
-    ensures limits { IfOk result (λ l. IfSome l (λ o. IfSome o.now (λ n. n ≤ 9223372036854775807))) }
-    ensures order { IfOk result (λ l. option_map lines_view l ≡ lines_of has_clock (map (λ w. w.now) words.now)) }
-{
-    match command(alloc, has_clock)?.try_get_matches_from(words) {
-        Ok(matches) => Ok(lines_in(&matches)),
-        Err(error) => match error.kind() {
-            ErrorKind::OutOfMemory => Err(AllocError),
-            _ => Ok(None),
-        },
-    }
-}
-
-// What is asked for in JSON.
-fn json_in<'a>(matches: &ArgMatches<'a>, clock: Option<u64>) -> Option<Order<'a>>
-    requires { IfSome clock (λ n. n ≤ 9223372036854775807) }
-    ensures limits { IfSome result (λ o. HasLimits (seen o)) }
-    ensures order { option_map seen result
-        ≡ option_and_then (λ p. json_in clock p.0 p.1) (subcommand_rows_of matches.now) }
-{
-    let (name, options) = matches.subcommand()?;
-    if !is_set(options, "json") {
-        return None;
-    }
-    chosen_named(name, options, clock)
-}
-
-/// What the words ask for, where they ask for an answer in JSON, at the moment that a clock says or without a clock.
-pub(crate) fn read_json<'a>(
-    alloc: Global,
-    words: &'a [&'a str],
-    clock: Option<u64>,
-) -> Result<Option<Order<'a>>, AllocError>
-    requires { IfSome clock (λ n. n ≤ 9223372036854775807) }
-    ensures limits { IfOk result (λ l. IfSome l (λ o. HasLimits (seen o))) }
-    ensures order { IfOk result (λ l. option_map seen l ≡ json_of clock (map (λ w. w.now) words.now)) }
-{
-    match command(alloc, clock.is_some())?.try_get_matches_from(words) {
-        Ok(matches) => Ok(json_in(&matches, clock)),
-        Err(error) => match error.kind() {
-            ErrorKind::OutOfMemory => Err(AllocError),
-            _ => Ok(None),
-        },
-    }
 }
 
 // The moment that `--now` names, or else the clock's.
@@ -664,9 +625,6 @@ fn chosen_verify<'a>(options: &ArgMatches<'a>, clock: Option<u64>) -> Option<Ord
     ensures limits { IfSome result (λ o. HasLimits (seen o)) }
     ensures order { option_map seen result ≡ verify_order clock (rows_of (found_of options.now)) }
 {
-    if is_set(options, "lines") {
-        return None;
-    }
     let now = chosen_moment(options, clock)?;
     let public_keys = is_set(options, "public-keys");
     let files = chosen_files(options);
@@ -742,7 +700,7 @@ fn number(options: &ArgMatches<'_>, id: &str, low: u64, high: u64) -> Option<u64
 }
 
 // The files that an order names.
-fn files_in_order<'a>(order: Order<'a>) -> Files<'a>
+pub(crate) fn files_in_order<'a>(order: Order<'a>) -> Files<'a>
     ensures { files_view result ≡ files_in_order (seen order.entry) }
 {
     match order {
@@ -755,34 +713,13 @@ fn files_in_order<'a>(order: Order<'a>) -> Files<'a>
     }
 }
 
-// The files that the words name, where they ask for one answer in lines.
-fn files_once<'a>(
-    alloc: Global,
-    words: &'a [&'a str],
-    clock: Option<u64>,
-) -> Result<Files<'a>, AllocError>
-    requires { IfSome clock (λ n. n ≤ 9223372036854775807) }
-    ensures { IfOk result (λ f. files_view f ≡ files_once clock (map (λ w. w.now) words.now)) }
+// The files that a request names.
+fn files_in_request<'a>(request: Request<'a>) -> Files<'a>
+    ensures { files_view result ≡ files_in_request (requested request.entry) }
 {
-    match read_words(alloc, words, clock) {
-        Ok(order) => Ok(files_in_order(order)),
-        Err(WordsFault::Wrong(_)) => Ok(Files::none()),
-        Err(WordsFault::OutOfMemory) => Err(AllocError),
-    }
-}
-
-// The files that the words name, where they ask for one answer.
-fn files_unless_lines<'a>(
-    alloc: Global,
-    words: &'a [&'a str],
-    clock: Option<u64>,
-) -> Result<Files<'a>, AllocError>
-    requires { IfSome clock (λ n. n ≤ 9223372036854775807) }
-    ensures { IfOk result (λ f. files_view f ≡ files_unless_lines clock (map (λ w. w.now) words.now)) }
-{
-    match read_json(alloc, words, clock)? {
-        Some(order) => Ok(files_in_order(order)),
-        None => files_once(alloc, words, clock),
+    match request {
+        Request::Once { order, .. } => files_in_order(order),
+        Request::EachLine(lines) => lines.files,
     }
 }
 
@@ -796,9 +733,10 @@ pub fn files_named<'a>(
     requires { IfSome clock (λ n. n ≤ 9223372036854775807) }
     ensures { IfOk result (λ f. files_view f ≡ files_of clock (map (λ w. w.now) words.now)) }
 {
-    match read_lines(alloc, words, clock.is_some())? {
-        Some(lines) => Ok(lines.files),
-        None => files_unless_lines(alloc, words, clock),
+    match read_words(alloc, words, clock) {
+        Ok(request) => Ok(files_in_request(request)),
+        Err(WordsFault::Wrong(_)) => Ok(Files::none()),
+        Err(WordsFault::OutOfMemory) => Err(AllocError),
     }
 }
 

@@ -5,9 +5,8 @@ use super::support::{
     Drip, Endless, HS256, KEY_A, KEYS_A2, NOW, Narrow, TOKEN_A, TOKEN_A2, filled,
 };
 use jwt_command::documents::Held;
-use jwt_command::lines::{Clock, run_lines};
-use jwt_command::run::{lack_memory, run, run_files, run_with};
-use jwt_command::run_json::run_json;
+use jwt_command::lines::{Clock, NoClock};
+use jwt_command::run::{lack_memory, run, run_with};
 use jwt_command::take_line::{LineFault, line};
 use jwt_mac::Verifier;
 use jwt_rsa::Rsa;
@@ -141,7 +140,7 @@ fn mac_takes_the_text_of_its_key_in_hand(rt: HostRuntime) -> Result<(), Fail> {
         let mut out: Vec<u8> = Vec::new(alloc);
         let mut r = Drip::new(TOKEN_A.as_bytes(), 1000);
         let mut w = Writer::new(&mut out);
-        let code = run_files(alloc, &words, &[], None, held, &mut r, &mut w);
+        let code = run_with(alloc, &words, &[], None, &mut NoClock, held, &mut r, &mut w);
         assert_eq!(rt; out.as_slice(), line.as_bytes());
         assert_eq!(rt; (code, r.rest.len()), (status, unread));
     }
@@ -586,6 +585,8 @@ fn printed_with(
         words,
         &built_in,
         clock,
+        &mut NoClock,
+        Held::none(),
         &mut Reader::new(input),
         &mut Writer::new(&mut out),
     );
@@ -720,11 +721,12 @@ fn printed_on(
     };
     let mut out: Vec<u8> = Vec::new(alloc);
     let mut r = Reader::new(input.as_bytes());
-    let status = run_files(
+    let status = run_with(
         alloc,
         &words,
         &[],
         None,
+        &mut NoClock,
         held,
         &mut r,
         &mut Writer::new(&mut out),
@@ -882,7 +884,7 @@ fn issue_takes_a_key_set_in_hand(rt: HostRuntime) -> Result<(), Fail> {
         let mut out: Vec<u8> = Vec::new(alloc);
         let mut r = Reader::new(claims.as_bytes());
         let mut w = Writer::new(&mut out);
-        let code = run_files(alloc, &words, &[], None, held, &mut r, &mut w);
+        let code = run_with(alloc, &words, &[], None, &mut NoClock, held, &mut r, &mut w);
         assert_eq!(rt; out.as_slice(), text);
         assert_eq!(rt; code, status);
     }
@@ -1010,7 +1012,7 @@ fn printed_lines(alloc: Global, words: &[&str], input: &str) -> Result<(Vec<u8>,
         ..Held::none()
     };
     let mut out: Vec<u8> = Vec::new(alloc);
-    let status = run_lines(
+    let status = run_with(
         alloc,
         words,
         &[],
@@ -1094,7 +1096,7 @@ fn printed_in_json(
         number: 0,
         lines: &[],
     };
-    let status = run_json(
+    let status = run_with(
         alloc,
         words,
         &[],
@@ -1191,7 +1193,7 @@ fn json_names_a_file_that_is_unread(rt: HostRuntime) -> Result<(), Fail> {
     Ok(())
 }
 
-// Without `--json` the command is as it was; with `--lines` it is wrong.
+// Without `--json` the command is as it was.
 #[test]
 fn json_is_asked_for_by_its_word(rt: HostRuntime) -> Result<(), Fail> {
     let alloc = rt.alloc();
@@ -1199,19 +1201,27 @@ fn json_is_asked_for_by_its_word(rt: HostRuntime) -> Result<(), Fail> {
     let (out, status) = printed_in_json(alloc, &["jwt", "keys"], Held::none(), &input)?;
     assert!(rt; out.as_slice().starts_with(b"key=0 place=0 kty=oct"));
     assert_eq!(rt; status, 0);
+    Ok(())
+}
+
+#[test]
+fn each_line_is_answered_in_json(rt: HostRuntime) -> Result<(), Fail> {
+    let alloc = rt.alloc();
     let words = [
         "jwt",
         "verify",
-        "--json",
         "--lines",
-        "--now",
-        MOMENT,
+        "--json",
         "--policy=p",
         "--keys=k",
     ];
-    let (out, status) = printed_in_json(alloc, &words, Held::none(), "")?;
-    let wrong: &[u8] = b"error: the argument '--lines' cannot be used with '--json'\n";
-    assert!(rt; out.as_slice().starts_with(wrong));
-    assert_eq!(rt; status, 2);
+    let input = format!(in alloc; "{TOKEN_A}\n\n")?;
+    let (out, status) = printed_lines(alloc, &words, input.as_str())?;
+    let lines: &[u8] =
+        br#"{"verdict":"accepted","signature":0,"key":0,"claims":{"iss":"joe","exp":1300819380,"http://example.com/is_root":true},"signatures":[{"state":"Verified","key":0}],"tries":[{"signature":0,"key":0,"cost":295}],"work":295}
+{"verdict":"refused","fault":"Empty","signatures":[],"tries":[],"work":0}
+"#;
+    assert_eq!(rt; out.as_slice(), lines);
+    assert_eq!(rt; status, 0);
     Ok(())
 }

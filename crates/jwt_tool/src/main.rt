@@ -6,8 +6,7 @@ ghost use Rattle.std.specs.Prelude.{◌≤◌, IfSome};
 use jwt_command::documents::{Held, read_document};
 use jwt_command::files_named;
 use jwt_command::lines::Clock;
-use jwt_command::run::lack_memory;
-use jwt_command::run_json::run_json;
+use jwt_command::run::{lack_memory, run_with};
 use jwt_ed25519::Ed25519;
 use jwt_mac::Verifier;
 use jwt_rsa::Rsa;
@@ -18,7 +17,7 @@ use std::time::{SystemTime, UNIX_EPOCH};
 use std::{env, io};
 
 // The clock is read once, before anything else, and by `verify --lines` for each line. Standard input is read without a buffer, so
-// that exactly what the contract of `run_json` names is taken, and standard output is written without one, so that an answer is
+// that exactly what the contract of `run_with` names is taken, and standard output is written without one, so that an answer is
 // out before the next line is waited for.
 fn main(rt: HostRuntime) -> ExitCode {
     let clock = moment(&rt);
@@ -112,7 +111,7 @@ fn run_words<R: Source, W: Sink>(
         key: octets(&key),
     };
     let mut moments = System { rt };
-    Ok(run_json(
+    Ok(run_with(
         rt.alloc(),
         words.as_slice(),
         &built_in,

@@ -5,7 +5,7 @@ use Rattle.jwt_keys.specs.KeySets.{key_set, key_set_of}
 use Rattle.jwt_command.specs.Documents.{document}
 use Rattle.jwt_command.specs.Stops.{behind_keys}
 use Rattle.jwt_command.specs.Views.{reply_view, wanted_view}
-use Rattle.jwt_command.proofs.Verifying.{behind_keys_taken, document_bounded, document_stops, document_then_bounded, issue_line_too_long}
+use Rattle.jwt_command.proofs.Verifying.{behind_keys_taken, document_stops, issue_line_too_long}
 use Rattle.jwt_command.proofs.issue.issue.Goals as goal
 
 pub returns-in-Err-TooLong-clause-line : goal.returns-in-Err-TooLong-clause-line
@@ -14,22 +14,11 @@ returns-in-Err-TooLong-clause-line g c =
     (λ x h. let long = rw c.in-Err-TooLong.field-0-is at h in
     subst (λ (a : Answer). IfOk c.refused_keys.result (λ r. reply_view r ≡ a)) (issue_line_too_long (wanted_view c.args.wanted) (option_map (λ t. t.now) c.args.keys) x _ long.1 long.0) c.refused_keys.ensures)
 
-pub returns-in-Err-TooLong-clause-taken : goal.returns-in-Err-TooLong-clause-taken
-returns-in-Err-TooLong-clause-taken g c = IfSome_then (g.R.Source.remaining c.args.r.now) c.in-Err-TooLong.ensures.taken (λ x h. document_bounded 4194304 5242882 (omega arith) (option_map (λ t. t.now) c.args.keys) x _ _ h)
-
 pub returns-in-Err-TooLong-clause-stops : goal.returns-in-Err-TooLong-clause-stops
 returns-in-Err-TooLong-clause-stops g c = IfSome_then (g.R.Source.remaining c.args.r.now) c.in-Err-TooLong.ensures.taken (λ x h. document_stops 4194304 (behind_keys 1048577 (key_set_of (document (option_map (λ t. t.now) c.args.keys) x))) (option_map (λ t. t.now) c.args.keys) x _ _ h)
 
-pub returns-in-Err-OutOfMemory-clause-taken : goal.returns-in-Err-OutOfMemory-clause-taken
-returns-in-Err-OutOfMemory-clause-taken g c = IfSome_then (g.R.Source.remaining c.args.r.now) c.in-Err-OutOfMemory.ensures.taken (λ x h. document_bounded 4194304 5242882 (omega arith) (option_map (λ t. t.now) c.args.keys) x _ _ h)
-
 pub returns-in-Err-OutOfMemory-clause-stops : goal.returns-in-Err-OutOfMemory-clause-stops
 returns-in-Err-OutOfMemory-clause-stops g c = IfSome_then (g.R.Source.remaining c.args.r.now) c.in-Err-OutOfMemory.ensures.taken (λ x h. document_stops 4194304 (behind_keys 1048577 (key_set_of (document (option_map (λ t. t.now) c.args.keys) x))) (option_map (λ t. t.now) c.args.keys) x _ _ h)
-
-pub returns-in-Ok-read-clause-taken : goal.returns-in-Ok-read-clause-taken
-returns-in-Ok-read-clause-taken g c =
-    IfSome_then (g.R.Source.remaining c.args.r.now) c.in-Ok.ensures.document
-    (λ x h. document_then_bounded 4194304 1048577 5242882 (omega arith) (option_map (λ t. t.now) c.args.keys) x _ _ _ _ h c.on_claims.ensures.taken)
 
 pub returns-in-Ok-read-clause-stops : goal.returns-in-Ok-read-clause-stops
 returns-in-Ok-read-clause-stops g c =
@@ -37,15 +26,12 @@ returns-in-Ok-read-clause-stops g c =
     (λ x h. behind_keys_taken 1048577 (option_map (λ t. t.now) c.args.keys) x _ _ _ _ (key_set c.in-Ok-read.keys)
     h (ap key_set_of (sym c.octets.ensures) ∙ c.in-Ok-read.ensures.answer) c.on_claims.ensures.taken)
 
-pub returns-in-Err-OutOfMemory-read-clause-taken : goal.returns-in-Err-OutOfMemory-read-clause-taken
-returns-in-Err-OutOfMemory-read-clause-taken g c = IfSome_then (g.R.Source.remaining c.args.r.now) c.in-Ok.ensures.document (λ x h. document_bounded 4194304 5242882 (omega arith) (option_map (λ t. t.now) c.args.keys) x _ _ (inr h.taken))
-
 pub returns-in-Err-OutOfMemory-read-clause-stops : goal.returns-in-Err-OutOfMemory-read-clause-stops
 returns-in-Err-OutOfMemory-read-clause-stops g c = IfSome_then (g.R.Source.remaining c.args.r.now) c.in-Ok.ensures.document (λ x h. document_stops 4194304 (behind_keys 1048577 (key_set_of (document (option_map (λ t. t.now) c.args.keys) x))) (option_map (λ t. t.now) c.args.keys) x _ _ (inr h.taken))
 
 pub returns : goal.returns
 returns g c = record {
   line = search rules;
-  taken = IfSome_then (g.R.Source.remaining c.args.r.now) c.in-Ok.ensures.document (λ x h. document_bounded 4194304 5242882 (omega arith) (option_map (λ t. t.now) c.args.keys) x _ _ (inr h.taken));
+  failed = search rules;
   stops = IfSome_then (g.R.Source.remaining c.args.r.now) c.in-Ok.ensures.document (λ x h. document_stops 4194304 (behind_keys 1048577 (key_set_of (document (option_map (λ t. t.now) c.args.keys) x))) (option_map (λ t. t.now) c.args.keys) x _ _ (inr h.taken));
 }

@@ -9,14 +9,14 @@ pub returns-in-Err : goal.returns-in-Err
 returns-in-Err g c =
     let vs = map (λ b. (goal.Verifier-dyn g (b.vtable, b.value)).meaning b.value) c.args.verifiers.now in
     let is : policy_of c.args.policy.now ≡ Err c.in-Err.fault = search rules in
-    policy_is_refused reply_view vs g.C.Clock.says c.args.now (g.R.Source.remaining c.args.r.now) (policy_of c.args.policy.now) (key_set_of c.args.keys.now) c.in-Err.fault c.refused_policy.result _ _
-    is c.refused_policy.ensures c.give.ensures.ok c.give.ensures.err
+    policy_is_refused reply_view c.args.json vs g.C.Clock.says c.args.now (g.R.Source.remaining c.args.r.now) (policy_of c.args.policy.now) (key_set_of c.args.keys.now) c.in-Err.fault c.told_policy.result _ _
+    is c.told_policy.ensures c.give.ensures.ok c.give.ensures.err
 
 pub returns-in-Ok-read : goal.returns-in-Ok-read
 returns-in-Ok-read g c =
     let vs = map (λ b. (goal.Verifier-dyn g (b.vtable, b.value)).meaning b.value) c.args.verifiers.now in
     let is : Ok c.in-Ok.policy ≡ policy_of c.args.policy.now = c.in-Ok.ensures.answer (λ bad. cc bad) in
-    lines_are_given vs g.C.Clock.says c.args.now (g.R.Source.remaining c.args.r.now) (policy_of c.args.policy.now) (key_set_of c.args.keys.now) c.in-Ok.policy (key_set c.in-Ok-read.keys) _ _
+    lines_are_given c.args.json vs g.C.Clock.says c.args.now (g.R.Source.remaining c.args.r.now) (policy_of c.args.policy.now) (key_set_of c.args.keys.now) c.in-Ok.policy (key_set c.in-Ok-read.keys) _ _
     (sym is) c.in-Ok-read.ensures.answer c.answer_lines.ensures
 
 pub returns : goal.returns
@@ -24,5 +24,5 @@ returns g c =
     let vs = map (λ b. (goal.Verifier-dyn g (b.vtable, b.value)).meaning b.value) c.args.verifiers.now in
     let is : Ok c.in-Ok.policy ≡ policy_of c.args.policy.now = c.in-Ok.ensures.answer (λ bad. cc bad) in
     let set_is : key_set_of c.args.keys.now ≡ Err c.in-Err-read.fault = search rules in
-    keys_are_refused reply_view vs g.C.Clock.says c.args.now (g.R.Source.remaining c.args.r.now) (policy_of c.args.policy.now) (key_set_of c.args.keys.now) c.in-Ok.policy c.in-Err-read.fault c.refused_keys.result _ _
-    (sym is) set_is (search rules) c.give-in-Err-read.ensures.ok c.give-in-Err-read.ensures.err
+    keys_are_refused reply_view c.args.json vs g.C.Clock.says c.args.now (g.R.Source.remaining c.args.r.now) (policy_of c.args.policy.now) (key_set_of c.args.keys.now) c.in-Ok.policy c.in-Err-read.fault c.told_keys.result _ _
+    (sym is) set_is c.told_keys.ensures c.give-in-Err-read.ensures.ok c.give-in-Err-read.ensures.err

@@ -1,26 +1,23 @@
-use Rattle.std.proofs.Common.{◌≡◌, ◌∙◌, ap, sym, subst, map, List, None, Some, IfSome, is_some, option_map}
-use Rattle.std.specs.Borrow.{Bor}
-use Rattle.clap.specs.Words.{Text}
-use Rattle.jwt_command.specs.RunLines.{RunsLines}
+use Rattle.std.proofs.Common.{ap, map, option_map}
 use Rattle.jwt_command.specs.Seen.{lines_view}
-use Rattle.jwt_command.specs.Views.{held_view}
-use Rattle.jwt_command.specs.Words.{LinesOrder, lines_of}
+use Rattle.jwt_command.specs.Views.{held_view, reply_view}
+use Rattle.jwt_command.proofs.RunningLines.{file_is_unread, without_keys, without_policy}
 use Rattle.jwt_command.proofs.lines.run_lines.Goals as goal
 
-pub returns-in-Ok-Some-clause-lines : goal.returns-in-Ok-Some-clause-lines
-returns-in-Ok-Some-clause-lines g c = λ order asked.
-    let vs = map (λ b. (goal.Verifier-dyn g (b.vtable, b.value)).meaning b.value) c.args.built_in.now in
-    let words : List Text = map (λ (w : Bor Text). w.now) c.args.words.now in
-    let is : lines_of (is_some c.args.clock) words ≡ Some (lines_view c.in-Ok-Some.order) = sym (ap (λ b. lines_of b words) c.is_some.ensures) ∙ sym c.in-Ok-Some.ensures.order ∙ ap (option_map lines_view) c.in-Ok-Some.field-0-is in
-    let both : Some (lines_view c.in-Ok-Some.order) ≡ Some order = sym is ∙ asked in
-    let same : lines_view c.in-Ok-Some.order ≡ order = cc both in
-    subst (λ (o : LinesOrder). IfSome (g.R.Source.remaining c.args.r.now) (λ x. RunsLines vs g.C.Clock.says o (held_view c.args.held) x (g.R.Source.failed c.lines_named.new.r)
-    (record { before = g.W.Sink.contents c.args.w.now; after = g.W.Sink.contents c.lines_named.new.w; failed = g.W.Sink.failed c.lines_named.new.w; status = c.lines_named.result })))
-    same c.lines_named.ensures
+pub returns-in-Some : goal.returns-in-Some
+returns-in-Some g c =
+    let vs = map (λ b. (goal.Verifier-dyn g (b.vtable, b.value)).meaning b.value) c.args.verifiers.now in
+    file_is_unread reply_view vs g.C.Clock.says (lines_view c.args.order) (held_view c.args.held) (g.R.Source.remaining c.args.r.now) c.in-Some.name.now c.told_file.result _ _
+    c.in-Some.ensures c.told_file.ensures c.give.ensures.ok c.give.ensures.err
 
-pub returns-in-Ok-Some-clause-answer : goal.returns-in-Ok-Some-clause-answer
-returns-in-Ok-Some-clause-answer g c = λ none order asked.
-    let words : List Text = map (λ (w : Bor Text). w.now) c.args.words.now in
-    let is : lines_of (is_some c.args.clock) words ≡ Some (lines_view c.in-Ok-Some.order) = sym (ap (λ b. lines_of b words) c.is_some.ensures) ∙ sym c.in-Ok-Some.ensures.order ∙ ap (option_map lines_view) c.in-Ok-Some.field-0-is in
-    let both : Some (lines_view c.in-Ok-Some.order) ≡ None = sym is ∙ none in
-    absurd (cc both)
+pub returns-in-None-keys : goal.returns-in-None-keys
+returns-in-None-keys g c =
+    let vs = map (λ b. (goal.Verifier-dyn g (b.vtable, b.value)).meaning b.value) c.args.verifiers.now in
+    without_keys reply_view vs g.C.Clock.says (lines_view c.args.order) (held_view c.args.held) (g.R.Source.remaining c.args.r.now) c.told_read.result _ _
+    c.in_default.ensures (ap (option_map (λ t. t.now)) c.in-None-keys.is) c.told_read.ensures c.give-in-None-keys.ensures.ok c.give-in-None-keys.ensures.err
+
+pub returns-in-None : goal.returns-in-None
+returns-in-None g c =
+    let vs = map (λ b. (goal.Verifier-dyn g (b.vtable, b.value)).meaning b.value) c.args.verifiers.now in
+    without_policy reply_view vs g.C.Clock.says (lines_view c.args.order) (held_view c.args.held) (g.R.Source.remaining c.args.r.now) c.told_read-in-None.result _ _
+    c.in_default.ensures (ap (option_map (λ t. t.now)) c.in-None.is) c.told_read-in-None.ensures c.give-in-None.ensures.ok c.give-in-None.ensures.err

@@ -13,4 +13,4 @@ returns-in-Some-clause-line g c =
     let read = rw c.in-Some.is at c.in_ok-token.ensures.read in
     let works = rw c.in-Some.is at c.in_ok-token.ensures.works in
     IfSome_then (g.R.Source.remaining c.args.r.now) read
-    (λ x octets. json_taken reply_view c.on_octets_json.result q x c.octets.result.now c.limit.result _ c.limit.ensures.value (c.octets.ensures.value ∙ octets) works c.on_octets_json.ensures)
+    (λ x octets. json_taken reply_view c.on_octets_in_json.result q x c.octets.result.now c.limit.result _ c.limit.ensures.value (c.octets.ensures.value ∙ octets) works c.on_octets_in_json.ensures.line)

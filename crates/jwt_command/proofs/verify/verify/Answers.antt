@@ -6,7 +6,7 @@ use Rattle.jwt_command.specs.Documents.{behind, document, last_most}
 use Rattle.jwt_command.specs.Stops.{behind_policy, keys_most}
 use Rattle.jwt_command.specs.Told.{told}
 use Rattle.jwt_command.specs.Views.{held_view, reply_view}
-use Rattle.jwt_command.proofs.Verifying.{document_bounded, document_stops, document_then_bounded, document_then_stops, policy_line_too_long, policy_read, under_policy_taken}
+use Rattle.jwt_command.proofs.Verifying.{document_stops, document_then_stops, policy_line_too_long, policy_read, under_policy_taken}
 use Rattle.jwt_command.proofs.verify.verify.Goals as goal
 
 pub returns-in-Err-TooLong-clause-line : goal.returns-in-Err-TooLong-clause-line
@@ -15,14 +15,8 @@ returns-in-Err-TooLong-clause-line g c =
     (λ x h. let long = rw c.in-Err-TooLong.field-0-is at h in
     subst (λ (a : Answer). IfOk c.told_policy.result (λ r. reply_view r ≡ a)) (policy_line_too_long (told c.args.json) (map (λ b. (goal.Verifier-dyn g (b.vtable, b.value)).meaning b.value) c.args.verifiers.now) c.args.now (held_view c.args.held) x _ long.1 long.0) c.told_policy.ensures)
 
-pub returns-in-Err-TooLong-clause-taken : goal.returns-in-Err-TooLong-clause-taken
-returns-in-Err-TooLong-clause-taken g c = IfSome_then (g.R.Source.remaining c.args.r.now) c.in-Err-TooLong.ensures.taken (λ x h. document_bounded 65536 5308419 (omega arith) (held_view c.args.held).policy x _ _ h)
-
 pub returns-in-Err-TooLong-clause-stops : goal.returns-in-Err-TooLong-clause-stops
 returns-in-Err-TooLong-clause-stops g c = IfSome_then (g.R.Source.remaining c.args.r.now) c.in-Err-TooLong.ensures.taken (λ x h. document_stops 65536 (behind_policy (held_view c.args.held) (policy_of (document (held_view c.args.held).policy x)) (behind (held_view c.args.held).policy x)) (held_view c.args.held).policy x _ _ h)
-
-pub returns-in-Err-OutOfMemory-clause-taken : goal.returns-in-Err-OutOfMemory-clause-taken
-returns-in-Err-OutOfMemory-clause-taken g c = IfSome_then (g.R.Source.remaining c.args.r.now) c.in-Err-OutOfMemory.ensures.taken (λ x h. document_bounded 65536 5308419 (omega arith) (held_view c.args.held).policy x _ _ h)
 
 pub returns-in-Err-OutOfMemory-clause-stops : goal.returns-in-Err-OutOfMemory-clause-stops
 returns-in-Err-OutOfMemory-clause-stops g c = IfSome_then (g.R.Source.remaining c.args.r.now) c.in-Err-OutOfMemory.ensures.taken (λ x h. document_stops 65536 (behind_policy (held_view c.args.held) (policy_of (document (held_view c.args.held).policy x)) (behind (held_view c.args.held).policy x)) (held_view c.args.held).policy x _ _ h)
@@ -35,11 +29,6 @@ returns-in-Ok-read-clause-line g c =
     let is : Ok c.in-Ok-read.policy ≡ policy_of c.octets.result.now = c.in-Ok-read.ensures.answer (λ bad. cc bad) in
     policy_read (told c.args.json) reply_view c.on_keys.result vs c.args.now (held_view c.args.held) c.in-Ok-read.policy x _ _ _ h (ap policy_of (sym c.octets.ensures) ∙ sym is) c.on_keys.ensures.line)
 
-pub returns-in-Ok-read-clause-taken : goal.returns-in-Ok-read-clause-taken
-returns-in-Ok-read-clause-taken g c =
-    IfSome_then (g.R.Source.remaining c.args.r.now) c.in-Ok.ensures.document
-    (λ x h. document_then_bounded 65536 5242882 5308419 (omega arith) (held_view c.args.held).policy x _ _ _ _ h c.on_keys.ensures.taken)
-
 pub returns-in-Ok-read-clause-stops : goal.returns-in-Ok-read-clause-stops
 returns-in-Ok-read-clause-stops g c =
     IfSome_then (g.R.Source.remaining c.args.r.now) c.in-Ok.ensures.document
@@ -49,15 +38,12 @@ returns-in-Ok-read-clause-stops g c =
     under_policy_taken (held_view c.args.held) x c.in-Ok-read.policy _ _ (sym (is ∙ ap policy_of text))
     (document_then_stops 65536 (λ y. keys_most (last_most (c.in-Ok-read.policy.run.limit + 1) (held_view c.args.held).token) (held_view c.args.held).keys y) (held_view c.args.held).policy x _ _ _ _ h c.on_keys.ensures.stops))
 
-pub returns-in-Err-OutOfMemory-read-clause-taken : goal.returns-in-Err-OutOfMemory-read-clause-taken
-returns-in-Err-OutOfMemory-read-clause-taken g c = IfSome_then (g.R.Source.remaining c.args.r.now) c.in-Ok.ensures.document (λ x h. document_bounded 65536 5308419 (omega arith) (held_view c.args.held).policy x _ _ (inr h.taken))
-
 pub returns-in-Err-OutOfMemory-read-clause-stops : goal.returns-in-Err-OutOfMemory-read-clause-stops
 returns-in-Err-OutOfMemory-read-clause-stops g c = IfSome_then (g.R.Source.remaining c.args.r.now) c.in-Ok.ensures.document (λ x h. document_stops 65536 (behind_policy (held_view c.args.held) (policy_of (document (held_view c.args.held).policy x)) (behind (held_view c.args.held).policy x)) (held_view c.args.held).policy x _ _ (inr h.taken))
 
 pub returns : goal.returns
 returns g c = record {
   line = search rules;
-  taken = IfSome_then (g.R.Source.remaining c.args.r.now) c.in-Ok.ensures.document (λ x h. document_bounded 65536 5308419 (omega arith) (held_view c.args.held).policy x _ _ (inr h.taken));
+  failed = search rules;
   stops = IfSome_then (g.R.Source.remaining c.args.r.now) c.in-Ok.ensures.document (λ x h. document_stops 65536 (behind_policy (held_view c.args.held) (policy_of (document (held_view c.args.held).policy x)) (behind (held_view c.args.held).policy x)) (held_view c.args.held).policy x _ _ (inr h.taken));
 }
