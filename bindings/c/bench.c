@@ -1,11 +1,13 @@
-/* bench HMAC RSA: the least time of a call, in microseconds of processor time, on a token by HMAC and one by RS256. */
+/* bench HMAC RSA EC: the least time of a call, in microseconds of processor time, on a token by HMAC, one by RS256 and one by ES256. The
+ * last two are also judged by 1,024 keys of which none made the signature, where a caller says so without cryptography. */
 #include <fowharimu_openssl.h>
 #include <openssl/evp.h>
+#include <string.h>
 #include <time.h>
 
 #include "octets.h"
 
-enum { ROUNDS = 400 };
+enum { ROUNDS = 400, KEYS = 1024, KEYS_MOST = 1 << 20 };
 
 static octets policy, keys, token;
 
@@ -83,10 +85,60 @@ static void time_rsa(const char *name)
     fow_close(&validator);
 }
 
+/* A key set of KEYS keys without `kid`: the one key of the set that was read, each time with other characters in the middle of the text
+ * of its member. */
+static size_t many_keys(char *set, const char *member)
+{
+    static const char characters[] = "ABCDEFGHIJKLMNOPQRSTUVWXYZabcdef";
+    char *key = strstr((char *)keys.at, "[{") + 1;
+    size_t key_len = (size_t)(strstr(key, "}]") + 1 - key), len = (size_t)sprintf(set, "{\"keys\":[");
+    char *changed = strstr(key, member) + strlen(member) + 20;
+    for (int i = 0; i < KEYS; i++) {
+        changed[0] = characters[i / 32];
+        changed[1] = characters[i % 32];
+        CHECK(len + key_len + 2 < KEYS_MOST);
+        len += (size_t)sprintf(set + len, "%s%.*s", i == 0 ? "" : ",", (int)key_len, key);
+    }
+    return len + (size_t)sprintf(set + len, "]}");
+}
+
+/* Tells that no key made the signature, one try after another. */
+static void deny_each(fow_validator *validator, uint64_t tries)
+{
+    static uint8_t out[2 * MOST];
+    fow_question asked;
+    fow_try tried;
+    for (uint64_t n = 0; n < tries; n++) {
+        CHECK(fow_try_of(validator, n, &tried) == FOW_OK);
+        CHECK(fow_ask(validator, token.at, token.len, tried.signature, tried.key, out, sizeof out, &asked) == FOW_OK);
+        CHECK(fow_answer(validator, token.at, token.len, tried.signature, tried.key, false) == FOW_OK);
+    }
+}
+
+static void time_many(const char *label, const char *name, const char *member)
+{
+    static char set[KEYS_MOST];
+    fow_validator validator = FOW_VALIDATOR_INIT;
+    fow_report report;
+    uint32_t fault;
+    read_named(&policy, name, "policy");
+    read_named(&keys, name, "keys");
+    read_named(&token, name, "jwt");
+    size_t len = many_keys(set, member);
+    CHECK(fow_open(&validator, policy.at, policy.len, (const uint8_t *)set, len, &fault) == FOW_OK);
+    TIME(label, 1, fow_forget(&validator);
+         while (fow_judge(&validator, token.at, token.len, NOW, &report) == FOW_ASKS)
+             deny_each(&validator, report.tries));
+    CHECK(report.verdict == FOW_REFUSED && report.fault == FOW_SIG_BAD_SIGNATURE && report.tries == KEYS);
+    fow_close(&validator);
+}
+
 int main(int argc, char **argv)
 {
-    CHECK(argc == 3);
+    CHECK(argc == 4);
     time_hmac(argv[1]);
     time_rsa(argv[2]);
+    time_many("RS256: 1,024 keys that are denied", argv[2], "\"n\":\"");
+    time_many("ES256: 1,024 keys that are denied", argv[3], "\"x\":\"");
     return 0;
 }
