@@ -2,7 +2,6 @@
  * last two are also judged by 1,024 keys of which none made the signature, where a caller says so without cryptography. */
 #include <fowharimu_openssl.h>
 #include <openssl/evp.h>
-#include <string.h>
 #include <time.h>
 
 #include "octets.h"
@@ -85,23 +84,6 @@ static void time_rsa(const char *name)
     fow_close(&validator);
 }
 
-/* A key set of KEYS keys without `kid`: the one key of the set that was read, each time with other characters in the middle of the text
- * of its member. */
-static size_t many_keys(char *set, const char *member)
-{
-    static const char characters[] = "ABCDEFGHIJKLMNOPQRSTUVWXYZabcdef";
-    char *key = strstr((char *)keys.at, "[{") + 1;
-    size_t key_len = (size_t)(strstr(key, "}]") + 1 - key), len = (size_t)sprintf(set, "{\"keys\":[");
-    char *changed = strstr(key, member) + strlen(member) + 20;
-    for (int i = 0; i < KEYS; i++) {
-        changed[0] = characters[i / 32];
-        changed[1] = characters[i % 32];
-        CHECK(len + key_len + 2 < KEYS_MOST);
-        len += (size_t)sprintf(set + len, "%s%.*s", i == 0 ? "" : ",", (int)key_len, key);
-    }
-    return len + (size_t)sprintf(set + len, "]}");
-}
-
 /* Tells that no key made the signature, one try after another. */
 static void deny_each(fow_validator *validator, uint64_t tries)
 {
@@ -124,7 +106,7 @@ static void time_many(const char *label, const char *name, const char *member)
     read_named(&policy, name, "policy");
     read_named(&keys, name, "keys");
     read_named(&token, name, "jwt");
-    size_t len = many_keys(set, member);
+    size_t len = other_keys(set, KEYS_MOST, &keys, member, KEYS);
     CHECK(fow_open(&validator, policy.at, policy.len, (const uint8_t *)set, len, &fault) == FOW_OK);
     TIME(label, 1, fow_forget(&validator);
          while (fow_judge(&validator, token.at, token.len, NOW, &report) == FOW_ASKS)

@@ -144,6 +144,39 @@ static void check_answers(const char *hmac, const char *rsa)
     fow_close(&two);
 }
 
+/* After a question the tries of a run in which no key is right: who says of each that it made no signature is asked nothing more, and who
+ * says that one did gets the token accepted by it. */
+static void check_tries(const char *name)
+{
+    enum { COUNT = 40 };
+    static char set[MOST];
+    fow_validator validator = FOW_VALIDATOR_INIT;
+    fow_report report;
+    fow_try tried;
+    fow_state state;
+    uint32_t fault;
+    open_named(&validator, name);
+    size_t len = other_keys(set, sizeof set, &keys, "\"n\":\"", COUNT);
+    CHECK(fow_open(&validator, policy.at, policy.len, (const uint8_t *)set, len, &fault) == FOW_OK);
+    for (uint32_t right = 0; right <= COUNT; right += COUNT / 2) {
+        fow_forget(&validator);
+        CHECK(fow_judge(&validator, token.at, token.len, NOW, &report) == FOW_ASKS && report.tries == COUNT);
+        CHECK(report.signature == 0 && report.key == 0 && fow_state_of(&validator, 0, &state) == FOW_ABSENT);
+        for (uint32_t n = 0; n < COUNT && n <= right; n++) {
+            CHECK(fow_try_of(&validator, n, &tried) == FOW_OK);
+            CHECK(tried.signature == 0 && tried.key == n && tried.cost == 0);
+            CHECK(fow_answer(&validator, token.at, token.len, 0, n, n == right) == FOW_OK);
+        }
+        CHECK(fow_try_of(&validator, COUNT, &tried) == FOW_ABSENT);
+        uint32_t verdict = fow_judge(&validator, token.at, token.len, NOW, &report);
+        if (right == COUNT)
+            CHECK(verdict == FOW_REFUSED && report.fault == FOW_SIG_BAD_SIGNATURE && report.tries == COUNT);
+        else
+            CHECK(verdict == FOW_OK && report.key == right && report.tries == right + 1);
+    }
+    fow_close(&validator);
+}
+
 /* What is issued is accepted, and no other algorithm or form is taken. It has the `typ` that is asked for, and none otherwise. */
 static void check_issuing(const char *name)
 {
@@ -184,6 +217,7 @@ int main(int argc, char **argv)
     check_members();
     check_no_token(argv[1]);
     check_answers(argv[1], argv[2]);
+    check_tries(argv[2]);
     check_issuing(argv[1]);
     puts("each misuse is answered as it must be");
     return 0;

@@ -68,6 +68,29 @@ static void check_by_proofs(fow_validator *validator, const char *name, const oc
         CHECK(verdict == by_openssl->verdict && report.fault == by_openssl->fault);
 }
 
+/* The token's key behind others that didn't make the signature: OpenSSL tries each in turn, and the last is named. */
+static void check_behind_others(const char *name, octets *policy, octets *keys, const octets *token)
+{
+    enum { OTHERS = 5 };
+    static char set[MOST];
+    fow_validator validator = FOW_VALIDATOR_INIT;
+    fow_openssl crypto = FOW_OPENSSL_INIT;
+    fow_report report;
+    uint32_t fault;
+    const char *member = strstr((char *)keys->at, "\"n\":\"") != NULL ? "\"n\":\"" : "\"x\":\"";
+    if (strstr((char *)keys->at, member) == NULL)
+        return;
+    size_t len = other_keys(set, sizeof set, keys, member, OTHERS) - 2;
+    read_named(keys, name, "keys");
+    const char *key = strstr((char *)keys->at, "[{") + 1;
+    len += (size_t)sprintf(set + len, ",%.*s]}", (int)(strstr(key, "}]") + 1 - key), key);
+    CHECK(fow_open(&validator, policy->at, policy->len, (const uint8_t *)set, len, &fault) == FOW_OK);
+    CHECK(fow_openssl_judge(&crypto, &validator, token->at, token->len, NOW, &report) == FOW_OK);
+    CHECK(report.key == OTHERS && report.tries == OTHERS + 1);
+    fow_openssl_clear(&crypto);
+    fow_close(&validator);
+}
+
 static void check_token(const char *name)
 {
     static octets policy, keys, token;
@@ -90,6 +113,7 @@ static void check_token(const char *name)
         CHECK(fow_openssl_judge(&crypto, &validator, token.at, token.len, NOW + 1, &report) == FOW_REFUSED);
         CHECK(report.fault == FOW_CLAIM_EXPIRED);
         CHECK(fow_openssl_judge(&crypto, &validator, token.at, token.len, NOW, &report) == FOW_OK);
+        check_behind_others(name, &policy, &keys, &token);
     }
     check_by_proofs(&validator, name, &token, &report);
 
