@@ -63,8 +63,8 @@ enum fow_fault {
     /* why a policy is refused */
     FOW_POLICY_JSON = 101,         /* no JSON text in UTF-8, or no object */
     FOW_POLICY_NAME_TWICE = 102,   /* a name stands twice in one object, at any depth */
-    FOW_POLICY_MEMBER = 103,       /* a member is unknown, or of another kind; `fow_open` doesn't say which */
-    FOW_POLICY_RANGE = 104,        /* a member's value is out of its range; `fow_open` doesn't say which */
+    FOW_POLICY_MEMBER = 103,       /* a member is unknown, or of another kind; fow_refused_member names it */
+    FOW_POLICY_RANGE = 104,        /* a member's value is out of its range; fow_refused_member names it */
     FOW_POLICY_NO_ALGORITHM = 105, /* the list `algs` is absent or empty */
     FOW_POLICY_TOO_LONG = 106,     /* more than 65,536 octets */
 
@@ -155,7 +155,7 @@ enum fow_claim_number {
 /* What is said of a token. A number that the verdict or the fault doesn't speak of is 0. */
 typedef struct fow_report {
     uint64_t work;      /* the octets that were fed to HMAC */
-    uint64_t tries;     /* the tries of a key on a signature that were made */
+    uint64_t tries;     /* the tries of a key on a signature that were made; fow_try_of gives each */
     uint32_t verdict;   /* enum fow_status: FOW_OK accepted, FOW_REFUSED, FOW_ASKS, FOW_OUT_OF_MEMORY, FOW_NOT_OPEN */
     uint32_t fault;     /* enum fow_fault: of FOW_REFUSED why */
     uint32_t part;      /* enum fow_part */
@@ -241,6 +241,13 @@ enum fow_form { FOW_COMPACT = 1, FOW_GENERAL = 2, FOW_FLATTENED = 3 };
 uint32_t fow_open(fow_validator *validator, const uint8_t *policy, size_t policy_len, const uint8_t *keys, size_t keys_len,
     uint32_t *fault);
 
+/* Writes the name of the member for which a policy is refused (FOW_POLICY_MEMBER, FOW_POLICY_RANGE), in UTF-8, with JSON escapes undone.
+ * It reads the policy's octets again, and needs no validator.
+ *
+ * Proved: FOW_OK: `out` begins with that name, which has *written octets. FOW_ABSENT: the policy stands, or is refused for another
+ * fault. */
+uint32_t fow_refused_member(const uint8_t *policy, size_t policy_len, uint8_t *out, size_t out_len, size_t *written);
+
 /* Frees what is held. It may be called twice, and before anything was opened. Proved: the validator holds nothing. */
 void fow_close(fow_validator *validator);
 
@@ -248,8 +255,13 @@ void fow_close(fow_validator *validator);
  *
  * Proved: what is accepted or refused, and all that *report says of it, is the verdict of validate's contract on these octets
  * under the policy, the key set and the moment, where HMAC is verified and for the other algorithms what was told is believed.
- * Where each answer that was told is right, it is the verdict under what is right. Of FOW_ASKS: nothing was told of whether the
- * key of this number made the signature of this number. FOW_NOT_OPEN: nothing is held. FOW_OUT_OF_MEMORY: nothing is said. */
+ * Where each answer that was told is right, it is the verdict under what is right. Of FOW_ASKS: fow_try_of gives the tries of a run
+ * in which what wasn't told counts as invalid, and the report names the first of them of which nothing was told. FOW_NOT_OPEN:
+ * nothing is held. FOW_OUT_OF_MEMORY: nothing is said.
+ *
+ * After FOW_ASKS a caller answers the pair that the report names, and may answer the tries after it too, those whose `cost` is 0, until
+ * one is valid: then what is tried may be other pairs, and the token is judged again. So a token is judged at most once more than it
+ * has signatures, however many keys there are. */
 uint32_t fow_judge(fow_validator *validator, const uint8_t *token, size_t token_len, int64_t now, fow_report *report);
 
 /* What became of signature `signature` of the token that was judged last. Proved: FOW_OK: that is what is kept of it, which
@@ -257,7 +269,7 @@ uint32_t fow_judge(fow_validator *validator, const uint8_t *token, size_t token_
  * signature. FOW_NOT_OPEN: nothing is held. */
 uint32_t fow_state_of(fow_validator *validator, uint32_t signature, fow_state *state);
 
-/* Try `n`, from 0, of the last judging. Proved as with fow_state_of. */
+/* Try `n`, from 0, of the last judging; after FOW_ASKS of the run that fow_judge speaks of. Proved as with fow_state_of. */
 uint32_t fow_try_of(fow_validator *validator, uint64_t n, fow_try *tried);
 
 /* The name of the claim that the last judging found missing (FOW_CLAIM_MISSING), as the policy spells it. FOW_ABSENT: it found
@@ -285,6 +297,14 @@ uint32_t fow_answer(fow_validator *validator, const uint8_t *token, size_t token
  * octets are no token, there is no such pair, or its algorithm is another one. */
 uint32_t fow_answer_rsa(fow_validator *validator, const uint8_t *token, size_t token_len, uint32_t signature, uint32_t key);
 
+/* The same by this library's proved verifier of Ed25519 (RFC 8032, section 5.1.7): for EdDSA with a key of that curve. It accepts a
+ * signature whose S is below the group order and whose R is, octet by octet, the encoding of [S]B - [k]A. A key of small order
+ * verifies nothing.
+ *
+ * Proved: as with fow_answer_rsa. FOW_ABSENT: the octets are no token, there is no such pair, its algorithm is another one, or its key
+ * is of another curve, such as Ed448. */
+uint32_t fow_answer_ed25519(fow_validator *validator, const uint8_t *token, size_t token_len, uint32_t signature, uint32_t key);
+
 /* Forgets what was told: do so from time to time, since all answers are kept until then. Proved: nothing is told, and the
  * policy and the key set are as before. */
 void fow_forget(fow_validator *validator);
@@ -296,7 +316,16 @@ void fow_forget(fow_validator *validator);
 uint32_t fow_payload(fow_validator *validator, const uint8_t *token, size_t token_len, uint8_t *out, size_t out_len,
     size_t *written);
 
-/* Writes a claim of the token that was accepted last, by its name in UTF-8, as compact JSON text: of a text or a list of texts.
+/* Writes the octets of the protected header of signature `signature` of a token, whether it was judged or not. Nobody vouches for
+ * them: a header says what anyone wrote, and may be looked at to find a key, never to trust the token.
+ *
+ * Proved: FOW_OK: `out` begins with the octets that the protected text of that signature spells, which are *written; of a token in
+ * JSON form that has none, 0. FOW_ABSENT: the octets are no token under the policy, or it has no such signature. */
+uint32_t fow_unverified_header(fow_validator *validator, const uint8_t *token, size_t token_len, uint32_t signature, uint8_t *out,
+    size_t out_len, size_t *written);
+
+/* Writes a claim of the token that was accepted last, by its name in UTF-8, as compact JSON text: of a text or a list of texts. A claim of
+ * another kind stands in what fow_payload writes.
  *
  * Proved: FOW_OK: `out` begins with that text, which has *written octets. FOW_ABSENT: the last verdict was no acceptance, the
  * payload has no such claim, or it is of another kind. */
@@ -307,15 +336,15 @@ uint32_t fow_claim(fow_validator *validator, const uint8_t *name, size_t name_le
  * is that number. FOW_ABSENT: there is none, as with fow_claim. */
 uint32_t fow_number(fow_validator *validator, const uint8_t *name, size_t name_len, int64_t *number);
 
-/* Issues the claims as a token signed by HMAC, with no `typ`: `alg` is FOW_HS256, FOW_HS384 or FOW_HS512, `form` is enum
- * fow_form. In compact and flattened form key `key` of the set signs; in general form each readable key, in order, and `key`
- * isn't looked at.
+/* Issues the claims as a token signed by HMAC: `alg` is FOW_HS256, FOW_HS384 or FOW_HS512, `form` is enum fow_form, and `typ` the
+ * protected header's `typ` in UTF-8, such as `at+jwt`; where typ_len is 0, it has none. In compact and flattened form key `key` of
+ * the set signs; in general form each readable key, in order, and `key` isn't looked at.
  *
  * Proved: FOW_OK: `out` begins with the token that the contract of issuing gives for these claims, which has *written octets.
  * FOW_REFUSED: *report has the fault, with the signature or the claim that it speaks of. FOW_ABSENT: there is no such algorithm
- * or form. *report is written for FOW_REFUSED alone. */
-uint32_t fow_issue(fow_validator *validator, uint32_t alg, uint32_t form, uint32_t key, const uint8_t *claims, size_t claims_len,
-    uint8_t *out, size_t out_len, size_t *written, fow_report *report);
+ * or form, or `typ` isn't in UTF-8. *report is written for FOW_REFUSED alone. */
+uint32_t fow_issue(fow_validator *validator, uint32_t alg, uint32_t form, uint32_t key, const uint8_t *typ, size_t typ_len,
+    const uint8_t *claims, size_t claims_len, uint8_t *out, size_t out_len, size_t *written, fow_report *report);
 
 /* The name of a fault, as the program `jwt` prints it, such as `Expired`; empty where no fault has this number. It isn't to be freed.
  * It is C, and tested. */

@@ -23,10 +23,10 @@ typedef struct fow_openssl {
 
 #define FOW_OPENSSL_INIT { NULL, 0, NULL, 0 }
 
-/* Judges a token, as fow_judge does, and answers each question by OpenSSL, those about RSA too. It answers the verdict, which *report
- * has too. What was told before is forgotten. Where an answer can't be had, since memory is refused or OpenSSL lacks the algorithm, the
- * verdict stays FOW_ASKS: so nothing but FOW_OK lets a token through. The errors that OpenSSL keeps for the thread are cleared where a
- * question is answered.
+/* Judges a token, as fow_judge does, and answers each question by OpenSSL, those about RSA and Ed25519 too: a caller who wants the proved
+ * verifiers calls fow_judge, fow_answer_rsa and fow_answer_ed25519. It answers the verdict, which *report has too. What was told before
+ * is forgotten. Where an answer can't be had, since memory is refused or OpenSSL lacks the algorithm, the verdict stays FOW_ASKS: so
+ * nothing but FOW_OK lets a token through. The errors that OpenSSL keeps for the thread are cleared where a question is answered.
  *
  * crypto goes with validator until another key set is opened: then clear it. */
 uint32_t fow_openssl_judge(fow_openssl *crypto, fow_validator *validator, const uint8_t *token, size_t token_len, int64_t now,

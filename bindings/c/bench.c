@@ -1,11 +1,12 @@
-/* bench HMAC RSA: the least time of a call, in microseconds of processor time, on a token by HMAC and one by RS256. */
+/* bench HMAC RSA EC: the least time of a call, in microseconds of processor time, on a token by HMAC, one by RS256 and one by ES256. The
+ * last two are also judged by 1,024 keys of which none made the signature, where a caller says so without cryptography. */
 #include <fowharimu_openssl.h>
 #include <openssl/evp.h>
 #include <time.h>
 
 #include "octets.h"
 
-enum { ROUNDS = 400 };
+enum { ROUNDS = 400, KEYS = 1024, KEYS_MOST = 1 << 20 };
 
 static octets policy, keys, token;
 
@@ -83,10 +84,43 @@ static void time_rsa(const char *name)
     fow_close(&validator);
 }
 
+/* Tells that no key made the signature, one try after another. */
+static void deny_each(fow_validator *validator, uint64_t tries)
+{
+    static uint8_t out[2 * MOST];
+    fow_question asked;
+    fow_try tried;
+    for (uint64_t n = 0; n < tries; n++) {
+        CHECK(fow_try_of(validator, n, &tried) == FOW_OK);
+        CHECK(fow_ask(validator, token.at, token.len, tried.signature, tried.key, out, sizeof out, &asked) == FOW_OK);
+        CHECK(fow_answer(validator, token.at, token.len, tried.signature, tried.key, false) == FOW_OK);
+    }
+}
+
+static void time_many(const char *label, const char *name, const char *member)
+{
+    static char set[KEYS_MOST];
+    fow_validator validator = FOW_VALIDATOR_INIT;
+    fow_report report;
+    uint32_t fault;
+    read_named(&policy, name, "policy");
+    read_named(&keys, name, "keys");
+    read_named(&token, name, "jwt");
+    size_t len = other_keys(set, KEYS_MOST, &keys, member, KEYS);
+    CHECK(fow_open(&validator, policy.at, policy.len, (const uint8_t *)set, len, &fault) == FOW_OK);
+    TIME(label, 1, fow_forget(&validator);
+         while (fow_judge(&validator, token.at, token.len, NOW, &report) == FOW_ASKS)
+             deny_each(&validator, report.tries));
+    CHECK(report.verdict == FOW_REFUSED && report.fault == FOW_SIG_BAD_SIGNATURE && report.tries == KEYS);
+    fow_close(&validator);
+}
+
 int main(int argc, char **argv)
 {
-    CHECK(argc == 3);
+    CHECK(argc == 4);
     time_hmac(argv[1]);
     time_rsa(argv[2]);
+    time_many("RS256: 1,024 keys that are denied", argv[2], "\"n\":\"");
+    time_many("ES256: 1,024 keys that are denied", argv[3], "\"x\":\"");
     return 0;
 }

@@ -1,4 +1,4 @@
-/* memory HMAC RSA: refuses each allocation of each call in turn. Each has to answer FOW_OUT_OF_MEMORY or what it answers with memory,
+/* memory HMAC RSA ED25519: refuses each allocation of each call in turn. Each has to answer FOW_OUT_OF_MEMORY or what it answers with memory,
  * and no block may be left. Linked with --wrap=malloc,--wrap=realloc,--wrap=free. */
 #include <fowharimu.h>
 #include <string.h>
@@ -79,6 +79,24 @@ static uint32_t answer_by_rsa(void)
     return fow_answer_rsa(&validator, token.at, token.len, 0, 0);
 }
 
+static uint32_t answer_by_ed25519(void)
+{
+    return fow_answer_ed25519(&validator, token.at, token.len, 0, 0);
+}
+
+static uint32_t member_of_policy(void)
+{
+    static const uint8_t refused[] = "{\"algs\":[\"HS256\"],\"isuers\":[\"joe\"]}";
+    size_t written;
+    return fow_refused_member(refused, sizeof refused - 1, out, sizeof out, &written);
+}
+
+static uint32_t header_of_it(void)
+{
+    size_t written;
+    return fow_unverified_header(&validator, token.at, token.len, 0, out, sizeof out, &written);
+}
+
 static uint32_t payload_of_it(void)
 {
     size_t written;
@@ -95,8 +113,8 @@ static uint32_t issue_it(void)
 {
     size_t written;
     fow_report report;
-    return fow_issue(&validator, FOW_HS256, FOW_GENERAL, 0, (const uint8_t *)"{\"iss\":\"joe\"}", 13, out, sizeof out, &written,
-        &report);
+    return fow_issue(&validator, FOW_HS256, FOW_GENERAL, 0, (const uint8_t *)"JWT", 3, (const uint8_t *)"{\"iss\":\"joe\"}", 13, out,
+        sizeof out, &written, &report);
 }
 
 /* Refuses each allocation of a call in turn, and then all after it, until the call needs no more. */
@@ -116,8 +134,8 @@ static void refuse_each(const char *name, uint32_t (*call)(void), uint32_t right
     printf("%s: %ld allocations refused in turn\n", name, refused);
 }
 
-/* The calls on a token that is accepted at once, or on one by RSA, which raises a question. */
-static void refuse_on(const char *name, uint32_t verdict)
+/* The calls on a token that is accepted at once, or on one by a public key, which raises a question that this call answers. */
+static void refuse_on(const char *name, uint32_t verdict, uint32_t (*answer)(void))
 {
     read_named(&policy, name, "policy");
     read_named(&keys, name, "keys");
@@ -126,21 +144,25 @@ static void refuse_on(const char *name, uint32_t verdict)
     refuse_each("fow_open", open_it, FOW_OK);
     refuse_each("fow_judge", judge_it, verdict);
     refuse_each("fow_payload", payload_of_it, FOW_OK);
+    refuse_each("fow_unverified_header", header_of_it, FOW_OK);
     refuse_each("fow_ask", ask_it, FOW_OK);
     refuse_each("fow_answer", answer_it, FOW_OK);
     refuse_each("fow_judge, told", judge_it, FOW_OK);
     refuse_each("fow_claim", claim_of_it, FOW_OK);
     fow_forget(&validator);
-    refuse_each("fow_answer_rsa", answer_by_rsa, verdict == FOW_ASKS ? FOW_OK : FOW_ABSENT);
+    refuse_each("fow_answer_rsa", answer_by_rsa, answer == answer_by_rsa ? FOW_OK : FOW_ABSENT);
+    refuse_each("fow_answer_ed25519", answer_by_ed25519, answer == answer_by_ed25519 ? FOW_OK : FOW_ABSENT);
     fow_close(&validator);
     CHECK(held == before);
 }
 
 int main(int argc, char **argv)
 {
-    CHECK(argc == 3);
-    refuse_on(argv[2], FOW_ASKS);
-    refuse_on(argv[1], FOW_OK);
+    CHECK(argc == 4);
+    refuse_on(argv[2], FOW_ASKS, answer_by_rsa);
+    refuse_on(argv[3], FOW_ASKS, answer_by_ed25519);
+    refuse_on(argv[1], FOW_OK, NULL);
+    refuse_each("fow_refused_member", member_of_policy, FOW_OK);
     CHECK(open_it() == FOW_OK);
     long before = held;
     refuse_each("fow_issue", issue_it, FOW_OK);

@@ -32,11 +32,13 @@ static void check_unopened(fow_validator *validator)
     CHECK(fow_ask(validator, out, 0, 0, 0, out + 1, sizeof out - 1, &asked) == FOW_NOT_OPEN);
     CHECK(fow_answer(validator, out, 0, 0, 0, true) == FOW_NOT_OPEN);
     CHECK(fow_answer_rsa(validator, out, 0, 0, 0) == FOW_NOT_OPEN);
+    CHECK(fow_answer_ed25519(validator, out, 0, 0, 0) == FOW_NOT_OPEN);
     CHECK(fow_payload(validator, out, 0, out + 1, sizeof out - 1, &written) == FOW_NOT_OPEN);
+    CHECK(fow_unverified_header(validator, out, 0, 0, out + 1, sizeof out - 1, &written) == FOW_NOT_OPEN);
     CHECK(fow_claim(validator, (const uint8_t *)"iss", 3, out, sizeof out, &written) == FOW_NOT_OPEN);
     int64_t number;
     CHECK(fow_number(validator, (const uint8_t *)"exp", 3, &number) == FOW_NOT_OPEN);
-    CHECK(fow_issue(validator, FOW_HS256, FOW_COMPACT, 0, (const uint8_t *)"{}", 2, out, sizeof out, &written, &report)
+    CHECK(fow_issue(validator, FOW_HS256, FOW_COMPACT, 0, out, 0, (const uint8_t *)"{}", 2, out, sizeof out, &written, &report)
         == FOW_NOT_OPEN);
     fow_forget(validator);
     fow_close(validator);
@@ -56,6 +58,34 @@ static void check_refused_documents(const char *name)
     fow_close(&validator);
 }
 
+/* The member for which a policy is refused, and none of a policy that stands or is refused for something else. */
+static void check_members(void)
+{
+    const struct {
+        const char *policy, *name;
+    } cases[] = {
+        { "{\"algs\":[\"HS256\"],\"isuers\":[\"joe\"]}", "isuers" },
+        { "{\"algs\":[\"HS256\"],\"is\\u0073ur\":1}", "issur" },
+        { "{\"algs\":[\"HS256\"],\"leeway\":\"5\"}", "leeway" },
+        { "{\"algs\":[\"HS256\"],\"limit\":99999999}", "limit" },
+        { "{\"algs\":[\"HS256\"]}", NULL },
+        { "{\"algs\":[]}", NULL },
+        { "[", NULL },
+    };
+    uint8_t out[64];
+    size_t written;
+    for (size_t i = 0; i < sizeof cases / sizeof *cases; i++) {
+        const uint8_t *at = (const uint8_t *)cases[i].policy;
+        size_t len = strlen(cases[i].policy);
+        uint32_t status = fow_refused_member(at, len, out, sizeof out, &written);
+        CHECK(status == (cases[i].name == NULL ? FOW_ABSENT : FOW_OK));
+        if (cases[i].name == NULL)
+            continue;
+        CHECK(written == strlen(cases[i].name) && memcmp(out, cases[i].name, written) == 0);
+        CHECK(fow_refused_member(at, len, out, written - 1, &written) == FOW_TOO_SHORT);
+    }
+}
+
 /* Octets that are no token; a token that is too long. */
 static void check_no_token(const char *name)
 {
@@ -71,7 +101,9 @@ static void check_no_token(const char *name)
     CHECK(fow_judge(&validator, zeros, 3, NOW, &report) == FOW_REFUSED && report.fault == FOW_FORM_SEGMENTS);
     CHECK(fow_ask(&validator, zeros, 3, 0, 0, out, sizeof out, &asked) == FOW_ABSENT);
     CHECK(fow_answer(&validator, zeros, 3, 0, 0, true) == FOW_ABSENT);
+    CHECK(fow_answer_ed25519(&validator, zeros, 3, 0, 0) == FOW_ABSENT);
     CHECK(fow_payload(&validator, zeros, 3, out, sizeof out, &written) == FOW_ABSENT);
+    CHECK(fow_unverified_header(&validator, zeros, 3, 0, out, sizeof out, &written) == FOW_ABSENT);
     CHECK(fow_claim(&validator, (const uint8_t *)"iss", 3, out, sizeof out, &written) == FOW_ABSENT);
     fow_close(&validator);
 }
@@ -105,30 +137,74 @@ static void check_answers(const char *hmac, const char *rsa)
     fow_forget(&one);
     CHECK(fow_judge(&one, token.at, token.len, NOW, &report) == FOW_ASKS);
     CHECK(fow_answer_rsa(&one, token.at, token.len, 0, 1) == FOW_ABSENT);
+    CHECK(fow_answer_ed25519(&one, token.at, token.len, 0, 0) == FOW_ABSENT);
     CHECK(fow_answer_rsa(&one, token.at, token.len, 0, 0) == FOW_OK);
     CHECK(fow_judge(&one, token.at, token.len, NOW, &report) == FOW_OK);
     fow_close(&one);
     fow_close(&two);
 }
 
-/* What is issued is accepted, and no other algorithm or form is taken. */
+/* After a question the tries of a run in which no key is right: who says of each that it made no signature is asked nothing more, and who
+ * says that one did gets the token accepted by it. */
+static void check_tries(const char *name)
+{
+    enum { COUNT = 40 };
+    static char set[MOST];
+    fow_validator validator = FOW_VALIDATOR_INIT;
+    fow_report report;
+    fow_try tried;
+    fow_state state;
+    uint32_t fault;
+    open_named(&validator, name);
+    size_t len = other_keys(set, sizeof set, &keys, "\"n\":\"", COUNT);
+    CHECK(fow_open(&validator, policy.at, policy.len, (const uint8_t *)set, len, &fault) == FOW_OK);
+    for (uint32_t right = 0; right <= COUNT; right += COUNT / 2) {
+        fow_forget(&validator);
+        CHECK(fow_judge(&validator, token.at, token.len, NOW, &report) == FOW_ASKS && report.tries == COUNT);
+        CHECK(report.signature == 0 && report.key == 0 && fow_state_of(&validator, 0, &state) == FOW_ABSENT);
+        for (uint32_t n = 0; n < COUNT && n <= right; n++) {
+            CHECK(fow_try_of(&validator, n, &tried) == FOW_OK);
+            CHECK(tried.signature == 0 && tried.key == n && tried.cost == 0);
+            CHECK(fow_answer(&validator, token.at, token.len, 0, n, n == right) == FOW_OK);
+        }
+        CHECK(fow_try_of(&validator, COUNT, &tried) == FOW_ABSENT);
+        uint32_t verdict = fow_judge(&validator, token.at, token.len, NOW, &report);
+        if (right == COUNT)
+            CHECK(verdict == FOW_REFUSED && report.fault == FOW_SIG_BAD_SIGNATURE && report.tries == COUNT);
+        else
+            CHECK(verdict == FOW_OK && report.key == right && report.tries == right + 1);
+    }
+    fow_close(&validator);
+}
+
+/* What is issued is accepted, and no other algorithm or form is taken. It has the `typ` that is asked for, and none otherwise. */
 static void check_issuing(const char *name)
 {
+    const uint8_t typ[] = "at+jwt", no_text[] = { 0xff };
     const uint8_t claims[] = "{\"iss\":\"joe\",\"exp\":1300819380}";
-    size_t claims_len = sizeof claims - 1, written;
-    uint8_t out[4096];
+    size_t claims_len = sizeof claims - 1, written, header_len;
+    uint8_t out[4096], header[64];
     fow_validator validator = FOW_VALIDATOR_INIT;
     fow_report report;
     open_named(&validator, name);
     for (uint32_t form = FOW_COMPACT; form <= FOW_FLATTENED; form++) {
-        CHECK(fow_issue(&validator, FOW_HS256, form, 0, claims, claims_len, out, sizeof out, &written, &report) == FOW_OK);
+        CHECK(fow_issue(&validator, FOW_HS256, form, 0, typ, 6, claims, claims_len, out, sizeof out, &written, &report) == FOW_OK);
         CHECK(fow_judge(&validator, out, written, NOW, &report) == FOW_OK);
     }
-    CHECK(fow_issue(&validator, FOW_HS256, FOW_COMPACT, 9, claims, claims_len, out, sizeof out, &written, &report) == FOW_REFUSED);
+    CHECK(fow_issue(&validator, FOW_HS256, FOW_COMPACT, 0, typ, 6, claims, claims_len, out, sizeof out, &written, &report) == FOW_OK);
+    CHECK(fow_unverified_header(&validator, out, written, 0, header, sizeof header, &header_len) == FOW_OK);
+    CHECK(header_len == 30 && memcmp(header, "{\"alg\":\"HS256\",\"typ\":\"at+jwt\"}", header_len) == 0);
+    CHECK(fow_unverified_header(&validator, out, written, 0, header, header_len - 1, &header_len) == FOW_TOO_SHORT);
+    CHECK(fow_unverified_header(&validator, out, written, 1, header, sizeof header, &header_len) == FOW_ABSENT);
+    CHECK(fow_issue(&validator, FOW_HS256, FOW_COMPACT, 0, typ, 0, claims, claims_len, out, sizeof out, &written, &report) == FOW_OK);
+    CHECK(fow_unverified_header(&validator, out, written, 0, header, sizeof header, &header_len) == FOW_OK);
+    CHECK(header_len == 15 && memcmp(header, "{\"alg\":\"HS256\"}", header_len) == 0);
+    CHECK(fow_issue(&validator, FOW_HS256, FOW_COMPACT, 0, no_text, 1, claims, claims_len, out, sizeof out, &written, &report) == FOW_ABSENT);
+    CHECK(fow_issue(&validator, FOW_HS256, FOW_COMPACT, 9, typ, 0, claims, claims_len, out, sizeof out, &written, &report) == FOW_REFUSED);
     CHECK(report.fault == FOW_ISSUE_NO_KEY);
-    CHECK(fow_issue(&validator, FOW_RS256, FOW_COMPACT, 0, claims, claims_len, out, sizeof out, &written, &report) == FOW_ABSENT);
-    CHECK(fow_issue(&validator, 99, FOW_COMPACT, 0, claims, claims_len, out, sizeof out, &written, &report) == FOW_ABSENT);
-    CHECK(fow_issue(&validator, FOW_HS256, 9, 0, claims, claims_len, out, sizeof out, &written, &report) == FOW_ABSENT);
+    CHECK(fow_issue(&validator, FOW_RS256, FOW_COMPACT, 0, typ, 0, claims, claims_len, out, sizeof out, &written, &report) == FOW_ABSENT);
+    CHECK(fow_issue(&validator, 99, FOW_COMPACT, 0, typ, 0, claims, claims_len, out, sizeof out, &written, &report) == FOW_ABSENT);
+    CHECK(fow_issue(&validator, FOW_HS256, 9, 0, typ, 0, claims, claims_len, out, sizeof out, &written, &report) == FOW_ABSENT);
     fow_close(&validator);
 }
 
@@ -138,8 +214,10 @@ int main(int argc, char **argv)
     CHECK(argc == 3);
     check_unopened(&never);
     check_refused_documents(argv[1]);
+    check_members();
     check_no_token(argv[1]);
     check_answers(argv[1], argv[2]);
+    check_tries(argv[2]);
     check_issuing(argv[1]);
     puts("each misuse is answered as it must be");
     return 0;

@@ -5,6 +5,7 @@
 #include <stdint.h>
 #include <stdio.h>
 #include <stdlib.h>
+#include <string.h>
 
 #define CHECK(holds) \
     do { \
@@ -31,6 +32,23 @@ static inline octets *read_named(octets *file, const char *name, const char *end
     file->len = fread(file->at, 1, MOST, stream);
     fclose(stream);
     return file;
+}
+
+/* Writes a key set of so many keys at `set`: the one key of `keys`, each time with other characters in the middle of the text of its
+ * member, such as "\"n\":\"". */
+static inline size_t other_keys(char *set, size_t room, octets *keys, const char *member, int count)
+{
+    static const char characters[] = "ABCDEFGHIJKLMNOPQRSTUVWXYZabcdef";
+    char *key = strstr((char *)keys->at, "[{") + 1;
+    size_t key_len = (size_t)(strstr(key, "}]") + 1 - key), len = (size_t)sprintf(set, "{\"keys\":[");
+    char *changed = strstr(key, member) + strlen(member) + 20;
+    for (int i = 0; i < count; i++) {
+        CHECK(len + key_len + 3 < room);
+        changed[0] = characters[i / 32];
+        changed[1] = characters[i % 32];
+        len += (size_t)sprintf(set + len, "%s%.*s", i == 0 ? "" : ",", (int)key_len, key);
+    }
+    return len + (size_t)sprintf(set + len, "]}");
 }
 
 #endif

@@ -26,7 +26,7 @@ static void *call_each(void *name)
     CHECK(verdict == FOW_OK);
     CHECK(fow_payload(&validator, token.at, token.len, out, sizeof out, &written) == FOW_OK);
     CHECK(fow_ask(&validator, token.at, token.len, 0, 0, out, sizeof out, &asked) == FOW_OK);
-    fow_issue(&validator, FOW_HS256, FOW_GENERAL, 0, (const uint8_t *)"{}", 2, out, sizeof out, &written, &report);
+    fow_issue(&validator, FOW_HS256, FOW_GENERAL, 0, (const uint8_t *)"JWT", 3, (const uint8_t *)"{}", 2, out, sizeof out, &written, &report);
     fow_close(&validator);
     return NULL;
 }

@@ -258,26 +258,52 @@ static int hold_room(fow_openssl *crypto, size_t token_len)
     return 1;
 }
 
-/* Answers the question of a report; 0 where it can't be answered. */
-static int tell(fow_openssl *crypto, fow_validator *validator, const uint8_t *token, size_t token_len, const fow_report *report)
+/* A token that is being judged. */
+typedef struct judging {
+    fow_openssl *crypto;
+    fow_validator *validator;
+    const uint8_t *token;
+    size_t token_len;
+} judging;
+
+/* Answers the question about a pair; UNKNOWN where it can't be answered. */
+static enum answer tell(const judging *it, uint32_t signature, uint32_t key)
 {
     fow_question asked;
-    if (!hold_room(crypto, token_len)
-        || fow_ask(validator, token, token_len, report->signature, report->key, crypto->room, crypto->size, &asked) != FOW_OK)
-        return 0;
+    fow_openssl *crypto = it->crypto;
+    if (!hold_room(crypto, it->token_len)
+        || fow_ask(it->validator, it->token, it->token_len, signature, key, crypto->room, crypto->size, &asked) != FOW_OK)
+        return UNKNOWN;
     ERR_clear_error();
-    enum answer answer = answer_to(crypto, report->key, &asked, crypto->room);
+    enum answer answer = answer_to(crypto, key, &asked, crypto->room);
     ERR_clear_error();
-    return answer != UNKNOWN
-        && fow_answer(validator, token, token_len, report->signature, report->key, answer == VALID) == FOW_OK;
+    if (answer == UNKNOWN
+        || fow_answer(it->validator, it->token, it->token_len, signature, key, answer == VALID) != FOW_OK)
+        return UNKNOWN;
+    return answer;
+}
+
+/* Answers what a report asks, and after it the other tries by public keys, until a signature is valid: what is tried from there on, the
+ * next judging says. 0 where a question can't be answered. */
+static int tell_in_turn(const judging *it, const fow_report *report)
+{
+    enum answer answer = tell(it, report->signature, report->key);
+    int is_after = 0;
+    fow_try tried;
+    for (uint64_t n = 0; answer == INVALID && fow_try_of(it->validator, n, &tried) == FOW_OK; n++) {
+        if (is_after && tried.cost == 0)
+            answer = tell(it, tried.signature, tried.key);
+        is_after |= tried.signature == report->signature && tried.key == report->key;
+    }
+    return answer != UNKNOWN;
 }
 
 uint32_t fow_openssl_judge(fow_openssl *crypto, fow_validator *validator, const uint8_t *token, size_t token_len, int64_t now,
     fow_report *report)
 {
+    const judging it = { crypto, validator, token, token_len };
     fow_forget(validator);
-    while (fow_judge(validator, token, token_len, now, report) == FOW_ASKS
-        && tell(crypto, validator, token, token_len, report))
+    while (fow_judge(validator, token, token_len, now, report) == FOW_ASKS && tell_in_turn(&it, report))
         ;
     return report->verdict;
 }

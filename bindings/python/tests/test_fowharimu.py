@@ -94,7 +94,10 @@ class Refusals(unittest.TestCase):
     def test_refused_documents(self) -> None:
         with self.assertRaises(PolicyRefused) as caught:
             Validator({"algs": ["HS256"], "audience": "me"}, {"keys": []})
-        self.assertEqual(caught.exception.fault, "Member")
+        self.assertEqual((caught.exception.fault, caught.exception.member), ("Member", "audience"))
+        with self.assertRaises(PolicyRefused) as empty:
+            Validator({"algs": []}, {"keys": []})
+        self.assertEqual((empty.exception.fault, empty.exception.member), ("NoAlgorithm", None))
         with self.assertRaises(KeysRefused) as keys:
             Validator({"algs": ["HS256"]}, {})
         self.assertEqual(keys.exception.fault, "NotKeySet")
@@ -116,6 +119,14 @@ class Issuing(unittest.TestCase):
             with self.assertRaises(IssueRefused) as caught:
                 validator.issue(claims, key=7)
         self.assertEqual(caught.exception.fault, "NoKey")
+
+    def test_the_header_has_the_type_that_is_asked_for(self) -> None:
+        with validator_of(HMAC) as validator:
+            token = validator.issue({}, typ="at+jwt")
+            self.assertEqual(validator.unverified_header(token), {"alg": "HS256", "typ": "at+jwt"})
+            self.assertEqual(validator.unverified_header(validator.issue({})), {"alg": "HS256"})
+            self.assertIsNone(validator.unverified_header(token, 1))
+            self.assertIsNone(validator.unverified_header("a.b"))
 
 
 class Threads(unittest.TestCase):

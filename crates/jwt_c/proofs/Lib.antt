@@ -1,3 +1,4 @@
 pub mod Handles
 mod PairLemmas
+pub mod Telling
 pub mod Values

@@ -1,5 +1,5 @@
 -- Questions, as they are written for the caller, and their answers.
-use Rattle.std.specs.Prelude.{◌≡◌, ◌≢◌, ◌<◌, ℕ, Bool, false, if◌then◌else◌, ◌++◌, List, [], ◌∷◌, length, Option, Some, None, Result, Ok, Err}
+use Rattle.std.specs.Prelude.{◌≡◌, ◌≢◌, ◌<◌, ℕ, Bool, true, false, ◌&&◌, if◌then◌else◌, ◌++◌, List, [], ◌∷◌, length, Option, Some, None, Result, Ok, Err}
 use Rattle.jwt_mac.specs.declared.algorithm.Alg.{Alg}
 use Rattle.jwt_mac.specs.declared.algorithm.Alg.TheVariants as alg
 use Rattle.jwt_mac.specs.declared.message.Curve.{Curve}
@@ -9,10 +9,13 @@ use Rattle.jwt_mac.specs.declared.message.EdCurve.TheVariants.{Ed25519, Ed448}
 use Rattle.jwt_mac.specs.Verifying.{KeyOctets, OctKey, RsaKey, EcKey, OkpKey, signing_input}
 use Rattle.jwt_jws.specs.Token.{Token}
 use Rattle.jwt_keys.specs.Keys.{KeyParts}
+use Rattle.jwt_ed25519.specs.Meanings.{ed25519_meaning}
 use Rattle.jwt_rsa.specs.Meanings.{rsa_meaning}
 use Rattle.jwt_verify.specs.declared.report.Fault.{Fault}
 use Rattle.jwt_told.specs.Told.{ToldParts, told}
 use Rattle.jwt_told.specs.Questions.{QuestionParts, question_at}
+use Rattle.jwt_c.specs.declared.asking.Proved.{Proved}
+use Rattle.jwt_c.specs.declared.asking.Proved.TheVariants.{Rsa, Ed25519 as OnEd25519}
 use Rattle.jwt_c.specs.declared.desk.Desk.{Desk}
 use Rattle.jwt_c.specs.declared.report.FowQuestion.{FowQuestion}
 use Rattle.jwt_c.specs.Written.{IsAbsent}
@@ -88,6 +91,10 @@ PutsQuestion (Some q) status a old out = (status ≡ 0 → IsSized q a × ((more
 abbrev pub told_of : QuestionParts → Bool → ToldParts
 told_of q valid = record { alg = q.alg; key = q.key; message = q.message; signature = q.signature; valid = valid }
 
+-- exactly this answer is told besides, unless memory was refused
+abbrev pub TellsOne : QuestionParts → Bool → ℕ → List ToldParts → List ToldParts → Type 0
+TellsOne q valid status old new = (status ≡ 0 → new ≡ old ++ told_of q valid ∷ []) × (status ≢ 0 → (status ≡ 3) × (new ≡ old))
+
 -- the same policy and key set, where this is told besides
 abbrev TellsOf : List ToldParts → Desk → Desk → Type 0
 TellsOf ts d e = (e.policy ≡ d.policy) × (e.keys ≡ d.keys) × (told e.answers ≡ told d.answers ++ ts)
@@ -102,14 +109,38 @@ abbrev pub IsTold : Option QuestionParts → Bool → ℕ → Desk → Option De
 IsTold q valid status d None = ⊥
 IsTold q valid status d (Some e) = TellsDesk q valid status d e
 
--- ---- the questions that the proved verifier of RSA answers
+-- ---- the questions that the proved verifiers answer
 
--- the question, where it is about an algorithm that the verifier names
+-- the question, where RSA's verifier names its algorithm
 abbrev pub rsa_asked : Option QuestionParts → Option QuestionParts
 rsa_asked None = None
 rsa_asked (Some q) = if rsa_meaning.named q.alg then Some q else None
 
--- whether the verifier accepts the signature
+-- whether RSA's verifier accepts the signature
 abbrev pub rsa_says : Option QuestionParts → Bool
 rsa_says None = false
 rsa_says (Some q) = rsa_meaning.accepts q.alg q.key q.message q.signature
+
+-- a key of the curve Ed25519
+abbrev pub is_ed25519 : KeyOctets → Bool
+is_ed25519 (OkpKey Ed25519 x) = true
+is_ed25519 _ = false
+
+-- the question, where Ed25519's verifier names its algorithm, and the key is of that curve
+abbrev pub ed25519_asked : Option QuestionParts → Option QuestionParts
+ed25519_asked None = None
+ed25519_asked (Some q) = if ed25519_meaning.named q.alg && is_ed25519 q.key then Some q else None
+
+-- whether Ed25519's verifier accepts the signature
+abbrev pub ed25519_says : Option QuestionParts → Bool
+ed25519_says None = false
+ed25519_says (Some q) = ed25519_meaning.accepts q.alg q.key q.message q.signature
+
+-- the same by the verifier that is chosen
+abbrev pub asked_of : Proved → Option QuestionParts → Option QuestionParts
+asked_of Rsa q = rsa_asked q
+asked_of OnEd25519 q = ed25519_asked q
+
+abbrev pub said_by : Proved → Option QuestionParts → Bool
+said_by Rsa q = rsa_says q
+said_by OnEd25519 q = ed25519_says q

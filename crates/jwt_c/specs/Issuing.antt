@@ -1,5 +1,5 @@
 -- What is issued by a desk, by the numbers of the header.
-use Rattle.std.specs.Prelude.{◌≡◌, ◌≢◌, ℕ, List, map, nat_eq, if◌then◌else◌, slice_get, Option, Some, None, Result, Ok, Err}
+use Rattle.std.specs.Prelude.{◌≡◌, ◌≢◌, ℕ, List, [], ◌∷◌, map, nat_eq, if◌then◌else◌, slice_get, Option, Some, None, Result, Ok, Err}
 use Rattle.std.specs.Option.{option_map_or}
 use Rattle.jwt_mac.specs.declared.algorithm.Alg.{Alg}
 use Rattle.jwt_mac.specs.declared.algorithm.Alg.TheVariants.{HS256, HS384, HS512}
@@ -21,6 +21,11 @@ hmac_at n = if nat_eq n 1 then Some HS256 else if nat_eq n 2 then Some HS384 els
 
 abbrev pub form_at : ℕ → Option Form
 form_at n = if nat_eq n 1 then Some Compact else if nat_eq n 2 then Some General else if nat_eq n 3 then Some Flattened else None
+
+-- the type that is asked for: none where it has no octets
+abbrev pub typ_of : List ℕ → Option (List ℕ)
+typ_of [] = None
+typ_of (c ∷ cs) = Some (c ∷ cs)
 
 abbrev pub pair : Alg → KeyParts → PairParts
 pair alg key = record { alg = alg; key = key }

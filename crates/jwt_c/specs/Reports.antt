@@ -17,7 +17,7 @@ use Rattle.jwt_verify.specs.Table.{work}
 use Rattle.jwt_verify.specs.Verdict.{token_of}
 use Rattle.jwt_verify.specs.Reports.{FoundMemory, IsReport, terms}
 use Rattle.jwt_told.specs.Told.{Truth, AreRight, told, told_meaning, true_meaning}
-use Rattle.jwt_told.specs.Questions.{IsOpen}
+use Rattle.jwt_told.specs.Questions.{AreTries, IsFirstOpen, IsOpen}
 use Rattle.jwt_c.specs.declared.desk.Desk.{Desk}
 use Rattle.jwt_c.specs.declared.desk.Last.{Last}
 use Rattle.jwt_c.specs.declared.report.FowReport.{FowReport}
@@ -119,6 +119,15 @@ abbrev pub IsJudgedBy : Desk → ℤ → List ℕ → FowReport → Option Desk 
 IsJudgedBy d now x said None = ⊥
 IsJudgedBy d now x said (Some e) = IsJudged d now x said e.last
 
--- nothing was told of the pair that is named
-abbrev pub IsAsked : Desk → List ℕ → FowReport → Type 0
-IsAsked d x said = IsOpen (told d.answers) (token_of d.policy x) (key_set d.keys).keys said.signature said.key
+-- The tries that are kept are those of a run that finds memory, where what wasn't told counts as invalid. The pair that is named is the
+-- first of them of which nothing was told.
+abbrev pub IsAsked : Desk → ℤ → List ℕ → FowReport → Last → Type 0
+IsAsked d now x said l = AreTries (terms d.policy d.keys now (told_meaning (told d.answers) ∷ [])) x d.policy.run.work l.tries.items
+    × IsFirstOpen (told d.answers) (token_of d.policy x) (key_set d.keys).keys l.tries.items said.signature said.key
+    × IsOpen (told d.answers) (token_of d.policy x) (key_set d.keys).keys said.signature said.key
+    × (said.tries ≡ length l.tries.items)
+
+-- what is asked is so, and its tries are what the desk that is held keeps
+abbrev pub IsAskedBy : Desk → ℤ → List ℕ → FowReport → Option Desk → Type 0
+IsAskedBy d now x said None = ⊥
+IsAskedBy d now x said (Some e) = IsAsked d now x said e.last

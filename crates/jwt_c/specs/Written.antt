@@ -1,8 +1,12 @@
 -- What is written for the caller, by the status that is answered: 0 done, 3 out of memory, 5 too short, 6 absent.
-use Rattle.std.specs.Prelude.{◌≡◌, ◌≢◌, ◌<◌, ℕ, ℤ, ◌++◌, List, [], ◌∷◌, length, Option, Some, None, Result, Ok, Err}
+use Rattle.std.specs.Prelude.{◌≡◌, ◌≢◌, ◌<◌, ℕ, ℤ, ◌++◌, List, [], ◌∷◌, length, slice_get, Option, Some, None, option_and_then, Result, Ok, Err}
 use Rattle.serde_json.specs.Data.{Members}
+use Rattle.jwt_text.specs.Base64url.{octets_of}
 use Rattle.jwt_text.specs.Members.{compact_at, whole_at}
 use Rattle.jwt_jws.specs.Token.{Token}
+use Rattle.jwt_policy.specs.Settings.{Settings}
+use Rattle.jwt_policy.specs.declared.policy_fault.PolicyFault.{PolicyFault}
+use Rattle.jwt_policy.specs.declared.policy_fault.PolicyFault.TheVariants as policy
 use Rattle.jwt_verify.specs.declared.report.Fault.{Fault}
 use Rattle.jwt_verify.specs.declared.report.SigState.{SigState}
 use Rattle.jwt_verify.specs.declared.report.Try.{Try}
@@ -26,6 +30,17 @@ IsAbsent status = status ≢ 3 → status ≡ 6
 abbrev pub PutsPayload : Result Token Fault → ℕ → ℕ → List ℕ → List ℕ → Type 0
 PutsPayload (Err f) status n old out = IsAbsent status
 PutsPayload (Ok t) status n old out = status ≢ 3 → Puts t.payload status n old out
+
+-- the octets of the protected header of signature i; none where the octets are no token, or it has no such signature
+abbrev pub header_at : Result Token Fault → ℕ → Option (List ℕ)
+header_at (Ok t) i = option_and_then (λ s. octets_of s.protected_text) (slice_get t.signatures i)
+header_at (Err f) i = None
+
+-- the member for which a policy is refused
+abbrev pub refused_member : Result Settings PolicyFault → Option (List ℕ)
+refused_member (Err (policy.Member name)) = Some name
+refused_member (Err (policy.Range name)) = Some name
+refused_member _ = None
 
 -- the name is written, where it isn't empty
 abbrev pub PutsName : List ℕ → ℕ → ℕ → List ℕ → List ℕ → Type 0

@@ -1,17 +1,19 @@
 //! Questions, as they are written for the caller, and their answers.
 
-ghost use Rattle.std.specs.Prelude.{◌≡◌, IfOk, length, Some};
+ghost use Rattle.std.specs.Prelude.{◌≡◌, IfOk, length, option_map, Some};
 ghost use Rattle.jwt_mac.specs.Verifying.{key_octets, signing_input};
 ghost use Rattle.jwt_keys.specs.KeySets.{key_set};
 ghost use Rattle.jwt_verify.specs.Verdict.{token_of};
 ghost use Rattle.jwt_told.specs.Questions.{question_parts};
-ghost use Rattle.jwt_c.specs.Asking.{asked_at, alg_number, kind_number, key_first, key_second, question_octets, PutsQuestion, TellsDesk, rsa_asked, rsa_says};
+ghost use Rattle.jwt_told.specs.Told.{told};
+ghost use Rattle.jwt_c.specs.Asking.{asked_at, alg_number, kind_number, key_first, key_second, question_octets, PutsQuestion, TellsOne, TellsDesk, is_ed25519, rsa_says, ed25519_says, asked_of, said_by};
 
 use crate::desk::Desk;
 use crate::report::FowQuestion;
+use jwt_ed25519::Ed25519;
 use jwt_mac::{Alg, Answer, Curve, EdCurve, KeyView, Verifier};
 use jwt_rsa::Rsa;
-use jwt_told::{Asked, Question, read_token};
+use jwt_told::{Answers, Asked, Question, read_token};
 use std::alloc::{AllocError, Global};
 
 /// The number of an algorithm.
@@ -147,6 +149,24 @@ pub(crate) fn ask_about(
     }
 }
 
+/// Tells the answer to a question. 0; 3: memory was refused.
+fn tell_of(alloc: Global, answers: &mut Answers, asked: &Asked<'_>, valid: bool) -> u32
+    ensures { TellsOne (question_parts asked.now) valid result (told answers.old) (told answers.new) }
+{
+    let told = answers.tell(
+        alloc,
+        asked.alg,
+        &asked.key,
+        asked.message,
+        asked.signature,
+        valid,
+    );
+    match told {
+        Ok(()) => 0,
+        Err(_) => 3,
+    }
+}
+
 /// Tells whether a key made a signature. 0; 3: memory was refused; 6: there is no such pair.
 pub(crate) fn tell(
     alloc: Global,
@@ -161,17 +181,7 @@ pub(crate) fn tell(
 {
     match read_token(alloc, token, &desk.policy) {
         Ok(Some(signed)) => match (Question { signature, key }).about(&signed, &desk.keys) {
-            Some(asked) => match desk.answers.tell(
-                alloc,
-                asked.alg,
-                &asked.key,
-                asked.message,
-                asked.signature,
-                valid,
-            ) {
-                Ok(()) => 0,
-                Err(_) => 3,
-            },
+            Some(asked) => tell_of(alloc, &mut desk.answers, &asked, valid),
             None => 6,
         },
         Ok(None) => 6,
@@ -179,7 +189,16 @@ pub(crate) fn tell(
     }
 }
 
-/// Whether the proved verifier of RSA accepts the signature.
+/// A proved verifier.
+#[derive(Clone, Copy)]
+pub enum Proved {
+    /// That of RSA.
+    Rsa,
+    /// That of EdDSA with the curve Ed25519.
+    Ed25519,
+}
+
+/// Whether the verifier of RSA accepts the signature.
 fn rsa_accepts(asked: &Asked<'_>) -> bool
     ensures { result ≡ rsa_says (Some (question_parts asked.now)) }
 {
@@ -189,40 +208,74 @@ fn rsa_accepts(asked: &Asked<'_>) -> bool
     }
 }
 
-/// Tells what the proved verifier of RSA says of a signature. 0; 3: memory was refused; 6: there is no such pair, or it is about
-/// another algorithm.
-pub(crate) fn tell_by_rsa(
+/// Whether the verifier of Ed25519 accepts the signature.
+fn ed25519_accepts(asked: &Asked<'_>) -> bool
+    ensures { result ≡ ed25519_says (Some (question_parts asked.now)) }
+{
+    match Ed25519.verify(asked.alg, &asked.key, asked.message, asked.signature) {
+        Answer::Valid => true,
+        _ => false,
+    }
+}
+
+/// Whether a key is of the curve Ed25519.
+fn is_ed25519(key: &KeyView) -> bool
+    ensures { result ≡ is_ed25519 (key_octets key.now) }
+{
+    match key {
+        KeyView::Okp { curve, .. } => match curve {
+            EdCurve::Ed25519 => true,
+            EdCurve::Ed448 => false,
+        },
+        _ => false,
+    }
+}
+
+/// What a proved verifier says of a signature; `None` where it is about an algorithm or a curve of others.
+fn proved_answer(by: Proved, asked: &Asked<'_>) -> Option<bool>
+    ensures { result ≡ option_map (λ q. said_by by (Some q))
+        (asked_of by (Some (question_parts asked.now))) }
+{
+    match by {
+        Proved::Rsa => {
+            if Rsa.names(asked.alg) {
+                Some(rsa_accepts(asked))
+            } else {
+                None
+            }
+        }
+        Proved::Ed25519 => {
+            if Ed25519.names(asked.alg) && is_ed25519(&asked.key) {
+                Some(ed25519_accepts(asked))
+            } else {
+                None
+            }
+        }
+    }
+}
+
+/// Tells what a proved verifier says of a signature. 0; 3: memory was refused; 6: there is no such pair, or it is about an algorithm or a
+/// curve of others.
+pub(crate) fn tell_by(
     alloc: Global,
     desk: &mut Desk,
     token: &[u8],
     signature: u32,
     key: u32,
+    by: Proved,
 ) -> u32
     ensures { TellsDesk
-        (rsa_asked (asked_at (token_of desk.old.policy token.now)
+        (asked_of by (asked_at (token_of desk.old.policy token.now)
         (key_set desk.old.keys).keys signature key))
-        (rsa_says (asked_at (token_of desk.old.policy token.now)
+        (said_by by (asked_at (token_of desk.old.policy token.now)
         (key_set desk.old.keys).keys signature key)) result desk.old desk.new }
 {
     match read_token(alloc, token, &desk.policy) {
         Ok(Some(signed)) => match (Question { signature, key }).about(&signed, &desk.keys) {
-            Some(asked) => {
-                if !Rsa.names(asked.alg) {
-                    return 6;
-                }
-                let accepts = rsa_accepts(&asked);
-                match desk.answers.tell(
-                    alloc,
-                    asked.alg,
-                    &asked.key,
-                    asked.message,
-                    asked.signature,
-                    accepts,
-                ) {
-                    Ok(()) => 0,
-                    Err(_) => 3,
-                }
-            }
+            Some(asked) => match proved_answer(by, &asked) {
+                Some(accepts) => tell_of(alloc, &mut desk.answers, &asked, accepts),
+                None => 6,
+            },
             None => 6,
         },
         Ok(None) => 6,

@@ -2,26 +2,28 @@
 
 ghost use Rattle.std.specs.Prelude.{◌≡◌, ◌≢◌, ◌≤◌, IfSome, Some, None, slice_get, IfOk, IfErr, IsUtf8};
 ghost use Rattle.jwt_keys.specs.KeySets.{key_set};
+ghost use Rattle.jwt_policy.specs.Document.{policy_of};
 ghost use Rattle.jwt_verify.specs.Verdict.{token_of};
-ghost use Rattle.jwt_c.specs.Reports.{IsOpened, IsRefused, IsAlike, IsForgotten, IsAsked, IsJudgedBy, report_numbers};
+ghost use Rattle.jwt_c.specs.Reports.{IsOpened, IsRefused, IsAlike, IsForgotten, IsAskedBy, IsJudgedBy, report_numbers};
 ghost use Rattle.jwt_c.specs.Faults.{bare};
-ghost use Rattle.jwt_c.specs.Written.{PutsPayload, PutsName, IsState, IsTry, PutsSome, PutsNumber, claim_at, number_at};
-ghost use Rattle.jwt_c.specs.Asking.{asked_at, PutsQuestion, IsTold, rsa_asked, rsa_says};
-ghost use Rattle.jwt_c.specs.Issuing.{hmac_at, form_at, PutsIssued};
+ghost use Rattle.jwt_c.specs.Written.{PutsPayload, PutsName, IsState, IsTry, PutsSome, PutsNumber, claim_at, header_at, number_at, refused_member};
+ghost use Rattle.jwt_c.specs.Asking.{asked_at, PutsQuestion, IsTold, rsa_asked, rsa_says, ed25519_asked, ed25519_says};
+ghost use Rattle.jwt_c.specs.Issuing.{hmac_at, form_at, typ_of, PutsIssued};
 ghost use Rattle.jwt_issue.specs.ClaimSets.{claim_set_of};
 
-use crate::asking::{ask_about, tell, tell_by_rsa};
+use crate::asking::{Proved, ask_about, tell, tell_by};
 use crate::desk::{Desk, Last};
 use crate::faults::{keys_number, policy_number};
 use crate::handle::{Handle, take};
-use crate::issuing::{Wanted, form_at, hmac_at, put_issued};
+use crate::issuing::put_numbered;
 use crate::judging::judge_desk;
 use crate::report::{FowQuestion, FowReport, FowState, FowTry};
-use crate::writing::{number_at, payload_of, put, put_claim};
+use crate::writing::{number_at, payload_of, put, put_claim, put_header};
 use jwt_keys::{KeySet, KeysFault};
 use jwt_policy::{Policy, PolicyFault};
 use jwt_told::Answers;
 use std::alloc::Global;
+use std::str::from_utf8;
 
 /// The desk of a policy and a key set, or the status and the number of the fault for which one of them is refused.
 fn desk_of(alloc: Global, policy: &[u8], keys: &[u8]) -> Result<Desk, (u32, u32)>
@@ -76,6 +78,26 @@ pub extern "C" fn fow_open(
     }
 }
 
+/// Writes the name of the member for which a policy is refused at the front of `out`. 0; 3: memory was refused; 5: `out` is too short; 6:
+/// the policy isn't refused for a member.
+#[unsafe(no_mangle)]
+pub extern "C" fn fow_refused_member(
+    alloc: Global,
+    policy: &[u8],
+    out: &mut [u8],
+    written: &mut usize,
+) -> u32
+    ensures { PutsSome (refused_member (policy_of policy.now)) result written.new out.old out.new }
+{
+    match Policy::read(alloc, policy) {
+        Err(PolicyFault::OutOfMemory) => 3,
+        Err(PolicyFault::Member(name) | PolicyFault::Range(name)) => {
+            put(name.text().as_bytes(), out, written)
+        }
+        _ => 6,
+    }
+}
+
 /// Frees what is held, if anything is.
 #[unsafe(no_mangle)]
 pub extern "C" fn fow_close(validator: &mut Handle, alloc: Global)
@@ -104,8 +126,9 @@ pub extern "C" fn fow_judge(
     // Claims are kept of an acceptance alone.
     ensures claims { IfSome validator.new.desk (λ e. result ≢ 0 → e.last.claims ≡ None) }
 
-    // Nothing was told of a pair that is asked about.
-    ensures asks { IfSome validator.old.desk (λ d. result ≡ 2 → IsAsked d token.now report.new) }
+    // The pair that is asked about is the first of the tries, which are kept, of which nothing was told.
+    ensures asks { IfSome validator.old.desk (λ d. result ≡ 2
+        → IsAskedBy d now token.now report.new validator.new.desk) }
 {
     let Some(mut desk) = take(validator, alloc) else {
         *report = FowReport::bare(4);
@@ -255,6 +278,30 @@ pub extern "C" fn fow_payload(
     status
 }
 
+/// Writes the octets of a signature's protected header at the front of `out`. 0; 3: memory was refused; 4: nothing is held; 5: `out` is too
+/// short; 6: the octets are no token, or it has no such signature.
+#[unsafe(no_mangle)]
+pub extern "C" fn fow_unverified_header(
+    validator: &mut Handle,
+    alloc: Global,
+    token: &[u8],
+    signature: u32,
+    out: &mut [u8],
+    written: &mut usize,
+) -> u32
+    ensures same { validator.new.desk ≡ validator.old.desk }
+    ensures none { validator.old.desk ≡ None → result ≡ 4 }
+    ensures header { IfSome validator.old.desk (λ d. PutsSome
+        (header_at (token_of d.policy token.now) signature) result written.new out.old out.new) }
+{
+    let Some(desk) = take(validator, alloc) else {
+        return 4;
+    };
+    let status = put_header(alloc, &desk, token, signature, out, written);
+    *validator = Handle::of(desk);
+    status
+}
+
 /// Writes the name of the claim that the last judging found missing. 0; 4: nothing is held; 5: `out` is too short; 6: it found none
 /// missing, or one whose name is empty.
 #[unsafe(no_mangle)]
@@ -300,14 +347,38 @@ pub extern "C" fn fow_answer_rsa(
     let Some(mut desk) = take(validator, alloc) else {
         return 4;
     };
-    let status = tell_by_rsa(alloc, &mut desk, token, signature, key);
+    let status = tell_by(alloc, &mut desk, token, signature, key, Proved::Rsa);
     *validator = Handle::of(desk);
     status
 }
 
-/// Issues a token of some claims, in the form and by the HMAC algorithm of these numbers, and writes it at the front of `out`. 0; 1:
-/// it is refused, as the report says; 3: memory was refused; 4: nothing is held; 5: `out` is too short; 6: there is no such algorithm
-/// or form.
+/// Tells what the proved verifier of Ed25519 says of a signature. 0: that is told from now on; 3: memory was refused; 4: nothing is
+/// held; 6: there is no such pair, or its algorithm isn't EdDSA or its key is of another curve.
+#[unsafe(no_mangle)]
+pub extern "C" fn fow_answer_ed25519(
+    validator: &mut Handle,
+    alloc: Global,
+    token: &[u8],
+    signature: u32,
+    key: u32,
+) -> u32
+    ensures none { validator.old.desk ≡ None → (result ≡ 4) × (validator.new.desk ≡ None) }
+    ensures told { IfSome validator.old.desk (λ d. IsTold
+        (ed25519_asked (asked_at (token_of d.policy token.now) (key_set d.keys).keys signature key))
+        (ed25519_says (asked_at (token_of d.policy token.now) (key_set d.keys).keys signature key))
+        result d validator.new.desk) }
+{
+    let Some(mut desk) = take(validator, alloc) else {
+        return 4;
+    };
+    let status = tell_by(alloc, &mut desk, token, signature, key, Proved::Ed25519);
+    *validator = Handle::of(desk);
+    status
+}
+
+/// Issues a token of some claims, in the form and by the HMAC algorithm of these numbers, with this `typ` where it has octets, and writes
+/// it at the front of `out`. 0; 1: it is refused, as the report says; 3: memory was refused; 4: nothing is held; 5: `out` is too short;
+/// 6: there is no such algorithm or form, or `typ` isn't in UTF-8.
 #[unsafe(no_mangle)]
 pub extern "C" fn fow_issue(
     validator: &mut Handle,
@@ -315,6 +386,7 @@ pub extern "C" fn fow_issue(
     alg: u32,
     form: u32,
     key: u32,
+    typ: &[u8],
     claims: &[u8],
     out: &mut [u8],
     written: &mut usize,
@@ -324,27 +396,20 @@ pub extern "C" fn fow_issue(
     ensures none { validator.old.desk ≡ None → result ≡ 4 }
     ensures alg { IfSome validator.old.desk (λ d. hmac_at alg ≡ None → result ≡ 6) }
     ensures form { IfSome validator.old.desk (λ d. form_at form ≡ None → result ≡ 6) }
+    ensures typ { IfSome validator.old.desk (λ d. ¬ IsUtf8 typ.now → result ≡ 6) }
     ensures token { IfSome validator.old.desk (λ d. IfSome (hmac_at alg) (λ a.
-        IfSome (form_at form) (λ f. PutsIssued f a None key (key_set d.keys).keys
+        IfSome (form_at form) (λ f. IsUtf8 typ.now
+        → PutsIssued f a (typ_of typ.now) key (key_set d.keys).keys
         (claim_set_of claims.now) result report.new written.new out.old out.new))) }
 {
     let Some(desk) = take(validator, alloc) else {
         return 4;
     };
-    let status = match hmac_at(alg) {
-        Some(alg) => match form_at(form) {
-            Some(form) => {
-                let wanted = Wanted {
-                    alg,
-                    typ: None,
-                    form,
-                    key,
-                };
-                put_issued(alloc, wanted, &desk.keys, claims, out, written, report)
-            }
-            None => 6,
-        },
-        None => 6,
+    let status = match from_utf8(typ) {
+        Ok(typ) => put_numbered(
+            alloc, alg, form, key, typ, &desk.keys, claims, out, written, report,
+        ),
+        Err(_) => 6,
     };
     *validator = Handle::of(desk);
     status

@@ -1,11 +1,11 @@
 //! Issues tokens.
 
-ghost use Rattle.std.specs.Prelude.{◌≡◌, map, option_map, IfOk};
+ghost use Rattle.std.specs.Prelude.{◌≡◌, map, option_map, None, IfSome, IfOk};
 ghost use Rattle.jwt_text.specs.Answers.{Answers};
 ghost use Rattle.jwt_keys.specs.KeySets.{key_set};
 ghost use Rattle.jwt_issue.specs.ClaimSets.{claim_set_of};
 ghost use Rattle.jwt_issue.specs.Views.{pair_parts, text_of};
-ghost use Rattle.jwt_c.specs.Issuing.{hmac_at, form_at, issued, pair, PutsToken, PutsIssued};
+ghost use Rattle.jwt_c.specs.Issuing.{hmac_at, form_at, typ_of, issued, pair, PutsToken, PutsIssued};
 
 use crate::report::FowReport;
 use crate::writing::put;
@@ -17,7 +17,7 @@ use jwt_policy::ClaimFault;
 use std::alloc::{AllocError, Global};
 
 /// The HMAC algorithm of a number.
-pub(crate) fn hmac_at(number: u32) -> Option<Alg>
+fn hmac_at(number: u32) -> Option<Alg>
     ensures { result ≡ hmac_at number }
 {
     if number == 1 {
@@ -32,7 +32,7 @@ pub(crate) fn hmac_at(number: u32) -> Option<Alg>
 }
 
 /// The form of a number.
-pub(crate) fn form_at(number: u32) -> Option<Form>
+fn form_at(number: u32) -> Option<Form>
     ensures { result ≡ form_at number }
 {
     if number == 1 {
@@ -48,11 +48,18 @@ pub(crate) fn form_at(number: u32) -> Option<Form>
 
 /// How a token is to be issued.
 #[derive(Clone, Copy)]
-pub(crate) struct Wanted<'a> {
-    pub(crate) alg: Alg,
-    pub(crate) typ: Option<&'a str>,
-    pub(crate) form: Form,
-    pub(crate) key: u32,
+struct Wanted<'a> {
+    alg: Alg,
+    typ: Option<&'a str>,
+    form: Form,
+    key: u32,
+}
+
+/// The type that is asked for: none where it has no octets.
+fn typ_of(typ: &str) -> Option<&str>
+    ensures { text_of result ≡ typ_of typ.now }
+{
+    if typ.is_empty() { None } else { Some(typ) }
 }
 
 /// Each key, for one algorithm.
@@ -124,7 +131,7 @@ fn put_token(
 }
 
 /// The same of claims as they stand.
-pub(crate) fn put_issued(
+fn put_issued(
     alloc: Global,
     wanted: Wanted<'_>,
     keys: &KeySet,
@@ -147,5 +154,41 @@ pub(crate) fn put_issued(
             *report = FowReport::of_claims(&fault);
             1
         }
+    }
+}
+
+/// The same in the form and by the algorithm of these numbers, with this `typ` where it has octets. 6: there is no such algorithm or form.
+pub(crate) fn put_numbered(
+    alloc: Global,
+    alg: u32,
+    form: u32,
+    key: u32,
+    typ: &str,
+    keys: &KeySet,
+    claims: &[u8],
+    out: &mut [u8],
+    written: &mut usize,
+    report: &mut FowReport,
+) -> u32
+    ensures alg { hmac_at alg ≡ None → result ≡ 6 }
+    ensures form { form_at form ≡ None → result ≡ 6 }
+    ensures token { IfSome (hmac_at alg) (λ a. IfSome (form_at form) (λ f. PutsIssued f a (typ_of typ.now)
+        key (key_set keys.now).keys (claim_set_of claims.now)
+        result report.new written.new out.old out.new)) }
+{
+    match hmac_at(alg) {
+        Some(alg) => match form_at(form) {
+            Some(form) => {
+                let wanted = Wanted {
+                    alg,
+                    typ: typ_of(typ),
+                    form,
+                    key,
+                };
+                put_issued(alloc, wanted, keys, claims, out, written, report)
+            }
+            None => 6,
+        },
+        None => 6,
     }
 }

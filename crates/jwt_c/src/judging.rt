@@ -9,7 +9,7 @@ use crate::desk::{Desk, Last};
 use crate::report::FowReport;
 use jwt_mac::Budget;
 use jwt_policy::{ClaimFault, Claims};
-use jwt_told::{Question, judge_told};
+use jwt_told::{Asking, judge_told};
 use jwt_verify::{Fault, Report, Verdict};
 use std::alloc::{AllocError, Global};
 
@@ -57,19 +57,28 @@ fn bare(alloc: Global, verdict: u32) -> Judging
     }
 }
 
-/// The judging that asks a question.
-fn asking(alloc: Global, question: Question) -> Judging
+/// The judging that asks, of which the tries are kept.
+fn asking(alloc: Global, asks: Asking) -> Judging
     ensures verdict { result.said.verdict ≡ 2 }
-    ensures signature { result.said.signature ≡ question.signature }
-    ensures key { result.said.key ≡ question.key }
+    ensures signature { result.said.signature ≡ asks.question.signature }
+    ensures key { result.said.key ≡ asks.question.key }
+    ensures count { result.said.tries ≡ length asks.tries.items }
+    ensures tries { result.last.tries.items ≡ asks.tries.items }
     ensures claims { result.last.claims ≡ None }
 {
+    let Asking { question, tries } = asks;
     let mut said = FowReport::bare(2);
     said.signature = question.signature;
     said.key = question.key;
+    said.tries = tries.len() as u64;
     Judging {
         said,
-        last: Last::new(alloc),
+        last: Last {
+            states: Vec::new(alloc),
+            tries,
+            claims: None,
+            missing: Vec::new(alloc),
+        },
     }
 }
 
@@ -115,7 +124,8 @@ fn kept(report: Report<'_>, work: u64, missing: Vec<u8>) -> Judging
 pub(crate) fn report_on(alloc: Global, desk: &Desk, octets: &[u8], now: i64) -> Judging
     ensures judged { result.said.verdict ≤ 1
         → IsJudged desk.now now octets.now result.said result.last }
-    ensures asks { result.said.verdict ≡ 2 → IsAsked desk.now octets.now result.said }
+    ensures asks { result.said.verdict ≡ 2
+        → IsAsked desk.now now octets.now result.said result.last }
     ensures claims { result.said.verdict ≢ 0 → result.last.claims ≡ None }
 {
     let mut budget = desk.policy.budget();
@@ -132,7 +142,7 @@ pub(crate) fn report_on(alloc: Global, desk: &Desk, octets: &[u8], now: i64) -> 
             Ok(missing) => kept(report, budget.octets(), missing),
             Err(_) => bare(alloc, 3),
         },
-        Err(question) => asking(alloc, question),
+        Err(asks) => asking(alloc, asks),
     }
 }
 
@@ -140,7 +150,7 @@ pub(crate) fn report_on(alloc: Global, desk: &Desk, octets: &[u8], now: i64) -> 
 pub(crate) fn judge_desk(alloc: Global, desk: &mut Desk, octets: &[u8], now: i64) -> FowReport
     ensures judged { result.verdict ≤ 1
         → IsJudged desk.old now octets.now result desk.new.last }
-    ensures asks { result.verdict ≡ 2 → IsAsked desk.old octets.now result }
+    ensures asks { result.verdict ≡ 2 → IsAsked desk.old now octets.now result desk.new.last }
     ensures claims { result.verdict ≢ 0 → desk.new.last.claims ≡ None }
     ensures policy { desk.new.policy ≡ desk.old.policy }
     ensures keys { desk.new.keys ≡ desk.old.keys }

@@ -1,11 +1,13 @@
 //! Octets that are written for the caller.
 
 ghost use Rattle.std.specs.Prelude.{◌≡◌, IsUtf8, None};
+ghost use Rattle.jwt_text.specs.Base64url.{octets_of};
 ghost use Rattle.jwt_verify.specs.Verdict.{token_of};
-ghost use Rattle.jwt_c.specs.Written.{Puts, PutsPayload, PutsSome, claim_at, number_at};
+ghost use Rattle.jwt_c.specs.Written.{Puts, PutsPayload, PutsSome, claim_at, header_at, number_at};
 
 use crate::desk::Desk;
 use jwt_policy::Claims;
+use jwt_text::{TextFault, decode};
 use jwt_told::read_token;
 use std::alloc::Global;
 use std::str::from_utf8;
@@ -37,6 +39,40 @@ pub(crate) fn payload_of(
         Ok(Some(signed)) => put(signed.payload(), out, written),
         Ok(None) => 6,
         Err(_) => 3,
+    }
+}
+
+/// Puts the octets of a signature's protected header at the front of `out`. 0; 3: memory was refused; 5: `out` is too short; 6: the octets
+/// are no token, or it has no such signature.
+pub(crate) fn put_header(
+    alloc: Global,
+    desk: &Desk,
+    token: &[u8],
+    signature: u32,
+    out: &mut [u8],
+    written: &mut usize,
+) -> u32
+    ensures { PutsSome (header_at (token_of desk.now.policy token.now) signature)
+        result written.new out.old out.new }
+{
+    match read_token(alloc, token, &desk.policy) {
+        Ok(Some(signed)) => match signed.signature(signature) {
+            Some(signature) => put_decoded(alloc, signature.protected_text(), out, written),
+            None => 6,
+        },
+        Ok(None) => 6,
+        Err(_) => 3,
+    }
+}
+
+/// Puts the octets that a base64url text spells at the front of `out`. 0; 3: memory was refused; 5: `out` is too short; 6: it spells none.
+fn put_decoded(alloc: Global, text: &[u8], out: &mut [u8], written: &mut usize) -> u32
+    ensures { PutsSome (octets_of text.now) result written.new out.old out.new }
+{
+    match decode(alloc, text) {
+        Ok(octets) => put(&octets, out, written),
+        Err(TextFault::OutOfMemory) => 3,
+        Err(_) => 6,
     }
 }
 

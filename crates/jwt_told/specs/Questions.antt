@@ -1,6 +1,7 @@
 -- The questions about a token that no answer was told to.
-use Rattle.std.specs.Prelude.{◌≡◌, ℕ, ℤ, Bool, false, List, [], ◌∷◌, Option, None, Some, option_map, Result, Ok, Err}
+use Rattle.std.specs.Prelude.{◌≡◌, ℕ, ℤ, Bool, false, not, ◌&&◌, List, [], ◌∷◌, Option, None, Some, option_map, Result, Ok, Err}
 use Rattle.std.specs.List.{find}
+use Rattle.std.specs.Option.{option_map_or, is_none}
 use Rattle.jwt_mac.specs.declared.algorithm.Alg.{Alg}
 use Rattle.jwt_mac.specs.Algorithm.{is_hmac_alg}
 use Rattle.jwt_mac.specs.Verifying.{Meaning, KeyOctets, MessageOctets, key_octets, message_octets}
@@ -11,7 +12,7 @@ use Rattle.jwt_policy.specs.Settings.{Settings}
 use Rattle.jwt_verify.specs.declared.report.Try.{Try}
 use Rattle.jwt_verify.specs.declared.report.Fault.{Fault}
 use Rattle.jwt_verify.specs.declared.report.Report.{Report}
-use Rattle.jwt_verify.specs.Trying.{at_pair, may_lack_by}
+use Rattle.jwt_verify.specs.Trying.{at_pair}
 use Rattle.jwt_verify.specs.Asks.{AtPair}
 use Rattle.jwt_verify.specs.Accepted.{IsVerdict}
 use Rattle.jwt_verify.specs.Reports.{FoundMemory, IsReport}
@@ -36,9 +37,13 @@ question_of t s k = option_map (λ a. record { alg = a; key = k.octets; message 
 unfoldable pub question_at : Token → List KeyParts → ℕ → ℕ → Option QuestionParts
 question_at t keys i j = at_pair (question_of t) None t keys i j
 
+-- by this algorithm no answer was told to whether the key made the signature over the message; HMAC needs none
+abbrev pub is_untold : List ToldParts → Token → SignatureParts → KeyParts → Alg → Bool
+is_untold ts t s k a = not (is_hmac_alg a) && is_none (answer_to ts a k.octets (message_of t s) s.octets)
+
 -- key j and signature i of the token raise a question that no answer was told to
 unfoldable pub is_open : List ToldParts → Token → List KeyParts → ℕ → ℕ → Bool
-is_open ts t keys i j = at_pair (λ s k. may_lack_by (told_meaning ts ∷ []) (message_of t s) s k) false t keys i j
+is_open ts t keys i j = at_pair (λ s k. option_map_or (is_untold ts t s k) (alg s) false) false t keys i j
 
 -- the question of a try is open
 abbrev pub asks_open : List ToldParts → Token → List KeyParts → Try → Bool
@@ -49,10 +54,18 @@ abbrev pub first_open : List ToldParts → Result Token Fault → List KeyParts 
 first_open ts (Ok t) keys es = find (asks_open ts t keys) es
 first_open ts (Err f) keys es = None
 
+-- key j and signature i are the first of these tries whose question is open
+abbrev pub IsFirstOpen : List ToldParts → Result Token Fault → List KeyParts → List Try → ℕ → ℕ → Type 0
+IsFirstOpen ts r keys es i j = (e : Try) × (first_open ts r keys es ≡ Some e) × (e.signature ≡ i) × (e.key ≡ j)
+
 -- x is a token, and whether key j verifies signature i is a question that no answer was told to
 abbrev pub IsOpen : List ToldParts → Result Token Fault → List KeyParts → ℕ → ℕ → Type 0
 IsOpen ts (Ok t) keys i j = AtPair t keys i j (λ s k. (a : Alg) × (alg s ≡ Some a) × (is_hmac_alg a ≡ false) × (answer_to ts a k.octets (message_of t s) s.octets ≡ None))
 IsOpen ts (Err f) keys i j = ⊥
+
+-- these are the tries of a run that finds memory, where what wasn't told counts as invalid
+abbrev pub AreTries : Terms → List ℕ → ℕ → List Try → Type 0
+AreTries q x w es = (r : Report) × IsReport q x w r × FoundMemory r.verdict × (r.tries.items ≡ es)
 
 -- all that a verdict rests on but the token and the budget's ceiling, where this is the one verifier
 abbrev pub terms_by : Meaning → Settings → List KeyParts → ℤ → Terms

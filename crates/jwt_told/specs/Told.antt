@@ -1,7 +1,7 @@
 -- What a caller told of signatures that it was asked about.
 use Rattle.std.specs.Prelude.{◌≡◌, ℕ, ◌==◌, Bool, false, ◌&&◌, not, List, map, Option, Some, option_map}
 use Rattle.std.specs.List.{find}
-use Rattle.std.specs.Option.{option_map_or, is_none}
+use Rattle.std.specs.Option.{option_map_or}
 use Rattle.std.specs.Str.{bytes_eq}
 use Rattle.std.specs.Arc.{arc_value}
 use Rattle.jwt_mac.specs.declared.algorithm.Alg.{Alg}
@@ -56,12 +56,12 @@ answer_to ts a k m s = option_map (λ t. t.valid) (find (is_about a k m s) ts)
 
 -- ---- what the answers mean
 
--- A verifier of every public-key algorithm that accepts what it was told is valid, and lacks an answer to every other question.
+-- A verifier of every public-key algorithm that accepts what it was told is valid, and nothing else. It never lacks memory.
 abbrev pub told_meaning : List ToldParts → Meaning
 told_meaning ts = record {
   named = λ a. not (is_hmac_alg a);
   accepts = λ a k m s. option_map_or (λ valid. valid) (answer_to ts a k m s) false;
-  may_lack = λ a k m s. is_none (answer_to ts a k m s);
+  may_lack = λ a k m s. false;
 }
 
 -- whether a signature by an algorithm, a key and a message is valid

@@ -9,8 +9,8 @@ use jwt_mac::{Alg, Answer, KeyView, Message, Verifier};
 use std::alloc::{AllocError, Global};
 use std::sync::Arc;
 
-/// What a caller told of signatures by public keys: a verifier of every algorithm but HMAC that accepts what it was told is valid,
-/// and lacks memory for all that it wasn't told.
+/// What a caller told of signatures by public keys: a verifier of every algorithm but HMAC that accepts what it was told is valid, and
+/// nothing else.
 ///
 /// An answer is about one algorithm, one key by its octets, one signing input and one signature. Where the same question was
 /// answered twice, the first answer counts.
@@ -32,7 +32,7 @@ impl Verifier for Answers {
         match self.about(alg, key, message, signature) {
             Some(true) => Answer::Valid,
             Some(false) => Answer::Invalid,
-            None => Answer::NoMemory,
+            None => Answer::Invalid,
         }
     }
 }

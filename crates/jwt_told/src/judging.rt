@@ -1,6 +1,6 @@
 //! Judges a token by what a caller told.
 
-ghost use Rattle.std.specs.Prelude.{◌≡◌, ◌≢◌, ◌∷◌, [], IfOk, IfErr, map, length};
+ghost use Rattle.std.specs.Prelude.{◌≡◌, ◌≢◌, ◌↔◌, ◌∷◌, [], None, IfOk, IfErr, IsTrue, map, length};
 ghost use Rattle.jwt_keys.specs.KeySets.{key_set};
 ghost use Rattle.jwt_verify.specs.Table.{work};
 ghost use Rattle.jwt_verify.specs.Accepted.{IsVerdict};
@@ -10,15 +10,15 @@ ghost use Rattle.jwt_verify.specs.Verdict.{token_of};
 ghost use Rattle.jwt_verify.specs.declared.report.Fault.TheVariants.{OutOfMemory};
 ghost use Rattle.jwt_verify.specs.declared.report.Verdict.TheVariants.{Refused};
 ghost use Rattle.jwt_told.specs.Told.{Truth, AreRight, told, told_meaning, true_meaning};
-ghost use Rattle.jwt_told.specs.Questions.{first_open, IsOpen};
+ghost use Rattle.jwt_told.specs.Questions.{first_open, AreTries, IsFirstOpen, IsOpen};
 
 use crate::answers::Answers;
 use crate::laws::right_answers;
-use crate::questions::{Question, first_open};
+use crate::questions::{Asking, Question, first_open};
 use jwt_keys::KeySet;
 use jwt_mac::{Budget, CountDown, Verifier};
 use jwt_policy::Policy;
-use jwt_verify::{Fault, Report, Verdict, judge};
+use jwt_verify::{Fault, Report, Try, Verdict, judge};
 use std::alloc::{AllocError, Global};
 
 /// The same answers, shared, in a box.
@@ -54,6 +54,34 @@ fn without_memory<'p>(report: Report<'p>) -> Report<'p>
     Report {
         verdict: Verdict::Refused(Fault::OutOfMemory),
         states,
+        tries,
+    }
+}
+
+/// Whether memory was there.
+fn found_memory(verdict: &Verdict<'_>) -> bool
+    ensures { IsTrue result ↔ FoundMemory verdict.now }
+{
+    match verdict {
+        Verdict::Accepted { .. } => true,
+        Verdict::Refused(Fault::OutOfMemory | Fault::VerifierMemory) => false,
+        Verdict::Refused(_) => true,
+    }
+}
+
+/// What is to be asked, where this try is the first of the report's whose question is open.
+fn asking(first: Try, report: Report<'_>) -> Asking
+    ensures signature { result.question.signature ≡ first.signature }
+    ensures key { result.question.key ≡ first.key }
+    ensures tries { result.tries.items ≡ report.entry.tries.items }
+{
+    let Report {
+        verdict: _,
+        states: _,
+        tries,
+    } = report;
+    Asking {
+        question: Question::of(first),
         tries,
     }
 }
@@ -118,8 +146,12 @@ fn judge_by<'p>(
 /// Judges a token in hand by what was told of signatures by public keys, or asks about a pair of which nothing was told.
 ///
 /// It tries what [`judge`] tries, in the same order: a signature by HMAC is verified, and one by another algorithm is looked up
-/// among the answers. `now` is in seconds since 1970-01-01T00:00:00Z. The caller answers a question by [`Answers::tell`], and calls
+/// among the answers. `now` is in seconds since 1970-01-01T00:00:00Z. The caller answers questions by [`Answers::tell`], and calls
 /// again with a new budget. Each question is a try that counts as a call, so the policy's `max_calls` bounds them.
+///
+/// What wasn't told counts as invalid, and the run goes on to its end. So a caller may answer the tries that are listed one after
+/// another, from the question on, until an answer is that the signature is valid, and call again only then: that makes one call more
+/// than the token has signatures at most. The tries by HMAC among them, which cost octets, need no answer.
 ///
 /// Where each answer that was told is true, the verdict is the one that a verifier who knows the truth would have led to, be it an
 /// acceptance or a refusal.
@@ -130,7 +162,8 @@ fn judge_by<'p>(
 /// As [`judge`] refuses.
 ///
 /// # Errors
-/// The first pair that was tried and of which nothing was told.
+/// The tries of the run and the first of them of which nothing was told. Where memory was refused, that is the report, and nothing
+/// is asked.
 pub fn judge_told<'p>(
     alloc: Global,
     octets: &[u8],
@@ -139,7 +172,7 @@ pub fn judge_told<'p>(
     now: i64,
     answers: &Answers,
     budget: &mut CountDown,
-) -> Result<Report<'p>, Question>
+) -> Result<Report<'p>, Asking>
     requires no_octets { ⟦<CountDown as Budget>⟧.octets budget.old ≡ 0 }
     requires no_calls { ⟦<CountDown as Budget>⟧.calls budget.old ≡ 0 }
 
@@ -155,9 +188,20 @@ pub fn judge_told<'p>(
         (terms policy.now keys.now now (true_meaning truth ∷ []))
         octets.now (⟦<CountDown as Budget>⟧.ceiling budget.old) r.verdict) }
 
-    // A question is one of which nothing was told.
-    ensures question { IfErr result (λ q. IsOpen (told answers.now)
-        (token_of policy.now octets.now) (key_set keys.now).keys q.signature q.key) }
+    // Of each of its tries it was told whether it is valid, unless memory was refused.
+    ensures told { IfOk result (λ r. FoundMemory r.verdict → first_open (told answers.now)
+        (token_of policy.now octets.now) (key_set keys.now).keys r.tries.items ≡ None) }
+
+    // What is asked is the first try of that run of which nothing was told.
+    ensures tries { IfErr result (λ a. AreTries
+        (terms policy.now keys.now now (told_meaning (told answers.now) ∷ []))
+        octets.now (⟦<CountDown as Budget>⟧.ceiling budget.old) a.tries.items) }
+    ensures first { IfErr result (λ a. IsFirstOpen (told answers.now)
+        (token_of policy.now octets.now) (key_set keys.now).keys a.tries.items
+        a.question.signature a.question.key) }
+    ensures question { IfErr result (λ a. IsOpen (told answers.now)
+        (token_of policy.now octets.now) (key_set keys.now).keys
+        a.question.signature a.question.key) }
 
     // What the budget counts.
     ensures octets { IfOk result (λ r.
@@ -170,9 +214,12 @@ pub fn judge_told<'p>(
 {
     right_answers();
     let report = judge_by(alloc, octets, keys, policy, now, answers, budget);
+    if !found_memory(&report.verdict) {
+        return Ok(report);
+    }
     match first_open(alloc, octets, keys, policy, answers, &report.tries) {
         Ok(None) => Ok(report),
-        Ok(Some(open)) => Err(Question::of(open)),
+        Ok(Some(first)) => Err(asking(first, report)),
         Err(_) => Ok(without_memory(report)),
     }
 }

@@ -8,9 +8,9 @@
 //! loop {
 //!     match judge_told(alloc, octets, &keys, &policy, now, &answers, &mut policy.budget()) {
 //!         Ok(report) => return Ok(report),
-//!         Err(question) => {
+//!         Err(asking) => {
 //!             let signed = read_token(alloc, octets, &policy)?.ok_or(NoToken)?;
-//!             let asked = question.about(&signed, &keys).ok_or(NoToken)?;
+//!             let asked = asking.question.about(&signed, &keys).ok_or(NoToken)?;
 //!             // (by the caller's own cryptography)
 //!             let valid = verify(asked.alg, asked.key, asked.message, asked.signature)?;
 //!             answers.tell(alloc, asked.alg, &asked.key, asked.message, asked.signature, valid)?;
@@ -19,14 +19,15 @@
 //! }
 //! ```
 //!
-//! [`judge_told`] asks about one pair of signature and key at a time, and goes on once it is told. Where each answer is true, the
-//! verdict is the true one ([`laws::right_answers`]). An answer is about one algorithm, key, signing input and signature, by their
-//! octets, and about nothing else; so answers may be kept for other tokens.
+//! [`judge_told`] asks about the first pair of signature and key of which nothing was told, and goes on once it is told. It lists the
+//! other pairs that it would ask about if that one were invalid, so that a caller with many keys need not judge once for each. Where
+//! each answer is true, the verdict is the true one ([`laws::right_answers`]). An answer is about one algorithm, key, signing input
+//! and signature, by their octets, and about nothing else; so answers may be kept for other tokens.
 #![tactic(auto)]
 
 pub use answers::Answers;
 pub use judging::judge_told;
-pub use questions::{Asked, Question, read_token};
+pub use questions::{Asked, Asking, Question, read_token};
 
 pub mod answers;
 mod judging;

@@ -57,6 +57,15 @@ impl Question {
     }
 }
 
+/// What is to be asked before there is a verdict.
+#[derive(Drop)]
+pub struct Asking {
+    /// The first pair that was tried and of which nothing was told.
+    pub question: Question,
+    /// The tries of the run where all that wasn't told counts as invalid.
+    pub tries: Vec<Try>,
+}
+
 /// What a question asks: whether the key made the signature over the message by the algorithm.
 #[derive(Clone, Copy)]
 pub struct Asked<'a> {
@@ -107,7 +116,7 @@ pub fn read_token<'a>(
 }
 
 /// Whether key `j` and signature `i` raise a question that no answer was told to.
-#[tactic(auto, unfolding(crate::specs::Questions::is_open, crate::specs::Questions::question_at, jwt_verify::specs::Trying::may_lack_by))]
+#[tactic(auto, unfolding(crate::specs::Questions::is_open, crate::specs::Questions::question_at))]
 fn is_open(answers: &Answers, signed: &Signed<'_>, keys: &KeySet, i: u32, j: u32) -> bool
     ensures { result
         ≡ is_open (told answers.now) (token signed.now) (key_set keys.now).keys i j }

@@ -129,7 +129,7 @@ class Validator:
         if status == _library.OUT_OF_MEMORY:
             raise MemoryError
         if status != _library.OK:
-            raise self._document_refused(fault.value)
+            raise self._document_refused(fault.value, policy_octets)
 
     def validate(self, token: Text, now: Optional[int] = None) -> Claims:
         """The claims of a token that is accepted at a moment, in seconds since 1970-01-01T00:00:00Z; without one, at the clock's.
@@ -143,6 +143,8 @@ class Validator:
             if refusal is not None:
                 raise refusal
             payload = self._written(len(octets), self._library.fow_payload, self._held, octets, len(octets))
+        if payload is None:
+            raise MemoryError
         return dict(json.loads(payload))
 
     def judge(self, token: Text, now: Optional[int] = None) -> Report:
@@ -159,14 +161,25 @@ class Validator:
                 tries=[self._try(n) for n in range(report.tries)],
             )
 
-    def issue(self, claims: Document, key: int = 0, alg: str = "HS256", form: str = "compact") -> str:
-        """The claims as a token, signed by HMAC with the key of this number.
+    def unverified_header(self, token: Text, signature: int = 0) -> Optional[Dict[str, Any]]:
+        """The protected header of the signature of this number; None where there is none. Anyone may have written it."""
+        octets = _octets(token)
+        with self._lock:
+            header = self._written(
+                len(octets), self._library.fow_unverified_header, self._held, octets, len(octets), signature
+            )
+        return None if header is None else dict(json.loads(header or b"{}"))
+
+    def issue(
+        self, claims: Document, key: int = 0, alg: str = "HS256", form: str = "compact", typ: str = ""
+    ) -> str:
+        """The claims as a token, signed by HMAC with the key of this number; its header has `typ` where that isn't empty.
 
         Raises IssueRefused, MemoryError where memory is refused, and KeyError for another algorithm or form.
         """
-        octets = _document(claims)
+        octets, typ_octets = _document(claims), typ.encode()
         report = _library.CReport()
-        room = 2 * len(octets) + 70_000
+        room = 2 * len(octets) + 64 * len(typ_octets) + 70_000
         out, written = ctypes.create_string_buffer(room), ctypes.c_size_t()
         with self._lock:
             status = self._library.fow_issue(
@@ -174,6 +187,8 @@ class Validator:
                 _HMAC[alg],
                 _FORMS[form],
                 key,
+                typ_octets,
+                len(typ_octets),
                 octets,
                 len(octets),
                 out,
@@ -234,15 +249,17 @@ class Validator:
             return SignatureRefused(name, report.signature)
         return ClaimsRefused(name, self._claim(report.claim))
 
-    def _document_refused(self, fault: int) -> FowharimuError:
-        kind = KeysRefused if fault // 100 == 2 else PolicyRefused
-        return kind(self._name(fault))
+    def _document_refused(self, fault: int, policy: bytes) -> FowharimuError:
+        if fault // 100 == 2:
+            return KeysRefused(self._name(fault))
+        member = self._written(len(policy), self._library.fow_refused_member, policy, len(policy))
+        return PolicyRefused(self._name(fault), member if member is None else member.decode())
 
     def _claim(self, number: int) -> Optional[str]:
         if number in _CLAIMS:
             return _CLAIMS[number]
         claim = self._written(65_536, self._library.fow_refused_claim, self._held)
-        return claim.decode() if claim else None
+        return None if claim is None else claim.decode()
 
     def _states(self) -> List[SignatureState]:
         states, state = [], _library.CState()
@@ -265,9 +282,10 @@ class Validator:
         return self._library.fow_fault_name(fault).decode()
 
     @staticmethod
-    def _written(room: int, function: Callable[..., int], *arguments: Any) -> bytes:
-        """What a call writes, and nothing where there is nothing to write."""
+    def _written(room: int, function: Callable[..., int], *arguments: Any) -> Optional[bytes]:
+        """What a call writes, and None where there is nothing to write. Raises MemoryError where memory is refused."""
         out, written = ctypes.create_string_buffer(room + 1), ctypes.c_size_t()
-        if function(*arguments, out, room + 1, written) != _library.OK:
-            return b""
-        return out.raw[: written.value]
+        status = function(*arguments, out, room + 1, written)
+        if status == _library.OUT_OF_MEMORY:
+            raise MemoryError
+        return out.raw[: written.value] if status == _library.OK else None

@@ -12,12 +12,14 @@ class FowharimuError(Exception):
 
 @dataclass(frozen=True)
 class PolicyRefused(FowharimuError):
-    """The policy is refused. `fault` is the name that the program `jwt` prints, such as `Member`."""
+    """The policy is refused. `fault` is the name that the program `jwt` prints, such as `Member`; `member` the name of the member that it
+    speaks of, where it speaks of one."""
 
     fault: str
+    member: Optional[str]
 
     def __str__(self) -> str:
-        return f"the policy is refused: {self.fault}"
+        return f"the policy is refused: {self.fault}" + (f" {self.member!r}" if self.member is not None else "")
 
 
 @dataclass(frozen=True)

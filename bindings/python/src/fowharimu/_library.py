@@ -62,12 +62,14 @@ _REPORT = ctypes.POINTER(CReport)
 _SIGNATURES = {
     "fow_open": (_U32, [_VALIDATOR, *_IN, *_IN, ctypes.POINTER(_U32)]),
     "fow_close": (None, [_VALIDATOR]),
+    "fow_refused_member": (_U32, [*_IN, *_OUT]),
     "fow_state_of": (_U32, [_VALIDATOR, _U32, ctypes.POINTER(CState)]),
     "fow_try_of": (_U32, [_VALIDATOR, ctypes.c_uint64, ctypes.POINTER(CTry)]),
     "fow_refused_claim": (_U32, [_VALIDATOR, *_OUT]),
     "fow_payload": (_U32, [_VALIDATOR, *_IN, *_OUT]),
+    "fow_unverified_header": (_U32, [_VALIDATOR, *_IN, _U32, *_OUT]),
     "fow_fault_name": (ctypes.c_char_p, [_U32]),
-    "fow_issue": (_U32, [_VALIDATOR, _U32, _U32, _U32, *_IN, *_OUT, _REPORT]),
+    "fow_issue": (_U32, [_VALIDATOR, _U32, _U32, _U32, *_IN, *_IN, *_OUT, _REPORT]),
     "fow_openssl_judge": (_U32, [ctypes.POINTER(COpenssl), _VALIDATOR, *_IN, ctypes.c_int64, _REPORT]),
     "fow_openssl_clear": (None, [ctypes.POINTER(COpenssl)]),
 }

@@ -54,6 +54,14 @@ extern "C" {
         fault: *mut u32,
     ) -> u32;
 
+    pub fn fow_refused_member(
+        policy: *const u8,
+        policy_len: usize,
+        out: *mut u8,
+        out_len: usize,
+        written: *mut usize,
+    ) -> u32;
+
     pub fn fow_close(validator: *mut fow_validator);
 
     pub fn fow_payload(

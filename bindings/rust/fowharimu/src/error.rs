@@ -19,8 +19,11 @@ pub enum Part {
 #[derive(Clone, Debug, PartialEq, Eq)]
 #[non_exhaustive]
 pub enum Error {
-    /// The policy is refused.
-    Policy { fault: String },
+    /// The policy is refused, for this member where the fault speaks of one.
+    Policy {
+        fault: String,
+        member: Option<String>,
+    },
     /// The key set is refused.
     Keys { fault: String },
     /// The token has more octets than the policy's `limit`.
@@ -53,7 +56,10 @@ pub enum Error {
 impl fmt::Display for Error {
     fn fmt(&self, f: &mut fmt::Formatter<'_>) -> fmt::Result {
         match self {
-            Error::Policy { fault } => write!(f, "the policy is refused: {fault}"),
+            Error::Policy { fault, member } => {
+                write!(f, "the policy is refused: {fault}")?;
+                member.iter().try_for_each(|it| write!(f, " {it:?}"))
+            }
             Error::Keys { fault } => write!(f, "the key set is refused: {fault}"),
             Error::TooLong => write!(f, "the token is refused: TooLong"),
             Error::Form { fault, .. } => write!(f, "the token is refused: {fault}"),

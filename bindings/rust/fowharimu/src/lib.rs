@@ -81,7 +81,7 @@ impl Validator {
         };
         match status {
             sys::FOW_OK => Ok(validator),
-            sys::FOW_REFUSED => Err(document_refused(fault)),
+            sys::FOW_REFUSED => Err(document_refused(fault, policy)),
             _ => Err(Error::OutOfMemory),
         }
     }
@@ -200,13 +200,16 @@ fn fault_name(fault: u32) -> String {
     name.to_string_lossy().into_owned()
 }
 
-fn document_refused(fault: u32) -> Error {
-    let name = fault_name(fault);
-    if fault / 100 == 2 {
-        Error::Keys { fault: name }
-    } else {
-        Error::Policy { fault: name }
+fn document_refused(number: u32, policy: &[u8]) -> Error {
+    let fault = fault_name(number);
+    if number / 100 == 2 {
+        return Error::Keys { fault };
     }
+    // SAFETY: the slices are as long as their lengths say, and aren't null.
+    let member = written(policy.len() + 1, |out, room, len| unsafe {
+        sys::fow_refused_member(policy.as_ptr(), policy.len(), out, room, len)
+    });
+    Error::Policy { fault, member }
 }
 
 /// What a call writes into so many octets; nothing where it writes none, or no UTF-8.

@@ -93,7 +93,8 @@ fn each_kind_of_refusal() {
     assert_eq!(
         opened.unwrap_err(),
         Error::Policy {
-            fault: named("Member")
+            fault: named("Member"),
+            member: Some(named("audience"))
         }
     );
 }

@@ -1,6 +1,6 @@
-use Rattle.std.proofs.Common.{◌≤◌, sym, subst, IfSome}
+use Rattle.std.proofs.Common.{◌≡◌, ◌≤◌, sym, subst, IfSome}
 use Rattle.std.proofs.Math.Facts.{to_z-of_z}
-use Rattle.jwt_c.specs.Reports.{IsJudged, IsJudgedBy}
+use Rattle.jwt_c.specs.Reports.{IsAsked, IsAskedBy, IsJudged, IsJudgedBy}
 use Rattle.jwt_c.proofs.exports.fow_judge.Goals as goal
 
 pub returns-clause-judged : goal.returns-clause-judged
@@ -10,3 +10,11 @@ returns-clause-judged c =
     (λ small. subst (λ o. IsJudgedBy c.in-Some.desk.value c.args.now x said o) (sym c.of.ensures)
     (subst (λ d. IsJudged d c.args.now x said kept.last) c.deref_mut.ensures.value
     (subst (λ n. IsJudged c.deref_mut.result.now n x said kept.last) (to_z-of_z c.ranges.now) (c.judge_desk-said.ensures.judged small))))
+
+pub returns-clause-asks : goal.returns-clause-asks
+returns-clause-asks c =
+    let said = c.judge_desk-said.result in let x = c.args.token.now in let kept = c.judge_desk-said.new.desk in
+    subst (λ o. IfSome o (λ d. said.verdict ≡ 2 → IsAskedBy d c.args.now x said c.of.result.desk)) (sym c.in-Some.ensures.held)
+    (λ asks. subst (λ o. IsAskedBy c.in-Some.desk.value c.args.now x said o) (sym c.of.ensures)
+    (subst (λ d. IsAsked d c.args.now x said kept.last) c.deref_mut.ensures.value
+    (subst (λ n. IsAsked c.deref_mut.result.now n x said kept.last) (to_z-of_z c.ranges.now) (c.judge_desk-said.ensures.asks asks))))

@@ -1,0 +1,58 @@
+-- What is told by a proved verifier, and that no verdict asks.
+use Rattle.std.proofs.Common.{◌≡◌, ℕ, Bool, true, false, ◌&&◌, refl, subst, Some, None, option_map}
+use Rattle.std.specs.Prelude.{if◌then◌else◌}
+use Rattle.jwt_ed25519.specs.Meanings.{ed25519_meaning}
+use Rattle.jwt_rsa.specs.Meanings.{rsa_meaning}
+use Rattle.jwt_jws.specs.declared.fault.FormFault.{FormFault}
+use Rattle.jwt_jws.specs.declared.fault.FormFault.TheVariants as form
+use Rattle.jwt_policy.specs.declared.claim_fault.ClaimFault.{ClaimFault}
+use Rattle.jwt_policy.specs.declared.claim_fault.ClaimFault.TheVariants as claim
+use Rattle.jwt_verify.specs.declared.report.Fault.TheVariants as fault
+use Rattle.jwt_verify.specs.declared.report.Verdict.{Verdict}
+use Rattle.jwt_verify.specs.declared.report.Verdict.TheVariants.{Accepted, Refused}
+use Rattle.jwt_told.specs.Questions.{QuestionParts}
+use Rattle.jwt_c.specs.declared.asking.Proved.{Proved}
+use Rattle.jwt_c.specs.declared.asking.Proved.TheVariants.{Rsa, Ed25519 as OnEd25519}
+use Rattle.jwt_c.specs.declared.desk.Desk.{Desk}
+use Rattle.jwt_c.specs.Asking.{TellsDesk, is_ed25519, rsa_says, ed25519_says, asked_of, said_by}
+use Rattle.jwt_c.specs.Faults.{form_numbers, claim_numbers, verdict_numbers}
+
+-- ---- what a proved verifier tells
+
+told_if : (b accepts : Bool) (says : QuestionParts → Bool) (q : QuestionParts) (status : ℕ) (d e : Desk)
+    → Some accepts ≡ option_map says (if b then Some q else None) → TellsDesk (Some q) accepts status d e
+    → TellsDesk (if b then Some q else None) (says q) status d e
+told_if true accepts says q status d e h t = let same : accepts ≡ says q = cc in subst (λ v. TellsDesk (Some q) v status d e) same t
+told_if false accepts says q status d e h t = cc
+
+pub tells : (by : Proved) (q : QuestionParts) (accepts : Bool) (status : ℕ) (d e : Desk)
+    → Some accepts ≡ option_map (λ r. said_by by (Some r)) (asked_of by (Some q)) → TellsDesk (Some q) accepts status d e
+    → TellsDesk (asked_of by (Some q)) (said_by by (Some q)) status d e
+tells Rsa q accepts status d e h t = told_if (rsa_meaning.named q.alg) accepts (λ r. rsa_says (Some r)) q status d e h t
+tells OnEd25519 q accepts status d e h t =
+    told_if (ed25519_meaning.named q.alg && is_ed25519 q.key) accepts (λ r. ed25519_says (Some r)) q status d e h t
+
+not_if : (b : Bool) (says : QuestionParts → Bool) (q : QuestionParts) → None ≡ option_map says (if b then Some q else None)
+    → (if b then Some q else None) ≡ None
+not_if true says q h = cc
+not_if false says q h = refl
+
+pub untold : (by : Proved) (q : QuestionParts) → None ≡ option_map (λ r. said_by by (Some r)) (asked_of by (Some q)) → asked_of by (Some q) ≡ None
+untold Rsa q h = not_if (rsa_meaning.named q.alg) (λ r. rsa_says (Some r)) q h
+untold OnEd25519 q h = not_if (ed25519_meaning.named q.alg && is_ed25519 q.key) (λ r. ed25519_says (Some r)) q h
+
+-- ---- no verdict asks
+
+form_never : (f : FormFault) → (form_numbers f).verdict ≡ 2 → ⊥
+form_never form.OutOfMemory h = cc
+form_never _ h = cc
+
+claim_never : (f : ClaimFault) → (claim_numbers f).verdict ≡ 2 → ⊥
+claim_never claim.OutOfMemory h = cc
+claim_never _ h = cc
+
+pub never_asks : (v : Verdict) → (verdict_numbers v).verdict ≡ 2 → ⊥
+never_asks (Accepted i j claims) h = cc
+never_asks (Refused (fault.Form f)) h = form_never f h
+never_asks (Refused (fault.Claim f)) h = claim_never f h
+never_asks (Refused _) h = cc
