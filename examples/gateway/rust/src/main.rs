@@ -25,13 +25,15 @@ enum Decision {
 
 /// Lets a request through where its token is accepted now.
 fn decide(validator: &Mutex<Validator>, head: &[String]) -> Decision {
-    let Some(token) = bearer(head) else {
-        return Decision::Refused("Bearer realm=\"gateway\"");
+    let token = match bearer(head) {
+        Some(token) => token,
+        None => return Decision::Refused("Bearer realm=\"gateway\""),
     };
-    let Ok(mut validator) = validator.lock() else {
-        return Decision::Failed;
+    let verdict = match validator.lock() {
+        Ok(mut validator) => validator.validate(token.as_bytes()),
+        Err(_) => return Decision::Failed,
     };
-    match validator.validate(token.as_bytes()) {
+    match verdict {
         Ok(claims) => Decision::Through(claims),
         Err(Error::OutOfMemory) => Decision::Failed,
         Err(refusal) => {
@@ -49,7 +51,7 @@ fn bearer(head: &[String]) -> Option<&str> {
         .filter_map(|line| line.split_once(':'))
         .filter(|(name, _)| name.eq_ignore_ascii_case("authorization"));
     let (_, value) = values.next()?;
-    let (scheme, token) = value.trim_matches([' ', '\t']).split_once(' ')?;
+    let (scheme, token) = value.trim_matches(&[' ', '\t'][..]).split_once(' ')?;
     let is_one = values.next().is_none() && scheme.eq_ignore_ascii_case("bearer");
     is_one.then(|| token.trim_start_matches(' '))
 }
@@ -97,8 +99,9 @@ fn serve(validator: &Mutex<Validator>, mut stream: TcpStream) -> io::Result<()> 
 
 fn main() -> Result<(), Box<dyn error::Error>> {
     let words: Vec<String> = env::args().skip(1).collect();
-    let [address, policy, keys] = words.as_slice() else {
-        return Err("usage: gateway ADDRESS POLICY KEYS".into());
+    let (address, policy, keys) = match words.as_slice() {
+        [address, policy, keys] => (address, policy, keys),
+        _ => return Err("usage: gateway ADDRESS POLICY KEYS".into()),
     };
     let opened = Validator::open(&fs::read(policy)?, &fs::read(keys)?)?;
     let validator = Arc::new(Mutex::new(opened));
