@@ -2,9 +2,11 @@ package fowharimu_test
 
 import (
 	"errors"
+	"fmt"
 	"os"
 	"path/filepath"
 	"reflect"
+	"runtime"
 	"strings"
 	"sync"
 	"testing"
@@ -225,6 +227,34 @@ func TestAClosedValidatorRefuses(t *testing.T) {
 	}
 	if _, err := validator.JudgeAt(token, now); !errors.Is(err, fowharimu.ErrClosed) {
 		t.Error(err)
+	}
+}
+
+// resident is how many octets of memory the process holds.
+func resident(t *testing.T) int {
+	t.Helper()
+	var whole, pages int
+	said, err := os.ReadFile("/proc/self/statm")
+	if _, wrong := fmt.Sscan(string(said), &whole, &pages); err != nil || wrong != nil {
+		t.Skip("the memory of a process can't be read here")
+	}
+	return pages * os.Getpagesize()
+}
+
+func TestValidatorsThatAreNotClosedAreCollected(t *testing.T) {
+	key := `{"kty":"oct","k":"AyM1SysPpbyDfgZld3umj1qzKObwVMkoqQ-EstJQLr_T-1qS0gZH75aKtMN3Yj0iPS4hcgUuTwjAzZr1Z9CAow"}`
+	keys := []byte(`{"keys":[` + strings.Repeat(key+",", 999) + key + `]}`)
+	before := resident(t)
+	for i := 0; i < 300; i++ {
+		if _, err := fowharimu.Open([]byte(`{"algs":["HS256"]}`), keys); err != nil {
+			t.Fatal(err)
+		}
+		if i%20 == 0 {
+			runtime.GC()
+		}
+	}
+	if grown := resident(t) - before; grown > 32<<20 {
+		t.Errorf("the process has grown by %d octets", grown)
 	}
 }
 
