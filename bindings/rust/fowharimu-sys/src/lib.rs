@@ -1,8 +1,7 @@
 //! The functions of `fowharimu.h` and `fowharimu_openssl.h`, as they stand there. The crate `fowharimu` is safe.
-#![no_std]
 #![allow(non_camel_case_types)]
 
-use core::ffi::{c_char, c_void};
+use std::os::raw::{c_char, c_void};
 
 pub const FOW_OK: u32 = 0;
 pub const FOW_REFUSED: u32 = 1;

@@ -1,6 +1,7 @@
 //! The tokens of the repository.
 
 use fowharimu::{Error, Part, Validator};
+use std::ffi::OsStr;
 use std::fs;
 use std::path::{Path, PathBuf};
 use std::thread;
@@ -17,7 +18,7 @@ fn tokens() -> Vec<PathBuf> {
     for folder in ["examples", "bindings/tokens"] {
         for entry in fs::read_dir(top().join(folder)).unwrap() {
             let path = entry.unwrap().path();
-            if path.extension().is_some_and(|it| it == "jwt") {
+            if path.extension() == Some(OsStr::new("jwt")) {
                 names.push(path);
             }
         }

@@ -1,0 +1,157 @@
+package fowharimu
+
+import (
+	"errors"
+	"fmt"
+)
+
+// ErrClosed says that the validator was closed.
+var ErrClosed = errors.New("fowharimu: the validator is closed")
+
+// ErrOutOfMemory says that the library was refused an allocation, and that nothing is said of the token.
+var ErrOutOfMemory = errors.New("fowharimu: an allocation was refused")
+
+// PolicyError says why a policy is refused.
+type PolicyError struct {
+	Fault string // the name that the program jwt prints, such as Member
+}
+
+func (e *PolicyError) Error() string {
+	return "fowharimu: the policy is refused: " + e.Fault
+}
+
+// KeysError says why a key set is refused.
+type KeysError struct {
+	Fault string // the name that the program jwt prints, such as NotKeySet
+}
+
+func (e *KeysError) Error() string {
+	return "fowharimu: the key set is refused: " + e.Fault
+}
+
+// Refusal is the error of a token that isn't accepted: a *TooLongError, *FormError, *CeilingError, *SignatureError, *ClaimsError or
+// *UndecidedError. errors.As finds it. Another error says nothing of the token.
+type Refusal interface {
+	error
+	// FaultName is the name that the program jwt prints, such as Expired.
+	FaultName() string
+}
+
+// TooLongError says that the token has more octets than the policy's limit.
+type TooLongError struct {
+	Fault string
+}
+
+// FormError says that the octets are no signed token.
+type FormError struct {
+	Fault     string
+	Part      Part // the part that the fault speaks of, where it speaks of one
+	Signature int  // the number, from 0, of the signature that it speaks of
+}
+
+// CeilingError says that the policy's work or max_calls was reached before a key was tried on a signature, both numbered from 0.
+type CeilingError struct {
+	Fault     string
+	Signature int
+	Key       int
+}
+
+// SignatureError says that the signature of this number, from 0, isn't verified.
+type SignatureError struct {
+	Fault     string
+	Signature int
+}
+
+// ClaimsError says that the claims are refused.
+type ClaimsError struct {
+	Fault string
+	Claim string // the name of the claim that the fault speaks of; empty where it speaks of none
+}
+
+// UndecidedError says that OpenSSL couldn't tell whether a key made a signature, both numbered from 0: so the token isn't accepted.
+type UndecidedError struct {
+	Signature int
+	Key       int
+}
+
+func (e *TooLongError) Error() string { return refusedFor(e.Fault) }
+
+func (e *FormError) Error() string {
+	if e.Part == NoPart {
+		return refusedFor(e.Fault)
+	}
+	return fmt.Sprintf("%s of the %s", refusedFor(e.Fault), e.Part)
+}
+
+func (e *CeilingError) Error() string {
+	return fmt.Sprintf("%s at signature %d and key %d", refusedFor(e.Fault), e.Signature, e.Key)
+}
+
+func (e *SignatureError) Error() string {
+	return fmt.Sprintf("%s of signature %d", refusedFor(e.Fault), e.Signature)
+}
+
+func (e *ClaimsError) Error() string {
+	if e.Claim == "" {
+		return refusedFor(e.Fault)
+	}
+	return fmt.Sprintf("%s, claim %q", refusedFor(e.Fault), e.Claim)
+}
+
+func (e *UndecidedError) Error() string {
+	return fmt.Sprintf("fowharimu: signature %d couldn't be tried with key %d", e.Signature, e.Key)
+}
+
+// FaultName is TooLong.
+func (e *TooLongError) FaultName() string { return e.Fault }
+
+// FaultName is the fault.
+func (e *FormError) FaultName() string { return e.Fault }
+
+// FaultName is the fault.
+func (e *CeilingError) FaultName() string { return e.Fault }
+
+// FaultName is the fault.
+func (e *SignatureError) FaultName() string { return e.Fault }
+
+// FaultName is the fault.
+func (e *ClaimsError) FaultName() string { return e.Fault }
+
+// FaultName is Undecided, which the program doesn't print: it asks no one.
+func (e *UndecidedError) FaultName() string { return "Undecided" }
+
+func refusedFor(fault string) string {
+	return "fowharimu: the token is refused: " + fault
+}
+
+// documentError says why a policy or a key set is refused: the faults of key sets are those from 200 to 299.
+func documentError(fault int) error {
+	if fault/100 == 2 {
+		return &KeysError{faultName(fault)}
+	}
+	return &PolicyError{faultName(fault)}
+}
+
+// Part is a part of a token.
+type Part int
+
+// The parts that a FormError speaks of.
+const (
+	NoPart Part = iota
+	PartPayload
+	PartProtected
+	PartSignature
+)
+
+// String is the part's name.
+func (p Part) String() string {
+	return named([]string{"no part", "payload", "protected header", "signature"}, int(p))
+}
+
+// named is the name at a place, or the number where there is none.
+func named(names []string, place int) string {
+	if place < 0 || place >= len(names) {
+		return fmt.Sprint(place)
+	}
+	return names[place]
+}

@@ -1,0 +1,303 @@
+package fowharimu_test
+
+import (
+	"errors"
+	"fmt"
+	"os"
+	"path/filepath"
+	"reflect"
+	"runtime"
+	"strings"
+	"sync"
+	"testing"
+	"time"
+
+	"example.org/fowharimu"
+)
+
+const hmac = "../../examples/rfc7515-a1"
+
+var now = time.Unix(1300819379, 0)
+
+// octets is what a file holds.
+func octets(t testing.TB, name string) []byte {
+	t.Helper()
+	held, err := os.ReadFile(name)
+	if err != nil {
+		t.Fatal(err)
+	}
+	return held
+}
+
+// open is the validator of the policy and the key set beside a token, and the token.
+func open(t testing.TB, name string) (*fowharimu.Validator, string) {
+	t.Helper()
+	validator, err := fowharimu.Open(octets(t, name+".policy"), octets(t, name+".keys"))
+	if err != nil {
+		t.Fatal(err)
+	}
+	t.Cleanup(func() { validator.Close() })
+	return validator, string(octets(t, name+".jwt"))
+}
+
+// refusal is why the token is refused under a policy, with the keys of the HMAC token.
+func refusal(t *testing.T, policy, token string) error {
+	t.Helper()
+	validator, err := fowharimu.Open([]byte(policy), octets(t, hmac+".keys"))
+	if err != nil {
+		t.Fatal(err)
+	}
+	defer validator.Close()
+	_, err = validator.ValidateAt(token, now)
+	return err
+}
+
+// changed is the token with another first character of its signature.
+func changed(token string) string {
+	first := strings.LastIndex(token, ".") + 1
+	other := "A"
+	if token[first] == 'A' {
+		other = "B"
+	}
+	return token[:first] + other + token[first+1:]
+}
+
+func TestEachTokenIsAcceptedAndRefusedWhereItIsChanged(t *testing.T) {
+	examples, _ := filepath.Glob("../../examples/*.jwt")
+	names, _ := filepath.Glob("../tokens/*.jwt")
+	names = append(names, examples...)
+	if len(names) < 15 {
+		t.Fatalf("%d tokens are there", len(names))
+	}
+	for _, name := range names {
+		name := strings.TrimSuffix(name, ".jwt")
+		t.Run(filepath.Base(name), func(t *testing.T) {
+			validator, token := open(t, name)
+			claims, err := validator.ValidateAt(token, now)
+			if strings.HasSuffix(name, "rfc8037-a4") {
+				var refused *fowharimu.ClaimsError
+				if !errors.As(err, &refused) || refused.Fault != "ClaimsShape" {
+					t.Errorf("a payload that is no object: %v", err)
+				}
+			} else if registered, wrong := claims.Registered(); err != nil || wrong != nil || registered.Issuer != "joe" {
+				t.Errorf("%v, %v, %v", err, wrong, registered)
+			}
+			_, err = validator.ValidateAt(changed(token), now)
+			var refused *fowharimu.SignatureError
+			if !errors.As(err, &refused) || *refused != (fowharimu.SignatureError{Fault: "BadSignature", Signature: 0}) {
+				t.Errorf("changed: %v", err)
+			}
+		})
+	}
+}
+
+func TestTheClockIsTheMoment(t *testing.T) {
+	validator, token := open(t, hmac)
+	_, err := validator.Validate(token)
+	var refused *fowharimu.ClaimsError
+	if !errors.As(err, &refused) || refused.Fault != "Expired" {
+		t.Error(err)
+	}
+	report, err := validator.Judge(token)
+	if err != nil || report.Accepted() || report.Refusal.FaultName() != "Expired" {
+		t.Error(err, report)
+	}
+}
+
+func TestAFractionOfASecondIsLeftOut(t *testing.T) {
+	validator, token := open(t, hmac)
+	if _, err := validator.ValidateAt(token, now.Add(999*time.Millisecond)); err != nil {
+		t.Error(err)
+	}
+	if _, err := validator.ValidateAt(token, now.Add(time.Second)); err == nil {
+		t.Error("accepted when it expires")
+	}
+}
+
+func TestAReportHasEachTry(t *testing.T) {
+	validator, token := open(t, hmac)
+	report, err := validator.JudgeAt(token, now)
+	if err != nil {
+		t.Fatal(err)
+	}
+	want := fowharimu.Report{
+		Work:   295,
+		States: []fowharimu.SignatureState{{State: fowharimu.StateVerified}},
+		Tries:  []fowharimu.Try{{Cost: 295}},
+	}
+	if !report.Accepted() || !reflect.DeepEqual(report, want) {
+		t.Errorf("%+v", report)
+	}
+	if said := report.States[0].State.String(); said != "verified" {
+		t.Error(said)
+	}
+}
+
+func TestEachKindOfRefusal(t *testing.T) {
+	token := string(octets(t, hmac+".jwt"))
+	cases := []struct {
+		policy, token string
+		want          error
+	}{
+		{`{"algs":["HS256"],"limit":100}`, token, &fowharimu.TooLongError{Fault: "TooLong"}},
+		{`{"algs":["HS256"]}`, "", &fowharimu.FormError{Fault: "Empty"}},
+		{`{"algs":["HS256"]}`, "a.b", &fowharimu.FormError{Fault: "Segments"}},
+		{`{"algs":["HS256"]}`, "e30.*.AA", &fowharimu.FormError{Fault: "Base64", Part: fowharimu.PartPayload}},
+		{`{"algs":["HS256"],"work":10}`, token, &fowharimu.CeilingError{Fault: "WorkExceeded"}},
+		{`{"algs":["HS256"],"version":2,"max_calls":0}`, token, &fowharimu.CeilingError{Fault: "CallsExceeded"}},
+		{`{"algs":["HS384"]}`, token, &fowharimu.SignatureError{Fault: "AlgNotAllowed"}},
+		{`{"algs":["HS256"],"issuers":["eve"]}`, token, &fowharimu.ClaimsError{Fault: "Issuer"}},
+		{`{"algs":["HS256"],"required":["sub"]}`, token, &fowharimu.ClaimsError{Fault: "ClaimMissing", Claim: "sub"}},
+		{`{"algs":["HS256"],"required":["role"]}`, token, &fowharimu.ClaimsError{Fault: "ClaimMissing", Claim: "role"}},
+	}
+	for _, it := range cases {
+		err := refusal(t, it.policy, it.token)
+		if !reflect.DeepEqual(err, it.want) {
+			t.Errorf("%s on %.20q: %#v, not %#v", it.policy, it.token, err, it.want)
+		}
+		var refused fowharimu.Refusal
+		if !errors.As(err, &refused) || refused.FaultName() == "" || !strings.Contains(err.Error(), refused.FaultName()) {
+			t.Errorf("%v is no refusal with its name", err)
+		}
+	}
+}
+
+func TestTheNameOfAMissingClaimIsWhole(t *testing.T) {
+	name := strings.Repeat("role", 1000)
+	err := refusal(t, `{"algs":["HS256"],"required":["`+name+`"]}`, string(octets(t, hmac+".jwt")))
+	var refused *fowharimu.ClaimsError
+	if !errors.As(err, &refused) || refused.Claim != name {
+		t.Error(err)
+	}
+}
+
+func TestRefusedDocuments(t *testing.T) {
+	_, err := fowharimu.Open([]byte(`{"algs":["HS256"],"audience":"me"}`), []byte(`{"keys":[]}`))
+	var policy *fowharimu.PolicyError
+	if !errors.As(err, &policy) || policy.Fault != "Member" {
+		t.Error(err)
+	}
+	_, err = fowharimu.Open([]byte(`{"algs":["HS256"]}`), []byte(`{}`))
+	var keys *fowharimu.KeysError
+	if !errors.As(err, &keys) || keys.Fault != "NotKeySet" {
+		t.Error(err)
+	}
+	if _, err = fowharimu.Open(nil, nil); !errors.As(err, &policy) || policy.Fault != "Json" {
+		t.Error(err)
+	}
+}
+
+func TestClaims(t *testing.T) {
+	validator, token := open(t, "../tokens/RS256")
+	claims, err := validator.ValidateAt(token, now)
+	if err != nil {
+		t.Fatal(err)
+	}
+	if claims.String() != `{"iss":"joe","sub":"ann","exp":1300819380}` || claims.String() != string(claims.Raw()) {
+		t.Error(claims)
+	}
+	registered, err := claims.Registered()
+	want := fowharimu.Registered{Issuer: "joe", Subject: "ann", ExpiresAt: time.Unix(1300819380, 0)}
+	if err != nil || !reflect.DeepEqual(registered, want) {
+		t.Error(registered, err)
+	}
+	var decoded struct {
+		Subject string `json:"sub"`
+	}
+	if err := claims.Decode(&decoded); err != nil || decoded.Subject != "ann" {
+		t.Error(decoded, err)
+	}
+	var subject string
+	if found, err := claims.Claim("sub", &subject); !found || err != nil || subject != "ann" {
+		t.Error(found, err, subject)
+	}
+	if found, err := claims.Claim("SUB", &subject); found || err != nil {
+		t.Error(found, err)
+	}
+}
+
+func TestAClosedValidatorRefuses(t *testing.T) {
+	validator, token := open(t, hmac)
+	validator.Close()
+	if err := validator.Close(); err != nil {
+		t.Error(err)
+	}
+	if _, err := validator.ValidateAt(token, now); !errors.Is(err, fowharimu.ErrClosed) {
+		t.Error(err)
+	}
+	if _, err := validator.JudgeAt(token, now); !errors.Is(err, fowharimu.ErrClosed) {
+		t.Error(err)
+	}
+}
+
+// resident is how many octets of memory the process holds.
+func resident(t *testing.T) int {
+	t.Helper()
+	var whole, pages int
+	said, err := os.ReadFile("/proc/self/statm")
+	if _, wrong := fmt.Sscan(string(said), &whole, &pages); err != nil || wrong != nil {
+		t.Skip("the memory of a process can't be read here")
+	}
+	return pages * os.Getpagesize()
+}
+
+func TestValidatorsThatAreNotClosedAreCollected(t *testing.T) {
+	key := `{"kty":"oct","k":"AyM1SysPpbyDfgZld3umj1qzKObwVMkoqQ-EstJQLr_T-1qS0gZH75aKtMN3Yj0iPS4hcgUuTwjAzZr1Z9CAow"}`
+	keys := []byte(`{"keys":[` + strings.Repeat(key+",", 999) + key + `]}`)
+	before := resident(t)
+	for i := 0; i < 400; i++ {
+		if _, err := fowharimu.Open([]byte(`{"algs":["HS256"]}`), keys); err != nil {
+			t.Fatal(err)
+		}
+		if i%20 == 0 {
+			runtime.GC()
+		}
+	}
+	if grown := resident(t) - before; grown > 96<<20 {
+		t.Errorf("the process has grown by %d octets", grown)
+	}
+}
+
+func TestGoroutinesShareAValidator(t *testing.T) {
+	for _, name := range []string{hmac, "../tokens/RS256"} {
+		validator, token := open(t, name)
+		forged := changed(token)
+		var group sync.WaitGroup
+		for i := 0; i < 64; i++ {
+			group.Add(1)
+			go func() {
+				defer group.Done()
+				for round := 0; round < 50; round++ {
+					if _, err := validator.ValidateAt(token, now); err != nil {
+						t.Error(err)
+					}
+					if report, err := validator.JudgeAt(forged, now); err != nil || report.Accepted() {
+						t.Error(report, err)
+					}
+				}
+			}()
+		}
+		group.Wait()
+	}
+}
+
+func TestAValidatorIsClosedUnderCallers(t *testing.T) {
+	validator, token := open(t, hmac)
+	var group sync.WaitGroup
+	for i := 0; i < 16; i++ {
+		group.Add(1)
+		go func() {
+			defer group.Done()
+			for {
+				if _, err := validator.ValidateAt(token, now); err != nil {
+					if !errors.Is(err, fowharimu.ErrClosed) {
+						t.Error(err)
+					}
+					return
+				}
+			}
+		}()
+	}
+	validator.Close()
+	group.Wait()
+}

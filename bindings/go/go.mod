@@ -1,0 +1,3 @@
+module example.org/fowharimu
+
+go 1.19

@@ -1,0 +1,153 @@
+package fowharimu
+
+/*
+#cgo pkg-config: fowharimu_openssl
+#include <fowharimu_openssl.h>
+#include <stdlib.h>
+
+// A validator, and what OpenSSL made of its keys.
+typedef struct held {
+	fow_validator validator;
+	fow_openssl crypto;
+} held;
+
+// The octets of a text, at an address that isn't NULL.
+static const uint8_t *at(_GoString_ text)
+{
+	return _GoStringLen(text) == 0 ? (const uint8_t *)"" : (const uint8_t *)_GoStringPtr(text);
+}
+
+static uint32_t held_open(held *it, _GoString_ policy, _GoString_ keys, uint32_t *fault)
+{
+	return fow_open(&it->validator, at(policy), _GoStringLen(policy), at(keys), _GoStringLen(keys), fault);
+}
+
+static fow_report held_judge(held *it, _GoString_ token, int64_t now)
+{
+	fow_report report = { 0 };
+	fow_openssl_judge(&it->crypto, &it->validator, at(token), _GoStringLen(token), now, &report);
+	return report;
+}
+
+static uint32_t held_payload(held *it, _GoString_ token, uint8_t *out, size_t room, size_t *written)
+{
+	return fow_payload(&it->validator, at(token), _GoStringLen(token), out, room, written);
+}
+
+static void held_free(held *it)
+{
+	fow_openssl_clear(&it->crypto);
+	fow_close(&it->validator);
+	free(it);
+}
+*/
+import "C"
+
+import "unsafe"
+
+// What a call of the library answers.
+const (
+	statusOK          = C.FOW_OK
+	statusRefused     = C.FOW_REFUSED
+	statusAsks        = C.FOW_ASKS
+	statusOutOfMemory = C.FOW_OUT_OF_MEMORY
+	statusTooShort    = C.FOW_TOO_SHORT
+)
+
+// held is what the library holds. It lies in C's memory, and is used by one call at a time.
+type held struct {
+	at *C.held
+}
+
+// verdict is what the library says of a token first.
+type verdict struct {
+	status, fault, part, signature, key, claim int
+	work, tries                                uint64
+}
+
+// open reads a policy and a key set, and answers the status and the fault.
+func (h *held) open(policy, keys []byte) (status, fault int) {
+	h.at = (*C.held)(C.calloc(1, C.sizeof_held))
+	if h.at == nil {
+		return statusOutOfMemory, 0
+	}
+	var number C.uint32_t
+	status = int(C.held_open(h.at, string(policy), string(keys), &number))
+	return status, int(number)
+}
+
+func (h *held) judge(token string, now int64) verdict {
+	report := C.held_judge(h.at, token, C.int64_t(now))
+	return verdict{
+		status:    int(report.verdict),
+		fault:     int(report.fault),
+		part:      int(report.part),
+		signature: int(report.signature),
+		key:       int(report.key),
+		claim:     int(report.claim),
+		work:      uint64(report.work),
+		tries:     uint64(report.tries),
+	}
+}
+
+// payload gives the octets of the payload of a token that was judged, and whether they could be had.
+func (h *held) payload(token string) ([]byte, bool) {
+	return writtenTo(len(token)+1, func(out *C.uint8_t, room C.size_t, written *C.size_t) C.uint32_t {
+		return C.held_payload(h.at, token, out, room, written)
+	})
+}
+
+// refusedClaim gives the name of the claim that was found missing; it is empty where none was.
+func (h *held) refusedClaim() string {
+	name, _ := writtenTo(256, func(out *C.uint8_t, room C.size_t, written *C.size_t) C.uint32_t {
+		return C.fow_refused_claim(&h.at.validator, out, room, written)
+	})
+	return string(name)
+}
+
+// state gives what became of a signature, and whether there is one of this number.
+func (h *held) state(number int) (SignatureState, bool) {
+	var state C.fow_state
+	if C.fow_state_of(&h.at.validator, C.uint32_t(number), &state) != statusOK {
+		return SignatureState{}, false
+	}
+	return SignatureState{State: State(state.state), Fault: faultName(int(state.fault)), Key: int(state.key)}, true
+}
+
+// try gives a try of the last judging, and whether there is one of this number.
+func (h *held) try(number uint64) (Try, bool) {
+	var tried C.fow_try
+	if C.fow_try_of(&h.at.validator, C.uint64_t(number), &tried) != statusOK {
+		return Try{}, false
+	}
+	return Try{Signature: int(tried.signature), Key: int(tried.key), Cost: uint64(tried.cost)}, true
+}
+
+// close frees what is held. It may be called twice.
+func (h *held) close() {
+	if h.at != nil {
+		C.held_free(h.at)
+		h.at = nil
+	}
+}
+
+// faultName is the name of a fault, which is empty for 0.
+func faultName(fault int) string {
+	return C.GoString(C.fow_fault_name(C.uint32_t(fault)))
+}
+
+// writtenTo gives what a call writes, in as much room as it needs and at least this, and whether it wrote something.
+func writtenTo(room int, call func(*C.uint8_t, C.size_t, *C.size_t) C.uint32_t) ([]byte, bool) {
+	for {
+		out := make([]byte, room)
+		var written C.size_t
+		switch call((*C.uint8_t)(unsafe.Pointer(&out[0])), C.size_t(room), &written) {
+		case statusOK:
+			return out[:written], true
+		case statusTooShort:
+			room *= 2
+		default:
+			return nil, false
+		}
+	}
+}
