@@ -37,7 +37,7 @@ STATUS = re.compile(rb"HTTP/1\.1 (\d{3}) ")
 
 
 def prepared(room: pathlib.Path, secrets: list[tokens.Secret], **options) -> Nginx:
-    nginx = Nginx(room, log="off", **options)
+    nginx = Nginx(room, log="off", level="warn", **options)
     nginx.write("hs.policy", POLICY)
     nginx.write("hs.keys", tokens.key_set(*[it.jwk() for it in secrets]))
     nginx.write("html/page", PAGE)
@@ -69,7 +69,7 @@ def hostile(token: bytes, chance: random.Random, corpus: list[bytes]) -> bytes:
     if way < 8:
         return chance.choice(corpus)
     # (no blank, NUL or line feed: nginx drops or refuses those itself)
-    return bytes(chance.choice(range(33, 256)) for _ in range(chance.choice((1, 10, 300, 8191))))
+    return b"!" + chance.randbytes(chance.choice((1, 10, 300, 4000, 8500))).translate(None, b"\0\r\n ")
 
 
 def request(token: bytes) -> bytes:

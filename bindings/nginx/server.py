@@ -18,7 +18,7 @@ load_module {module};
 {user}
 worker_processes {workers};
 pid {room}/nginx.pid;
-error_log {room}/error.log info;
+error_log {room}/error.log {level};
 events {{ worker_connections 1024; }}
 http {{
     log_format jwt '$uri $status $jwt_verdict $jwt_fault $jwt_claim_sub $jwt_tries $jwt_work';
@@ -44,11 +44,12 @@ class Answer(NamedTuple):
 class Nginx:
     """nginx with this text in the block http, where {port} and {room} are its own."""
 
-    def __init__(self, room: pathlib.Path, workers: int = 2, log: str = "", **environment: str) -> None:
+    def __init__(self, room: pathlib.Path, workers: int = 2, log: str = "", level: str = "info", **environment: str) -> None:
         self.room = room
         self.port = free_port()
         self.workers = workers
         self.log = log or f"{room}/access.log jwt"
+        self.level = level
         self.environment = {**os.environ, **environment}
         self.process: subprocess.Popen | None = None
         (room / "html").mkdir(parents=True, exist_ok=True)
@@ -66,7 +67,7 @@ class Nginx:
         (self.room / "temp").mkdir(exist_ok=True)
         # (who isn't root has no choice of the workers' user)
         user = "" if os.geteuid() else "user nobody nogroup;"
-        words = {"module": MODULE, "user": user, "workers": self.workers, "room": self.room, "log": self.log}
+        words = {"module": MODULE, "user": user, "workers": self.workers, "room": self.room, "log": self.log, "level": self.level}
         http = http.replace("{port}", str(self.port)).replace("{room}", str(self.room))
         self.write("nginx.conf", MAIN.format(temporary=temporary, http=http, **words))
 
