@@ -4,6 +4,8 @@
 #   make test                        runs the tests of each language that is installed
 #   make install PREFIX= DESTDIR=    installs libraries, headers, pkg-config, the manual page and the program
 #   make deb                         makes build/fowharimu_VERSION_ARCHITECTURE.deb
+#   make nginx                       builds build/nginx/ngx_http_fowharimu_module.so (Debian: nginx-dev)
+#   make nginx-install DESTDIR=      installs it where Debian's nginx looks for modules
 PREFIX ?= /usr/local
 LIBDIR ?= $(PREFIX)/lib
 VERSION = 0.1.0
@@ -81,6 +83,28 @@ deb:
 	sed 's|@VERSION@|$(VERSION)|; s|@ARCHITECTURE@|$(shell dpkg --print-architecture)|' debian/control > $(BUILD)/deb/DEBIAN/control
 	dpkg-deb --root-owner-group --build $(BUILD)/deb $(BUILD)
 
+# nginx's own configure, with the flags of Debian's nginx, writes the Makefile for the module.
+NGINX = /usr/share/nginx/src
+MODULE = ngx_http_fowharimu_module
+NGINX_FLAGS = -O2 -g -fPIC -fstack-protector-strong -D_FORTIFY_SOURCE=2
+
+$(BUILD)/nginx/Makefile: bindings/nginx/config
+	mkdir -p $(BUILD)/nginx
+	cd $(NGINX) && bash -c '. ./conf_flags && ./configure --with-cc-opt="$(NGINX_FLAGS)" --with-ld-opt="-Wl,-z,relro -Wl,-z,now" \
+	    "$${NGX_CONF_FLAGS[@]}" --add-dynamic-module=$(CURDIR)/bindings/nginx --builddir=$(CURDIR)/$(BUILD)/nginx' > $(CURDIR)/$(BUILD)/nginx/configure.log
+
+$(BUILD)/nginx/$(MODULE).so: $(BUILD)/nginx/Makefile bindings/nginx/$(MODULE).c $(BUILD)/libfowharimu.a $(BUILD)/libfowharimu_openssl.a
+	rm -f $@
+	$(MAKE) -C $(NGINX) -f $(CURDIR)/$(BUILD)/nginx/Makefile modules
+
+nginx: $(BUILD)/nginx/$(MODULE).so
+
+nginx-install: nginx
+	install -d $(DESTDIR)/usr/lib/nginx/modules $(DESTDIR)/usr/share/nginx/modules-available $(DESTDIR)/etc/nginx/modules-enabled
+	install -m 644 $(BUILD)/nginx/$(MODULE).so $(DESTDIR)/usr/lib/nginx/modules
+	echo 'load_module modules/$(MODULE).so;' > $(DESTDIR)/usr/share/nginx/modules-available/mod-http-fowharimu.conf
+	ln -sf /usr/share/nginx/modules-available/mod-http-fowharimu.conf $(DESTDIR)/etc/nginx/modules-enabled/50-mod-http-fowharimu.conf
+
 test: all
 	bindings/run
 
@@ -89,4 +113,4 @@ clean:
 
 FORCE:
 
-.PHONY: all install deb test clean FORCE
+.PHONY: all install deb nginx nginx-install test clean FORCE

@@ -1,0 +1,1589 @@
+
+/*
+ * Judges the JSON Web Token of a request by the library Fowharimu, in the
+ * access phase.  README.md beside this file documents the directives.
+ *
+ * Documents are read, and validators opened, with the configuration, by the
+ * master process.  A worker has them by fork: its copy of that memory is its
+ * own, and it handles one request at a time, so a validator is never used by
+ * two calls at once.
+ */
+
+#include <ngx_config.h>
+#include <ngx_core.h>
+#include <ngx_http.h>
+
+#include <fowharimu_openssl.h>
+
+
+/* the longest documents that the library reads, in octets */
+#define NGX_HTTP_FOWHARIMU_MAX_POLICY  65536
+#define NGX_HTTP_FOWHARIMU_MAX_KEYS    4194304
+
+/* in the place of a variable's index: the header Authorization */
+#define NGX_HTTP_FOWHARIMU_BEARER      -2
+
+
+typedef struct {
+    fow_validator                    handle;
+    fow_openssl                      crypto;
+} ngx_http_fowharimu_validator_t;
+
+
+typedef struct {
+    ngx_str_t                        name;
+    ngx_array_t                      values;    /* ngx_str_t */
+    unsigned                         words:1;   /* its text is a list of words */
+} ngx_http_fowharimu_demand_t;
+
+
+typedef struct {
+    ngx_array_t                      claims;    /* ngx_str_t: named by variables */
+    ngx_array_t                      indexes;   /* ngx_uint_t: of variables */
+    unsigned                         named:1;   /* some document is */
+    unsigned                         enabled:1;
+} ngx_http_fowharimu_main_conf_t;
+
+
+typedef struct {
+    ngx_flag_t                       enable;
+    u_char                          *file;      /* where it was enabled */
+    ngx_uint_t                       line;
+    ngx_str_t                        policy;    /* the document's octets */
+    ngx_str_t                        keys;
+    ngx_int_t                        token;
+    ngx_array_t                     *demands;
+    ngx_http_fowharimu_validator_t  *validator;
+} ngx_http_fowharimu_loc_conf_t;
+
+
+/* what is kept of the last judging of a request; an empty text is absent */
+typedef struct {
+    ngx_http_request_t              *request;
+    ngx_str_t                        verdict;
+    ngx_str_t                        fault;
+    uint64_t                         tries;
+    uint64_t                         work;
+    ngx_str_t                       *claims;    /* in the order of the names */
+} ngx_http_fowharimu_ctx_t;
+
+
+static ngx_int_t ngx_http_fowharimu_access_handler(ngx_http_request_t *r);
+static ngx_int_t ngx_http_fowharimu_subrequest_handler(ngx_http_request_t *r);
+static ngx_int_t ngx_http_fowharimu_token(ngx_http_request_t *r,
+    ngx_http_fowharimu_loc_conf_t *lcf, ngx_str_t *token);
+static ngx_int_t ngx_http_fowharimu_bearer(ngx_http_request_t *r,
+    ngx_str_t *token);
+static ngx_int_t ngx_http_fowharimu_judge(ngx_http_request_t *r,
+    ngx_http_fowharimu_loc_conf_t *lcf, ngx_http_fowharimu_ctx_t *ctx,
+    ngx_str_t *token);
+static ngx_int_t ngx_http_fowharimu_accepted(ngx_http_request_t *r,
+    ngx_http_fowharimu_loc_conf_t *lcf, ngx_http_fowharimu_ctx_t *ctx,
+    size_t size);
+static ngx_int_t ngx_http_fowharimu_keep_claims(ngx_http_request_t *r,
+    ngx_http_fowharimu_loc_conf_t *lcf, ngx_http_fowharimu_ctx_t *ctx,
+    ngx_str_t *room);
+static ngx_int_t ngx_http_fowharimu_keep_claim(ngx_http_request_t *r,
+    ngx_str_t *claim, ngx_str_t *kept);
+static ngx_int_t ngx_http_fowharimu_meets(ngx_http_fowharimu_demand_t *demand,
+    ngx_str_t *claim);
+static ngx_int_t ngx_http_fowharimu_meets_text(
+    ngx_http_fowharimu_demand_t *demand, ngx_str_t *text);
+static ngx_int_t ngx_http_fowharimu_is_among(ngx_array_t *values, u_char *data,
+    size_t len);
+static ngx_int_t ngx_http_fowharimu_claim(
+    ngx_http_fowharimu_validator_t *validator, ngx_str_t *name,
+    ngx_str_t *claim);
+static ngx_int_t ngx_http_fowharimu_read_text(u_char **p, u_char *last,
+    ngx_str_t *text);
+static ngx_int_t ngx_http_fowharimu_refuse(ngx_http_request_t *r,
+    ngx_int_t status, char *challenge);
+static ngx_int_t ngx_http_fowharimu_fail(ngx_http_request_t *r,
+    ngx_http_fowharimu_ctx_t *ctx, char *fault);
+static void ngx_http_fowharimu_set_text(ngx_str_t *text, const char *value);
+
+static ngx_http_fowharimu_ctx_t *ngx_http_fowharimu_new_ctx(
+    ngx_http_request_t *r);
+static ngx_http_fowharimu_ctx_t *ngx_http_fowharimu_get_ctx(
+    ngx_http_request_t *r);
+static ngx_http_fowharimu_ctx_t *ngx_http_fowharimu_find_ctx(
+    ngx_http_request_t *r, ngx_http_request_t *owner);
+static void ngx_http_fowharimu_cleanup(void *data);
+
+static ngx_int_t ngx_http_fowharimu_text_variable(ngx_http_request_t *r,
+    ngx_http_variable_value_t *v, uintptr_t data);
+static ngx_int_t ngx_http_fowharimu_number_variable(ngx_http_request_t *r,
+    ngx_http_variable_value_t *v, uintptr_t data);
+static ngx_int_t ngx_http_fowharimu_claim_variable(ngx_http_request_t *r,
+    ngx_http_variable_value_t *v, uintptr_t data);
+static ngx_int_t ngx_http_fowharimu_set_variable(ngx_http_request_t *r,
+    ngx_http_variable_value_t *v, uintptr_t data);
+
+static ngx_int_t ngx_http_fowharimu_add_variables(ngx_conf_t *cf);
+static ngx_int_t ngx_http_fowharimu_init(ngx_conf_t *cf);
+static ngx_int_t ngx_http_fowharimu_init_module(ngx_cycle_t *cycle);
+static void *ngx_http_fowharimu_create_main_conf(ngx_conf_t *cf);
+static void *ngx_http_fowharimu_create_loc_conf(ngx_conf_t *cf);
+static char *ngx_http_fowharimu_merge_loc_conf(ngx_conf_t *cf, void *parent,
+    void *child);
+static ngx_int_t ngx_http_fowharimu_open(ngx_conf_t *cf,
+    ngx_http_fowharimu_loc_conf_t *lcf);
+static void ngx_http_fowharimu_close(void *data);
+static char *ngx_http_fowharimu_enable(ngx_conf_t *cf, ngx_command_t *cmd,
+    void *conf);
+static char *ngx_http_fowharimu_policy(ngx_conf_t *cf, ngx_command_t *cmd,
+    void *conf);
+static char *ngx_http_fowharimu_keys(ngx_conf_t *cf, ngx_command_t *cmd,
+    void *conf);
+static ngx_int_t ngx_http_fowharimu_read_file(ngx_conf_t *cf, ngx_str_t *name,
+    size_t max, ngx_str_t *document);
+static char *ngx_http_fowharimu_check(ngx_conf_t *cf, ngx_str_t *name,
+    ngx_str_t *policy, ngx_str_t *keys);
+static char *ngx_http_fowharimu_set_token(ngx_conf_t *cf, ngx_command_t *cmd,
+    void *conf);
+static char *ngx_http_fowharimu_require(ngx_conf_t *cf, ngx_command_t *cmd,
+    void *conf);
+static char *ngx_http_fowharimu_claim_set(ngx_conf_t *cf, ngx_command_t *cmd,
+    void *conf);
+
+
+#define NGX_HTTP_FOWHARIMU_CONF                                              \
+    (NGX_HTTP_MAIN_CONF|NGX_HTTP_SRV_CONF|NGX_HTTP_LOC_CONF                  \
+     |NGX_HTTP_LMT_CONF)
+
+
+static ngx_command_t  ngx_http_fowharimu_commands[] = {
+
+    { ngx_string("jwt"),
+      NGX_HTTP_FOWHARIMU_CONF|NGX_CONF_FLAG,
+      ngx_http_fowharimu_enable,
+      NGX_HTTP_LOC_CONF_OFFSET,
+      offsetof(ngx_http_fowharimu_loc_conf_t, enable),
+      NULL },
+
+    { ngx_string("jwt_policy"),
+      NGX_HTTP_FOWHARIMU_CONF|NGX_CONF_TAKE1,
+      ngx_http_fowharimu_policy,
+      NGX_HTTP_LOC_CONF_OFFSET,
+      0,
+      NULL },
+
+    { ngx_string("jwt_keys"),
+      NGX_HTTP_FOWHARIMU_CONF|NGX_CONF_TAKE1,
+      ngx_http_fowharimu_keys,
+      NGX_HTTP_LOC_CONF_OFFSET,
+      0,
+      NULL },
+
+    { ngx_string("jwt_token"),
+      NGX_HTTP_FOWHARIMU_CONF|NGX_CONF_TAKE1,
+      ngx_http_fowharimu_set_token,
+      NGX_HTTP_LOC_CONF_OFFSET,
+      0,
+      NULL },
+
+    { ngx_string("jwt_require"),
+      NGX_HTTP_FOWHARIMU_CONF|NGX_CONF_2MORE,
+      ngx_http_fowharimu_require,
+      NGX_HTTP_LOC_CONF_OFFSET,
+      0,
+      NULL },
+
+    { ngx_string("jwt_claim_set"),
+      NGX_HTTP_MAIN_CONF|NGX_CONF_TAKE2,
+      ngx_http_fowharimu_claim_set,
+      NGX_HTTP_MAIN_CONF_OFFSET,
+      0,
+      NULL },
+
+      ngx_null_command
+};
+
+
+static ngx_http_module_t  ngx_http_fowharimu_module_ctx = {
+    ngx_http_fowharimu_add_variables,      /* preconfiguration */
+    ngx_http_fowharimu_init,               /* postconfiguration */
+
+    ngx_http_fowharimu_create_main_conf,   /* create main configuration */
+    NULL,                                  /* init main configuration */
+
+    NULL,                                  /* create server configuration */
+    NULL,                                  /* merge server configuration */
+
+    ngx_http_fowharimu_create_loc_conf,    /* create location configuration */
+    ngx_http_fowharimu_merge_loc_conf      /* merge location configuration */
+};
+
+
+ngx_module_t  ngx_http_fowharimu_module = {
+    NGX_MODULE_V1,
+    &ngx_http_fowharimu_module_ctx,        /* module context */
+    ngx_http_fowharimu_commands,           /* module directives */
+    NGX_HTTP_MODULE,                       /* module type */
+    NULL,                                  /* init master */
+    ngx_http_fowharimu_init_module,        /* init module */
+    NULL,                                  /* init process */
+    NULL,                                  /* init thread */
+    NULL,                                  /* exit thread */
+    NULL,                                  /* exit process */
+    NULL,                                  /* exit master */
+    NGX_MODULE_V1_PADDING
+};
+
+
+#define NGX_HTTP_FOWHARIMU_PREFIX  "jwt_claim_"
+
+static ngx_http_variable_t  ngx_http_fowharimu_vars[] = {
+
+    { ngx_string("jwt_verdict"), NULL, ngx_http_fowharimu_text_variable,
+      offsetof(ngx_http_fowharimu_ctx_t, verdict),
+      NGX_HTTP_VAR_NOCACHEABLE, 0 },
+
+    { ngx_string("jwt_fault"), NULL, ngx_http_fowharimu_text_variable,
+      offsetof(ngx_http_fowharimu_ctx_t, fault),
+      NGX_HTTP_VAR_NOCACHEABLE, 0 },
+
+    { ngx_string("jwt_tries"), NULL, ngx_http_fowharimu_number_variable,
+      offsetof(ngx_http_fowharimu_ctx_t, tries),
+      NGX_HTTP_VAR_NOCACHEABLE, 0 },
+
+    { ngx_string("jwt_work"), NULL, ngx_http_fowharimu_number_variable,
+      offsetof(ngx_http_fowharimu_ctx_t, work),
+      NGX_HTTP_VAR_NOCACHEABLE, 0 },
+
+    { ngx_string(NGX_HTTP_FOWHARIMU_PREFIX), NULL,
+      ngx_http_fowharimu_claim_variable, 0,
+      NGX_HTTP_VAR_NOCACHEABLE|NGX_HTTP_VAR_PREFIX, 0 },
+
+      ngx_http_null_variable
+};
+
+
+/* by these each document is tried alone, where the configuration names it */
+static ngx_str_t  ngx_http_fowharimu_some_policy =
+    ngx_string("{\"algs\":[\"HS256\"]}");
+static ngx_str_t  ngx_http_fowharimu_no_keys = ngx_string("{\"keys\":[]}");
+
+
+static ngx_int_t
+ngx_http_fowharimu_access_handler(ngx_http_request_t *r)
+{
+    ngx_int_t                       rc;
+    ngx_str_t                       token;
+    ngx_http_fowharimu_ctx_t       *ctx;
+    ngx_http_fowharimu_loc_conf_t  *lcf;
+
+    lcf = ngx_http_get_module_loc_conf(r, ngx_http_fowharimu_module);
+
+    if (!lcf->enable) {
+        return NGX_DECLINED;
+    }
+
+    ctx = ngx_http_fowharimu_new_ctx(r);
+    if (ctx == NULL) {
+        return NGX_HTTP_INTERNAL_SERVER_ERROR;
+    }
+
+    rc = ngx_http_fowharimu_token(r, lcf, &token);
+
+    if (rc == NGX_OK) {
+        return ngx_http_fowharimu_judge(r, lcf, ctx, &token);
+    }
+
+    if (rc == NGX_DECLINED) {
+        ngx_str_set(&ctx->verdict, "absent");
+        return ngx_http_fowharimu_refuse(r, NGX_HTTP_UNAUTHORIZED,
+                                         "Bearer realm=\"jwt\"");
+    }
+
+    if (rc == NGX_ABORT) {
+        ngx_str_set(&ctx->verdict, "refused");
+        ngx_str_set(&ctx->fault, "HeaderTwice");
+        return ngx_http_fowharimu_refuse(r, NGX_HTTP_BAD_REQUEST,
+                                         "Bearer error=\"invalid_request\"");
+    }
+
+    return ngx_http_fowharimu_fail(r, ctx, "NoVariable");
+}
+
+
+/*
+ * nginx takes a subrequest past the access phase.  Here it is judged like any
+ * other request, so that a page which is open lends nobody one that isn't.
+ */
+
+static ngx_int_t
+ngx_http_fowharimu_subrequest_handler(ngx_http_request_t *r)
+{
+    ngx_int_t  rc;
+
+    if (r == r->main) {
+        return NGX_DECLINED;
+    }
+
+    rc = ngx_http_fowharimu_access_handler(r);
+
+    return rc == NGX_OK ? NGX_DECLINED : rc;
+}
+
+
+/* NGX_DECLINED: there is no token; NGX_ABORT: the header stands twice */
+
+static ngx_int_t
+ngx_http_fowharimu_token(ngx_http_request_t *r,
+    ngx_http_fowharimu_loc_conf_t *lcf, ngx_str_t *token)
+{
+    ngx_http_variable_value_t  *v;
+
+    if (lcf->token == NGX_HTTP_FOWHARIMU_BEARER) {
+        return ngx_http_fowharimu_bearer(r, token);
+    }
+
+    v = ngx_http_get_flushed_variable(r, lcf->token);
+
+    if (v == NULL) {
+        return NGX_ERROR;
+    }
+
+    if (v->not_found || v->len == 0) {
+        return NGX_DECLINED;
+    }
+
+    token->len = v->len;
+    token->data = v->data;
+
+    return NGX_OK;
+}
+
+
+/* the credentials of the scheme Bearer, RFC 6750, section 2.1 */
+
+static ngx_int_t
+ngx_http_fowharimu_bearer(ngx_http_request_t *r, ngx_str_t *token)
+{
+    ngx_str_t         value;
+    ngx_uint_t        i;
+    ngx_list_part_t  *part;
+    ngx_table_elt_t  *header;
+
+    value.len = 0;
+    value.data = NULL;
+
+    part = &r->headers_in.headers.part;
+    header = part->elts;
+
+    for (i = 0; /* void */ ; i++) {
+
+        if (i >= part->nelts) {
+            if (part->next == NULL) {
+                break;
+            }
+
+            part = part->next;
+            header = part->elts;
+            i = 0;
+        }
+
+        if (header[i].key.len != sizeof("Authorization") - 1
+            || ngx_strncasecmp(header[i].key.data, (u_char *) "Authorization",
+                               sizeof("Authorization") - 1)
+               != 0)
+        {
+            continue;
+        }
+
+        if (value.data) {
+            return NGX_ABORT;
+        }
+
+        value = header[i].value;
+    }
+
+    if (value.len < sizeof("Bearer") - 1
+        || ngx_strncasecmp(value.data, (u_char *) "Bearer",
+                           sizeof("Bearer") - 1)
+           != 0)
+    {
+        return NGX_DECLINED;
+    }
+
+    value.len -= sizeof("Bearer") - 1;
+    value.data += sizeof("Bearer") - 1;
+
+    if (value.len && *value.data != ' ') {
+        return NGX_DECLINED;
+    }
+
+    while (value.len && *value.data == ' ') {
+        value.len--;
+        value.data++;
+    }
+
+    *token = value;
+
+    return NGX_OK;
+}
+
+
+static ngx_int_t
+ngx_http_fowharimu_judge(ngx_http_request_t *r,
+    ngx_http_fowharimu_loc_conf_t *lcf, ngx_http_fowharimu_ctx_t *ctx,
+    ngx_str_t *token)
+{
+    fow_report                       report;
+    ngx_http_fowharimu_validator_t  *validator;
+
+    validator = lcf->validator;
+    ngx_memzero(&report, sizeof(fow_report));
+
+    (void) fow_openssl_judge(&validator->crypto, &validator->handle,
+                             token->data, token->len, (int64_t) ngx_time(),
+                             &report);
+
+    ctx->tries = report.tries;
+    ctx->work = report.work;
+
+    switch (report.verdict) {
+
+    case FOW_OK:
+        return ngx_http_fowharimu_accepted(r, lcf, ctx, token->len);
+
+    case FOW_REFUSED:
+        ngx_str_set(&ctx->verdict, "refused");
+        ngx_http_fowharimu_set_text(&ctx->fault,
+                                    fow_fault_name(report.fault));
+
+        ngx_log_error(NGX_LOG_INFO, r->connection->log, 0,
+                      "jwt: the token is refused: %V", &ctx->fault);
+
+        return ngx_http_fowharimu_refuse(r, NGX_HTTP_UNAUTHORIZED,
+                                         "Bearer error=\"invalid_token\"");
+
+    case FOW_ASKS:
+        return ngx_http_fowharimu_fail(r, ctx, "Unanswered");
+
+    case FOW_OUT_OF_MEMORY:
+        return ngx_http_fowharimu_fail(r, ctx, "OutOfMemory");
+
+    default:
+        return ngx_http_fowharimu_fail(r, ctx, "NotOpen");
+    }
+}
+
+
+/* of a token of that size, which the validator has accepted just now */
+
+static ngx_int_t
+ngx_http_fowharimu_accepted(ngx_http_request_t *r,
+    ngx_http_fowharimu_loc_conf_t *lcf, ngx_http_fowharimu_ctx_t *ctx,
+    size_t size)
+{
+    ngx_int_t                     rc;
+    ngx_str_t                     room, claim;
+    ngx_uint_t                    i;
+    ngx_http_fowharimu_demand_t  *demand;
+
+    /* a claim's compact text is no longer than the payload that it is in */
+
+    room.len = size + NGX_INT64_LEN;
+    room.data = ngx_pnalloc(r->pool, room.len);
+    if (room.data == NULL) {
+        return ngx_http_fowharimu_fail(r, ctx, "OutOfMemory");
+    }
+
+    if (lcf->demands) {
+        demand = lcf->demands->elts;
+
+        for (i = 0; i < lcf->demands->nelts; i++) {
+            claim = room;
+            rc = ngx_http_fowharimu_claim(lcf->validator, &demand[i].name,
+                                          &claim);
+
+            if (rc == NGX_ERROR) {
+                return ngx_http_fowharimu_fail(r, ctx, "OutOfMemory");
+            }
+
+            if (rc != NGX_OK || !ngx_http_fowharimu_meets(&demand[i], &claim)) {
+                ngx_str_set(&ctx->verdict, "forbidden");
+
+                ngx_log_error(NGX_LOG_INFO, r->connection->log, 0,
+                              "jwt: the claim \"%V\" isn't as \"jwt_require\" "
+                              "asks", &demand[i].name);
+
+                return ngx_http_fowharimu_refuse(r, NGX_HTTP_FORBIDDEN,
+                                       "Bearer error=\"insufficient_scope\"");
+            }
+        }
+    }
+
+    if (ngx_http_fowharimu_keep_claims(r, lcf, ctx, &room) != NGX_OK) {
+        return ngx_http_fowharimu_fail(r, ctx, "OutOfMemory");
+    }
+
+    (void) ngx_pfree(r->pool, room.data);
+
+    ngx_str_set(&ctx->verdict, "accepted");
+
+    return NGX_OK;
+}
+
+
+/*
+ * The claims that variables name are kept with the request: the validator may
+ * have judged another one when they are asked for.
+ */
+
+static ngx_int_t
+ngx_http_fowharimu_keep_claims(ngx_http_request_t *r,
+    ngx_http_fowharimu_loc_conf_t *lcf, ngx_http_fowharimu_ctx_t *ctx,
+    ngx_str_t *room)
+{
+    ngx_int_t                        rc;
+    ngx_str_t                       *name, claim;
+    ngx_uint_t                       i;
+    ngx_http_fowharimu_main_conf_t  *mcf;
+
+    mcf = ngx_http_get_module_main_conf(r, ngx_http_fowharimu_module);
+
+    if (mcf->claims.nelts == 0) {
+        return NGX_OK;
+    }
+
+    ctx->claims = ngx_pcalloc(r->pool, mcf->claims.nelts * sizeof(ngx_str_t));
+    if (ctx->claims == NULL) {
+        return NGX_ERROR;
+    }
+
+    name = mcf->claims.elts;
+
+    for (i = 0; i < mcf->claims.nelts; i++) {
+        claim = *room;
+        rc = ngx_http_fowharimu_claim(lcf->validator, &name[i], &claim);
+
+        if (rc == NGX_OK) {
+            rc = ngx_http_fowharimu_keep_claim(r, &claim, &ctx->claims[i]);
+        }
+
+        if (rc == NGX_ERROR) {
+            ctx->claims = NULL;
+            return NGX_ERROR;
+        }
+    }
+
+    return NGX_OK;
+}
+
+
+/*
+ * A text is kept without its quotation marks; one with a control character,
+ * which would break a header, isn't.  Numbers, and lists in JSON, have none.
+ */
+
+static ngx_int_t
+ngx_http_fowharimu_keep_claim(ngx_http_request_t *r, ngx_str_t *claim,
+    ngx_str_t *kept)
+{
+    u_char     *p;
+    ngx_str_t   text;
+
+    text = *claim;
+    p = claim->data;
+
+    if (*p == '"'
+        && ngx_http_fowharimu_read_text(&p, p + claim->len, &text) != NGX_OK)
+    {
+        return NGX_DECLINED;
+    }
+
+    kept->data = ngx_pstrdup(r->pool, &text);
+    if (kept->data == NULL) {
+        return NGX_ERROR;
+    }
+
+    kept->len = text.len;
+
+    return NGX_OK;
+}
+
+
+/* whether a claim, a number or some texts in JSON, is as it is asked for */
+
+static ngx_int_t
+ngx_http_fowharimu_meets(ngx_http_fowharimu_demand_t *demand, ngx_str_t *claim)
+{
+    u_char     *p, *last;
+    ngx_str_t   text;
+
+    p = claim->data;
+    last = claim->data + claim->len;
+
+    if (*p != '"' && *p != '[') {
+        return ngx_http_fowharimu_is_among(&demand->values, p, claim->len);
+    }
+
+    while (p < last) {
+
+        if (*p != '"') {
+            p++;
+            continue;
+        }
+
+        if (ngx_http_fowharimu_read_text(&p, last, &text) == NGX_OK
+            && ngx_http_fowharimu_meets_text(demand, &text))
+        {
+            return 1;
+        }
+    }
+
+    return 0;
+}
+
+
+static ngx_int_t
+ngx_http_fowharimu_meets_text(ngx_http_fowharimu_demand_t *demand,
+    ngx_str_t *text)
+{
+    u_char  *p, *last, *end;
+
+    if (!demand->words) {
+        return ngx_http_fowharimu_is_among(&demand->values, text->data,
+                                           text->len);
+    }
+
+    p = text->data;
+    last = text->data + text->len;
+
+    while (p < last) {
+        end = ngx_strlchr(p, last, ' ');
+
+        if (end == NULL) {
+            end = last;
+        }
+
+        if (ngx_http_fowharimu_is_among(&demand->values, p, end - p)) {
+            return 1;
+        }
+
+        p = end + 1;
+    }
+
+    return 0;
+}
+
+
+static ngx_int_t
+ngx_http_fowharimu_is_among(ngx_array_t *values, u_char *data, size_t len)
+{
+    ngx_str_t   *value;
+    ngx_uint_t   i;
+
+    value = values->elts;
+
+    for (i = 0; i < values->nelts; i++) {
+        if (value[i].len == len && ngx_memcmp(value[i].data, data, len) == 0) {
+            return 1;
+        }
+    }
+
+    return 0;
+}
+
+
+/*
+ * Writes a claim of the token that was accepted last into the room that is
+ * handed in: a text or a list of texts in JSON, or a number.  NGX_DECLINED:
+ * there is none, or it is of another kind.
+ */
+
+static ngx_int_t
+ngx_http_fowharimu_claim(ngx_http_fowharimu_validator_t *validator,
+    ngx_str_t *name, ngx_str_t *claim)
+{
+    size_t    len;
+    int64_t   number;
+    uint32_t  status;
+
+    status = fow_claim(&validator->handle, name->data, name->len, claim->data,
+                       claim->len, &len);
+
+    if (status == FOW_OK) {
+        claim->len = len;
+        return NGX_OK;
+    }
+
+    if (status != FOW_ABSENT) {
+        return NGX_ERROR;
+    }
+
+    status = fow_number(&validator->handle, name->data, name->len, &number);
+
+    if (status == FOW_OK) {
+        claim->len = ngx_sprintf(claim->data, "%L", number) - claim->data;
+        return NGX_OK;
+    }
+
+    return status == FOW_ABSENT ? NGX_DECLINED : NGX_ERROR;
+}
+
+
+/*
+ * Reads a text in JSON's compact form, at its quotation mark, and undoes its
+ * escapes in place.  NGX_DECLINED: it has a control character.
+ */
+
+static ngx_int_t
+ngx_http_fowharimu_read_text(u_char **p, u_char *last, ngx_str_t *text)
+{
+    u_char     *src, *dst;
+    ngx_int_t   rc;
+
+    rc = NGX_OK;
+    src = *p + 1;
+    dst = src;
+    text->data = src;
+
+    while (src < last && *src != '"') {
+
+        if (*src == '\\' && src + 1 < last) {
+            src++;
+
+            if (*src != '"' && *src != '\\') {
+                rc = NGX_DECLINED;
+            }
+
+        } else if (*src < 0x20 || *src == 0x7f) {
+            rc = NGX_DECLINED;
+        }
+
+        *dst++ = *src++;
+    }
+
+    text->len = dst - text->data;
+    *p = src + 1;
+
+    return rc;
+}
+
+
+/* RFC 6750, section 3; a challenge of an earlier refusal is written over */
+
+static ngx_int_t
+ngx_http_fowharimu_refuse(ngx_http_request_t *r, ngx_int_t status,
+    char *challenge)
+{
+    ngx_table_elt_t  *h;
+
+    h = r->headers_out.www_authenticate;
+
+    if (h == NULL
+        || h->value.len < sizeof("Bearer") - 1
+        || ngx_strncmp(h->value.data, "Bearer", sizeof("Bearer") - 1) != 0)
+    {
+        h = ngx_list_push(&r->headers_out.headers);
+        if (h == NULL) {
+            return NGX_HTTP_INTERNAL_SERVER_ERROR;
+        }
+
+#if (nginx_version >= 1023000)
+        h->next = NULL;
+#endif
+        ngx_str_set(&h->key, "WWW-Authenticate");
+        r->headers_out.www_authenticate = h;
+    }
+
+    h->hash = 1;
+    ngx_http_fowharimu_set_text(&h->value, challenge);
+
+    return status;
+}
+
+
+/* no verdict could be had: the request isn't let through */
+
+static ngx_int_t
+ngx_http_fowharimu_fail(ngx_http_request_t *r, ngx_http_fowharimu_ctx_t *ctx,
+    char *fault)
+{
+    ngx_str_set(&ctx->verdict, "failed");
+    ngx_http_fowharimu_set_text(&ctx->fault, fault);
+
+    ngx_log_error(NGX_LOG_ERR, r->connection->log, 0,
+                  "jwt: the token can't be judged: %V", &ctx->fault);
+
+    return NGX_HTTP_INTERNAL_SERVER_ERROR;
+}
+
+
+static void
+ngx_http_fowharimu_set_text(ngx_str_t *text, const char *value)
+{
+    text->len = ngx_strlen(value);
+    text->data = (u_char *) value;
+}
+
+
+/* what is known of a token is unknown again where a request is judged anew */
+
+static ngx_http_fowharimu_ctx_t *
+ngx_http_fowharimu_new_ctx(ngx_http_request_t *r)
+{
+    ngx_uint_t                      *index, i;
+    ngx_pool_cleanup_t              *cln;
+    ngx_http_fowharimu_ctx_t        *ctx;
+    ngx_http_fowharimu_main_conf_t  *mcf;
+
+    ctx = ngx_http_fowharimu_find_ctx(r, r);
+
+    if (ctx == NULL) {
+        cln = ngx_pool_cleanup_add(r->pool, sizeof(ngx_http_fowharimu_ctx_t));
+        if (cln == NULL) {
+            return NULL;
+        }
+
+        cln->handler = ngx_http_fowharimu_cleanup;
+        ctx = cln->data;
+    }
+
+    ngx_memzero(ctx, sizeof(ngx_http_fowharimu_ctx_t));
+    ctx->request = r;
+
+    ngx_http_set_ctx(r, ctx, ngx_http_fowharimu_module);
+
+    mcf = ngx_http_get_module_main_conf(r, ngx_http_fowharimu_module);
+    index = mcf->indexes.elts;
+
+    for (i = 0; i < mcf->indexes.nelts; i++) {
+        r->variables[index[i]].valid = 0;
+        r->variables[index[i]].not_found = 0;
+    }
+
+    return ctx;
+}
+
+
+/* of a subrequest that wasn't judged itself: what is known of the main one */
+
+static ngx_http_fowharimu_ctx_t *
+ngx_http_fowharimu_get_ctx(ngx_http_request_t *r)
+{
+    ngx_http_fowharimu_ctx_t  *ctx;
+
+    ctx = ngx_http_get_module_ctx(r, ngx_http_fowharimu_module);
+
+    if (ctx == NULL) {
+        ctx = ngx_http_fowharimu_find_ctx(r, r);
+    }
+
+    if (ctx == NULL && r != r->main) {
+        ctx = ngx_http_fowharimu_find_ctx(r, r->main);
+    }
+
+    return ctx;
+}
+
+
+/* an internal redirect clears module contexts; the pool's cleanups stay */
+
+static ngx_http_fowharimu_ctx_t *
+ngx_http_fowharimu_find_ctx(ngx_http_request_t *r, ngx_http_request_t *owner)
+{
+    ngx_pool_cleanup_t        *cln;
+    ngx_http_fowharimu_ctx_t  *ctx;
+
+    for (cln = r->pool->cleanup; cln; cln = cln->next) {
+
+        if (cln->handler != ngx_http_fowharimu_cleanup) {
+            continue;
+        }
+
+        ctx = cln->data;
+
+        if (ctx->request == owner) {
+            return ctx;
+        }
+    }
+
+    return NULL;
+}
+
+
+static void
+ngx_http_fowharimu_cleanup(void *data)
+{
+    /* it marks a context: the pool has nothing else to free */
+}
+
+
+static ngx_int_t
+ngx_http_fowharimu_text_variable(ngx_http_request_t *r,
+    ngx_http_variable_value_t *v, uintptr_t data)
+{
+    ngx_str_t                 *text;
+    ngx_http_fowharimu_ctx_t  *ctx;
+
+    ctx = ngx_http_fowharimu_get_ctx(r);
+    text = ctx ? (ngx_str_t *) ((char *) ctx + data) : NULL;
+
+    if (text == NULL || text->len == 0) {
+        v->not_found = 1;
+        return NGX_OK;
+    }
+
+    v->len = text->len;
+    v->valid = 1;
+    v->no_cacheable = 0;
+    v->not_found = 0;
+    v->data = text->data;
+
+    return NGX_OK;
+}
+
+
+static ngx_int_t
+ngx_http_fowharimu_number_variable(ngx_http_request_t *r,
+    ngx_http_variable_value_t *v, uintptr_t data)
+{
+    u_char                    *p;
+    ngx_http_fowharimu_ctx_t  *ctx;
+
+    ctx = ngx_http_fowharimu_get_ctx(r);
+
+    if (ctx == NULL || ctx->verdict.len == 0) {
+        v->not_found = 1;
+        return NGX_OK;
+    }
+
+    p = ngx_pnalloc(r->pool, NGX_INT64_LEN);
+    if (p == NULL) {
+        return NGX_ERROR;
+    }
+
+    v->len = ngx_sprintf(p, "%uL", *(uint64_t *) ((char *) ctx + data)) - p;
+    v->valid = 1;
+    v->no_cacheable = 0;
+    v->not_found = 0;
+    v->data = p;
+
+    return NGX_OK;
+}
+
+
+/* $jwt_claim_NAME */
+
+static ngx_int_t
+ngx_http_fowharimu_claim_variable(ngx_http_request_t *r,
+    ngx_http_variable_value_t *v, uintptr_t data)
+{
+    ngx_str_t                       *var, *name;
+    ngx_uint_t                       i;
+    ngx_http_fowharimu_main_conf_t  *mcf;
+
+    var = (ngx_str_t *) data;
+
+    mcf = ngx_http_get_module_main_conf(r, ngx_http_fowharimu_module);
+    name = mcf->claims.elts;
+
+    for (i = 0; i < mcf->claims.nelts; i++) {
+
+        if (name[i].len == var->len - (sizeof(NGX_HTTP_FOWHARIMU_PREFIX) - 1)
+            && ngx_memcmp(name[i].data,
+                          var->data + sizeof(NGX_HTTP_FOWHARIMU_PREFIX) - 1,
+                          name[i].len)
+               == 0)
+        {
+            return ngx_http_fowharimu_set_variable(r, v, i);
+        }
+    }
+
+    v->not_found = 1;
+
+    return NGX_OK;
+}
+
+
+/* the claim of that number among those that variables name */
+
+static ngx_int_t
+ngx_http_fowharimu_set_variable(ngx_http_request_t *r,
+    ngx_http_variable_value_t *v, uintptr_t data)
+{
+    ngx_http_fowharimu_ctx_t  *ctx;
+
+    ctx = ngx_http_fowharimu_get_ctx(r);
+
+    if (ctx == NULL || ctx->claims == NULL || ctx->claims[data].data == NULL) {
+        v->not_found = 1;
+        return NGX_OK;
+    }
+
+    v->len = ctx->claims[data].len;
+    v->valid = 1;
+    v->no_cacheable = 0;
+    v->not_found = 0;
+    v->data = ctx->claims[data].data;
+
+    return NGX_OK;
+}
+
+
+static ngx_int_t
+ngx_http_fowharimu_add_variables(ngx_conf_t *cf)
+{
+    ngx_http_variable_t  *var, *v;
+
+    for (v = ngx_http_fowharimu_vars; v->name.len; v++) {
+        var = ngx_http_add_variable(cf, &v->name, v->flags);
+        if (var == NULL) {
+            return NGX_ERROR;
+        }
+
+        var->get_handler = v->get_handler;
+        var->data = v->data;
+    }
+
+    return NGX_OK;
+}
+
+
+static ngx_int_t
+ngx_http_fowharimu_init(ngx_conf_t *cf)
+{
+    ngx_http_handler_pt             *h;
+    ngx_http_core_main_conf_t       *cmcf;
+    ngx_http_fowharimu_main_conf_t  *mcf;
+
+    mcf = ngx_http_conf_get_module_main_conf(cf, ngx_http_fowharimu_module);
+
+    if (!mcf->enabled) {
+        if (mcf->named) {
+            ngx_log_error(NGX_LOG_WARN, cf->log, 0,
+                          "\"jwt\" is on nowhere: no token is asked for");
+        }
+
+        return NGX_OK;
+    }
+
+    cmcf = ngx_http_conf_get_module_main_conf(cf, ngx_http_core_module);
+
+    h = ngx_array_push(&cmcf->phases[NGX_HTTP_ACCESS_PHASE].handlers);
+    if (h == NULL) {
+        return NGX_ERROR;
+    }
+
+    *h = ngx_http_fowharimu_access_handler;
+
+    h = ngx_array_push(&cmcf->phases[NGX_HTTP_PREACCESS_PHASE].handlers);
+    if (h == NULL) {
+        return NGX_ERROR;
+    }
+
+    *h = ngx_http_fowharimu_subrequest_handler;
+
+    return NGX_OK;
+}
+
+
+/* notes the module's variables, and the claims that some of them name */
+
+static ngx_int_t
+ngx_http_fowharimu_init_module(ngx_cycle_t *cycle)
+{
+    ngx_str_t                       *name;
+    ngx_uint_t                      *index, i;
+    ngx_http_variable_t             *v;
+    ngx_http_core_main_conf_t       *cmcf;
+    ngx_http_fowharimu_main_conf_t  *mcf;
+
+    cmcf = ngx_http_cycle_get_module_main_conf(cycle, ngx_http_core_module);
+    mcf = ngx_http_cycle_get_module_main_conf(cycle, ngx_http_fowharimu_module);
+
+    if (cmcf == NULL || mcf == NULL) {
+        return NGX_OK;
+    }
+
+    v = cmcf->variables.elts;
+
+    for (i = 0; i < cmcf->variables.nelts; i++) {
+
+        if (v[i].get_handler == ngx_http_fowharimu_claim_variable) {
+            name = ngx_array_push(&mcf->claims);
+            if (name == NULL) {
+                return NGX_ERROR;
+            }
+
+            *name = v[i].name;
+            name->len -= sizeof(NGX_HTTP_FOWHARIMU_PREFIX) - 1;
+            name->data += sizeof(NGX_HTTP_FOWHARIMU_PREFIX) - 1;
+
+        } else if (v[i].get_handler != ngx_http_fowharimu_text_variable
+                   && v[i].get_handler != ngx_http_fowharimu_number_variable
+                   && v[i].get_handler != ngx_http_fowharimu_set_variable)
+        {
+            continue;
+        }
+
+        index = ngx_array_push(&mcf->indexes);
+        if (index == NULL) {
+            return NGX_ERROR;
+        }
+
+        *index = i;
+    }
+
+    return NGX_OK;
+}
+
+
+static void *
+ngx_http_fowharimu_create_main_conf(ngx_conf_t *cf)
+{
+    ngx_http_fowharimu_main_conf_t  *mcf;
+
+    mcf = ngx_pcalloc(cf->pool, sizeof(ngx_http_fowharimu_main_conf_t));
+    if (mcf == NULL) {
+        return NULL;
+    }
+
+    if (ngx_array_init(&mcf->claims, cf->pool, 4, sizeof(ngx_str_t)) != NGX_OK
+        || ngx_array_init(&mcf->indexes, cf->pool, 4, sizeof(ngx_uint_t))
+           != NGX_OK)
+    {
+        return NULL;
+    }
+
+    return mcf;
+}
+
+
+static void *
+ngx_http_fowharimu_create_loc_conf(ngx_conf_t *cf)
+{
+    ngx_http_fowharimu_loc_conf_t  *lcf;
+
+    lcf = ngx_pcalloc(cf->pool, sizeof(ngx_http_fowharimu_loc_conf_t));
+    if (lcf == NULL) {
+        return NULL;
+    }
+
+    /*
+     * set by ngx_pcalloc():
+     *
+     *     lcf->file = NULL;
+     *     lcf->line = 0;
+     *     lcf->policy = { 0, NULL };
+     *     lcf->keys = { 0, NULL };
+     *     lcf->validator = NULL;
+     */
+
+    lcf->enable = NGX_CONF_UNSET;
+    lcf->token = NGX_CONF_UNSET;
+    lcf->demands = NGX_CONF_UNSET_PTR;
+
+    return lcf;
+}
+
+
+static char *
+ngx_http_fowharimu_merge_loc_conf(ngx_conf_t *cf, void *parent, void *child)
+{
+    ngx_http_fowharimu_loc_conf_t *prev = parent;
+    ngx_http_fowharimu_loc_conf_t *conf = child;
+
+    ngx_http_fowharimu_main_conf_t  *mcf;
+
+    /* the documents of a level are opened once for all that inherit them */
+
+    if (ngx_http_fowharimu_open(cf, prev) != NGX_OK) {
+        return NGX_CONF_ERROR;
+    }
+
+    if (conf->policy.data == NULL && conf->keys.data == NULL) {
+        conf->validator = prev->validator;
+    }
+
+    if (conf->policy.data == NULL) {
+        conf->policy = prev->policy;
+    }
+
+    if (conf->keys.data == NULL) {
+        conf->keys = prev->keys;
+    }
+
+    if (ngx_http_fowharimu_open(cf, conf) != NGX_OK) {
+        return NGX_CONF_ERROR;
+    }
+
+    if (conf->enable == NGX_CONF_UNSET) {
+        conf->file = prev->file;
+        conf->line = prev->line;
+    }
+
+    ngx_conf_merge_value(conf->enable, prev->enable, 0);
+    ngx_conf_merge_value(conf->token, prev->token, NGX_HTTP_FOWHARIMU_BEARER);
+    ngx_conf_merge_ptr_value(conf->demands, prev->demands, NULL);
+
+    if (!conf->enable) {
+        return NGX_CONF_OK;
+    }
+
+    if (conf->validator == NULL) {
+        ngx_log_error(NGX_LOG_EMERG, cf->log, 0,
+                      "no \"%s\" is defined for the \"jwt\" directive "
+                      "in %s:%ui",
+                      conf->policy.data ? "jwt_keys" : "jwt_policy",
+                      conf->file, conf->line);
+        return NGX_CONF_ERROR;
+    }
+
+    mcf = ngx_http_conf_get_module_main_conf(cf, ngx_http_fowharimu_module);
+    mcf->enabled = 1;
+
+    return NGX_CONF_OK;
+}
+
+
+/* opens a validator where there are both documents and it isn't open yet */
+
+static ngx_int_t
+ngx_http_fowharimu_open(ngx_conf_t *cf, ngx_http_fowharimu_loc_conf_t *lcf)
+{
+    uint32_t                         fault;
+    ngx_pool_cleanup_t              *cln;
+    ngx_http_fowharimu_validator_t  *validator;
+
+    if (lcf->validator || lcf->policy.data == NULL || lcf->keys.data == NULL) {
+        return NGX_OK;
+    }
+
+    cln = ngx_pool_cleanup_add(cf->pool,
+                               sizeof(ngx_http_fowharimu_validator_t));
+    if (cln == NULL) {
+        return NGX_ERROR;
+    }
+
+    validator = cln->data;
+    ngx_memzero(validator, sizeof(ngx_http_fowharimu_validator_t));
+    cln->handler = ngx_http_fowharimu_close;
+
+    if (fow_open(&validator->handle, lcf->policy.data, lcf->policy.len,
+                 lcf->keys.data, lcf->keys.len, &fault)
+        != FOW_OK)
+    {
+        /* each document was taken alone, so it is memory that is wanting */
+        ngx_conf_log_error(NGX_LOG_EMERG, cf, 0,
+                           "\"jwt_policy\" and \"jwt_keys\" can't be opened: "
+                           "%s", fault ? fow_fault_name(fault) : "OutOfMemory");
+        return NGX_ERROR;
+    }
+
+    lcf->validator = validator;
+
+    return NGX_OK;
+}
+
+
+static void
+ngx_http_fowharimu_close(void *data)
+{
+    ngx_http_fowharimu_validator_t  *validator = data;
+
+    fow_openssl_clear(&validator->crypto);
+    fow_close(&validator->handle);
+}
+
+
+static char *
+ngx_http_fowharimu_enable(ngx_conf_t *cf, ngx_command_t *cmd, void *conf)
+{
+    ngx_http_fowharimu_loc_conf_t  *lcf = conf;
+
+    lcf->file = cf->conf_file->file.name.data;
+    lcf->line = cf->conf_file->line;
+
+    return ngx_conf_set_flag_slot(cf, cmd, conf);
+}
+
+
+static char *
+ngx_http_fowharimu_policy(ngx_conf_t *cf, ngx_command_t *cmd, void *conf)
+{
+    ngx_http_fowharimu_loc_conf_t *lcf = conf;
+
+    ngx_str_t  *value;
+
+    if (lcf->policy.data) {
+        return "is duplicate";
+    }
+
+    value = cf->args->elts;
+
+    if (ngx_http_fowharimu_read_file(cf, &value[1],
+                                     NGX_HTTP_FOWHARIMU_MAX_POLICY,
+                                     &lcf->policy)
+        != NGX_OK)
+    {
+        return NGX_CONF_ERROR;
+    }
+
+    return ngx_http_fowharimu_check(cf, &value[1], &lcf->policy,
+                                    &ngx_http_fowharimu_no_keys);
+}
+
+
+static char *
+ngx_http_fowharimu_keys(ngx_conf_t *cf, ngx_command_t *cmd, void *conf)
+{
+    ngx_http_fowharimu_loc_conf_t *lcf = conf;
+
+    ngx_str_t  *value;
+
+    if (lcf->keys.data) {
+        return "is duplicate";
+    }
+
+    value = cf->args->elts;
+
+    if (ngx_http_fowharimu_read_file(cf, &value[1],
+                                     NGX_HTTP_FOWHARIMU_MAX_KEYS, &lcf->keys)
+        != NGX_OK)
+    {
+        return NGX_CONF_ERROR;
+    }
+
+    return ngx_http_fowharimu_check(cf, &value[1],
+                                    &ngx_http_fowharimu_some_policy,
+                                    &lcf->keys);
+}
+
+
+/*
+ * Reads at most one octet past the longest document, which the library then
+ * says is too long.  The octets live as long as the configuration is read.
+ */
+
+static ngx_int_t
+ngx_http_fowharimu_read_file(ngx_conf_t *cf, ngx_str_t *name, size_t max,
+    ngx_str_t *document)
+{
+    size_t           size;
+    ssize_t          n;
+    ngx_fd_t         fd;
+    ngx_int_t        rc;
+    ngx_file_info_t  fi;
+
+    if (ngx_conf_full_name(cf->cycle, name, 1) != NGX_OK) {
+        return NGX_ERROR;
+    }
+
+    fd = ngx_open_file(name->data, NGX_FILE_RDONLY|NGX_FILE_NONBLOCK,
+                       NGX_FILE_OPEN, 0);
+
+    if (fd == NGX_INVALID_FILE) {
+        ngx_conf_log_error(NGX_LOG_EMERG, cf, ngx_errno,
+                           ngx_open_file_n " \"%V\" failed", name);
+        return NGX_ERROR;
+    }
+
+    rc = NGX_ERROR;
+
+    if (ngx_fd_info(fd, &fi) == NGX_FILE_ERROR) {
+        ngx_conf_log_error(NGX_LOG_EMERG, cf, ngx_errno,
+                           ngx_fd_info_n " \"%V\" failed", name);
+        goto done;
+    }
+
+    if (!ngx_is_file(&fi)) {
+        ngx_conf_log_error(NGX_LOG_EMERG, cf, 0,
+                           "\"%V\" is not a regular file", name);
+        goto done;
+    }
+
+    size = ngx_min((size_t) ngx_file_size(&fi), max + 1);
+
+    document->len = 0;
+    document->data = ngx_palloc(cf->temp_pool, size + 1);
+    if (document->data == NULL) {
+        goto done;
+    }
+
+    while (document->len < size) {
+        n = ngx_read_fd(fd, document->data + document->len,
+                        size - document->len);
+
+        if (n == NGX_FILE_ERROR) {
+            ngx_conf_log_error(NGX_LOG_EMERG, cf, ngx_errno,
+                               ngx_read_fd_n " \"%V\" failed", name);
+            goto done;
+        }
+
+        if (n == 0) {
+            break;
+        }
+
+        document->len += n;
+    }
+
+    rc = NGX_OK;
+
+done:
+
+    if (ngx_close_file(fd) == NGX_FILE_ERROR) {
+        ngx_conf_log_error(NGX_LOG_ALERT, cf, ngx_errno,
+                           ngx_close_file_n " \"%V\" failed", name);
+    }
+
+    return rc;
+}
+
+
+/* whether the library takes the document of that file, with the other one */
+
+static char *
+ngx_http_fowharimu_check(ngx_conf_t *cf, ngx_str_t *name, ngx_str_t *policy,
+    ngx_str_t *keys)
+{
+    uint32_t                         fault, status;
+    fow_validator                    validator = FOW_VALIDATOR_INIT;
+    ngx_http_fowharimu_main_conf_t  *mcf;
+
+    mcf = ngx_http_conf_get_module_main_conf(cf, ngx_http_fowharimu_module);
+    mcf->named = 1;
+
+    fault = FOW_NO_FAULT;
+    status = fow_open(&validator, policy->data, policy->len, keys->data,
+                      keys->len, &fault);
+    fow_close(&validator);
+
+    if (status == FOW_OK) {
+        return NGX_CONF_OK;
+    }
+
+    ngx_conf_log_error(NGX_LOG_EMERG, cf, 0, "\"%V\" is refused: %s", name,
+                       status == FOW_REFUSED ? fow_fault_name(fault)
+                                             : "OutOfMemory");
+
+    return NGX_CONF_ERROR;
+}
+
+
+static char *
+ngx_http_fowharimu_set_token(ngx_conf_t *cf, ngx_command_t *cmd, void *conf)
+{
+    ngx_http_fowharimu_loc_conf_t *lcf = conf;
+
+    ngx_str_t  *value;
+
+    if (lcf->token != NGX_CONF_UNSET) {
+        return "is duplicate";
+    }
+
+    value = cf->args->elts;
+
+    if (ngx_strcmp(value[1].data, "bearer") == 0) {
+        lcf->token = NGX_HTTP_FOWHARIMU_BEARER;
+        return NGX_CONF_OK;
+    }
+
+    if (value[1].len < 2 || value[1].data[0] != '$') {
+        ngx_conf_log_error(NGX_LOG_EMERG, cf, 0,
+                           "invalid variable name \"%V\"", &value[1]);
+        return NGX_CONF_ERROR;
+    }
+
+    value[1].len--;
+    value[1].data++;
+
+    lcf->token = ngx_http_get_variable_index(cf, &value[1]);
+    if (lcf->token == NGX_ERROR) {
+        return NGX_CONF_ERROR;
+    }
+
+    return NGX_CONF_OK;
+}
+
+
+static char *
+ngx_http_fowharimu_require(ngx_conf_t *cf, ngx_command_t *cmd, void *conf)
+{
+    ngx_http_fowharimu_loc_conf_t *lcf = conf;
+
+    ngx_str_t                    *value, *v;
+    ngx_uint_t                    i;
+    ngx_http_fowharimu_demand_t  *demand;
+
+    if (lcf->demands == NGX_CONF_UNSET_PTR) {
+        lcf->demands = ngx_array_create(cf->pool, 2,
+                                        sizeof(ngx_http_fowharimu_demand_t));
+        if (lcf->demands == NULL) {
+            return NGX_CONF_ERROR;
+        }
+    }
+
+    demand = ngx_array_push(lcf->demands);
+    if (demand == NULL) {
+        return NGX_CONF_ERROR;
+    }
+
+    value = cf->args->elts;
+
+    /* RFC 8693, section 4.2: the scopes stand in one text */
+
+    demand->name = value[1];
+    demand->words = (ngx_strcmp(value[1].data, "scope") == 0);
+
+    if (ngx_array_init(&demand->values, cf->pool, cf->args->nelts - 2,
+                       sizeof(ngx_str_t))
+        != NGX_OK)
+    {
+        return NGX_CONF_ERROR;
+    }
+
+    for (i = 2; i < cf->args->nelts; i++) {
+        v = ngx_array_push(&demand->values);
+        if (v == NULL) {
+            return NGX_CONF_ERROR;
+        }
+
+        *v = value[i];
+    }
+
+    return NGX_CONF_OK;
+}
+
+
+static char *
+ngx_http_fowharimu_claim_set(ngx_conf_t *cf, ngx_command_t *cmd, void *conf)
+{
+    ngx_http_fowharimu_main_conf_t *mcf = conf;
+
+    ngx_str_t            *value, *name;
+    ngx_http_variable_t  *v;
+
+    value = cf->args->elts;
+
+    if (value[1].len < 2 || value[1].data[0] != '$') {
+        ngx_conf_log_error(NGX_LOG_EMERG, cf, 0,
+                           "invalid variable name \"%V\"", &value[1]);
+        return NGX_CONF_ERROR;
+    }
+
+    value[1].len--;
+    value[1].data++;
+
+    v = ngx_http_add_variable(cf, &value[1], NGX_HTTP_VAR_NOCACHEABLE);
+    if (v == NULL) {
+        return NGX_CONF_ERROR;
+    }
+
+    name = ngx_array_push(&mcf->claims);
+    if (name == NULL) {
+        return NGX_CONF_ERROR;
+    }
+
+    *name = value[2];
+
+    v->get_handler = ngx_http_fowharimu_set_variable;
+    v->data = mcf->claims.nelts - 1;
+
+    return NGX_CONF_OK;
+}
