@@ -227,13 +227,11 @@ fn mac_command<'a>(alloc: Global) -> Result<Command<'a>, AllocError>
         .arg(limit_option(alloc))
 }
 
-fn keys_command<'a>(alloc: Global) -> Result<Command<'a>, AllocError>
-    ensures shape { IfOk result (λ c. app_of c ≡ keys_app) }
-    ensures local { IfOk result (λ c. (fields_of c).has_globals ≡ false) }
+fn keys_command<'a>(alloc: Global) -> Command<'a>
+    ensures shape { app_of result ≡ keys_app }
+    ensures local { (fields_of result).has_globals ≡ false }
 {
-    Command::new(alloc, "keys")
-        .about("Lists the keys of a key set, which standard input holds")
-        .arg(json_option(alloc))
+    Command::new(alloc, "keys").about("Lists the keys of a key set, which standard input holds")
 }
 
 fn show_command<'a>(alloc: Global) -> Result<Command<'a>, AllocError>
@@ -242,8 +240,7 @@ fn show_command<'a>(alloc: Global) -> Result<Command<'a>, AllocError>
 {
     Command::new(alloc, "show")
         .about("Shows a token without verifying it; standard input holds it")
-        .arg(limit_option(alloc))?
-        .arg(json_option(alloc))
+        .arg(limit_option(alloc))
 }
 
 // `verify` on standard input alone.
@@ -300,7 +297,7 @@ pub fn command<'a>(alloc: Global, has_clock: bool) -> Result<Command<'a>, AllocE
         .after_help("'jwt --version' prints the version.")
         .subcommand_required(true)
         .subcommand(mac_command(alloc)?)?
-        .subcommand(keys_command(alloc)?)?
+        .subcommand(keys_command(alloc))?
         .subcommand(show_command(alloc)?)?
         .subcommand(verify_command(alloc, has_clock)?)?
         .subcommand(issue_command(alloc)?)
