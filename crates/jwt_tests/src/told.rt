@@ -4,7 +4,7 @@ use super::support::{KEYS_A2, NOW, TOKEN_A2};
 use jwt_keys::KeySet;
 use jwt_mac::{Alg, KeyView};
 use jwt_policy::{Policy, SigFault};
-use jwt_told::{Answers, Asked, Question, judge_told, read_token};
+use jwt_told::{Answers, Asked, Asking, Question, judge_told, read_token};
 use jwt_verify::{Fault, Report, Verdict};
 use std::alloc::Global;
 use std::test::Fail;
@@ -67,20 +67,20 @@ const CASES: [Case; 6] = [
 ];
 
 /// The word for what is made of the token.
-fn word_of(judged: &Result<Report<'_>, Question>) -> &'static str {
+fn word_of(judged: &Result<Report<'_>, Asking>) -> &'static str {
     match judged {
         Ok(report) => match &report.verdict {
             Verdict::Accepted { .. } => "accepted",
             Verdict::Refused(Fault::Signature(0, SigFault::BadSignature)) => "bad signature",
             Verdict::Refused(_) => "another fault",
         },
-        Err(
+        Err(asking) => match asking.question {
             Question {
                 signature: 0,
                 key: 0,
-            },
-        ) => "asks",
-        Err(_) => "asks about another pair",
+            } if asking.tries.len() == 1 => "asks",
+            _ => "asks about another pair",
+        },
     }
 }
 
