@@ -13,11 +13,15 @@ var ErrOutOfMemory = errors.New("fowharimu: an allocation was refused")
 
 // PolicyError says why a policy is refused.
 type PolicyError struct {
-	Fault string // the name that the program jwt prints, such as Member
+	Fault  string // the name that the program jwt prints, such as Range
+	Member string // the name of the member that the fault speaks of; empty where it speaks of none
 }
 
 func (e *PolicyError) Error() string {
-	return "fowharimu: the policy is refused: " + e.Fault
+	if e.Member == "" {
+		return "fowharimu: the policy is refused: " + e.Fault
+	}
+	return fmt.Sprintf("fowharimu: the policy is refused: %s of %q", e.Fault, e.Member)
 }
 
 // KeysError says why a key set is refused.
@@ -125,11 +129,11 @@ func refusedFor(fault string) string {
 }
 
 // documentError says why a policy or a key set is refused: the faults of key sets are those from 200 to 299.
-func documentError(fault int) error {
+func documentError(fault int, policy []byte) error {
 	if fault/100 == 2 {
 		return &KeysError{faultName(fault)}
 	}
-	return &PolicyError{faultName(fault)}
+	return &PolicyError{faultName(fault), refusedMember(policy)}
 }
 
 // Part is a part of a token.

@@ -12,6 +12,7 @@
 package fowharimu
 
 import (
+	"encoding/json"
 	"runtime"
 	"sync"
 	"time"
@@ -34,7 +35,7 @@ func Open(policy, keys []byte) (*Validator, error) {
 	}
 	v.held.close()
 	if status == statusRefused {
-		return nil, documentError(fault)
+		return nil, documentError(fault, policy)
 	}
 	return nil, ErrOutOfMemory
 }
@@ -55,8 +56,8 @@ func (v *Validator) ValidateAt(token string, now time.Time) (Claims, error) {
 	if refusal != nil {
 		return Claims{}, refusal
 	}
-	payload, found := v.held.payload(token)
-	if !found {
+	payload, status := v.held.payload(token)
+	if status != statusOK {
 		return Claims{}, ErrOutOfMemory
 	}
 	return Claims{payload}, nil
@@ -84,6 +85,25 @@ func (v *Validator) JudgeAt(token string, now time.Time) (Report, error) {
 		States:    v.states(),
 		Tries:     v.tries(said.tries),
 	}, nil
+}
+
+// UnverifiedHeader gives the protected header of the signature of this number, from 0, as JSON text, and whether there is one. Anyone
+// may have written it. The error is ErrOutOfMemory or ErrClosed.
+func (v *Validator) UnverifiedHeader(token string, signature int) (json.RawMessage, bool, error) {
+	v.mutex.Lock()
+	defer v.mutex.Unlock()
+	if v.held.at == nil {
+		return nil, false, ErrClosed
+	}
+	header, status := v.held.header(token, signature)
+	switch status {
+	case statusOK:
+		return header, len(header) > 0, nil
+	case statusAbsent:
+		return nil, false, nil
+	default:
+		return nil, false, ErrOutOfMemory
+	}
 }
 
 // Close frees what is held. It may be called twice. The error is nil.
@@ -129,13 +149,21 @@ func (v *Validator) refusal(said verdict) Refusal {
 	}
 }
 
-// claim is the name of a claim by its number.
+// claim is the name of the claim that is refused.
 func (v *Validator) claim(number int) string {
-	registered := []string{"", "iss", "sub", "aud", "exp", "nbf", "iat", "jti"}
-	if number < len(registered) {
-		return registered[number]
+	if number == claimByName {
+		return v.held.refusedClaim()
 	}
-	return v.held.refusedClaim()
+	return registeredName(number)
+}
+
+// registeredName is the name of a registered claim by its number, and empty for another number.
+func registeredName(number int) string {
+	names := []string{"", "iss", "sub", "aud", "exp", "nbf", "iat", "jti"}
+	if number >= len(names) {
+		return ""
+	}
+	return names[number]
 }
 
 func (v *Validator) states() []SignatureState {

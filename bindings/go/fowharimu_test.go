@@ -174,7 +174,11 @@ func TestTheNameOfAMissingClaimIsWhole(t *testing.T) {
 func TestRefusedDocuments(t *testing.T) {
 	_, err := fowharimu.Open([]byte(`{"algs":["HS256"],"audience":"me"}`), []byte(`{"keys":[]}`))
 	var policy *fowharimu.PolicyError
-	if !errors.As(err, &policy) || policy.Fault != "Member" {
+	if !errors.As(err, &policy) || *policy != (fowharimu.PolicyError{Fault: "Member", Member: "audience"}) {
+		t.Error(err)
+	}
+	_, err = fowharimu.Open([]byte(`{"algs":[]}`), []byte(`{"keys":[]}`))
+	if !errors.As(err, &policy) || *policy != (fowharimu.PolicyError{Fault: "NoAlgorithm"}) {
 		t.Error(err)
 	}
 	_, err = fowharimu.Open([]byte(`{"algs":["HS256"]}`), []byte(`{}`))
@@ -184,6 +188,58 @@ func TestRefusedDocuments(t *testing.T) {
 	}
 	if _, err = fowharimu.Open(nil, nil); !errors.As(err, &policy) || policy.Fault != "Json" {
 		t.Error(err)
+	}
+}
+
+func TestAnIssuedTokenIsAccepted(t *testing.T) {
+	validator, _ := open(t, hmac)
+	claims := map[string]any{"iss": "joe", "exp": now.Unix() + 1}
+	for _, form := range []fowharimu.Form{fowharimu.Compact, fowharimu.General, fowharimu.Flattened} {
+		token, err := validator.Issue(claims, fowharimu.Issuing{Form: form, Type: "at+jwt"})
+		if err != nil {
+			t.Fatal(err)
+		}
+		if read, err := validator.ValidateAt(token, now); err != nil || read.String() != `{"exp":1300819380,"iss":"joe"}` {
+			t.Error(read, err)
+		}
+		header, found, err := validator.UnverifiedHeader(token, 0)
+		if string(header) != `{"alg":"HS256","typ":"at+jwt"}` || !found || err != nil {
+			t.Errorf("%s, %v, %v", header, found, err)
+		}
+	}
+}
+
+func TestWhatIsNotIssued(t *testing.T) {
+	validator, _ := open(t, hmac)
+	cases := []struct {
+		claims any
+		how    fowharimu.Issuing
+		want   error
+	}{
+		{struct{}{}, fowharimu.Issuing{Key: 7}, &fowharimu.IssueError{Fault: "NoKey"}},
+		{map[string]any{"exp": "soon"}, fowharimu.Issuing{}, &fowharimu.IssueError{Fault: "ClaimKind", Claim: "exp"}},
+		{struct{}{}, fowharimu.Issuing{Algorithm: 3}, fowharimu.ErrIssuing},
+		{struct{}{}, fowharimu.Issuing{Type: "\xff"}, fowharimu.ErrIssuing},
+	}
+	for _, it := range cases {
+		if token, err := validator.Issue(it.claims, it.how); token != "" || !reflect.DeepEqual(err, it.want) {
+			t.Errorf("%v, %+v: %q, %#v", it.claims, it.how, token, err)
+		}
+	}
+	if _, err := validator.Issue(make(chan int), fowharimu.Issuing{}); err == nil {
+		t.Error("a channel is no claims")
+	}
+}
+
+func TestThereIsNoHeader(t *testing.T) {
+	validator, token := open(t, hmac)
+	for _, it := range []struct {
+		token     string
+		signature int
+	}{{token, 1}, {token, -1}, {"a.b", 0}, {"", 0}} {
+		if header, found, err := validator.UnverifiedHeader(it.token, it.signature); found || err != nil {
+			t.Errorf("%s, %v, %v", header, found, err)
+		}
 	}
 }
 
@@ -226,6 +282,12 @@ func TestAClosedValidatorRefuses(t *testing.T) {
 		t.Error(err)
 	}
 	if _, err := validator.JudgeAt(token, now); !errors.Is(err, fowharimu.ErrClosed) {
+		t.Error(err)
+	}
+	if _, _, err := validator.UnverifiedHeader(token, 0); !errors.Is(err, fowharimu.ErrClosed) {
+		t.Error(err)
+	}
+	if _, err := validator.Issue(struct{}{}, fowharimu.Issuing{}); !errors.Is(err, fowharimu.ErrClosed) {
 		t.Error(err)
 	}
 }

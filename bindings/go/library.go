@@ -34,6 +34,23 @@ static uint32_t held_payload(held *it, _GoString_ token, uint8_t *out, size_t ro
 	return fow_payload(&it->validator, at(token), _GoStringLen(token), out, room, written);
 }
 
+static uint32_t held_header(held *it, _GoString_ token, uint32_t signature, uint8_t *out, size_t room, size_t *written)
+{
+	return fow_unverified_header(&it->validator, at(token), _GoStringLen(token), signature, out, room, written);
+}
+
+static uint32_t held_issue(held *it, uint32_t alg, uint32_t form, uint32_t key, _GoString_ typ, _GoString_ claims, uint8_t *out,
+	size_t room, size_t *written, fow_report *report)
+{
+	return fow_issue(&it->validator, alg, form, key, at(typ), _GoStringLen(typ), at(claims), _GoStringLen(claims), out, room,
+		written, report);
+}
+
+static uint32_t refused_member(_GoString_ policy, uint8_t *out, size_t room, size_t *written)
+{
+	return fow_refused_member(at(policy), _GoStringLen(policy), out, room, written);
+}
+
 static void held_free(held *it)
 {
 	fow_openssl_clear(&it->crypto);
@@ -52,7 +69,11 @@ const (
 	statusAsks        = C.FOW_ASKS
 	statusOutOfMemory = C.FOW_OUT_OF_MEMORY
 	statusTooShort    = C.FOW_TOO_SHORT
+	statusAbsent      = C.FOW_ABSENT
 )
+
+// claimByName is the number of a claim that has no number of its own.
+const claimByName = C.FOW_CLAIM_BY_NAME
 
 // held is what the library holds. It lies in C's memory, and is used by one call at a time.
 type held struct {
@@ -77,7 +98,10 @@ func (h *held) open(policy, keys []byte) (status, fault int) {
 }
 
 func (h *held) judge(token string, now int64) verdict {
-	report := C.held_judge(h.at, token, C.int64_t(now))
+	return verdictOf(C.held_judge(h.at, token, C.int64_t(now)))
+}
+
+func verdictOf(report C.fow_report) verdict {
 	return verdict{
 		status:    int(report.verdict),
 		fault:     int(report.fault),
@@ -90,17 +114,42 @@ func (h *held) judge(token string, now int64) verdict {
 	}
 }
 
-// payload gives the octets of the payload of a token that was judged, and whether they could be had.
-func (h *held) payload(token string) ([]byte, bool) {
+// payload gives the octets of the payload of a token that was judged, and the status.
+func (h *held) payload(token string) ([]byte, int) {
 	return writtenTo(len(token)+1, func(out *C.uint8_t, room C.size_t, written *C.size_t) C.uint32_t {
 		return C.held_payload(h.at, token, out, room, written)
 	})
+}
+
+// header gives the octets of a protected header that nobody vouches for, and the status.
+func (h *held) header(token string, signature int) ([]byte, int) {
+	return writtenTo(len(token)+1, func(out *C.uint8_t, room C.size_t, written *C.size_t) C.uint32_t {
+		return C.held_header(h.at, token, C.uint32_t(signature), out, room, written)
+	})
+}
+
+// issue gives a token, the status, and what is said where it is refused.
+func (h *held) issue(how Issuing, claims string) (token []byte, status int, said verdict) {
+	var report C.fow_report
+	token, status = writtenTo(2*len(claims)+1024, func(out *C.uint8_t, room C.size_t, written *C.size_t) C.uint32_t {
+		return C.held_issue(h.at, C.uint32_t(how.Algorithm+1), C.uint32_t(how.Form+1), C.uint32_t(how.Key), how.Type, claims, out, room,
+			written, &report)
+	})
+	return token, status, verdictOf(report)
 }
 
 // refusedClaim gives the name of the claim that was found missing; it is empty where none was.
 func (h *held) refusedClaim() string {
 	name, _ := writtenTo(256, func(out *C.uint8_t, room C.size_t, written *C.size_t) C.uint32_t {
 		return C.fow_refused_claim(&h.at.validator, out, room, written)
+	})
+	return string(name)
+}
+
+// refusedMember gives the name of the member for which a policy is refused; it is empty where it is refused for none.
+func refusedMember(policy []byte) string {
+	name, _ := writtenTo(256, func(out *C.uint8_t, room C.size_t, written *C.size_t) C.uint32_t {
+		return C.refused_member(string(policy), out, room, written)
 	})
 	return string(name)
 }
@@ -136,18 +185,18 @@ func faultName(fault int) string {
 	return C.GoString(C.fow_fault_name(C.uint32_t(fault)))
 }
 
-// writtenTo gives what a call writes, in as much room as it needs and at least this, and whether it wrote something.
-func writtenTo(room int, call func(*C.uint8_t, C.size_t, *C.size_t) C.uint32_t) ([]byte, bool) {
+// writtenTo gives what a call writes, in as much room as it needs and at least this, and its status.
+func writtenTo(room int, call func(*C.uint8_t, C.size_t, *C.size_t) C.uint32_t) ([]byte, int) {
 	for {
 		out := make([]byte, room)
 		var written C.size_t
-		switch call((*C.uint8_t)(unsafe.Pointer(&out[0])), C.size_t(room), &written) {
-		case statusOK:
-			return out[:written], true
-		case statusTooShort:
-			room *= 2
-		default:
-			return nil, false
+		status := call((*C.uint8_t)(unsafe.Pointer(&out[0])), C.size_t(room), &written)
+		if status == statusOK {
+			return out[:written], statusOK
 		}
+		if status != statusTooShort {
+			return nil, int(status)
+		}
+		room *= 2
 	}
 }
