@@ -1,5 +1,5 @@
-/* bench HMAC RSA EC: the least time of a call, in microseconds of processor time, on a token by HMAC, one by RS256 and one by ES256. The
- * last two are also judged by 1,024 keys of which none made the signature, where a caller says so without cryptography. */
+/* bench HMAC RSA [EC]: the least time of a call, in microseconds of processor time, on a token by HMAC and one by RS256. With one by ES256
+ * this and that by RS256 are also judged by 1,024 keys of which none made the signature, where a caller says so without cryptography. */
 #include <fowharimu_openssl.h>
 #include <openssl/evp.h>
 #include <time.h>
@@ -125,10 +125,12 @@ static void time_many(const char *label, const char *name, const char *member)
 
 int main(int argc, char **argv)
 {
-    CHECK(argc == 4);
+    CHECK(argc == 3 || argc == 4);
     time_hmac(argv[1]);
     time_rsa(argv[2]);
-    time_many("RS256: 1,024 keys that are denied", argv[2], "\"n\":\"");
-    time_many("ES256: 1,024 keys that are denied", argv[3], "\"x\":\"");
+    if (argc == 4) {
+        time_many("RS256: 1,024 keys that are denied", argv[2], "\"n\":\"");
+        time_many("ES256: 1,024 keys that are denied", argv[3], "\"x\":\"");
+    }
     return 0;
 }
