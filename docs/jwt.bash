@@ -15,7 +15,8 @@ _jwt() {
         # The values of these aren't known here.
         issue:--typ | mac:--k | mac:--limit | show:--limit | verify:--now) ;;
         mac:*) choices="--k --key-file --limit" ;;
-        show:*) choices="--limit" ;;
+        keys:*) choices="--json" ;;
+        show:*) choices="--limit --json" ;;
         verify:*) choices="--now --public-keys --lines --json --policy --keys --token" ;;
         issue:*) choices="--alg --typ --form --keys" ;;
         esac

@@ -6,7 +6,8 @@ ghost use Rattle.jwt_verify.specs.Table.{work};
 ghost use Rattle.jwt_verify.specs.Accepted.{IsVerdict};
 ghost use Rattle.jwt_verify.specs.Laws.{IsBefore};
 ghost use Rattle.jwt_verify.specs.Paying.{IsWithin};
-ghost use Rattle.jwt_verify.specs.Reports.{FoundMemory, IsReport, AreEligible, IsBounded, Failed, TakesAtMost, terms};
+ghost use Rattle.jwt_text.specs.Intake.{TakesAtMost};
+ghost use Rattle.jwt_verify.specs.Reports.{FoundMemory, IsReport, AreEligible, IsBounded, Failed, terms};
 ghost use Rattle.jwt_verify.specs.declared.report.InputFault.TheVariants.{Read};
 ghost use Rattle.jwt_verify.specs.declared.report.Fault.TheVariants.{OutOfMemory, Text};
 ghost use Rattle.jwt_verify.specs.declared.report.Verdict.TheVariants.{Refused};
@@ -143,7 +144,8 @@ impl Validator {
             x (B.ceiling budget.old) result }
         ensures once { AllPairs IsBefore result.tries.items }
         ensures within { IsWithin self.now.policy.max_calls (B.calls budget.new) }
-        ensures failed { R.failed source.new ≡ true → Failed result.verdict result.tries.items result.states.items }
+        ensures failed { R.failed source.new ≡ true
+            → Failed result.verdict result.tries.items result.states.items }
         ensures read { result.verdict ≡ Refused (Text Read) → R.failed source.new ≡ true }
         ensures octets { B.octets budget.new ≡ work result.tries.items }
         ensures calls { B.calls budget.new ≡ length result.tries.items }

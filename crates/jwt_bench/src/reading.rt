@@ -32,7 +32,9 @@ fn repeat(
     built_in: &[Box<dyn Verifier>],
 ) -> Result<Totals, RunFault>
     requires { order.count ≤ 10000000 }
-    ensures { IfOk result (λ t. t ≡ times order.count (ran_of (map meaning built_in.now) order.workload (ready_view ready.now))) }
+    ensures { IfOk result
+        (λ t. t ≡ times order.count
+        (ran_of (map meaning built_in.now) order.workload (ready_view ready.now))) }
 {
     let mut totals = Totals::none();
     'runs: for _ in 0..order.count {
@@ -75,8 +77,11 @@ fn ready_over<'a>(
     header: &'a [u8],
 ) -> Result<Ready<'a>, RunFault>
     requires claims { claim_set_of (token signed.now).payload ≡ Ok claims.now }
-    requires header { IfSome (slice_get (token signed.now).signatures 0) (λ s. spelled s.protected_text ≡ Ok header.now) }
-    ensures { IfOk result (λ r. IsReadyOver (given_view given.entry) policy.now (key_set keys.now).keys (token signed.now) (ready_view r)) }
+    requires header { IfSome (slice_get (token signed.now).signatures 0)
+        (λ s. spelled s.protected_text ≡ Ok header.now) }
+    ensures { IfOk result
+        (λ r. IsReadyOver (given_view given.entry) policy.now (key_set keys.now).keys
+        (token signed.now) (ready_view r)) }
 {
     let last = keys.len().saturating_sub(1);
     let key = keys.key(last).ok_or(RunFault::Input)?;
@@ -99,7 +104,9 @@ fn ready_over<'a>(
 
 // What the protected text of a token's first signature spells.
 fn header_of(alloc: Global, signed: &Signed<'_>) -> Result<Vec<u8>, RunFault>
-    ensures { IfOk result (λ v. IfSome (slice_get (token signed.now).signatures 0) (λ s. spelled s.protected_text ≡ Ok v.items)) }
+    ensures { IfOk result
+        (λ v. IfSome (slice_get (token signed.now).signatures 0)
+        (λ s. spelled s.protected_text ≡ Ok v.items)) }
 {
     match signed.signature(0) {
         Some(signature) => octets_of(alloc, signature.protected_text()),
@@ -119,7 +126,8 @@ fn on_signed(
 ) -> Result<Totals, RunFault>
     requires { order.count ≤ 10000000 }
     ensures { IfOk result (λ t. (b : ReadyParts)
-        × IsReadyOver (given_view given.entry) policy.now (key_set keys.now).keys (token signed.now) b
+        × IsReadyOver (given_view given.entry) policy.now (key_set keys.now).keys
+        (token signed.now) b
         × (t ≡ times order.count (ran_of (map meaning built_in.now) order.workload b))) }
 {
     let claims = claims(alloc, signed)?;
@@ -158,7 +166,9 @@ fn on_given(
     built_in: &[Box<dyn Verifier>],
 ) -> Result<Totals, RunFault>
     requires { order.count ≤ 10000000 }
-    ensures { IfOk result (λ t. (b : ReadyParts) × IsReadyOf (given_view given.entry) b × (t ≡ times order.count (ran_of (map meaning built_in.now) order.workload b))) }
+    ensures { IfOk result
+        (λ t. (b : ReadyParts) × IsReadyOf (given_view given.entry) b
+        × (t ≡ times order.count (ran_of (map meaning built_in.now) order.workload b))) }
 {
     let policy = policy_in(alloc, given.policy)?;
     let keys = keys_in(alloc, given.keys)?;
@@ -177,7 +187,9 @@ fn on_octets(
     built_in: &[Box<dyn Verifier>],
 ) -> Result<Totals, RunFault>
     requires { order.count ≤ 10000000 }
-    ensures { IfOk result (λ t. (b : ReadyParts) × IsReady octets.now b × (t ≡ times order.count (ran_of (map meaning built_in.now) order.workload b))) }
+    ensures { IfOk result
+        (λ t. (b : ReadyParts) × IsReady octets.now b
+        × (t ≡ times order.count (ran_of (map meaning built_in.now) order.workload b))) }
 {
     match split(octets) {
         Some(given) => on_given(alloc, order, given, built_in),
@@ -193,7 +205,10 @@ pub(crate) fn totals<R: Source>(
     r: &mut R,
 ) -> Result<Totals, RunFault>
     requires { order.count ≤ 10000000 }
-    ensures { IfSome (R.remaining r.old) (λ x. IfOk result (λ t. (b : ReadyParts) × IsReady x b × (t ≡ times order.count (ran_of (map meaning built_in.now) order.workload b)))) }
+    ensures { IfSome (R.remaining r.old)
+        (λ x. IfOk result
+        (λ t. (b : ReadyParts) × IsReady x b
+        × (t ≡ times order.count (ran_of (map meaning built_in.now) order.workload b)))) }
 {
     let mut intake = Intake::new(alloc, GREATEST_LIMIT);
     match intake.read_from(r) {

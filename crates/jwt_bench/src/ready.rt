@@ -62,7 +62,9 @@ fn is_accepted(verdict: &Verdict<'_>) -> Result<bool, RunFault>
 
 // What a run that hashes came to.
 fn ran(accepted: bool, budget: &CountDown) -> Ran
-    ensures value { result ≡ ran accepted (⟦<CountDown as Budget>⟧.octets budget.now) (⟦<CountDown as Budget>⟧.calls budget.now) }
+    ensures value { result
+        ≡ ran accepted (⟦<CountDown as Budget>⟧.octets budget.now)
+        (⟦<CountDown as Budget>⟧.calls budget.now) }
     ensures within { result.octets ≤ ⟦<CountDown as Budget>⟧.ceiling budget.now }
 {
     Ran {
@@ -98,7 +100,8 @@ impl Ready<'_> {
     ghost use Rattle.jwt_bench.specs.Views.{ready_view};
 
     fn judge_by(&self, alloc: Global, verifiers: &[Box<dyn Verifier>]) -> Result<Ran, RunFault>
-        ensures value { IfOk result (λ ran. ran ≡ judged_by (map meaning verifiers.now) (ready_view self.now)) }
+        ensures value { IfOk result
+            (λ ran. ran ≡ judged_by (map meaning verifiers.now) (ready_view self.now)) }
         ensures within { IfOk result (λ ran. ran.octets ≤ 1000000000000) }
     {
         let mut budget = CountDown::new(self.policy.work());
@@ -146,7 +149,9 @@ impl Ready<'_> {
     }
 
     fn parse(&self, alloc: Global) -> Result<Ran, RunFault>
-        ensures { IfOk result (λ ran. ran ≡ read_ran (form_of self.now.policy.now.run.max_signatures self.now.given.token.now)) }
+        ensures { IfOk result
+            (λ ran. ran ≡ read_ran
+            (form_of self.now.policy.now.run.max_signatures self.now.given.token.now)) }
     {
         match parse(alloc, self.given.token, self.policy.max_signatures()) {
             Ok(_) => Ok(has_read(true)),
@@ -226,7 +231,8 @@ impl Ready<'_> {
         workload: Workload,
         built_in: &[Box<dyn Verifier>],
     ) -> Result<Ran, RunFault>
-        ensures value { IfOk result (λ ran. ran ≡ ran_of (map meaning built_in.now) workload (ready_view self.now)) }
+        ensures value { IfOk result
+            (λ ran. ran ≡ ran_of (map meaning built_in.now) workload (ready_view self.now)) }
         ensures within { IfOk result (λ ran. ran.octets ≤ 1000000000000) }
     {
         match workload {

@@ -52,7 +52,8 @@ pub(crate) fn run<R: Source, W: Sink>(
 
     // Wrong words, and no others.
     ensures asked { (order : Asked) → Asks (map (λ word. word.now) words.now) order → result ≢ 2 }
-    ensures wrong { ((order : Asked) → ¬ Asks (map (λ word. word.now) words.now) order) → result ≡ 2 }
+    ensures wrong { ((order : Asked) → ¬ Asks (map (λ word. word.now) words.now) order)
+        → result ≡ 2 }
 
     // Nothing is printed unless it is done, or a write failed.
     ensures unsent { result ≢ 0 → result ≢ 3 → w.new ≡ w.old }

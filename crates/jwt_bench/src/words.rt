@@ -27,7 +27,8 @@ fn count_in(text: &str) -> Option<u32>
 
 /// What the words ask for: after the program's name a workload and a count of at most 10,000,000, and no more.
 pub(crate) fn read_words(words: &[&str]) -> Option<Order>
-    ensures { MatchOption result ((o : Asked) → ¬ Asks (map (λ w. w.now) words.now) o) (λ o. Asks (map (λ w. w.now) words.now) o) }
+    ensures { MatchOption result ((o : Asked) → ¬ Asks (map (λ w. w.now) words.now) o)
+        (λ o. Asks (map (λ w. w.now) words.now) o) }
 {
     let [_, name, count] = words else {
         return None;

@@ -7,7 +7,7 @@ use Rattle.jwt_jws.specs.declared.fault.Form.{Form}
 use Rattle.jwt_jws.specs.declared.fault.Form.TheVariants.{Compact, Flattened, General}
 use Rattle.jwt_keys.specs.Keys.{KeyParts}
 use Rattle.jwt_policy.specs.declared.claim_fault.ClaimFault.{ClaimFault}
-use Rattle.jwt_issue.specs.Issued.{PairParts, compact_of, flattened_of, general_of}
+use Rattle.jwt_issue.specs.Issued.{pair, compact_of, flattened_of, general_of}
 use Rattle.jwt_issue.specs.declared.fault.IssueFault.{IssueFault}
 use Rattle.jwt_issue.specs.declared.fault.IssueFault.TheVariants as issue
 use Rattle.jwt_c.specs.declared.report.FowReport.{FowReport}
@@ -26,9 +26,6 @@ form_at n = if nat_eq n 1 then Some Compact else if nat_eq n 2 then Some General
 abbrev pub typ_of : List ℕ → Option (List ℕ)
 typ_of [] = None
 typ_of (c ∷ cs) = Some (c ∷ cs)
-
-abbrev pub pair : Alg → KeyParts → PairParts
-pair alg key = record { alg = alg; key = key }
 
 -- the token of some claims: in compact and flattened form signed with key j, in general form with each; the budget is
 -- 1,000,000,000,000 octets

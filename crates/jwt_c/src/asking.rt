@@ -151,7 +151,8 @@ pub(crate) fn ask_about(
 
 /// Tells the answer to a question. 0; 3: memory was refused.
 fn tell_of(alloc: Global, answers: &mut Answers, asked: &Asked<'_>, valid: bool) -> u32
-    ensures { TellsOne (question_parts asked.now) valid result (told answers.old) (told answers.new) }
+    ensures { TellsOne (question_parts asked.now) valid result (told answers.old)
+        (told answers.new) }
 {
     let told = answers.tell(
         alloc,

@@ -82,7 +82,8 @@ impl Handle {
 
 /// Takes the desk out, where one is held, and leaves none.
 pub fn take(validator: &mut Handle, alloc: Global) -> Option<Box<Desk>>
-    ensures held { MatchOption result (validator.old.desk ≡ None) (λ b. validator.old.desk ≡ Some b.value) }
+    ensures held { MatchOption result (validator.old.desk ≡ None)
+        (λ b. validator.old.desk ≡ Some b.value) }
     ensures left { validator.new.desk ≡ None }
 {
     replace(validator, Handle::empty(alloc)).open()

@@ -5,7 +5,8 @@ ghost use Rattle.jwt_text.specs.Answers.{Answers};
 ghost use Rattle.jwt_keys.specs.KeySets.{key_set};
 ghost use Rattle.jwt_issue.specs.ClaimSets.{claim_set_of};
 ghost use Rattle.jwt_issue.specs.Views.{pair_parts, text_of};
-ghost use Rattle.jwt_c.specs.Issuing.{hmac_at, form_at, typ_of, issued, pair, PutsToken, PutsIssued};
+ghost use Rattle.jwt_issue.specs.Issued.{pair};
+ghost use Rattle.jwt_c.specs.Issuing.{hmac_at, form_at, typ_of, issued, PutsToken, PutsIssued};
 
 use crate::report::FowReport;
 use crate::writing::put;
@@ -83,7 +84,8 @@ fn issued(
     claims: &ClaimSet,
 ) -> Result<Vec<u8>, IssueFault>
     ensures { Answers IssueFault.OutOfMemory (λ v. v.items) result (issued wanted.entry.form
-        wanted.entry.alg (text_of wanted.entry.typ) wanted.entry.key (key_set keys.now).keys claims.now) }
+        wanted.entry.alg (text_of wanted.entry.typ) wanted.entry.key (key_set keys.now).keys
+        claims.now) }
 {
     let mut budget = CountDown::new(1_000_000_000_000);
     match wanted.form {
@@ -172,7 +174,8 @@ pub(crate) fn put_numbered(
 ) -> u32
     ensures alg { hmac_at alg ≡ None → result ≡ 6 }
     ensures form { form_at form ≡ None → result ≡ 6 }
-    ensures token { IfSome (hmac_at alg) (λ a. IfSome (form_at form) (λ f. PutsIssued f a (typ_of typ.now)
+    ensures token { IfSome (hmac_at alg)
+        (λ a. IfSome (form_at form) (λ f. PutsIssued f a (typ_of typ.now)
         key (key_set keys.now).keys (claim_set_of claims.now)
         result report.new written.new out.old out.new)) }
 {

@@ -1,10 +1,10 @@
 -- What a reading took and gave, where the source's octets are known.
 use Rattle.std.proofs.Common.{◌≡◌, ◌≤◌, ◌⊎◌, inl, inr, ℕ, ◌+◌, ◌-◌, Bool, true, false, List, [], length, drop, Option, None, Some, Ok, Err, IfSome, refl, sym, ap, subst, ◌∙◌, drop_at, arith}
 use Rattle.std.proofs.lemmas.List.{drop_all}
-use Rattle.jwt_text.specs.Intake.{Bounded, Reads}
+use Rattle.jwt_text.specs.Intake.{Bounded, Reads, TakesAtMost}
 use Rattle.jwt_text.specs.declared.fault.TextFault.{TextFault}
 use Rattle.jwt_text.specs.declared.fault.TextFault.TheVariants.{OutOfMemory, Read, TooLong, Base64, Json, NotObject, NameTwice}
-use Rattle.jwt_command.specs.Input.{TakesAtMost, ReadsInput}
+use Rattle.jwt_command.specs.Input.{ReadsInput}
 
 -- what a reading that ended early took
 taken_by : (T : Type 0) (e : TextFault) (limit : ℕ) (new : Bounded) (x : List ℕ) (rest : Option (List ℕ)) (failed : Bool)

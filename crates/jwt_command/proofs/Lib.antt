@@ -3,10 +3,12 @@ pub mod InputLemmas
 pub mod JsonLemmas
 pub mod LineLemmas
 pub mod Listing
+pub mod NearLemmas
 pub mod Numbers
 pub mod Orders
 pub mod PairLemmas
 pub mod Showing
+pub mod ShowingJson
 pub mod Printing
 pub mod RunningLines
 pub mod Verifying

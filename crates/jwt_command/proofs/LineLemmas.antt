@@ -3,7 +3,7 @@ use Rattle.std.proofs.Common.{◌≡◌, ◌≤◌, ◌==◌, ◌||◌, ℕ, zer
 use Rattle.std.specs.List.{list_any}
 use Rattle.std.specs.Io.KnownBytes.{Consumes, IsAtEnd, Keeps, prepend_known}
 use Rattle.std.proofs.Math.Nat.{le-min}
-use Rattle.jwt_command.specs.Input.{TakesAtMost}
+use Rattle.jwt_text.specs.Intake.{TakesAtMost}
 use Rattle.jwt_command.specs.TakenLines.{LineFails, TakesLine, after_line, first_line, line_most}
 use Rattle.jwt_command.specs.declared.take_line.LineFault.TheVariants.{TooLong}
 

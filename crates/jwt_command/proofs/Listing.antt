@@ -7,7 +7,7 @@ use Rattle.std.specs.List.{flat_map}
 use Rattle.jwt_keys.specs.Keys.{KeyParts}
 use Rattle.jwt_keys.specs.declared.skip.Skip.{Skip}
 use Rattle.jwt_command.specs.Listed.{before, key_line, set_lines, skip_line}
-use Rattle.jwt_command.specs.Printed.{joined}
+use Rattle.jwt_command.specs.Printed.{line_text}
 
 pub before_within : (place : ℕ) (skips : List Skip) → before place skips ≤ length skips
 before_within place [] = omega arith
@@ -26,7 +26,7 @@ regroup_line o k1 n k2 p k3 t k4 kid k5 alg k6 z k7 th e = simp append_assoc
 pub line_is : (o a b d p q s t l number place kty kid alg size thumb : List ℕ) → a ≡ o ++ (p ++ q) → b ≡ a ++ (codes " alg=" ++ s) → d ≡ b ++ (t ++ l)
     → p ≡ codes "key=" ++ (number ++ (codes " place=" ++ (place ++ (codes " kty=" ++ (kty ++ codes " kid="))))) → q ≡ kid → s ≡ alg
     → t ≡ codes " size=" ++ (size ++ codes " thumbprint=") → l ≡ thumb
-    → d ++ 10 ∷ [] ≡ o ++ joined (codes "key=" ∷ number ∷ codes " place=" ∷ place ∷ codes " kty=" ∷ kty ∷ codes " kid=" ∷ kid ∷ codes " alg=" ∷ alg ∷ codes " size=" ∷ size ∷ codes " thumbprint=" ∷ thumb ∷ [])
+    → d ++ 10 ∷ [] ≡ o ++ line_text (codes "key=" ∷ number ∷ codes " place=" ∷ place ∷ codes " kty=" ∷ kty ∷ codes " kid=" ∷ kid ∷ codes " alg=" ∷ alg ∷ codes " size=" ∷ size ∷ codes " thumbprint=" ∷ thumb ∷ [])
 line_is o a b d p q s t l number place kty kid alg size thumb first second third p_is q_is s_is t_is l_is =
     rw (third, second, first, p_is, q_is, s_is, t_is, l_is)
     (regroup_line o (codes "key=") number (codes " place=") place (codes " kty=") kty (codes " kid=") kid (codes " alg=") alg (codes " size=") size (codes " thumbprint=") thumb (10 ∷ []))

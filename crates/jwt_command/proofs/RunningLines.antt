@@ -10,7 +10,7 @@ use Rattle.jwt_command.specs.Lines.{GivesLines, with_held}
 use Rattle.jwt_command.specs.Printed.{Answer, out_of_memory}
 use Rattle.jwt_command.specs.RunLines.{LinesByKeys, LinesByPolicy, LinesInHand, LinesNamed, Outcome, Printed, RunsLines}
 use Rattle.jwt_command.specs.Told.{told, told_file_failed}
-use Rattle.jwt_command.specs.Verify.{asked_for, terms}
+use Rattle.jwt_command.specs.Verify.{asked_for, terms_of_keys}
 use Rattle.jwt_command.specs.Words.{LinesOrder}
 
 -- what holds for each x holds where x is known
@@ -48,7 +48,7 @@ keys_are_refused view json verifiers says now known policy set p fault reply unr
 
 pub lines_are_given : (json : Bool) (verifiers : List Meaning) (says : ℕ → List ℕ → ℕ → Type 0) (now : Option ℕ) (known : Option (List ℕ)) (policy : Result Settings PolicyFault) (set : Result KeyList KeysFault)
     (p : Settings) (keys : KeyList) (unread : Bool) (o : Outcome) → policy ≡ Ok p → set ≡ Ok keys
-    → IfSome known (λ x. GivesLines (λ m l. (told json).token (terms verifiers m p keys) l) (told json).read_failed (with_held p.run.limit says) now x unread o.before o.after o.failed o.status)
+    → IfSome known (λ x. GivesLines (λ m l. (told json).token (terms_of_keys verifiers m p keys) l) (told json).read_failed (with_held p.run.limit says) now x unread o.before o.after o.failed o.status)
     → IfSome known (λ x. Printed out_of_memory o ⊎ LinesByPolicy json verifiers says now policy set x unread o)
 lines_are_given json verifiers says now None policy set p keys unread o policy_is set_is given = tt
 lines_are_given json verifiers says now (Some x) policy set p keys unread o policy_is set_is given =

@@ -2,7 +2,7 @@
 use Rattle.std.proofs.Common.{◌≡◌, ℕ, ◌+◌, List, [], ◌∷◌, ◌++◌, drop, Some, sym, ap, ◌∙◌, add-one, append_assoc}
 use Rattle.std.specs.Prelude.{codes, slice_get}
 use Rattle.jwt_jws.specs.Token.{SignatureParts}
-use Rattle.jwt_command.specs.Printed.{joined}
+use Rattle.jwt_command.specs.Printed.{line_text}
 use Rattle.jwt_command.specs.Shown.{signature_line, signature_lines}
 use Rattle.jwt_command.proofs.Listing.{rest_at}
 
@@ -26,7 +26,7 @@ pub claims_are : (o a b c d e f g v1 v2 v3 v4 v5 v6 v7 aud exp iat iss jti nbf s
     → a ≡ o ++ (codes "claims aud=" ++ v1) → b ≡ a ++ (codes " exp=" ++ v2) → c ≡ b ++ (codes " iat=" ++ v3) → d ≡ c ++ (codes " iss=" ++ v4)
     → e ≡ d ++ (codes " jti=" ++ v5) → f ≡ e ++ (codes " nbf=" ++ v6) → g ≡ f ++ (codes " sub=" ++ v7)
     → v1 ≡ aud → v2 ≡ exp → v3 ≡ iat → v4 ≡ iss → v5 ≡ jti → v6 ≡ nbf → v7 ≡ sub
-    → g ++ 10 ∷ [] ≡ o ++ joined (codes "claims aud=" ∷ aud ∷ codes " exp=" ∷ exp ∷ codes " iat=" ∷ iat ∷ codes " iss=" ∷ iss ∷ codes " jti=" ∷ jti ∷ codes " nbf=" ∷ nbf ∷ codes " sub=" ∷ sub ∷ [])
+    → g ++ 10 ∷ [] ≡ o ++ line_text (codes "claims aud=" ∷ aud ∷ codes " exp=" ∷ exp ∷ codes " iat=" ∷ iat ∷ codes " iss=" ∷ iss ∷ codes " jti=" ∷ jti ∷ codes " nbf=" ∷ nbf ∷ codes " sub=" ∷ sub ∷ [])
 claims_are o a b c d e f g v1 v2 v3 v4 v5 v6 v7 aud exp iat iss jti nbf sub p1 p2 p3 p4 p5 p6 p7 e1 e2 e3 e4 e5 e6 e7 =
     rw (p7, p6, p5, p4, p3, p2, p1, e1, e2, e3, e4, e5, e6, e7)
     (regroup_claims o (codes "claims aud=") aud (codes " exp=") exp (codes " iat=") iat (codes " iss=") iss (codes " jti=") jti (codes " nbf=") nbf (codes " sub=") sub (10 ∷ []))
@@ -36,7 +36,7 @@ regroup_start k1 form k2 octets n rest = simp append_assoc
 
 -- the lines before those of the signatures
 pub lines_start : (o none p form octets rest : List ℕ) → o ≡ none ++ p → none ≡ [] → p ≡ codes "unverified " ++ (form ++ (10 ∷ codes "payload octets=" ++ (octets ++ 10 ∷ [])))
-    → o ++ rest ≡ joined (codes "unverified " ∷ form ∷ []) ++ (joined (codes "payload octets=" ∷ octets ∷ []) ++ rest)
+    → o ++ rest ≡ line_text (codes "unverified " ∷ form ∷ []) ++ (line_text (codes "payload octets=" ∷ octets ∷ []) ++ rest)
 lines_start o none p form octets rest first none_is p_is =
     rw (first, none_is, p_is) (regroup_start (codes "unverified ") form (codes "payload octets=") octets (10 ∷ []) rest)
 
@@ -44,7 +44,7 @@ lines_start o none p form octets rest first none_is p_is =
 pub lines_begin : (o none p form octets claims : List ℕ) (payload n : ℕ) (ss : List SignatureParts) → payload ≡ n → o ≡ none ++ p → none ≡ []
     → p ≡ codes "unverified " ++ (form ++ (10 ∷ codes "payload octets=" ++ (octets ++ 10 ∷ [])))
     → o ++ (signature_lines payload 0 (drop 0 ss) ++ claims)
-    ≡ joined (codes "unverified " ∷ form ∷ []) ++ (joined (codes "payload octets=" ∷ octets ∷ []) ++ (signature_lines n 0 ss ++ claims))
+    ≡ line_text (codes "unverified " ∷ form ∷ []) ++ (line_text (codes "payload octets=" ∷ octets ∷ []) ++ (signature_lines n 0 ss ++ claims))
 lines_begin o none p form octets claims payload n ss same first none_is p_is =
     rw same (lines_start o none p form octets (signature_lines n 0 ss ++ claims) first none_is p_is)
 

@@ -1,5 +1,5 @@
 -- What `verify` takes, and its answer where a line is too long.
-use Rattle.std.proofs.Common.{◌≡◌, ◌≢◌, ◌≤◌, ◌<◌, ◌⊎◌, inl, inr, ℕ, ◌+◌, Bool, true, false, List, length, drop, Option, None, Some, Result, Ok, Err, IfOk, refl, sym, ap, subst, ◌∙◌, drop_at, drop-drop, arith, nat_lt, true≢false, IfSome}
+use Rattle.std.proofs.Common.{◌≡◌, ◌≢◌, ◌≤◌, ◌<◌, ◌⊎◌, inl, inr, ℕ, ◌+◌, Bool, true, false, List, length, drop, Option, None, Some, Result, Ok, Err, IfOk, refl, sym, ap, subst, ◌∙◌, drop-drop, arith, nat_lt, true≢false, IfSome}
 use Rattle.std.proofs.lemmas.Bool.Decides.{nat_tests}
 use Rattle.std.specs.Option.{option_map_or}
 use Rattle.jwt_mac.specs.Verifying.{Meaning}
@@ -9,7 +9,7 @@ use Rattle.jwt_policy.specs.Document.{policy_of}
 use Rattle.jwt_policy.specs.declared.policy_fault.PolicyFault.TheVariants as policy
 use Rattle.jwt_verify.specs.Table.{states, work}
 use Rattle.jwt_verify.specs.Verdict.{Terms, table, verdict_of}
-use Rattle.jwt_verify.specs.Reports.{FoundMemory, Failed, IsReport, TakesAtMost as FrontAtMost}
+use Rattle.jwt_verify.specs.Reports.{FoundMemory, Failed, IsReport}
 use Rattle.jwt_verify.specs.Steps.{TellsReports}
 use Rattle.jwt_verify.specs.declared.report.Report.{Report}
 use Rattle.jwt_verify.specs.declared.report.Try.{Try}
@@ -20,13 +20,14 @@ use Rattle.jwt_verify.specs.declared.report.Verdict.{Verdict}
 use Rattle.jwt_verify.specs.declared.report.Verdict.TheVariants.{Accepted, Refused}
 use Rattle.jwt_policy.specs.Settings.{Settings}
 use Rattle.jwt_command.specs.Documents.{Held, TakesDocument, behind, document, document_most, last_document, last_most}
-use Rattle.jwt_command.specs.Input.{TakesAtMost}
+use Rattle.jwt_text.specs.Intake.{TakesAtMost}
 use Rattle.jwt_command.specs.Issue.{TokenAsked, issue_answer, issue_under}
 use Rattle.jwt_command.specs.Json.{verdict_json, token_json, payload_of}
 use Rattle.jwt_command.specs.Verify.{Telling, in_lines, keys_answer, keys_refused, token_answer, under_keys, under_policy, unless_read_failed, verify_answer, verify_line}
 use Rattle.jwt_command.specs.Printed.{Answer}
-use Rattle.jwt_command.specs.Listed.{keys_answer as keys_answer_alone, listed}
+use Rattle.jwt_command.specs.ListedJson.{list_answer, listed}
 use Rattle.jwt_command.specs.Stops.{behind_keys, behind_policy, keys_most, verify_most}
+use Rattle.jwt_command.specs.Told.{told}
 use Rattle.jwt_command.specs.TakenLines.{TakesLine, after_line, first_line, line_most}
 use Rattle.jwt_command.proofs.LineLemmas.{line_taken}
 
@@ -83,15 +84,15 @@ pub line_document : (limit : ℕ) (x octets : List ℕ) (rest : Option (List ℕ
 line_document limit x octets rest h = record { octets_are = h.line; unread = h.unread; taken = line_taken limit x octets rest h }
 
 pub front_taken : (limit most : ℕ) (x : List ℕ) (rest : Option (List ℕ)) (failed : Bool) (v : Verdict) → limit + 1 ≤ most
-    → (v ≢ Refused (Text Read) → FrontAtMost (limit + 1) x rest) → (v ≡ Refused (Text Read) → failed ≡ true) → (failed ≡ true) ⊎ TakesAtMost most x rest
+    → (v ≢ Refused (Text Read) → TakesAtMost (limit + 1) x rest) → (v ≡ Refused (Text Read) → failed ≡ true) → (failed ≡ true) ⊎ TakesAtMost most x rest
 front_taken limit most x rest true v within taken read = inl refl
 front_taken limit most x rest false v within taken read = inr (drops (taken (λ is. never (read is))))
   where
     never : false ≡ true → ⊥
     never is = true≢false (sym is)
 
-    drops : FrontAtMost (limit + 1) x rest → TakesAtMost most x rest
-    drops (front, back, is, unread, short) = (length front, omega (arith, short, within), unread ∙ ap Some (sym (drop_at front back (length front) refl)) ∙ ap (λ l. Some (drop (length front) l)) (sym is))
+    drops : TakesAtMost (limit + 1) x rest → TakesAtMost most x rest
+    drops (n, few, here) = (n, omega (arith, few, within), here)
 
 -- ---- lines that are too long
 
@@ -113,8 +114,10 @@ pub policy_line_too_long : (tell : Telling) (vs : List Meaning) (now : ℕ) (h :
 policy_line_too_long tell vs now h x failed works long =
     sym (ap (λ f. verify_answer tell vs now h f x) works ∙ ap (λ k. under_policy tell vs now h k (behind h.policy x)) (policy_too_long (document h.policy x) long))
 
-pub set_too_long : (x : List ℕ) (failed : Bool) → failed ≡ false → 4194304 < length x → keys_refused keys.TooLong ≡ keys_answer_alone failed x
-set_too_long x failed works long = sym (ap (λ f. keys_answer_alone f x) works ∙ ap listed (keys_too_long x long))
+pub set_too_long : (json : Bool) (x : List ℕ) (failed : Bool) → failed ≡ false → 4194304 < length x
+    → (told json).keys_refused keys.TooLong ≡ list_answer json failed x
+set_too_long json x failed works long =
+    sym (ap (λ f. list_answer json f x) works ∙ ap (listed json) (keys_too_long x long))
 
 pub issue_line_too_long : (asked : TokenAsked) (held : Option (List ℕ)) (x : List ℕ) (failed : Bool) → failed ≡ false → 4194304 < length (document held x)
     → keys_refused keys.TooLong ≡ issue_answer asked held failed x

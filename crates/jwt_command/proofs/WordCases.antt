@@ -2,7 +2,7 @@
 use Rattle.std.proofs.Common.{◌≡◌, [], ◌∷◌, None, Some, true, false, refl}
 use Rattle.std.specs.Prelude.{codes}
 use Rattle.clap.proofs.OnLiterals.{clap_on_literals}
-use Rattle.jwt_command.specs.Words.{EachLine, Mac, MacFile, Once, Verify, Version, no_files, request_of}
+use Rattle.jwt_command.specs.Words.{EachLine, Keys, Mac, MacFile, Once, Show, Verify, Version, no_files, request_of}
 
 pub key_alone : request_of None (codes "jwt" ∷ codes "mac" ∷ codes "--k" ∷ codes "AA" ∷ []) ≡ Some (Once false (Mac (codes "AA") 8192))
 unfolding clap_on_literals
@@ -128,9 +128,13 @@ pub verify_json : request_of None (codes "jwt" ∷ codes "verify" ∷ codes "--j
 unfolding clap_on_literals
 verify_json = refl
 
-pub keys_json : request_of None (codes "jwt" ∷ codes "keys" ∷ codes "--json" ∷ []) ≡ None
+pub keys_json : request_of None (codes "jwt" ∷ codes "keys" ∷ codes "--json" ∷ []) ≡ Some (Once true Keys)
 unfolding clap_on_literals
 keys_json = refl
+
+pub show_json : request_of None (codes "jwt" ∷ codes "show" ∷ codes "--json" ∷ []) ≡ Some (Once true (Show 8192))
+unfolding clap_on_literals
+show_json = refl
 
 pub mac_json : request_of None (codes "jwt" ∷ codes "mac" ∷ codes "--k" ∷ codes "AA" ∷ codes "--json" ∷ []) ≡ None
 unfolding clap_on_literals

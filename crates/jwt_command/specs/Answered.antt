@@ -3,10 +3,10 @@ use Rattle.std.specs.Prelude.{ℕ, Bool, false, List, [], ◌∷◌, codes}
 use Rattle.jwt_mac.specs.Verifying.{Meaning}
 use Rattle.jwt_command.specs.Documents.{Held, unread}
 use Rattle.jwt_command.specs.Issue.{issue_answer}
-use Rattle.jwt_command.specs.Listed.{keys_answer}
+use Rattle.jwt_command.specs.ListedJson.{list_answer}
 use Rattle.jwt_command.specs.Mac.{mac_answer, mac_in_hand}
 use Rattle.jwt_command.specs.Printed.{Answer, line}
-use Rattle.jwt_command.specs.Shown.{show_answer}
+use Rattle.jwt_command.specs.ShownJson.{show_answer}
 use Rattle.jwt_command.specs.Told.{told, unless_unread}
 use Rattle.jwt_command.specs.Verify.{asked_for, verify_answer}
 use Rattle.jwt_command.specs.Words.{Issue, Keys, Mac, MacFile, Order, Show, Verify, Version, files_in_order}
@@ -19,8 +19,8 @@ version_answer = line (codes "jwt 0.1.0, proved with rattle-kit-13b logic dac820
 abbrev pub answer_in_hand : Bool → List Meaning → Held → Order → Bool → List ℕ → Answer
 answer_in_hand json built_in held (Mac key limit) failed x = mac_answer key limit failed x
 answer_in_hand json built_in held (MacFile name limit) failed x = mac_in_hand held.key limit failed x
-answer_in_hand json built_in held Keys failed x = keys_answer failed x
-answer_in_hand json built_in held (Show limit) failed x = show_answer limit failed x
+answer_in_hand json built_in held Keys failed x = list_answer json failed x
+answer_in_hand json built_in held (Show limit) failed x = show_answer json limit failed x
 answer_in_hand json built_in held (Verify now public_keys files) failed x = verify_answer (told json) (asked_for public_keys built_in) now held failed x
 answer_in_hand json built_in held (Issue alg typ form files) failed x = issue_answer (record { alg = alg; typ = typ; form = form }) held.keys failed x
 answer_in_hand json built_in held Version failed x = version_answer

@@ -1,7 +1,7 @@
 -- The documents of a command: a line of the input each, or what a file holds.
 use Rattle.std.specs.Prelude.{◌≡◌, ◌<◌, ℕ, Bool, true, false, List, [], ◌∷◌, Option, Some, None, length, codes}
 use Rattle.json.specs.Print.{quoted as quoted_text}
-use Rattle.jwt_command.specs.Input.{TakesAtMost}
+use Rattle.jwt_text.specs.Intake.{TakesAtMost}
 use Rattle.jwt_command.specs.Printed.{Answer, line}
 use Rattle.jwt_command.specs.TakenLines.{after_line, first_line, line_most}
 use Rattle.jwt_command.specs.Words.{Files}

@@ -1,6 +1,6 @@
 -- What some words ask for.
 use Rattle.std.specs.Prelude.{◌≡◌, [], ◌∷◌, None, Some, true, false, codes}
-use Rattle.jwt_command.specs.Words.{EachLine, Mac, MacFile, Once, Verify, Version, no_files, request_of}
+use Rattle.jwt_command.specs.Words.{EachLine, Keys, Mac, MacFile, Once, Show, Verify, Version, no_files, request_of}
 
 pub record Examples : Type 0 where
   pub key_alone : request_of None (codes "jwt" ∷ codes "mac" ∷ codes "--k" ∷ codes "AA" ∷ []) ≡ Some (Once false (Mac (codes "AA") 8192))
@@ -34,7 +34,8 @@ pub record Examples : Type 0 where
   pub key_and_its_file : request_of None (codes "jwt" ∷ codes "mac" ∷ codes "--key-file" ∷ codes "k" ∷ codes "--k" ∷ codes "AA" ∷ []) ≡ None
   pub file_named_twice : request_of None (codes "jwt" ∷ codes "verify" ∷ codes "--now" ∷ codes "7" ∷ codes "--token" ∷ codes "t" ∷ codes "--token" ∷ codes "t" ∷ []) ≡ None
   pub verify_json : request_of None (codes "jwt" ∷ codes "verify" ∷ codes "--json" ∷ codes "--now" ∷ codes "7" ∷ []) ≡ Some (Once true (Verify 7 false no_files))
-  pub keys_json : request_of None (codes "jwt" ∷ codes "keys" ∷ codes "--json" ∷ []) ≡ None
+  pub keys_json : request_of None (codes "jwt" ∷ codes "keys" ∷ codes "--json" ∷ []) ≡ Some (Once true Keys)
+  pub show_json : request_of None (codes "jwt" ∷ codes "show" ∷ codes "--json" ∷ []) ≡ Some (Once true (Show 8192))
   pub mac_json : request_of None (codes "jwt" ∷ codes "mac" ∷ codes "--k" ∷ codes "AA" ∷ codes "--json" ∷ []) ≡ None
   pub lines_alone : request_of (Some 7) (codes "jwt" ∷ codes "verify" ∷ codes "--lines" ∷ []) ≡ None
   pub lines_json : request_of (Some 7) (codes "jwt" ∷ codes "verify" ∷ codes "--lines" ∷ codes "--json" ∷ codes "--policy=p" ∷ codes "--keys=k" ∷ []) ≡ Some (EachLine (record { now = None; public_keys = false; json = true; files = record { policy = Some (codes "p"); keys = Some (codes "k"); token = None; key = None } }))

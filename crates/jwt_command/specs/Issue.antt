@@ -1,5 +1,5 @@
 -- What `jwt issue` answers.
-use Rattle.std.specs.Prelude.{ℕ, Bool, List, [], ◌∷◌, length, map, nat_lt, slice_get, if◌then◌else◌, Option, Result, Ok, Err, codes}
+use Rattle.std.specs.Prelude.{ℕ, Bool, List, [], ◌∷◌, length, map, nat_lt, slice_get, if◌then◌else◌, Option, Result, Ok, Err, codes, true}
 use Rattle.std.specs.Fmt.{decimal}
 use Rattle.std.specs.Option.{option_map_or}
 use Rattle.jwt_mac.specs.declared.algorithm.Alg.{Alg}
@@ -10,12 +10,12 @@ use Rattle.jwt_jws.specs.declared.fault.Form.{Form}
 use Rattle.jwt_jws.specs.declared.fault.Form.TheVariants.{Compact, Flattened, General}
 use Rattle.jwt_policy.specs.declared.claim_fault.ClaimFault.{ClaimFault}
 use Rattle.jwt_issue.specs.ClaimSets.{claim_set_of}
-use Rattle.jwt_issue.specs.Issued.{PairParts, compact_of, flattened_of, general_of}
+use Rattle.jwt_issue.specs.Issued.{pair, compact_of, flattened_of, general_of}
 use Rattle.jwt_issue.specs.FaultNames.{issue_fault_name}
 use Rattle.jwt_issue.specs.declared.fault.IssueFault.{IssueFault}
 use Rattle.jwt_issue.specs.declared.fault.IssueFault.TheVariants as issue
 use Rattle.jwt_command.specs.Faults.{claim_fault_parts, joined_parts}
-use Rattle.jwt_command.specs.Input.{without_line_feed}
+use Rattle.jwt_verify.specs.Verdict.{without_line_feed}
 use Rattle.jwt_command.specs.Printed.{Answer, refused}
 use Rattle.jwt_command.specs.Documents.{behind, document}
 use Rattle.jwt_command.specs.Verify.{keys_refused, unless_failed}
@@ -37,10 +37,6 @@ pub record TokenAsked : Type 0 where
   pub typ : Option (List ℕ)
   pub form : Form
 
--- a key, for the algorithm that is wanted
-abbrev pub pair : Alg → KeyParts → PairParts
-pair alg key = record { alg = alg; key = key }
-
 -- the token of some claims: in compact and flattened form signed with the first key, in general form with each; the budget is
 -- 1,000,000,000,000 octets
 abbrev pub issued_in : Form → Alg → Option (List ℕ) → List KeyParts → List ℕ → Result (List ℕ) IssueFault
@@ -53,17 +49,17 @@ issued w = issued_in w.form w.alg w.typ
 
 -- ---- the answer
 
-abbrev pub token_answer : Result (List ℕ) IssueFault → Answer
-token_answer (Ok token) = record { text = token; status = 0 }
-token_answer (Err fault) = refused (joined_parts (issue_fault_parts fault))
+abbrev pub issued_answer : Result (List ℕ) IssueFault → Answer
+issued_answer (Ok token) = record { text = token; status = 0 }
+issued_answer (Err fault) = refused (joined_parts (issue_fault_parts fault))
 
 abbrev pub of_claims : TokenAsked → List KeyParts → Result (List ℕ) ClaimFault → Answer
-of_claims w keys (Ok claims) = token_answer (issued w keys claims)
+of_claims w keys (Ok claims) = issued_answer (issued w keys claims)
 of_claims w keys (Err fault) = refused (joined_parts (claim_fault_parts fault))
 
 -- of the claims x, without one line feed at their end
 abbrev pub claims_answer : TokenAsked → List KeyParts → List ℕ → Answer
-claims_answer w keys x = if nat_lt 1048576 (length x) then refused (codes "TooLong") else of_claims w keys (claim_set_of (without_line_feed x))
+claims_answer w keys x = if nat_lt 1048576 (length x) then refused (codes "TooLong") else of_claims w keys (claim_set_of (without_line_feed true x))
 
 abbrev pub issue_under : TokenAsked → Result KeyList KeysFault → List ℕ → Answer
 issue_under w (Ok set) x = claims_answer w set.keys x

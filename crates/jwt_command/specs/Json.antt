@@ -1,5 +1,5 @@
 -- What `verify --json` answers: one JSON object on one line, as the kit's writer spells it.
-use Rattle.std.specs.Prelude.{ℕ, List, [], ◌∷◌, ◌++◌, map, unwrap_or, if◌then◌else◌, codes}
+use Rattle.std.specs.Prelude.{ℕ, List, [], ◌∷◌, ◌++◌, map, unwrap_or, if◌then◌else◌, Option, Some, None, codes}
 use Rattle.std.specs.Fmt.{decimal}
 use Rattle.std.specs.Str.{is_utf8}
 use Rattle.json.specs.Json.{Json, null, number, string, array, object, Items, no_items, item, Members, no_members, member, document}
@@ -27,6 +27,7 @@ use Rattle.jwt_verify.specs.declared.report.SigState.TheVariants.{Barred, NoKey,
 use Rattle.jwt_verify.specs.declared.report.Try.{Try}
 use Rattle.jwt_verify.specs.declared.report.Verdict.{Verdict}
 use Rattle.jwt_verify.specs.declared.report.Verdict.TheVariants.{Accepted, Refused}
+use Rattle.jwt_command.specs.Nearest.{nearest_member}
 use Rattle.jwt_command.specs.Printed.{Answer, out_of_memory}
 use Rattle.jwt_command.specs.Verify.{paid_tries}
 
@@ -53,6 +54,11 @@ json_line ms status = record { text = print (json_tokens (object_of_members ms))
 
 abbrev pub text : List ℕ → List ℕ → Named
 text name value = (name, string value)
+
+-- a name with a text, where there is one
+abbrev pub some_text : List ℕ → Option (List ℕ) → List Named
+some_text name None = []
+some_text name (Some t) = text name t ∷ []
 
 abbrev pub count : List ℕ → ℕ → Named
 count name value = (name, number (decimal value))
@@ -85,8 +91,9 @@ place_of (fault.Claim f) = claim_place f
 place_of (fault.CallsExceeded i j) = count (codes "signature") i ∷ count (codes "key") j ∷ []
 place_of _ = []
 
+-- the member, and the one that is near to its name
 abbrev pub policy_place : PolicyFault → List Named
-policy_place (policy.Member name) = text (codes "member") name ∷ []
+policy_place (policy.Member name) = text (codes "member") name ∷ some_text (codes "nearest") (nearest_member name)
 policy_place (policy.Range name) = text (codes "member") name ∷ []
 policy_place _ = []
 

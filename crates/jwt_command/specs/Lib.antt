@@ -8,12 +8,15 @@ pub mod Json
 pub mod JsonTokens
 pub mod Lines
 pub mod Listed
+pub mod ListedJson
 pub mod Mac
+pub mod Nearest
 pub mod Printed
 pub mod RunLines
 pub mod Runs
 pub mod Seen
 pub mod Shown
+pub mod ShownJson
 pub mod Stops
 pub mod TakenLines
 pub mod Told

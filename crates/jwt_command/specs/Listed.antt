@@ -1,5 +1,5 @@
--- What `jwt keys` answers.
-use Rattle.std.specs.Prelude.{ℕ, Bool, List, [], ◌∷◌, ◌++◌, suc, length, take, drop, nat_le, Option, Result, Ok, Err, codes, if◌then◌else◌}
+-- The lines of a key set, as `jwt keys` prints them.
+use Rattle.std.specs.Prelude.{ℕ, List, [], ◌∷◌, ◌++◌, suc, length, take, drop, nat_le, Option, codes, if◌then◌else◌}
 use Rattle.std.specs.Fmt.{decimal}
 use Rattle.std.specs.List.{flat_map}
 use Rattle.std.specs.Option.{option_map_or}
@@ -7,11 +7,8 @@ use Rattle.json.specs.Print.{quoted as quoted_text}
 use Rattle.jwt_mac.specs.Verifying.{KeyOctets, OctKey, RsaKey, EcKey, OkpKey}
 use Rattle.jwt_keys.specs.Keys.{KeyParts}
 use Rattle.jwt_keys.specs.FaultNames.{reason_name}
-use Rattle.jwt_keys.specs.KeySets.{KeyList, key_set_of}
-use Rattle.jwt_keys.specs.declared.fault.KeysFault.{KeysFault}
 use Rattle.jwt_keys.specs.declared.skip.Skip.{Skip}
-use Rattle.jwt_command.specs.Printed.{Answer, joined}
-use Rattle.jwt_command.specs.Verify.{keys_refused, unless_failed}
+use Rattle.jwt_command.specs.Printed.{line_text}
 
 -- the compact JSON text of a text, and `-` for none
 abbrev pub quoted_or_dash : Option (List ℕ) → List ℕ
@@ -31,13 +28,13 @@ sized_by (EcKey curve x y) = x
 sized_by (OkpKey curve x) = x
 
 abbrev pub key_line : ℕ → KeyParts → List ℕ
-key_line number k = joined (
+key_line number k = line_text (
     codes "key=" ∷ decimal number ∷ codes " place=" ∷ decimal k.place ∷ codes " kty=" ∷ kty_of k.octets ∷ codes " kid=" ∷ quoted_or_dash k.kid
     ∷ codes " alg=" ∷ quoted_or_dash k.alg ∷ codes " size=" ∷ decimal (length (sized_by k.octets)) ∷ codes " thumbprint=" ∷ k.thumbprint ∷ []
     )
 
 abbrev pub skip_line : Skip → List ℕ
-skip_line skip = joined (codes "skip place=" ∷ decimal skip.place ∷ codes " " ∷ reason_name skip.reason ∷ [])
+skip_line skip = line_text (codes "skip place=" ∷ decimal skip.place ∷ codes " " ∷ reason_name skip.reason ∷ [])
 
 -- how many skips stand before the first at or behind this place
 abbrev pub before : ℕ → List Skip → ℕ
@@ -49,11 +46,3 @@ abbrev pub set_lines : ℕ → List KeyParts → List Skip → List ℕ
 set_lines number [] skips = flat_map skip_line skips
 set_lines number (k ∷ ks) skips =
     flat_map skip_line (take (before k.place skips) skips) ++ (key_line number k ++ set_lines (suc number) ks (drop (before k.place skips) skips))
-
-abbrev pub listed : Result KeyList KeysFault → Answer
-listed (Ok set) = record { text = set_lines 0 set.keys set.skips; status = 0 }
-listed (Err fault) = keys_refused fault
-
--- of an input, by a reader that has failed or not
-abbrev pub keys_answer : Bool → List ℕ → Answer
-keys_answer failed x = unless_failed failed (listed (key_set_of x))

@@ -12,7 +12,7 @@ use Rattle.jwt_mac.specs.Verifying.{MessageOctets, signing_input}
 use Rattle.jwt_jws.specs.Forms.{CompactTexts, compact_texts}
 use Rattle.jwt_command.specs.declared.mac.MacFault.{MacFault}
 use Rattle.jwt_command.specs.declared.mac.MacFault.TheVariants.{OutOfMemory, Segments, Base64, Header, AlgMissing, AlgNotAllowed}
-use Rattle.jwt_command.specs.Input.{without_line_feed}
+use Rattle.jwt_verify.specs.Verdict.{without_line_feed}
 use Rattle.jwt_command.specs.Printed.{Answer, line, read_failed, refused}
 
 -- ---- the key: 1 to 4,096 octets in base64url
@@ -78,7 +78,7 @@ mac_line (Err fault) = refused (fault_name fault)
 -- of an input, by a reader that has failed or not; the limit is compared with the whole input
 abbrev pub mac_on : List ℕ → ℕ → Bool → List ℕ → Answer
 mac_on key limit true input = read_failed
-mac_on key limit false input = if nat_lt limit (length input) then refused (codes "TooLong") else mac_line (digest_of key (without_line_feed input))
+mac_on key limit false input = if nat_lt limit (length input) then refused (codes "TooLong") else mac_line (digest_of key (without_line_feed true input))
 
 -- of a key text that is refused, whatever the input
 abbrev pub key_refused : Answer
@@ -94,7 +94,7 @@ mac_answer key = mac_under (key_spelled key)
 
 -- with the key's text in hand, and one line feed behind it or none
 abbrev pub mac_in_hand : Option (List ℕ) → ℕ → Bool → List ℕ → Answer
-mac_in_hand (Some text) limit failed input = mac_answer (without_line_feed text) limit failed input
+mac_in_hand (Some text) limit failed input = mac_answer (without_line_feed true text) limit failed input
 mac_in_hand None limit failed input = key_refused
 
 -- how much of the input is taken at most: nothing where the key is refused
@@ -103,5 +103,5 @@ behind_key (Some key) limit = limit + 1
 behind_key None limit = 0
 
 abbrev pub mac_most : Option (List ℕ) → ℕ → ℕ
-mac_most (Some text) limit = behind_key (key_spelled (without_line_feed text)) limit
+mac_most (Some text) limit = behind_key (key_spelled (without_line_feed true text)) limit
 mac_most None limit = 0

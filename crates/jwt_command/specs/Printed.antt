@@ -7,12 +7,12 @@ pub record Answer : Type 0 where
   pub status : ℕ
 
 -- the parts of a line, in order, and its line feed
-abbrev pub joined : List (List ℕ) → List ℕ
-joined [] = 10 ∷ []
-joined (part ∷ parts) = part ++ joined parts
+abbrev pub line_text : List (List ℕ) → List ℕ
+line_text [] = 10 ∷ []
+line_text (part ∷ parts) = part ++ line_text parts
 
 abbrev pub line : List (List ℕ) → ℕ → Answer
-line parts status = record { text = joined parts; status = status }
+line parts status = record { text = line_text parts; status = status }
 
 abbrev pub read_failed : Answer
 read_failed = line (codes "failed Read" ∷ []) 3

@@ -10,7 +10,7 @@ use Rattle.jwt_command.specs.Documents.{Held, unread}
 use Rattle.jwt_command.specs.Lines.{GivesLines, with_held}
 use Rattle.jwt_command.specs.Printed.{Answer, Prints, out_of_memory}
 use Rattle.jwt_command.specs.Told.{told, told_file_failed}
-use Rattle.jwt_command.specs.Verify.{asked_for, terms}
+use Rattle.jwt_command.specs.Verify.{asked_for, terms_of_keys}
 use Rattle.jwt_command.specs.Words.{LinesOrder}
 
 -- what went out before and after, whether the writer has failed, and the status
@@ -26,7 +26,7 @@ Printed a o = Prints a o.before o.after o.failed o.status
 -- under a policy and a key set: a verdict for each line of x, by what a clock says, told in JSON or in lines
 abbrev pub LinesByKeys : Bool → List Meaning → (ℕ → List ℕ → ℕ → Type 0) → Option ℕ → Settings → Result KeyList KeysFault → List ℕ → Bool → Outcome → Type 0
 LinesByKeys json verifiers says now p (Ok set) x fails o =
-    GivesLines (λ m l. (told json).token (terms verifiers m p set) l) (told json).read_failed (with_held p.run.limit says) now x fails o.before o.after o.failed o.status
+    GivesLines (λ m l. (told json).token (terms_of_keys verifiers m p set) l) (told json).read_failed (with_held p.run.limit says) now x fails o.before o.after o.failed o.status
 LinesByKeys json verifiers says now p (Err fault) x fails o = Printed ((told json).keys_refused fault) o
 
 abbrev pub LinesByPolicy : Bool → List Meaning → (ℕ → List ℕ → ℕ → Type 0) → Option ℕ → Result Settings PolicyFault → Result KeyList KeysFault → List ℕ → Bool → Outcome → Type 0

@@ -1,5 +1,5 @@
--- What `jwt show` answers.
-use Rattle.std.specs.Prelude.{ℕ, ℤ, suc, ◌+◌, ◌*◌, ◌/◌, ◌%◌, Bool, true, false, List, [], ◌∷◌, ◌++◌, length, nat_lt, if◌then◌else◌, Option, Some, None, Result, Ok, Err, codes}
+-- The lines of a token, as `jwt show` prints them.
+use Rattle.std.specs.Prelude.{ℕ, ℤ, suc, ◌+◌, ◌*◌, ◌/◌, ◌%◌, Bool, true, false, List, [], ◌∷◌, ◌++◌, length, Option, Some, None, Result, Ok, Err, codes}
 use Rattle.std.specs.Fmt.{decimal, signed_decimal}
 use Rattle.std.specs.Option.{option_map_or}
 use Rattle.json.specs.Print.{quoted as quoted_text}
@@ -7,17 +7,13 @@ use Rattle.serde_json.specs.Data.{Members}
 use Rattle.serde_json.specs.Events.{members_len}
 use Rattle.jwt_text.specs.Members.{compact_at, has, text_at, whole_at}
 use Rattle.jwt_jws.specs.Token.{SignatureParts, Token, alg_text, in_header, kid}
-use Rattle.jwt_jws.specs.Forms.{form_of}
 use Rattle.jwt_jws.specs.declared.fault.Form.{Form}
 use Rattle.jwt_jws.specs.declared.fault.Form.TheVariants.{Compact, General, Flattened}
-use Rattle.jwt_jws.specs.declared.fault.FormFault.{FormFault}
 use Rattle.jwt_policy.specs.ClaimKinds.{claims_of}
 use Rattle.jwt_policy.specs.declared.claim_fault.ClaimFault.{ClaimFault}
-use Rattle.jwt_command.specs.Faults.{claim_fault_parts, form_fault_parts, joined_parts}
+use Rattle.jwt_command.specs.Faults.{claim_fault_parts, joined_parts}
 use Rattle.jwt_command.specs.Listed.{quoted_or_dash}
-use Rattle.jwt_command.specs.Input.{without_line_feed}
-use Rattle.jwt_command.specs.Printed.{Answer, joined, refused}
-use Rattle.jwt_command.specs.Verify.{unless_failed}
+use Rattle.jwt_command.specs.Printed.{line_text}
 
 abbrev pub form_name : Form → List ℕ
 form_name Compact = codes "compact"
@@ -44,7 +40,7 @@ member_count (Some ms) = members_len ms
 
 -- the sizes of a signature, beside a payload text of so many octets
 abbrev pub signature_sizes : ℕ → SignatureParts → List ℕ
-signature_sizes payload s = joined (
+signature_sizes payload s = line_text (
     codes " protected=" ∷ decimal (spelled_len (length s.protected_text)) ∷ codes " unprotected=" ∷ decimal (member_count s.unprotected)
     ∷ codes " signature=" ∷ decimal (length s.octets) ∷ codes " input=" ∷ decimal (length s.protected_text + 1 + payload) ∷ []
     )
@@ -65,27 +61,15 @@ abbrev pub audience : Members → List ℕ
 audience ms = option_map_or (λ text. text) (compact_at (codes "aud") ms) (codes "-")
 
 abbrev pub claims_line : Result Members ClaimFault → List ℕ
-claims_line (Ok ms) = joined (
+claims_line (Ok ms) = line_text (
     codes "claims aud=" ∷ audience ms ∷ codes " exp=" ∷ number_or_dash (whole_at (codes "exp") ms)
     ∷ codes " iat=" ∷ number_or_dash (whole_at (codes "iat") ms) ∷ codes " iss=" ∷ quoted_or_dash (text_at (codes "iss") ms)
     ∷ codes " jti=" ∷ quoted_or_dash (text_at (codes "jti") ms) ∷ codes " nbf=" ∷ number_or_dash (whole_at (codes "nbf") ms)
     ∷ codes " sub=" ∷ quoted_or_dash (text_at (codes "sub") ms) ∷ []
     )
-claims_line (Err fault) = joined (codes "claims refused " ∷ joined_parts (claim_fault_parts fault) ∷ [])
+claims_line (Err fault) = line_text (codes "claims refused " ∷ joined_parts (claim_fault_parts fault) ∷ [])
 
 abbrev pub token_lines : Token → List ℕ
 token_lines t =
-    joined (codes "unverified " ∷ form_name t.form ∷ []) ++ (joined (codes "payload octets=" ∷ decimal (length t.payload) ∷ [])
+    line_text (codes "unverified " ∷ form_name t.form ∷ []) ++ (line_text (codes "payload octets=" ∷ decimal (length t.payload) ∷ [])
     ++ (signature_lines (length t.payload_text) 0 t.signatures ++ claims_line (claims_of t.payload)))
-
-abbrev pub shown : Result Token FormFault → Answer
-shown (Ok t) = record { text = token_lines t; status = 0 }
-shown (Err fault) = refused (joined_parts (form_fault_parts fault))
-
--- of a token of at most so many octets, with one line feed behind it or none
-abbrev pub show_on : ℕ → List ℕ → Answer
-show_on limit x = if nat_lt limit (length x) then refused (codes "TooLong") else shown (form_of 32 (without_line_feed x))
-
--- by a reader that has failed or not
-abbrev pub show_answer : ℕ → Bool → List ℕ → Answer
-show_answer limit failed x = unless_failed failed (show_on limit x)

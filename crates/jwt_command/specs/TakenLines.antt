@@ -1,6 +1,6 @@
 -- One line of an input.
 use Rattle.std.specs.Prelude.{◌≡◌, ◌<◌, ◌≤◌, ◌+◌, ◌==◌, ℕ, Bool, true, false, List, [], ◌∷◌, length, drop, min, Option, Some, if◌then◌else◌}
-use Rattle.jwt_command.specs.Input.{TakesAtMost}
+use Rattle.jwt_text.specs.Intake.{TakesAtMost}
 use Rattle.jwt_command.specs.declared.take_line.LineFault.{LineFault}
 use Rattle.jwt_command.specs.declared.take_line.LineFault.TheVariants.{OutOfMemory, Read, TooLong}
 

@@ -46,8 +46,8 @@ asked_for true verifiers = verifiers
 asked_for false verifiers = []
 
 -- a key set, with verifiers for public keys
-abbrev pub terms : List Meaning → ℕ → Settings → KeyList → Terms
-terms verifiers now p set = record { policy = p; keys = set.keys; now = pos now; verifiers = verifiers }
+abbrev pub terms_of_keys : List Meaning → ℕ → Settings → KeyList → Terms
+terms_of_keys verifiers now p set = record { policy = p; keys = set.keys; now = pos now; verifiers = verifiers }
 
 -- the tries that the policy's `work` and `max_calls` pay
 abbrev pub paid_tries : Terms → List ℕ → List Try
@@ -73,7 +73,7 @@ abbrev pub in_lines : Telling
 in_lines = record { token = token_answer; keys_refused = keys_refused; policy_refused = policy_refused; read_failed = read_failed }
 
 abbrev pub under_keys : Telling → List Meaning → ℕ → Settings → Result KeyList KeysFault → List ℕ → Answer
-under_keys tell verifiers now p (Ok set) x = tell.token (terms verifiers now p set) x
+under_keys tell verifiers now p (Ok set) x = tell.token (terms_of_keys verifiers now p set) x
 under_keys tell verifiers now p (Err fault) x = tell.keys_refused fault
 
 -- the key set is in hand, or the first line of x

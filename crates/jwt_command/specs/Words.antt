@@ -76,10 +76,10 @@ abbrev pub mac_app : App
 mac_app = with_rule (with_rule (with_rule (new_app (codes "mac")) key_rule) key_file_rule) limit_rule
 
 abbrev pub keys_app : App
-keys_app = new_app (codes "keys")
+keys_app = with_rule (new_app (codes "keys")) json_rule
 
 abbrev pub show_app : App
-show_app = with_rule (new_app (codes "show")) limit_rule
+show_app = with_rule (with_rule (new_app (codes "show")) limit_rule) json_rule
 
 -- `verify` on standard input alone, and with files
 abbrev pub verify_on_input : Bool → App

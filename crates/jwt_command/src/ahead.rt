@@ -26,7 +26,8 @@ impl Model for Ahead {
 
     ghost view = { λ s. take (s.end - s.start) (drop s.start s.octets.items) };
 
-    ghost invariant = { λ s. (s.start ≤ s.end) × (s.end ≤ length s.octets.items) × (0 < length s.octets.items) };
+    ghost invariant = { λ s. (s.start ≤ s.end) × (s.end ≤ length s.octets.items)
+        × (0 < length s.octets.items) };
 }
 
 impl Ahead {
@@ -44,7 +45,8 @@ impl Ahead {
 
     /// Pulls where no octets are left. `Some(true)`: there are some; `Some(false)`: the source is at its end; `None`: it has failed.
     fn fill<R: Source>(&mut self, r: &mut R) -> Option<bool>
-        ensures kept { Keeps (prepend_known self.old (R.remaining r.old)) (prepend_known self.new (R.remaining r.new)) }
+        ensures kept { Keeps (prepend_known self.old (R.remaining r.old))
+            (prepend_known self.new (R.remaining r.new)) }
         ensures more { result ≡ Some true → 0 < length self.new }
         ensures end { result ≡ Some false → IsAtEnd (prepend_known self.new (R.remaining r.new)) }
         ensures none { IfNone result (R.failed r.new ≡ true) }
@@ -76,8 +78,11 @@ impl Ahead {
     /// Takes the next octet. `Some(None)`: the source is at its end; `None`: it has failed.
     pub(crate) fn next<R: Source>(&mut self, r: &mut R) -> Option<Option<u8>>
         ensures octet { IfSome result (λ o. IfSome o (λ octet.
-            Consumes (prepend_known self.old (R.remaining r.old)) (prepend_known self.new (R.remaining r.new)) (octet ∷ []))) }
-        ensures end { result ≡ Some None → Consumes (prepend_known self.old (R.remaining r.old)) (prepend_known self.new (R.remaining r.new)) []
+            Consumes (prepend_known self.old (R.remaining r.old))
+            (prepend_known self.new (R.remaining r.new)) (octet ∷ []))) }
+        ensures end { result ≡ Some None
+            → Consumes (prepend_known self.old (R.remaining r.old))
+            (prepend_known self.new (R.remaining r.new)) []
             × IsAtEnd (prepend_known self.new (R.remaining r.new)) }
         ensures none { IfNone result (R.failed r.new ≡ true) }
     {

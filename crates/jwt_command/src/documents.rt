@@ -1,7 +1,7 @@
 //! The documents of a command: in hand, or in the lines of the input.
 ghost use Rattle.std.specs.Prelude.{◌≡◌, ◌≤◌, ◌+◌, ◌⊎◌, false, true, option_map, take, Err, IfErr, IfNone, IfOk, IfSome, OnOk, OnSome};
 ghost use Rattle.jwt_command.specs.Documents.{DocumentFails, TakesDocument, document_most, file_failed, none_held, unread, unread_or};
-ghost use Rattle.jwt_command.specs.Input.{TakesAtMost};
+ghost use Rattle.jwt_text.specs.Intake.{TakesAtMost};
 ghost use Rattle.jwt_command.specs.Seen.{files_view};
 ghost use Rattle.jwt_command.specs.Views.{document_octets, held_view, reply_view};
 
@@ -56,7 +56,8 @@ pub fn read_document<R: Source>(
         IfSome d (λ held. held.octets ≡ take (limit + 1) x))) }
     ensures unread { IfOk result (λ d. IfNone d (R.failed r.new ≡ true)) }
     ensures works { IfOk result (λ d. OnSome d (R.failed r.new ≡ false)) }
-    ensures taken { IfSome (R.remaining r.old) (λ x. (R.failed r.new ≡ true) ⊎ TakesAtMost (limit + 1) x (R.remaining r.new)) }
+    ensures taken { IfSome (R.remaining r.old)
+        (λ x. (R.failed r.new ≡ true) ⊎ TakesAtMost (limit + 1) x (R.remaining r.new)) }
 {
     let mut intake = Intake::new(alloc, limit);
     match intake.read_from(r) {
@@ -98,13 +99,15 @@ pub(crate) fn document<'a, R: Source>(
     requires least { 1 ≤ limit }
     requires greatest { limit ≤ GREATEST_LIMIT }
     ensures document { IfSome (R.remaining r.old) (λ x. IfOk result (λ d.
-        TakesDocument limit (option_map (λ t. t.now) held.entry) x (document_octets d) (R.remaining r.new))) }
+        TakesDocument limit (option_map (λ t. t.now) held.entry) x (document_octets d)
+        (R.remaining r.new))) }
     ensures works { OnOk result (R.failed r.new ≡ false) }
     ensures read { result ≡ Err LineFault.Read → R.failed r.new ≡ true }
     ensures fails { IfSome (R.remaining r.old) (λ x. IfErr result
         (DocumentFails limit (option_map (λ t. t.now) held.entry) (R.failed r.new) x)) }
     ensures taken { IfSome (R.remaining r.old) (λ x. (R.failed r.new ≡ true)
-        ⊎ TakesAtMost (document_most limit (option_map (λ t. t.now) held.entry) x) x (R.remaining r.new)) }
+        ⊎ TakesAtMost (document_most limit (option_map (λ t. t.now) held.entry) x) x
+        (R.remaining r.new)) }
 {
     match held {
         Some(_) if r.failed() => Err(LineFault::Read),
@@ -120,7 +123,8 @@ pub(crate) fn unread_or<'a>(
     next: Option<&'a str>,
 ) -> Option<&'a str>
     ensures { option_map (λ t. t.now) result
-        ≡ unread_or (option_map (λ t. t.now) name.entry) (option_map (λ t. t.now) held.entry) (option_map (λ t. t.now) next.entry) }
+        ≡ unread_or (option_map (λ t. t.now) name.entry) (option_map (λ t. t.now) held.entry)
+        (option_map (λ t. t.now) next.entry) }
 {
     match (name, held) {
         (Some(name), None) => Some(name),
@@ -130,7 +134,8 @@ pub(crate) fn unread_or<'a>(
 
 /// The first file that is named and isn't in hand.
 pub(crate) fn unread<'a>(files: Files<'a>, held: Held<'_>) -> Option<&'a str>
-    ensures { option_map (λ t. t.now) result ≡ unread (files_view files.entry) (held_view held.entry) }
+    ensures { option_map (λ t. t.now) result
+        ≡ unread (files_view files.entry) (held_view held.entry) }
 {
     let key = unread_or(files.key, held.key, None);
     let last = unread_or(files.token, held.token, key);

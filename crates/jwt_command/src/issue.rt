@@ -3,9 +3,10 @@ ghost use Rattle.std.specs.Prelude.{◌≡◌, ◌≢◌, ◌⊎◌, true, map, 
 ghost use Rattle.jwt_text.specs.Answers.{Answers};
 ghost use Rattle.jwt_keys.specs.KeySets.{key_set};
 ghost use Rattle.jwt_issue.specs.Views.{pair_parts, text_of};
-ghost use Rattle.jwt_command.specs.Input.{TakesAtMost};
+ghost use Rattle.jwt_text.specs.Intake.{TakesAtMost};
 ghost use Rattle.jwt_command.specs.Stops.{keys_most};
-ghost use Rattle.jwt_command.specs.Issue.{claims_answer, issue_answer, issue_fault_parts, issued, of_claims, pair, token_answer};
+ghost use Rattle.jwt_issue.specs.Issued.{pair};
+ghost use Rattle.jwt_command.specs.Issue.{claims_answer, issue_answer, issue_fault_parts, issued, of_claims, issued_answer};
 ghost use Rattle.jwt_command.specs.Faults.{claim_fault_parts, joined_parts};
 ghost use Rattle.jwt_issue.specs.ClaimSets.{claim_set_of};
 ghost use Rattle.jwt_command.specs.Printed.{refused};
@@ -53,7 +54,8 @@ fn issued(
     keys: &KeySet,
     claims: &ClaimSet,
 ) -> Result<Vec<u8>, IssueFault>
-    ensures { Answers IssueFault.OutOfMemory (λ v. v.items) result (issued (wanted_view wanted.entry) (key_set keys.now).keys claims.now) }
+    ensures { Answers IssueFault.OutOfMemory (λ v. v.items) result
+        (issued (wanted_view wanted.entry) (key_set keys.now).keys claims.now) }
 {
     let mut budget = CountDown::new(1_000_000_000_000);
     match wanted.form {
@@ -95,7 +97,9 @@ fn of_claims(
     keys: &KeySet,
     claims: &ClaimSet,
 ) -> Result<Reply, AllocError>
-    ensures line { IfOk result (λ a. reply_view a ≡ token_answer (issued (wanted_view wanted.entry) (key_set keys.now).keys claims.now)) }
+    ensures line { IfOk result
+        (λ a. reply_view a
+        ≡ issued_answer (issued (wanted_view wanted.entry) (key_set keys.now).keys claims.now)) }
     ensures done { IfOk result (λ a. a.status ≢ 3) }
 {
     match issued(alloc, wanted, keys, claims) {
@@ -110,7 +114,8 @@ fn of_claims(
 
 // The line of refused claims.
 fn refused_claims(alloc: Global, fault: &ClaimFault<'_>) -> Result<Reply, AllocError>
-    ensures { IfOk result (λ a. reply_view a ≡ refused (joined_parts (claim_fault_parts fault.now))) }
+    ensures { IfOk result
+        (λ a. reply_view a ≡ refused (joined_parts (claim_fault_parts fault.now))) }
 {
     let name = claim_fault_text(alloc, fault)?;
     Reply::around(alloc, "refused ", name.as_slice(), "\n", 1)
@@ -123,7 +128,9 @@ fn on_text(
     keys: &KeySet,
     text: &[u8],
 ) -> Result<Reply, AllocError>
-    ensures line { IfOk result (λ a. reply_view a ≡ of_claims (wanted_view wanted.entry) (key_set keys.now).keys (claim_set_of text.now)) }
+    ensures line { IfOk result
+        (λ a. reply_view a
+        ≡ of_claims (wanted_view wanted.entry) (key_set keys.now).keys (claim_set_of text.now)) }
     ensures done { IfOk result (λ a. a.status ≢ 3) }
 {
     let octets = text.to_vec(alloc)?;
@@ -142,8 +149,10 @@ fn on_claims<R: Source>(
     r: &mut R,
 ) -> Result<Reply, AllocError>
     ensures line { IfSome (R.remaining r.old) (λ x. IfOk result (λ a. reply_view a
-        ≡ unless_failed (R.failed r.new) (claims_answer (wanted_view wanted.entry) (key_set keys.now).keys x))) }
-    ensures taken { IfSome (R.remaining r.old) (λ x. (R.failed r.new ≡ true) ⊎ TakesAtMost 1048577 x (R.remaining r.new)) }
+        ≡ unless_failed (R.failed r.new)
+        (claims_answer (wanted_view wanted.entry) (key_set keys.now).keys x))) }
+    ensures taken { IfSome (R.remaining r.old)
+        (λ x. (R.failed r.new ≡ true) ⊎ TakesAtMost 1048577 x (R.remaining r.new)) }
     ensures failed { IfOk result (λ a. a.status ≡ 3 → R.failed r.new ≡ true) }
 {
     match read_input(alloc, 1_048_576, r) {
@@ -163,9 +172,11 @@ pub(crate) fn issue<R: Source>(
     r: &mut R,
 ) -> Result<Reply, AllocError>
     ensures line { IfSome (R.remaining r.old) (λ x. IfOk result (λ a. reply_view a
-        ≡ issue_answer (wanted_view wanted.entry) (option_map (λ t. t.now) keys.entry) (R.failed r.new) x)) }
+        ≡ issue_answer (wanted_view wanted.entry) (option_map (λ t. t.now) keys.entry)
+        (R.failed r.new) x)) }
     ensures stops { IfSome (R.remaining r.old) (λ x. (R.failed r.new ≡ true)
-        ⊎ TakesAtMost (keys_most 1048577 (option_map (λ t. t.now) keys.entry) x) x (R.remaining r.new)) }
+        ⊎ TakesAtMost (keys_most 1048577 (option_map (λ t. t.now) keys.entry) x) x
+        (R.remaining r.new)) }
     ensures failed { IfOk result (λ a. a.status ≡ 3 → R.failed r.new ≡ true) }
 {
     let text = match document(alloc, keys, r, 4_194_304) {

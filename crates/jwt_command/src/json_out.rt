@@ -1,11 +1,10 @@
 //! One line of JSON, written by the kit's writer.
-ghost use Rattle.std.specs.Prelude.{◌≡◌, ◌++◌, ◌∷◌, [], IfOk, OnOk};
-ghost use Rattle.json.specs.Json.{null};
+ghost use Rattle.std.specs.Prelude.{◌≡◌, ◌++◌, ◌∷◌, [], IfOk, OnOk, option_map};
 ghost use Rattle.json.specs.Print.{print};
 ghost use Rattle.json.specs.Token.{begin_array, begin_object, end_array, end_object, key};
 ghost use Rattle.json.specs.Tree.{HasNumbers, json_tokens};
 ghost use Rattle.json.specs.Value.{value_view};
-ghost use Rattle.jwt_command.specs.Json.{count, text, value_of};
+ghost use Rattle.jwt_command.specs.Json.{count, some_text, text, value_of};
 ghost use Rattle.jwt_command.specs.JsonTokens.{named_tokens};
 ghost use Rattle.jwt_command.specs.Views.{reply_view};
 
@@ -77,6 +76,17 @@ impl JsonOut {
         self.writer.string(value)
     }
 
+    /// A name with a text, where there is one.
+    pub(crate) fn some_text(&mut self, name: &str, value: Option<&str>) -> Result<(), AllocError>
+        ensures { OnOk result (self.new ≡ self.old
+            ++ named_tokens (some_text name.now (option_map (λ t. t.now) value.entry))) }
+    {
+        match value {
+            Some(text) => self.text(name, text),
+            None => Ok(()),
+        }
+    }
+
     /// A name with a whole number.
     pub(crate) fn count(&mut self, name: &str, value: u64) -> Result<(), AllocError>
         ensures { OnOk result (self.new ≡ self.old ++ named_tokens (count name.now value ∷ [])) }
@@ -85,17 +95,32 @@ impl JsonOut {
         self.writer.u64(value)
     }
 
-    /// A name with the JSON value that a text is: member by member, and digit by digit; null where it is none.
-    pub(crate) fn value(&mut self, alloc: Global, name: &str, text: &[u8]) -> Result<(), AllocError>
-        ensures { OnOk result (self.new ≡ self.old ++ named_tokens ((name.now, value_of text.now) ∷ [])) }
+    /// A name, and the start of the object that it has.
+    pub(crate) fn begin_named(&mut self, name: &str) -> Result<(), AllocError>
+        ensures { OnOk result (self.new ≡ self.old ++ key name.now ∷ begin_object ∷ []) }
     {
         self.writer.key(name)?;
+        self.writer.begin_object()
+    }
+
+    /// A name with a value: member by member, and digit by digit.
+    pub(crate) fn tree(&mut self, name: &str, value: &Value<'_>) -> Result<(), AllocError>
+        requires { HasNumbers (value_view value.now) }
+        ensures { OnOk result (self.new
+            ≡ self.old ++ named_tokens ((name.now, value_view value.now) ∷ [])) }
+    {
+        self.writer.key(name)?;
+        self.writer.value(value)
+    }
+
+    /// A name with the JSON value that a text is; null where it is none.
+    pub(crate) fn value(&mut self, alloc: Global, name: &str, text: &[u8]) -> Result<(), AllocError>
+        ensures { OnOk result
+            (self.new ≡ self.old ++ named_tokens ((name.now, value_of text.now) ∷ [])) }
+    {
         let mut scratch = Scratch::new(alloc);
-        match Value::from_slice(alloc, text, &mut scratch) {
-            Ok(value) => self.writer.value(&value),
-            Err(Error::Invalid) => self.writer.null(),
-            Err(_) => Err(AllocError),
-        }
+        let value = value_in(alloc, text, &mut scratch)?;
+        self.tree(name, &value)
     }
 
     /// The object's end, and the line feed behind it.
@@ -108,5 +133,21 @@ impl JsonOut {
         let mut text = writer.into_inner();
         text.push(b'\n')?;
         Ok(Reply { text, status })
+    }
+}
+
+/// The JSON value that a text is; null where it is none.
+pub(crate) fn value_in<'a>(
+    alloc: Global,
+    text: &'a [u8],
+    scratch: &'a mut Scratch,
+) -> Result<Value<'a>, AllocError>
+    ensures value { IfOk result (λ v. value_view v ≡ value_of text.now) }
+    ensures writable { IfOk result (λ v. HasNumbers (value_view v)) }
+{
+    match Value::from_slice(alloc, text, scratch) {
+        Ok(value) => Ok(value),
+        Err(Error::Invalid) => Ok(Value::Null),
+        Err(_) => Err(AllocError),
     }
 }

@@ -7,11 +7,13 @@ ghost use Rattle.jwt_verify.specs.Verdict.{token_of, token_or_none, without_line
 ghost use Rattle.jwt_verify.specs.declared.report.InputFault.TheVariants.{Read};
 ghost use Rattle.jwt_verify.specs.declared.report.Fault.TheVariants.{Text};
 ghost use Rattle.jwt_verify.specs.declared.report.Verdict.TheVariants.{Refused};
-ghost use Rattle.jwt_command.specs.Json.{claim_place, count, evidence, file_failed_json, form_place, keys_refused_json, list, place_of, policy_place, policy_refused_json, read_failed_json, said_json, state_json, state_members, text, try_json, value_of, verdict_json, verdict_members, verdict_status};
+ghost use Rattle.jwt_command.specs.Json.{claim_place, count, evidence, file_failed_json, form_place, keys_refused_json, list, place_of, policy_place, policy_refused_json, read_failed_json, said_json, some_text, state_json, state_members, text, try_json, value_of, verdict_json, verdict_members, verdict_status};
 ghost use Rattle.jwt_command.specs.JsonTokens.{named_tokens};
+ghost use Rattle.jwt_command.specs.Nearest.{nearest_member};
 ghost use Rattle.jwt_command.specs.Views.{reply_view};
 
 use crate::json_out::JsonOut;
+use crate::nearest::nearest_member;
 use crate::reply::Reply;
 use jwt_jws::{FormFault, Place, parse};
 use jwt_keys::KeysFault;
@@ -19,8 +21,8 @@ use jwt_policy::{ClaimFault, Policy, PolicyFault};
 use jwt_verify::{Fault, InputFault, Report, SigState, Try, Verdict};
 use std::alloc::{AllocError, Global};
 
-// What a fault of the form names.
-fn put_form_place(out: &mut JsonOut, fault: FormFault) -> Result<(), AllocError>
+/// What a fault of the form names.
+pub(crate) fn put_form_place(out: &mut JsonOut, fault: FormFault) -> Result<(), AllocError>
     ensures { OnOk result (out.new ≡ out.old ++ named_tokens (form_place fault)) }
 {
     match fault {
@@ -54,7 +56,9 @@ fn put_claim_place(out: &mut JsonOut, fault: &ClaimFault<'_>) -> Result<(), Allo
 }
 
 fn put_pair(out: &mut JsonOut, i: u32, j: u32) -> Result<(), AllocError>
-    ensures { OnOk result (out.new ≡ out.old ++ named_tokens (count (codes "signature") i ∷ count (codes "key") j ∷ [])) }
+    ensures { OnOk result
+        (out.new ≡ out.old
+        ++ named_tokens (count (codes "signature") i ∷ count (codes "key") j ∷ [])) }
 {
     out.count("signature", i as u64)?;
     out.count("key", j as u64)
@@ -73,14 +77,22 @@ fn put_place(out: &mut JsonOut, fault: &Fault<'_>) -> Result<(), AllocError>
     }
 }
 
+// A member, and the one of a policy that is near to its name.
+fn put_member(alloc: Global, out: &mut JsonOut, name: &str) -> Result<(), AllocError>
+    ensures { OnOk result (out.new ≡ out.old ++ named_tokens (text (codes "member") name.now
+        ∷ some_text (codes "nearest") (nearest_member name.now))) }
+{
+    out.text("member", name)?;
+    out.some_text("nearest", nearest_member(alloc, name)?)
+}
+
 // The member that a fault of the policy names.
-fn put_policy_place(out: &mut JsonOut, fault: &PolicyFault) -> Result<(), AllocError>
+fn put_policy_place(alloc: Global, out: &mut JsonOut, fault: &PolicyFault) -> Result<(), AllocError>
     ensures { OnOk result (out.new ≡ out.old ++ named_tokens (policy_place fault.now)) }
 {
     match fault {
-        PolicyFault::Member(member) | PolicyFault::Range(member) => {
-            out.text("member", member.text())
-        }
+        PolicyFault::Member(member) => put_member(alloc, out, member.text()),
+        PolicyFault::Range(member) => out.text("member", member.text()),
         _ => Ok(()),
     }
 }
@@ -115,7 +127,9 @@ fn put_state(out: &mut JsonOut, state: SigState) -> Result<(), AllocError>
 
 #[tactic(auto, using(std::proofs::lemmas::List::at_drop_more, std::proofs::lemmas::List::at_drop_all))]
 fn put_states(out: &mut JsonOut, states: &[SigState]) -> Result<(), AllocError>
-    ensures { OnOk result (out.new ≡ out.old ++ named_tokens (list (codes "signatures") (map state_json states.now) ∷ [])) }
+    ensures { OnOk result
+        (out.new ≡ out.old
+        ++ named_tokens (list (codes "signatures") (map state_json states.now) ∷ [])) }
 {
     out.begin_list("signatures")?;
     for state in states {
@@ -136,7 +150,8 @@ fn put_try(out: &mut JsonOut, entry: Try) -> Result<(), AllocError>
 
 #[tactic(auto, using(std::proofs::lemmas::List::at_drop_more, std::proofs::lemmas::List::at_drop_all))]
 fn put_tries(out: &mut JsonOut, tries: &[Try]) -> Result<(), AllocError>
-    ensures { OnOk result (out.new ≡ out.old ++ named_tokens (list (codes "tries") (map try_json tries.now) ∷ [])) }
+    ensures { OnOk result
+        (out.new ≡ out.old ++ named_tokens (list (codes "tries") (map try_json tries.now) ∷ [])) }
 {
     out.begin_list("tries")?;
     for entry in tries {
@@ -166,8 +181,10 @@ fn put_accepted(
     key: u32,
     payload: &[u8],
 ) -> Result<(), AllocError>
-    ensures { OnOk result (out.new ≡ out.old ++ named_tokens (text (codes "verdict") (codes "accepted")
-        ∷ count (codes "signature") signature ∷ count (codes "key") key ∷ (codes "claims", value_of payload.now) ∷ [])) }
+    ensures { OnOk result
+        (out.new ≡ out.old ++ named_tokens (text (codes "verdict") (codes "accepted")
+        ∷ count (codes "signature") signature ∷ count (codes "key") key ∷
+        (codes "claims", value_of payload.now) ∷ [])) }
 {
     out.text("verdict", "accepted")?;
     put_pair(out, signature, key)?;
@@ -175,7 +192,8 @@ fn put_accepted(
 }
 
 fn put_refused(out: &mut JsonOut, fault: &Fault<'_>) -> Result<(), AllocError>
-    ensures { OnOk result (out.new ≡ out.old ++ named_tokens (text (codes "verdict") (codes "refused")
+    ensures { OnOk result
+        (out.new ≡ out.old ++ named_tokens (text (codes "verdict") (codes "refused")
         ∷ text (codes "fault") (fault_name fault.now) ∷ place_of fault.now)) }
 {
     out.text("verdict", "refused")?;
@@ -189,7 +207,8 @@ fn put_verdict(
     verdict: &Verdict<'_>,
     payload: &[u8],
 ) -> Result<(), AllocError>
-    ensures { OnOk result (out.new ≡ out.old ++ named_tokens (verdict_members verdict.now payload.now)) }
+    ensures { OnOk result
+        (out.new ≡ out.old ++ named_tokens (verdict_members verdict.now payload.now)) }
 {
     match verdict {
         Verdict::Accepted { signature, key, .. } => put_accepted(
@@ -211,7 +230,8 @@ fn verdict_status(verdict: &Verdict<'_>) -> u8
 // The line of a report on a token with this payload.
 fn said(alloc: Global, report: &Report<'_>, payload: &[u8], work: u64) -> Result<Reply, AllocError>
     ensures { IfOk result (λ a. reply_view a
-        ≡ said_json report.now.verdict payload.now report.now.states.items report.now.tries.items work) }
+        ≡ said_json report.now.verdict payload.now report.now.states.items report.now.tries.items
+        work) }
 {
     let mut out = JsonOut::object(alloc)?;
     put_verdict(alloc, &mut out, &report.verdict, payload)?;
@@ -232,7 +252,8 @@ pub(crate) fn report_json(
     work: u64,
 ) -> Result<Reply, AllocError>
     ensures line { IfOk result (λ a. reply_view a
-        ≡ verdict_json report.now.verdict payload.now report.now.states.items report.now.tries.items work) }
+        ≡ verdict_json report.now.verdict payload.now report.now.states.items
+        report.now.tries.items work) }
     ensures memory { IfOk result (λ a. FoundMemory report.now.verdict) }
     ensures failed { IfOk result (λ a. a.status ≡ 3 → report.now.verdict ≡ Refused (Text Read)) }
 {
@@ -269,7 +290,8 @@ pub(crate) fn payload_of(
     policy: &Policy,
     octets: &[u8],
 ) -> Result<Vec<u8>, AllocError>
-    ensures { IfOk result (λ v. v.items ≡ (token_or_none (token_of policy.now octets.now)).payload) }
+    ensures { IfOk result
+        (λ v. v.items ≡ (token_or_none (token_of policy.now octets.now)).payload) }
 {
     if octets.len() > policy.limit() as usize {
         return Ok(Vec::new(alloc));
@@ -322,6 +344,6 @@ pub(crate) fn policy_refused_json(alloc: Global, fault: &PolicyFault) -> Result<
     out.text("verdict", "refused")?;
     out.text("document", "policy")?;
     out.text("fault", fault.name())?;
-    put_policy_place(&mut out, fault)?;
+    put_policy_place(alloc, &mut out, fault)?;
     out.reply(1)
 }

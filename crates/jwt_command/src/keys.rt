@@ -1,22 +1,26 @@
-//! The command `keys`: a line for each entry of a key set.
+//! The command `keys`: a line for each entry of a key set, or a JSON object of them.
 ghost use Rattle.std.specs.Prelude.{◌≡◌, ◌≤◌, ◌+◌, ◌++◌, ◌⊎◌, true, length, IfOk, IfSome};
 ghost use Rattle.std.specs.List.{flat_map};
 ghost use Rattle.jwt_mac.specs.Verifying.{key_octets};
 ghost use Rattle.jwt_keys.specs.KeySets.{key_set};
 ghost use Rattle.jwt_keys.specs.Views.{key_parts};
-ghost use Rattle.jwt_command.specs.Input.{TakesAtMost};
-ghost use Rattle.jwt_command.specs.Listed.{before, key_line, keys_answer, kty_of, set_lines, sized_by, skip_line};
+ghost use Rattle.jwt_text.specs.Intake.{TakesAtMost};
+ghost use Rattle.jwt_command.specs.Listed.{before, key_line, kty_of, set_lines, sized_by, skip_line};
+ghost use Rattle.jwt_command.specs.ListedJson.{list_answer, set_told};
 ghost use Rattle.jwt_command.specs.Views.{reply_view};
 
 use crate::input::read_input;
+use crate::json_keys::keys_json;
 use crate::pieces::{put_labelled, quoted_or_dash};
 use crate::reply::Reply;
+use crate::told::{told_keys, told_read};
 use jwt_keys::{Key, KeySet, KeysFault, Skip};
 use jwt_mac::KeyView;
 use jwt_text::{GREATEST_LIMIT, Source, TextFault};
 use std::alloc::{AllocError, Global};
 
-fn kty_of(view: KeyView<'_>) -> &'static str
+/// The `kty` of a key.
+pub(crate) fn kty_of(view: KeyView<'_>) -> &'static str
     ensures { result.now ≡ kty_of (key_octets view.entry) }
 {
     match view {
@@ -27,8 +31,8 @@ fn kty_of(view: KeyView<'_>) -> &'static str
     }
 }
 
-// How many octets `k` has, or `n` as spelled, or `x`.
-fn size_of(view: KeyView<'_>) -> usize
+/// How many octets `k` has, or `n` as spelled, or `x`.
+pub(crate) fn size_of(view: KeyView<'_>) -> usize
     ensures { result ≡ length (sized_by (key_octets view.entry)) }
 {
     match view {
@@ -40,7 +44,8 @@ fn size_of(view: KeyView<'_>) -> usize
 }
 
 fn put_key(alloc: Global, out: &mut Vec<u8>, number: u32, key: &Key) -> Result<(), AllocError>
-    ensures { IfOk result (λ _. out.new.items ≡ out.old.items ++ key_line number (key_parts key.now)) }
+    ensures { IfOk result
+        (λ _. out.new.items ≡ out.old.items ++ key_line number (key_parts key.now)) }
 {
     let place = key.place();
     let kty = kty_of(key.view());
@@ -91,7 +96,8 @@ fn before(place: u32, skips: &[Skip]) -> usize
 
 // The lines of a key set, in the order of places.
 fn set_lines(alloc: Global, set: &KeySet) -> Result<Vec<u8>, AllocError>
-    ensures { IfOk result (λ v. v.items ≡ set_lines 0 (key_set set.now).keys (key_set set.now).skips) }
+    ensures { IfOk result
+        (λ v. v.items ≡ set_lines 0 (key_set set.now).keys (key_set set.now).skips) }
 {
     let mut out = Vec::new(alloc);
     let mut skips = set.skipped();
@@ -107,24 +113,37 @@ fn set_lines(alloc: Global, set: &KeySet) -> Result<Vec<u8>, AllocError>
     Ok(out)
 }
 
-/// Runs `jwt keys` on an input of at most 4,194,304 octets. A set without entries prints nothing.
-pub(crate) fn keys<R: Source>(alloc: Global, r: &mut R) -> Result<Reply, AllocError>
-    ensures line { IfSome (R.remaining r.old) (λ x. IfOk result (λ a. reply_view a ≡ keys_answer (R.failed r.new) x)) }
-    ensures taken { IfSome (R.remaining r.old) (λ x. (R.failed r.new ≡ true) ⊎ TakesAtMost 4194305 x (R.remaining r.new)) }
+// The answer of a key set, in JSON or in lines.
+fn told_set(alloc: Global, json: bool, set: &KeySet) -> Result<Reply, AllocError>
+    ensures { IfOk result (λ a. reply_view a ≡ set_told json (key_set set.now)) }
+{
+    if json {
+        keys_json(alloc, set)
+    } else {
+        Ok(Reply {
+            text: set_lines(alloc, set)?,
+            status: 0,
+        })
+    }
+}
+
+/// Runs `jwt keys`, in JSON or in lines, on an input of at most 4,194,304 octets. A set without entries has no line.
+pub(crate) fn keys<R: Source>(alloc: Global, json: bool, r: &mut R) -> Result<Reply, AllocError>
+    ensures line { IfSome (R.remaining r.old)
+        (λ x. IfOk result (λ a. reply_view a ≡ list_answer json (R.failed r.new) x)) }
+    ensures taken { IfSome (R.remaining r.old)
+        (λ x. (R.failed r.new ≡ true) ⊎ TakesAtMost 4194305 x (R.remaining r.new)) }
     ensures failed { IfOk result (λ a. a.status ≡ 3 → R.failed r.new ≡ true) }
 {
     let input = match read_input(alloc, GREATEST_LIMIT, r) {
         Ok(input) => input,
-        Err(TextFault::Read) => return Reply::line(alloc, "failed Read", 3),
-        Err(TextFault::TooLong) => return Reply::refused_keys(alloc, "TooLong"),
+        Err(TextFault::Read) => return told_read(alloc, json),
+        Err(TextFault::TooLong) => return told_keys(alloc, json, &KeysFault::TooLong),
         Err(_) => return Err(AllocError),
     };
     match KeySet::read(alloc, input.octets()) {
-        Ok(set) => Ok(Reply {
-            text: set_lines(alloc, &set)?,
-            status: 0,
-        }),
+        Ok(set) => told_set(alloc, json, &set),
         Err(KeysFault::OutOfMemory) => Err(AllocError),
-        Err(fault) => Reply::refused_keys(alloc, fault.name()),
+        Err(fault) => told_keys(alloc, json, &fault),
     }
 }

@@ -9,7 +9,7 @@ ghost use Rattle.jwt_command.specs.RunLines.{LinesByPolicy, Printed, RunsLines};
 ghost use Rattle.jwt_command.specs.Seen.{lines_view};
 ghost use Rattle.jwt_command.specs.TakenLines.{after_line, first_line};
 ghost use Rattle.jwt_command.specs.Told.{told};
-ghost use Rattle.jwt_command.specs.Verify.{terms};
+ghost use Rattle.jwt_command.specs.Verify.{terms_of_keys};
 ghost use Rattle.jwt_command.specs.Views.{held_view};
 
 use crate::ahead::Ahead;
@@ -77,11 +77,13 @@ fn answer_line<W: Sink, C: Clock>(
 ) -> Option<u8>
     requires { IfSome now (λ n. n ≤ 9223372036854775807) }
     ensures answered { IfNone result (LineAnswered
-        (λ m l. (told json).token (terms (map meaning verifiers.now) m policy.now (key_set keys.now)) l)
+        (λ m l. (told json).token
+        (terms_of_keys (map meaning verifiers.now) m policy.now (key_set keys.now)) l)
         (C.says number line.now) now line.now
         (W.contents w.old) (W.contents w.new)) }
     ensures ends { IfSome result (λ status. LineEnds
-        (λ m l. (told json).token (terms (map meaning verifiers.now) m policy.now (key_set keys.now)) l)
+        (λ m l. (told json).token
+        (terms_of_keys (map meaning verifiers.now) m policy.now (key_set keys.now)) l)
         (told json).read_failed (C.says number line.now) now line.now
         (W.contents w.old) (W.contents w.new) (W.failed w.new) status) }
 {
@@ -99,7 +101,8 @@ fn answer_line<W: Sink, C: Clock>(
 
 // Holds one more octet of a line, unless one past the limit is held.
 fn hold(line: &mut Vec<u8>, limit: u32, octet: u8) -> Result<(), LineFault>
-    ensures within { length line.old.items ≤ limit → OnOk result (line.new.items ≡ line.old.items ++ octet ∷ []) }
+    ensures within { length line.old.items ≤ limit
+        → OnOk result (line.new.items ≡ line.old.items ++ octet ∷ []) }
     ensures past { limit < length line.old.items → line.new ≡ line.old }
     ensures fault { IfErr result (λ e. e ≡ LineFault.OutOfMemory) }
 {
@@ -119,7 +122,8 @@ fn take_line<R: Source>(
     ensures line { IfSome (prepend_known ahead.old (R.remaining r.old)) (λ x. result ≡ Ok true
         → (0 < length x) × (line.new.items ≡ take (limit + 1) (first_line x))
         × (prepend_known ahead.new (R.remaining r.new) ≡ Some (after_line x))) }
-    ensures end { IfSome (prepend_known ahead.old (R.remaining r.old)) (λ x. result ≡ Ok false → x ≡ []) }
+    ensures end { IfSome (prepend_known ahead.old (R.remaining r.old))
+        (λ x. result ≡ Ok false → x ≡ []) }
     ensures read { result ≡ Err LineFault.Read → R.failed r.new ≡ true }
 {
     line.clear();
@@ -152,7 +156,8 @@ fn answer_lines<R: Source, W: Sink, C: Clock>(
 ) -> u8
     requires { IfSome now (λ n. n ≤ 9223372036854775807) }
     ensures { IfSome (R.remaining r.old) (λ x. GivesLines
-        (λ m l. (told json).token (terms (map meaning verifiers.now) m policy.now (key_set keys.now)) l)
+        (λ m l. (told json).token
+        (terms_of_keys (map meaning verifiers.now) m policy.now (key_set keys.now)) l)
         (told json).read_failed (with_held policy.now.run.limit C.says) now x (R.failed r.new)
         (W.contents w.old) (W.contents w.new) (W.failed w.new) result) }
 {
@@ -201,9 +206,21 @@ fn lines_in_hand<R: Source, W: Sink, C: Clock>(
 ) -> u8
     requires { IfSome now (λ n. n ≤ 9223372036854775807) }
     ensures { IfSome (R.remaining r.old) (λ x.
-        Printed out_of_memory (record { before = W.contents w.old; after = W.contents w.new; failed = W.failed w.new; status = result })
-        ⊎ LinesByPolicy json (map meaning verifiers.now) C.says now (policy_of policy.now) (key_set_of keys.now) x (R.failed r.new)
-        (record { before = W.contents w.old; after = W.contents w.new; failed = W.failed w.new; status = result })) }
+        Printed out_of_memory
+        (record {
+          before = W.contents w.old;
+          after = W.contents w.new;
+          failed = W.failed w.new;
+          status = result;
+        })
+        ⊎ LinesByPolicy json (map meaning verifiers.now) C.says now (policy_of policy.now)
+        (key_set_of keys.now) x (R.failed r.new)
+        (record {
+          before = W.contents w.old;
+          after = W.contents w.new;
+          failed = W.failed w.new;
+          status = result;
+        })) }
 {
     let policy = match Policy::read(alloc, policy) {
         Ok(policy) => policy,
@@ -228,8 +245,15 @@ pub(crate) fn run_lines<R: Source, W: Sink, C: Clock>(
     w: &mut W,
 ) -> u8
     requires { IfSome order.now (λ n. n ≤ 9223372036854775807) }
-    ensures { IfSome (R.remaining r.old) (λ x. RunsLines (map meaning verifiers.now) C.says (lines_view order.entry) (held_view held.entry) x (R.failed r.new)
-        (record { before = W.contents w.old; after = W.contents w.new; failed = W.failed w.new; status = result })) }
+    ensures { IfSome (R.remaining r.old)
+        (λ x. RunsLines (map meaning verifiers.now) C.says (lines_view order.entry)
+        (held_view held.entry) x (R.failed r.new)
+        (record {
+          before = W.contents w.old;
+          after = W.contents w.new;
+          failed = W.failed w.new;
+          status = result;
+        })) }
 {
     if let Some(name) = unread(order.files, held) {
         return give(w, told_file(alloc, order.json, name));

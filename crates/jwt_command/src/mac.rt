@@ -7,7 +7,7 @@ ghost use Rattle.jwt_mac.specs.Algorithm.{is_hmac_alg};
 ghost use Rattle.jwt_jws.specs.Views.{texts_view};
 ghost use Rattle.jwt_command.specs.declared.mac.MacFault.TheVariants.{Base64};
 ghost use Rattle.jwt_command.specs.Mac.{algorithm_of, behind_key, digest_by, digest_line, digest_of, fault_name, key_refused, key_spelled, mac_answer, mac_in_hand, mac_line, mac_most, texts_digest};
-ghost use Rattle.jwt_command.specs.Input.{TakesAtMost};
+ghost use Rattle.jwt_text.specs.Intake.{TakesAtMost};
 ghost use Rattle.jwt_command.specs.Views.{digest_view, reply_view};
 
 use crate::input::{read_input, without_line_feed};
@@ -37,7 +37,8 @@ pub(crate) struct Digest {
 
 // The octets that one of the three texts spells.
 fn octets_of(alloc: Global, text: &[u8]) -> Result<Vec<u8>, MacFault>
-    ensures { Answers MacFault.OutOfMemory (λ v. v.items) result (or_fault Base64 (spelled text.now)) }
+    ensures { Answers MacFault.OutOfMemory (λ v. v.items) result
+        (or_fault Base64 (spelled text.now)) }
 {
     match jwt_text::decode(alloc, text) {
         Ok(octets) => Ok(octets),
@@ -103,7 +104,8 @@ fn computed(alg: Alg, key: &[u8], texts: &CompactTexts<'_>, signature: &[u8]) ->
 fn texts_digest(alloc: Global, key: &[u8], texts: &CompactTexts<'_>) -> Result<Digest, MacFault>
     requires key { length key.now ≤ 4096 }
     requires texts { length texts.now.protected.now + length texts.now.payload.now ≤ 1048577 }
-    ensures { Answers MacFault.OutOfMemory digest_view result (texts_digest key.now (texts_view texts.now)) }
+    ensures { Answers MacFault.OutOfMemory digest_view result
+        (texts_digest key.now (texts_view texts.now)) }
 {
     let header = octets_of(alloc, texts.protected)?;
     let _payload = octets_of(alloc, texts.payload)?;
@@ -197,7 +199,8 @@ pub(crate) fn mac<R: Source>(
 ) -> Result<Reply, AllocError>
     requires least { 1 ≤ limit }
     requires most { limit ≤ 1048576 }
-    ensures line { IfSome (R.remaining r.old) (λ x. IfOk result (λ a. reply_view a ≡ mac_answer key.now limit (R.failed r.new) x)) }
+    ensures line { IfSome (R.remaining r.old)
+        (λ x. IfOk result (λ a. reply_view a ≡ mac_answer key.now limit (R.failed r.new) x)) }
     ensures stops { IfSome (R.remaining r.old) (λ x. (R.failed r.new ≡ true)
         ⊎ TakesAtMost (behind_key (key_spelled key.now) limit) x (R.remaining r.new)) }
     ensures failed { IfOk result (λ a. a.status ≡ 3 → R.failed r.new ≡ true) }

@@ -30,7 +30,9 @@ impl Reply {
         end: &str,
         status: u8,
     ) -> Result<Reply, AllocError>
-        ensures { IfOk result (λ r. reply_view r ≡ record { text = start.now ++ (text.now ++ end.now); status = status }) }
+        ensures { IfOk result
+            (λ r. reply_view r
+            ≡ record { text = start.now ++ (text.now ++ end.now); status = status }) }
     {
         let mut whole = start.as_bytes().to_vec(alloc)?;
         whole.extend_from_slice(text)?;

@@ -2,7 +2,7 @@
 ghost use Rattle.std.specs.Prelude.{◌≡◌, ◌≤◌, ◌⊎◌, ℕ, Bool, List, [], None, Some, is_some, map, true, false, IfErr, IfOk, IfSome};
 ghost use Rattle.jwt_command.specs.Answered.{answer_in_hand, answer_of, version_answer};
 ghost use Rattle.jwt_command.specs.Documents.{none_held, unread};
-ghost use Rattle.jwt_command.specs.Input.{TakesAtMost};
+ghost use Rattle.jwt_text.specs.Intake.{TakesAtMost};
 ghost use Rattle.jwt_command.specs.Printed.{Prints, out_of_memory};
 ghost use Rattle.jwt_command.specs.Runs.{Runs, reads_nothing};
 ghost use Rattle.jwt_command.specs.Seen.{seen};
@@ -34,20 +34,35 @@ use std::alloc::{AllocError, Global};
 pub fn run<R: Source, W: Sink>(alloc: Global, words: &[&str], r: &mut R, w: &mut W) -> u8
     // What the words ask for is answered.
     ensures answer { IfSome (R.remaining r.old) (λ x.
-        Runs [] (⟦<NoClock as Clock>⟧.says) none_held (request_of None (map (λ word. word.now) words.now)) x (R.failed r.new)
-        (record { before = W.contents w.old; after = W.contents w.new; failed = W.failed w.new; status = result })) }
+        Runs [] (⟦<NoClock as Clock>⟧.says) none_held
+        (request_of None (map (λ word. word.now) words.now)) x (R.failed r.new)
+        (record {
+          before = W.contents w.old;
+          after = W.contents w.new;
+          failed = W.failed w.new;
+          status = result;
+        })) }
 
     // At most one octet past the limit is taken, and nothing behind a line that is refused.
-    ensures stops { (json : Bool) (order : Asked) → request_of None (map (λ word. word.now) words.now) ≡ Some (Once json order)
+    ensures stops { (json : Bool) (order : Asked)
+        → request_of None (map (λ word. word.now) words.now) ≡ Some (Once json order)
         → IfSome (R.remaining r.old) (λ x. (R.failed r.new ≡ true)
         ⊎ TakesAtMost (most_taken none_held order x) x (R.remaining r.new)) }
 
     // Of every source: what is answered without reading, and where the status is 3.
-    ensures unread { reads_nothing (request_of None (map (λ word. word.now) words.now)) ≡ true → r.new ≡ r.old }
+    ensures unread { reads_nothing (request_of None (map (λ word. word.now) words.now)) ≡ true
+        → r.new ≡ r.old }
     ensures known { reads_nothing (request_of None (map (λ word. word.now) words.now)) ≡ true
-        → Runs [] (⟦<NoClock as Clock>⟧.says) none_held (request_of None (map (λ word. word.now) words.now)) [] false
-        (record { before = W.contents w.old; after = W.contents w.new; failed = W.failed w.new; status = result }) }
-    ensures failed { (json : Bool) (order : Asked) → request_of None (map (λ word. word.now) words.now) ≡ Some (Once json order)
+        → Runs [] (⟦<NoClock as Clock>⟧.says) none_held
+        (request_of None (map (λ word. word.now) words.now)) [] false
+        (record {
+          before = W.contents w.old;
+          after = W.contents w.new;
+          failed = W.failed w.new;
+          status = result;
+        }) }
+    ensures failed { (json : Bool) (order : Asked)
+        → request_of None (map (λ word. word.now) words.now) ≡ Some (Once json order)
         → result ≡ 3 → (R.failed r.new ≡ true) ⊎ ((W.failed w.new ≡ true)
         ⊎ (is_some (unread (files_in_order order) none_held) ≡ true)) }
 {
@@ -84,20 +99,35 @@ pub fn run_with<R: Source, W: Sink, C: Clock>(
     requires { IfSome clock (λ n. n ≤ 9223372036854775807) }
     // What the words ask for is answered.
     ensures answer { IfSome (R.remaining r.old) (λ x.
-        Runs (map meaning built_in.now) C.says (held_view held.entry) (request_of clock (map (λ word. word.now) words.now)) x (R.failed r.new)
-        (record { before = W.contents w.old; after = W.contents w.new; failed = W.failed w.new; status = result })) }
+        Runs (map meaning built_in.now) C.says (held_view held.entry)
+        (request_of clock (map (λ word. word.now) words.now)) x (R.failed r.new)
+        (record {
+          before = W.contents w.old;
+          after = W.contents w.new;
+          failed = W.failed w.new;
+          status = result;
+        })) }
 
     // At most one octet past the limit is taken, and nothing behind a line that is refused.
-    ensures stops { (json : Bool) (order : Asked) → request_of clock (map (λ word. word.now) words.now) ≡ Some (Once json order)
+    ensures stops { (json : Bool) (order : Asked)
+        → request_of clock (map (λ word. word.now) words.now) ≡ Some (Once json order)
         → IfSome (R.remaining r.old) (λ x. (R.failed r.new ≡ true)
         ⊎ TakesAtMost (most_taken (held_view held.entry) order x) x (R.remaining r.new)) }
 
     // Of every source: what is answered without reading, and where the status is 3.
-    ensures unread { reads_nothing (request_of clock (map (λ word. word.now) words.now)) ≡ true → r.new ≡ r.old }
+    ensures unread { reads_nothing (request_of clock (map (λ word. word.now) words.now)) ≡ true
+        → r.new ≡ r.old }
     ensures known { reads_nothing (request_of clock (map (λ word. word.now) words.now)) ≡ true
-        → Runs (map meaning built_in.now) C.says (held_view held.entry) (request_of clock (map (λ word. word.now) words.now)) [] false
-        (record { before = W.contents w.old; after = W.contents w.new; failed = W.failed w.new; status = result }) }
-    ensures failed { (json : Bool) (order : Asked) → request_of clock (map (λ word. word.now) words.now) ≡ Some (Once json order)
+        → Runs (map meaning built_in.now) C.says (held_view held.entry)
+        (request_of clock (map (λ word. word.now) words.now)) [] false
+        (record {
+          before = W.contents w.old;
+          after = W.contents w.new;
+          failed = W.failed w.new;
+          status = result;
+        }) }
+    ensures failed { (json : Bool) (order : Asked)
+        → request_of clock (map (λ word. word.now) words.now) ≡ Some (Once json order)
         → result ≡ 3 → (R.failed r.new ≡ true) ⊎ ((W.failed w.new ≡ true)
         ⊎ (is_some (unread (files_in_order order) (held_view held.entry)) ≡ true)) }
 {
@@ -131,8 +161,10 @@ pub(crate) fn send<W: Sink>(w: &mut W, text: &[u8], status: u8) -> u8
 
 /// Sends an answer, where memory was there.
 pub(crate) fn give<W: Sink>(w: &mut W, reply: Result<Reply, AllocError>) -> u8
-    ensures ok { IfOk reply (λ a. Prints (reply_view a) (W.contents w.old) (W.contents w.new) (W.failed w.new) result) }
-    ensures err { IfErr reply (λ _. Prints out_of_memory (W.contents w.old) (W.contents w.new) (W.failed w.new) result) }
+    ensures ok { IfOk reply
+        (λ a. Prints (reply_view a) (W.contents w.old) (W.contents w.new) (W.failed w.new) result) }
+    ensures err { IfErr reply
+        (λ _. Prints out_of_memory (W.contents w.old) (W.contents w.new) (W.failed w.new) result) }
 {
     match reply {
         Ok(reply) => send(w, reply.text.as_slice(), reply.status),
@@ -173,19 +205,23 @@ fn reply_in_hand<R: Source>(
 ) -> Result<Reply, AllocError>
     requires { HasLimits (seen order) }
     ensures answer { IfSome (R.remaining r.old) (λ x. IfOk result (λ a. reply_view a
-        ≡ answer_in_hand json (map meaning built_in.now) (held_view held.entry) (seen order.entry) (R.failed r.new) x)) }
+        ≡ answer_in_hand json (map meaning built_in.now) (held_view held.entry) (seen order.entry)
+        (R.failed r.new) x)) }
     ensures stops { IfSome (R.remaining r.old) (λ x. (R.failed r.new ≡ true)
-        ⊎ TakesAtMost (most_in_hand (held_view held.entry) (seen order.entry) x) x (R.remaining r.new)) }
+        ⊎ TakesAtMost (most_in_hand (held_view held.entry) (seen order.entry) x) x
+        (R.remaining r.new)) }
     ensures unread { reads_nothing (Some (Once json (seen order.entry))) ≡ true → r.new ≡ r.old }
-    ensures known { reads_nothing (Some (Once json (seen order.entry))) ≡ true → IfOk result (λ a. reply_view a
-        ≡ answer_in_hand json (map meaning built_in.now) (held_view held.entry) (seen order.entry) false []) }
+    ensures known { reads_nothing (Some (Once json (seen order.entry))) ≡ true
+        → IfOk result (λ a. reply_view a
+        ≡ answer_in_hand json (map meaning built_in.now) (held_view held.entry) (seen order.entry)
+        false []) }
     ensures failed { IfOk result (λ a. a.status ≡ 3 → R.failed r.new ≡ true) }
 {
     match order {
         Order::Mac { key, limit } => mac(alloc, key.as_bytes(), limit, r),
         Order::MacFile { limit, .. } => mac_in_hand(alloc, held.key, limit, r),
-        Order::Keys => keys(alloc, r),
-        Order::Show { limit } => show(alloc, limit, r),
+        Order::Keys => keys(alloc, json, r),
+        Order::Show { limit } => show(alloc, json, limit, r),
         Order::Verify {
             now,
             public_keys,
@@ -212,12 +248,16 @@ fn reply_of<R: Source>(
 ) -> Result<Reply, AllocError>
     requires { HasLimits (seen order) }
     ensures answer { IfSome (R.remaining r.old) (λ x. IfOk result (λ a. reply_view a
-        ≡ answer_of json (map meaning built_in.now) (held_view held.entry) (seen order.entry) (R.failed r.new) x)) }
+        ≡ answer_of json (map meaning built_in.now) (held_view held.entry) (seen order.entry)
+        (R.failed r.new) x)) }
     ensures stops { IfSome (R.remaining r.old) (λ x. (R.failed r.new ≡ true)
-        ⊎ TakesAtMost (most_taken (held_view held.entry) (seen order.entry) x) x (R.remaining r.new)) }
+        ⊎ TakesAtMost (most_taken (held_view held.entry) (seen order.entry) x) x
+        (R.remaining r.new)) }
     ensures unread { reads_nothing (Some (Once json (seen order.entry))) ≡ true → r.new ≡ r.old }
-    ensures known { reads_nothing (Some (Once json (seen order.entry))) ≡ true → IfOk result (λ a. reply_view a
-        ≡ answer_of json (map meaning built_in.now) (held_view held.entry) (seen order.entry) false []) }
+    ensures known { reads_nothing (Some (Once json (seen order.entry))) ≡ true
+        → IfOk result (λ a. reply_view a
+        ≡ answer_of json (map meaning built_in.now) (held_view held.entry) (seen order.entry) false
+        []) }
     ensures failed { IfOk result (λ a. a.status ≡ 3 → (R.failed r.new ≡ true)
         ⊎ (is_some (unread (files_in_order (seen order.entry)) (held_view held.entry)) ≡ true)) }
 {

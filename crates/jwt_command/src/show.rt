@@ -1,22 +1,27 @@
-//! The command `show`: what stands in a token, with nothing of it verified.
-ghost use Rattle.std.specs.Prelude.{◌≡◌, ◌≤◌, ◌+◌, ◌++◌, ◌⊎◌, ℕ, List, true, length, option_map, IfOk, IfSome, Ok, Err, string_bytes};
+//! The command `show`: what stands in a token, with nothing of it verified, in lines or in JSON.
+ghost use Rattle.std.specs.Prelude.{◌≡◌, ◌≢◌, ◌≤◌, ◌+◌, ◌++◌, ◌⊎◌, ℕ, List, true, length, option_map, IfOk, IfSome, Ok, Err, string_bytes};
 ghost use Rattle.jwt_text.specs.Base64url.{Spells};
+ghost use Rattle.jwt_jws.specs.Forms.{form_of};
 ghost use Rattle.jwt_jws.specs.Views.{parts, token};
 ghost use Rattle.jwt_policy.specs.ClaimKinds.{claims_of};
-ghost use Rattle.jwt_command.specs.Input.{TakesAtMost};
-ghost use Rattle.jwt_command.specs.Shown.{audience, claims_line, form_name, header_text, member_count, show_answer, signature_line, signature_sizes, spelled_len, token_lines};
+ghost use Rattle.jwt_text.specs.Intake.{TakesAtMost};
+ghost use Rattle.jwt_command.specs.Shown.{audience, claims_line, form_name, header_text, member_count, signature_line, signature_sizes, spelled_len, token_lines};
+ghost use Rattle.jwt_command.specs.ShownJson.{show_answer, shown, told_form, told_token, told_too_long};
 ghost use Rattle.jwt_command.specs.Views.{reply_view};
 
 use crate::faults::{claim_fault_text, form_fault_text};
 use crate::input::{read_input, without_line_feed};
+use crate::json_show::{form_refused_json, token_json, too_long_json};
 use crate::pieces::{number_or_dash, put_labelled, quoted_or_dash};
 use crate::reply::Reply;
+use crate::told::told_read;
 use jwt_jws::{Form, FormFault, Signature, Signed, parse};
 use jwt_policy::{ClaimFault, Claims};
 use jwt_text::{Source, TextFault};
 use std::alloc::{AllocError, Global};
 
-fn form_name(form: Form) -> &'static str
+/// The name of a form.
+pub(crate) fn form_name(form: Form) -> &'static str
     ensures { result.now ≡ form_name form }
 {
     match form {
@@ -80,7 +85,8 @@ fn put_signature(
     signature: &Signature<'_>,
     payload: usize,
 ) -> Result<(), AllocError>
-    ensures { IfOk result (λ _. out.new.items ≡ out.old.items ++ signature_line payload i (parts signature.now)) }
+    ensures { IfOk result
+        (λ _. out.new.items ≡ out.old.items ++ signature_line payload i (parts signature.now)) }
 {
     let start = format!(in alloc; "sig={i} alg=")?;
     let has_alg = signature.protected().has("alg");
@@ -140,7 +146,8 @@ fn put_refused_claims(
 }
 
 fn put_claims_line(alloc: Global, out: &mut Vec<u8>, payload: &[u8]) -> Result<(), AllocError>
-    ensures { IfOk result (λ _. out.new.items ≡ out.old.items ++ claims_line (claims_of payload.now)) }
+    ensures { IfOk result
+        (λ _. out.new.items ≡ out.old.items ++ claims_line (claims_of payload.now)) }
 {
     match Claims::read(alloc, payload) {
         Ok(claims) => put_claims(alloc, out, &claims),
@@ -167,26 +174,83 @@ fn token_lines(alloc: Global, signed: &Signed<'_>) -> Result<Vec<u8>, AllocError
     Ok(out)
 }
 
-/// Runs `jwt show` on an input: a token in any form, of at most 32 signatures, and one line feed behind it or none.
-pub(crate) fn show<R: Source>(alloc: Global, limit: u64, r: &mut R) -> Result<Reply, AllocError>
+// What stands in a token of these octets, in JSON or in lines.
+fn told_token(
+    alloc: Global,
+    json: bool,
+    octets: &[u8],
+    signed: &Signed<'_>,
+) -> Result<Reply, AllocError>
+    ensures line { IfOk result (λ a. reply_view a ≡ told_token json octets.now (token signed.now)) }
+    ensures done { IfOk result (λ a. a.status ≢ 3) }
+{
+    if json {
+        token_json(alloc, octets, signed)
+    } else {
+        Ok(Reply {
+            text: token_lines(alloc, signed)?,
+            status: 0,
+        })
+    }
+}
+
+// The octets are no signed token.
+fn told_form(alloc: Global, json: bool, fault: FormFault) -> Result<Reply, AllocError>
+    ensures line { IfOk result (λ a. reply_view a ≡ told_form json fault) }
+    ensures done { IfOk result (λ a. a.status ≢ 3) }
+{
+    if json {
+        form_refused_json(alloc, fault)
+    } else {
+        Reply::refused(alloc, form_fault_text(alloc, fault)?.as_str())
+    }
+}
+
+// The token is over the limit.
+fn told_too_long(alloc: Global, json: bool) -> Result<Reply, AllocError>
+    ensures line { IfOk result (λ a. reply_view a ≡ told_too_long json) }
+    ensures done { IfOk result (λ a. a.status ≢ 3) }
+{
+    if json {
+        too_long_json(alloc)
+    } else {
+        Reply::refused(alloc, "TooLong")
+    }
+}
+
+// What stands in a token of these octets, of at most 32 signatures, or why they are none.
+fn shown(alloc: Global, json: bool, octets: &[u8]) -> Result<Reply, AllocError>
+    ensures line { IfOk result
+        (λ a. reply_view a ≡ shown json octets.now (form_of 32 octets.now)) }
+    ensures done { IfOk result (λ a. a.status ≢ 3) }
+{
+    match parse(alloc, octets, 32) {
+        Ok(signed) => told_token(alloc, json, octets, &signed),
+        Err(FormFault::OutOfMemory) => Err(AllocError),
+        Err(fault) => told_form(alloc, json, fault),
+    }
+}
+
+/// Runs `jwt show`, in JSON or in lines, on an input: a token in any form, of at most 32 signatures, and one line feed behind it
+/// or none.
+pub(crate) fn show<R: Source>(
+    alloc: Global,
+    json: bool,
+    limit: u64,
+    r: &mut R,
+) -> Result<Reply, AllocError>
     requires least { 1 ≤ limit }
     requires most { limit ≤ 1048576 }
-    ensures line { IfSome (R.remaining r.old) (λ x. IfOk result (λ a. reply_view a ≡ show_answer limit (R.failed r.new) x)) }
-    ensures taken { IfSome (R.remaining r.old) (λ x. (R.failed r.new ≡ true) ⊎ TakesAtMost (limit + 1) x (R.remaining r.new)) }
+    ensures line { IfSome (R.remaining r.old)
+        (λ x. IfOk result (λ a. reply_view a ≡ show_answer json limit (R.failed r.new) x)) }
+    ensures taken { IfSome (R.remaining r.old)
+        (λ x. (R.failed r.new ≡ true) ⊎ TakesAtMost (limit + 1) x (R.remaining r.new)) }
     ensures failed { IfOk result (λ a. a.status ≡ 3 → R.failed r.new ≡ true) }
 {
-    let input = match read_input(alloc, limit as u32, r) {
-        Ok(input) => input,
-        Err(TextFault::Read) => return Reply::line(alloc, "failed Read", 3),
-        Err(TextFault::TooLong) => return Reply::refused(alloc, "TooLong"),
-        Err(_) => return Err(AllocError),
-    };
-    match parse(alloc, without_line_feed(input.octets()), 32) {
-        Ok(signed) => Ok(Reply {
-            text: token_lines(alloc, &signed)?,
-            status: 0,
-        }),
-        Err(FormFault::OutOfMemory) => Err(AllocError),
-        Err(fault) => Reply::refused(alloc, form_fault_text(alloc, fault)?.as_str()),
+    match read_input(alloc, limit as u32, r) {
+        Ok(input) => shown(alloc, json, without_line_feed(input.octets())),
+        Err(TextFault::Read) => told_read(alloc, json),
+        Err(TextFault::TooLong) => told_too_long(alloc, json),
+        Err(_) => Err(AllocError),
     }
 }

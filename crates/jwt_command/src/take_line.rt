@@ -1,6 +1,6 @@
 //! Taking one line of an input.
 ghost use Rattle.std.specs.Prelude.{◌≡◌, ◌≤◌, ◌⊎◌, false, true, Err, IfErr, IfOk, IfSome, OnOk};
-ghost use Rattle.jwt_command.specs.Input.{TakesAtMost};
+ghost use Rattle.jwt_text.specs.Intake.{TakesAtMost};
 ghost use Rattle.jwt_command.specs.TakenLines.{LineFails, TakesLine, line_most};
 
 use jwt_text::{GREATEST_LIMIT, Source};
@@ -37,11 +37,14 @@ impl From<AllocFailed<u8>> for LineFault {
 pub fn line<R: Source>(alloc: Global, r: &mut R, limit: u32) -> Result<Vec<u8>, LineFault>
     requires least { 1 ≤ limit }
     requires greatest { limit ≤ GREATEST_LIMIT }
-    ensures line { IfSome (R.remaining r.old) (λ x. IfOk result (λ v. TakesLine limit x v.items (R.remaining r.new))) }
+    ensures line { IfSome (R.remaining r.old)
+        (λ x. IfOk result (λ v. TakesLine limit x v.items (R.remaining r.new))) }
     ensures works { OnOk result (R.failed r.new ≡ false) }
     ensures read { result ≡ Err LineFault.Read → R.failed r.new ≡ true }
-    ensures fails { IfSome (R.remaining r.old) (λ x. IfErr result (LineFails limit (R.failed r.new) x (R.remaining r.new))) }
-    ensures taken { IfSome (R.remaining r.old) (λ x. (R.failed r.new ≡ true) ⊎ TakesAtMost (line_most limit x) x (R.remaining r.new)) }
+    ensures fails { IfSome (R.remaining r.old)
+        (λ x. IfErr result (LineFails limit (R.failed r.new) x (R.remaining r.new))) }
+    ensures taken { IfSome (R.remaining r.old)
+        (λ x. (R.failed r.new ≡ true) ⊎ TakesAtMost (line_most limit x) x (R.remaining r.new)) }
 {
     let mut octets = Vec::new(alloc);
     'octets: for _ in 0..limit + 1 {

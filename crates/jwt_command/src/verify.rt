@@ -6,11 +6,11 @@ ghost use Rattle.jwt_verify.specs.declared.report.InputFault.TheVariants.{Read};
 ghost use Rattle.jwt_verify.specs.declared.report.Fault.TheVariants.{Text};
 ghost use Rattle.jwt_verify.specs.declared.report.Verdict.TheVariants.{Refused};
 ghost use Rattle.jwt_command.specs.Documents.{last_document, last_most};
-ghost use Rattle.jwt_command.specs.Input.{TakesAtMost};
+ghost use Rattle.jwt_text.specs.Intake.{TakesAtMost};
 ghost use Rattle.jwt_command.specs.Stops.{keys_most, verify_most};
 ghost use Rattle.jwt_command.specs.Json.{token_json};
 ghost use Rattle.jwt_command.specs.Told.{in_json, told};
-ghost use Rattle.jwt_command.specs.Verify.{fault_line, in_lines, keys_answer, named_line, terms, token_answer, unless_read_failed, verify_answer, verify_line};
+ghost use Rattle.jwt_command.specs.Verify.{fault_line, in_lines, keys_answer, named_line, terms_of_keys, token_answer, unless_read_failed, verify_answer, verify_line};
 ghost use Rattle.jwt_command.specs.Views.{held_view, reply_view};
 
 use crate::documents::{Held, document, read_document};
@@ -98,7 +98,8 @@ fn on_token<R: Source>(
     requires { now ≤ 9223372036854775807 }
     ensures line { IfSome (R.remaining r.old) (λ x. IfOk result (λ a. reply_view a
         ≡ unless_read_failed in_lines (R.failed r.new)
-        (token_answer (terms (map meaning verifiers.now) now policy.now (key_set keys.now)) x))) }
+        (token_answer (terms_of_keys (map meaning verifiers.now) now policy.now (key_set keys.now))
+        x))) }
     ensures stops { IfSome (R.remaining r.old) (λ x. (R.failed r.new ≡ true)
         ⊎ TakesAtMost (policy.now.run.limit + 1) x (R.remaining r.new)) }
     ensures failed { IfOk result (λ a. a.status ≡ 3 → R.failed r.new ≡ true) }
@@ -120,7 +121,8 @@ fn on_octets_in_lines(
 ) -> Result<Reply, AllocError>
     requires { now ≤ 9223372036854775807 }
     ensures line { IfOk result (λ a. reply_view a
-        ≡ token_answer (terms (map meaning verifiers.now) now policy.now (key_set keys.now)) token.now) }
+        ≡ token_answer
+        (terms_of_keys (map meaning verifiers.now) now policy.now (key_set keys.now)) token.now) }
     ensures done { IfOk result (λ a. a.status ≢ 3) }
 {
     let mut count = CountDown::new(policy.work());
@@ -142,7 +144,8 @@ fn on_octets_in_json(
 ) -> Result<Reply, AllocError>
     requires { now ≤ 9223372036854775807 }
     ensures line { IfOk result (λ a. reply_view a
-        ≡ token_json (terms (map meaning verifiers.now) now policy.now (key_set keys.now)) token.now) }
+        ≡ token_json (terms_of_keys (map meaning verifiers.now) now policy.now (key_set keys.now))
+        token.now) }
     ensures done { IfOk result (λ a. a.status ≢ 3) }
 {
     let payload = payload_of(alloc, policy, token)?;
@@ -166,7 +169,8 @@ pub(crate) fn on_octets(
 ) -> Result<Reply, AllocError>
     requires { now ≤ 9223372036854775807 }
     ensures line { IfOk result (λ a. reply_view a
-        ≡ (told json).token (terms (map meaning verifiers.now) now policy.now (key_set keys.now)) token.now) }
+        ≡ (told json).token
+        (terms_of_keys (map meaning verifiers.now) now policy.now (key_set keys.now)) token.now) }
     ensures done { IfOk result (λ a. a.status ≢ 3) }
 {
     if json {
@@ -188,7 +192,8 @@ fn on_token_json<R: Source>(
     requires { now ≤ 9223372036854775807 }
     ensures line { IfSome (R.remaining r.old) (λ x. IfOk result (λ a. reply_view a
         ≡ unless_read_failed in_json (R.failed r.new)
-        (token_json (terms (map meaning verifiers.now) now policy.now (key_set keys.now)) x))) }
+        (token_json (terms_of_keys (map meaning verifiers.now) now policy.now (key_set keys.now))
+        x))) }
     ensures stops { IfSome (R.remaining r.old) (λ x. (R.failed r.new ≡ true)
         ⊎ TakesAtMost (policy.now.run.limit + 1) x (R.remaining r.new)) }
     ensures failed { IfOk result (λ a. a.status ≡ 3 → R.failed r.new ≡ true) }
@@ -214,10 +219,12 @@ fn on_last<R: Source>(
     requires works { R.failed r.old ≡ false }
     ensures line { IfSome (R.remaining r.old) (λ x. IfOk result (λ a. reply_view a
         ≡ unless_read_failed (told json) (R.failed r.new)
-        ((told json).token (terms (map meaning verifiers.now) now policy.now (key_set keys.now))
+        ((told json).token
+        (terms_of_keys (map meaning verifiers.now) now policy.now (key_set keys.now))
         (last_document (option_map (λ t. t.now) token.entry) x)))) }
     ensures stops { IfSome (R.remaining r.old) (λ x. (R.failed r.new ≡ true)
-        ⊎ TakesAtMost (last_most (policy.now.run.limit + 1) (option_map (λ t. t.now) token.entry)) x (R.remaining r.new)) }
+        ⊎ TakesAtMost (last_most (policy.now.run.limit + 1) (option_map (λ t. t.now) token.entry))
+        x (R.remaining r.new)) }
     ensures failed { IfOk result (λ a. a.status ≡ 3 → R.failed r.new ≡ true) }
 {
     match (token, json) {
@@ -240,7 +247,8 @@ fn on_keys<R: Source>(
     requires { now ≤ 9223372036854775807 }
     ensures line { IfSome (R.remaining r.old) (λ x. IfOk result (λ a. reply_view a
         ≡ unless_read_failed (told json) (R.failed r.new)
-        (keys_answer (told json) (map meaning verifiers.now) now (held_view held.entry) policy.now x))) }
+        (keys_answer (told json) (map meaning verifiers.now) now (held_view held.entry) policy.now
+        x))) }
     ensures stops { IfSome (R.remaining r.old) (λ x. (R.failed r.new ≡ true)
         ⊎ TakesAtMost (keys_most (last_most (policy.now.run.limit + 1) (held_view held.entry).token)
         (held_view held.entry).keys x) x (R.remaining r.new)) }
@@ -271,7 +279,8 @@ pub(crate) fn verify<R: Source>(
 ) -> Result<Reply, AllocError>
     requires { now ≤ 9223372036854775807 }
     ensures line { IfSome (R.remaining r.old) (λ x. IfOk result (λ a. reply_view a
-        ≡ verify_answer (told json) (map meaning verifiers.now) now (held_view held.entry) (R.failed r.new) x)) }
+        ≡ verify_answer (told json) (map meaning verifiers.now) now (held_view held.entry)
+        (R.failed r.new) x)) }
     ensures stops { IfSome (R.remaining r.old) (λ x. (R.failed r.new ≡ true)
         ⊎ TakesAtMost (verify_most (held_view held.entry) x) x (R.remaining r.new)) }
     ensures failed { IfOk result (λ a. a.status ≡ 3 → R.failed r.new ≡ true) }

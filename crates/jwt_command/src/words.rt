@@ -227,11 +227,13 @@ fn mac_command<'a>(alloc: Global) -> Result<Command<'a>, AllocError>
         .arg(limit_option(alloc))
 }
 
-fn keys_command<'a>(alloc: Global) -> Command<'a>
-    ensures shape { app_of result ≡ keys_app }
-    ensures local { (fields_of result).has_globals ≡ false }
+fn keys_command<'a>(alloc: Global) -> Result<Command<'a>, AllocError>
+    ensures shape { IfOk result (λ c. app_of c ≡ keys_app) }
+    ensures local { IfOk result (λ c. (fields_of c).has_globals ≡ false) }
 {
-    Command::new(alloc, "keys").about("Lists the keys of a key set, which standard input holds")
+    Command::new(alloc, "keys")
+        .about("Lists the keys of a key set, which standard input holds")
+        .arg(json_option(alloc))
 }
 
 fn show_command<'a>(alloc: Global) -> Result<Command<'a>, AllocError>
@@ -240,7 +242,8 @@ fn show_command<'a>(alloc: Global) -> Result<Command<'a>, AllocError>
 {
     Command::new(alloc, "show")
         .about("Shows a token without verifying it; standard input holds it")
-        .arg(limit_option(alloc))
+        .arg(limit_option(alloc))?
+        .arg(json_option(alloc))
 }
 
 // `verify` on standard input alone.
@@ -297,7 +300,7 @@ pub fn command<'a>(alloc: Global, has_clock: bool) -> Result<Command<'a>, AllocE
         .after_help("'jwt --version' prints the version.")
         .subcommand_required(true)
         .subcommand(mac_command(alloc)?)?
-        .subcommand(keys_command(alloc))?
+        .subcommand(keys_command(alloc)?)?
         .subcommand(show_command(alloc)?)?
         .subcommand(verify_command(alloc, has_clock)?)?
         .subcommand(issue_command(alloc)?)
@@ -355,7 +358,8 @@ pub(crate) fn read_words<'a>(
 ) -> Result<Request<'a>, WordsFault>
     requires { IfSome clock (λ n. n ≤ 9223372036854775807) }
     ensures limits { IfOk result (λ q. HasRange (requested q)) }
-    ensures ok { IfOk result (λ q. request_of clock (map (λ w. w.now) words.now) ≡ Some (requested q)) }
+    ensures ok { IfOk result
+        (λ q. request_of clock (map (λ w. w.now) words.now) ≡ Some (requested q)) }
     ensures err { IfErr result (λ f. IsWrong f
         → request_of clock (map (λ w. w.now) words.now) ≡ None) }
 {
@@ -377,7 +381,8 @@ fn read_by_clap<'a>(
 ) -> Result<Request<'a>, WordsFault>
     requires { IfSome clock (λ n. n ≤ 9223372036854775807) }
     ensures limits { IfOk result (λ q. HasRange (requested q)) }
-    ensures ok { IfOk result (λ q. clap_request clock (map (λ w. w.now) words.now) ≡ Some (requested q)) }
+    ensures ok { IfOk result
+        (λ q. clap_request clock (map (λ w. w.now) words.now) ≡ Some (requested q)) }
     ensures err { IfErr result (λ f. IsWrong f
         → clap_request clock (map (λ w. w.now) words.now) ≡ None) }
 {
@@ -472,7 +477,8 @@ fn chosen_request<'a>(
 ) -> Option<Request<'a>>
     requires { IfSome clock (λ n. n ≤ 9223372036854775807) }
     ensures limits { IfSome result (λ q. HasRange (requested q)) }
-    ensures request { option_map requested result ≡ request_in clock name.now (rows_of (found_of options.now)) }
+    ensures request { option_map requested result
+        ≡ request_in clock name.now (rows_of (found_of options.now)) }
 {
     if is_set(options, "lines") {
         let lines = chosen_lines(options)?;
@@ -487,7 +493,8 @@ fn chosen_request<'a>(
 fn chosen_order<'a>(name: &str, options: &ArgMatches<'a>, clock: Option<u64>) -> Option<Order<'a>>
     requires { IfSome clock (λ n. n ≤ 9223372036854775807) }
     ensures limits { IfSome result (λ o. HasLimits (seen o)) }
-    ensures order { option_map seen result ≡ order_in clock name.now (rows_of (found_of options.now)) }
+    ensures order { option_map seen result
+        ≡ order_in clock name.now (rows_of (found_of options.now)) }
 {
     match name {
         "mac" => chosen_mac(options),
@@ -504,7 +511,8 @@ fn keyed<'a>(text: Option<&'a str>, name: Option<&'a str>, limit: u64) -> Option
     requires least { 1 ≤ limit }
     requires most { limit ≤ 1048576 }
     ensures limits { IfSome result (λ o. HasLimits (seen o)) }
-    ensures order { option_map seen result ≡ keyed (option_map (λ t. t.now) text.entry) (option_map (λ t. t.now) name.entry) limit }
+    ensures order { option_map seen result
+        ≡ keyed (option_map (λ t. t.now) text.entry) (option_map (λ t. t.now) name.entry) limit }
 {
     match (text, name) {
         (Some(key), None) => Some(Order::Mac { key, limit }),
@@ -690,7 +698,8 @@ fn chosen_issue<'a>(options: &ArgMatches<'a>) -> Option<Order<'a>>
 // matches, so the range is seen here again.
 fn number(options: &ArgMatches<'_>, id: &str, low: u64, high: u64) -> Option<u64>
     ensures limits { IfSome result (λ n. (low ≤ n) × (n ≤ high)) }
-    ensures number { result ≡ number_in (Unsigned low high) (one_of id.now (rows_of (found_of options.now))) }
+    ensures number { result
+        ≡ number_in (Unsigned low high) (one_of id.now (rows_of (found_of options.now))) }
 {
     let n = options.get_one::<u64>(id)?;
     if low <= n && n <= high { Some(n) } else { None }

@@ -16,7 +16,9 @@ fn is_eddsa(alg: Alg) -> bool
 
 // Whether a signature is accepted.
 fn is_accepted(alg: Alg, key: &KeyView, message: Message, signature: &[u8]) -> bool
-    ensures { result ≡ accepts_ed25519 alg (key_octets key.now) (signing_input (message_octets message.entry)) signature.now }
+    ensures { result
+        ≡ accepts_ed25519 alg (key_octets key.now) (signing_input (message_octets message.entry))
+        signature.now }
 {
     let KeyView::Okp { curve, x } = key else {
         return false;

@@ -1,7 +1,7 @@
 //! Signatures by Ed25519 (RFC 8032, section 5.1.7).
 
 ghost use Rattle.std.specs.Prelude.{◌≡◌, length};
-ghost use Rattle.jwt_mac.specs.Hmac.{joined};
+ghost use Rattle.jwt_mac.specs.Hmac.{all_octets};
 ghost use Rattle.jwt_ed25519.specs.Elements.{coordinates};
 ghost use Rattle.jwt_ed25519.specs.Limbs.{number};
 ghost use Rattle.jwt_ed25519.specs.Verifying.{challenge, holds, verifies};
@@ -16,7 +16,7 @@ use jwt_mac::sha512_behind;
 // The digest of R, the key and the message, modulo L.
 #[tactic(auto, unfolding(crate::specs::Verifying::challenge))]
 fn challenge(r: &[u8], key: &[u8], parts: [&[u8]; 3]) -> Limbs
-    ensures { number result ≡ challenge r.now key.now (joined parts.entry) }
+    ensures { number result ≡ challenge r.now key.now (all_octets parts.entry) }
 {
     from_digest(&sha512_behind(r, key, parts))
 }
@@ -33,7 +33,7 @@ fn holds(a: Point, r: &[u8], s: Limbs, k: Limbs) -> bool
 /// Whether it is the signature of the message that the three parts make, joined, by the public key whose octets these are (RFC
 /// 8032, section 5.1.7), and the key isn't of small order. Key and signature may have any length; no part is copied.
 pub fn verifies(key: &[u8], parts: [&[u8]; 3], signature: &[u8]) -> bool
-    ensures { result ≡ verifies key.now (joined parts.entry) signature.now }
+    ensures { result ≡ verifies key.now (all_octets parts.entry) signature.now }
 {
     if signature.len() != 64 {
         return false;

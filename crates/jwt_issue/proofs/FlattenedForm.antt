@@ -67,15 +67,13 @@ module _ (law : (text rest : List ℕ) → colons (quoted text ++ rest) ≡ colo
       record {
         texts = (
           record { form = Flattened; payload = spelling claims; signatures = w ∷ [] },
-          inr (
-            refl,
-            (
-              flat (spelling claims) w,
-              flattened_is typ claims pair,
-              refl,
-              inr (record { form = refl; alone = refl; payload = refl; signature = (w, refl, record { signature = refl; protected = inr refl; header = refl }) }),
-            ),
-          ),
+          inr (record {
+            opens = refl;
+            members = flat (spelling claims) w;
+            text = flattened_is typ claims pair;
+            plain = refl;
+            shape = inr (record { form = refl; alone = refl; payload = refl; signature = (w, refl, record { signature = refl; protected = inr refl; header = refl }) });
+          }),
           refl,
           refl,
           (signature_is Flattened typ claims pair utf8 (header_text law typ pair utf8) tag, tt),

@@ -193,22 +193,20 @@ module _ (law : (text rest : List ℕ) → colons (quoted text ++ rest) ≡ colo
       record {
         texts = (
           record { form = General; payload = spelling claims; signatures = ws },
-          inr (
-            refl,
-            (
-              whole typ claims (pair ∷ pairs),
-              general_is typ claims pair pairs,
-              refl,
-              inl (record {
-                form = refl;
-                one_at_the_top = refl;
-                payload = refl;
-                listed = (ds, ap Some (same_elements ds), elements_are typ claims (pair ∷ pairs));
-                some = omega arith;
-                few = omega (arith, size);
-              }),
-            ),
-          ),
+          inr (record {
+            opens = refl;
+            members = whole typ claims (pair ∷ pairs);
+            text = general_is typ claims pair pairs;
+            plain = refl;
+            shape = inl (record {
+              form = refl;
+              one_at_the_top = refl;
+              payload = refl;
+              listed = (ds, ap Some (same_elements ds), elements_are typ claims (pair ∷ pairs));
+              some = omega arith;
+              few = omega (arith, size);
+            });
+          }),
           refl,
           refl,
           signatures_are typ claims (pair ∷ pairs) utf8 tags,

@@ -143,7 +143,7 @@ compact_is_signed most typ claims pair utf8 text payload tag =
     rw (regroup h p g) (record {
       texts = (
         spelled_compact h p g,
-        inl (opens_no_object typ pair (46 ∷ (p ++ 46 ∷ g)), (h, p, g, record { joined = refl; protected = apart.0; payload = apart.1; signature = apart.2 }, refl)),
+        inl (h, p, g, record { joined = refl; protected = apart.0; payload = apart.1; signature = apart.2; no_object = opens_no_object typ pair (46 ∷ (p ++ 46 ∷ g)) }, refl),
         refl,
         refl,
         (signature_is Compact typ claims pair utf8 text tag, tt),

@@ -1,8 +1,6 @@
 -- The claims to be signed (RFC 7519, section 4).
-use Rattle.std.specs.Prelude.{ℕ, List, Result, Ok, Err, if◌then◌else◌, ⊤}
-use Rattle.serde_json.specs.Data.{Members}
+use Rattle.std.specs.Prelude.{ℕ, List, Result, Ok, Err, ⊤}
 use Rattle.jwt_text.specs.Answers.{◌>>=◌}
-use Rattle.jwt_text.specs.Members.{has}
 use Rattle.jwt_text.specs.declared.fault.TextFault.{TextFault}
 use Rattle.jwt_text.specs.declared.fault.TextFault.TheVariants.{OutOfMemory as NoMemory}
 use Rattle.jwt_policy.specs.ClaimKinds.{claims_of}
@@ -10,11 +8,7 @@ use Rattle.jwt_policy.specs.declared.claim_fault.ClaimFault.{ClaimFault}
 use Rattle.jwt_issue.specs.declared.fault.BuildFault.{BuildFault}
 use Rattle.jwt_issue.specs.declared.fault.BuildFault.TheVariants.{OutOfMemory, NameTwice}
 
--- what adding a claim of this name to these members answers
-abbrev pub adding : List ℕ → Members → Result ⊤ BuildFault
-adding name ms = if has name ms then Err NameTwice else Ok tt
-
--- an addition's answer as the builder gives it
+-- what adding a claim answers, of what adding a member does
 abbrev pub added_as : Result ⊤ TextFault → Result ⊤ BuildFault
 added_as (Ok x) = Ok tt
 added_as (Err NoMemory) = Err OutOfMemory

@@ -18,6 +18,9 @@ pub record PairParts : Type 0 where
   pub alg : Alg
   pub key : KeyParts
 
+abbrev pub pair : Alg → KeyParts → PairParts
+pair alg key = record { alg = alg; key = key }
+
 -- ---- one signature
 
 -- a member, where there is a text for it

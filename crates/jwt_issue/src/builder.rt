@@ -4,9 +4,10 @@ ghost use Rattle.serde_json.specs.Data.{no_members, put, string, number, boolean
 ghost use Rattle.serde_json.specs.Find.{of_integer};
 ghost use Rattle.serde_json.specs.Written.{compact_text};
 ghost use Rattle.jwt_text.specs.Answers.{Answers};
-ghost use Rattle.jwt_text.specs.Members.{names, AreInOrder};
+ghost use Rattle.jwt_text.specs.Members.{member_names, AreInOrder};
 ghost use Rattle.jwt_text.specs.Writing.{list_of_texts};
-ghost use Rattle.jwt_issue.specs.ClaimSets.{adding, added_as, claim_set_of};
+ghost use Rattle.jwt_text.specs.Writing.{adding};
+ghost use Rattle.jwt_issue.specs.ClaimSets.{added_as, claim_set_of};
 
 use crate::claim_set::ClaimSet;
 use crate::fault::BuildFault;
@@ -57,7 +58,8 @@ impl Builder {
 
     /// Adds a text.
     pub fn text(&mut self, name: &str, value: &str) -> Result<(), BuildFault>
-        ensures answer { ¬ IsErrOf result BuildFault.OutOfMemory → result ≡ adding name.now self.old }
+        ensures answer { ¬ IsErrOf result BuildFault.OutOfMemory
+            → result ≡ added_as (adding name.now self.old) }
         ensures ok { OnOk result (self.new ≡ put name.now (string value.now) self.old) }
         ensures err { OnErr result (self.new ≡ self.old) }
     {
@@ -66,7 +68,8 @@ impl Builder {
 
     /// Adds a whole number, as a date in seconds since 1970-01-01T00:00:00Z.
     pub fn whole(&mut self, name: &str, value: i64) -> Result<(), BuildFault>
-        ensures answer { ¬ IsErrOf result BuildFault.OutOfMemory → result ≡ adding name.now self.old }
+        ensures answer { ¬ IsErrOf result BuildFault.OutOfMemory
+            → result ≡ added_as (adding name.now self.old) }
         ensures ok { OnOk result (self.new ≡ put name.now (number (of_integer value)) self.old) }
         ensures err { OnErr result (self.new ≡ self.old) }
     {
@@ -75,7 +78,8 @@ impl Builder {
 
     /// Adds a truth value.
     pub fn flag(&mut self, name: &str, value: bool) -> Result<(), BuildFault>
-        ensures answer { ¬ IsErrOf result BuildFault.OutOfMemory → result ≡ adding name.now self.old }
+        ensures answer { ¬ IsErrOf result BuildFault.OutOfMemory
+            → result ≡ added_as (adding name.now self.old) }
         ensures ok { OnOk result (self.new ≡ put name.now (boolean value) self.old) }
         ensures err { OnErr result (self.new ≡ self.old) }
     {
@@ -84,7 +88,8 @@ impl Builder {
 
     /// Adds `aud` as a list of texts (RFC 7519, section 4.1.3).
     pub fn audience(&mut self, values: &[&str]) -> Result<(), BuildFault>
-        ensures answer { ¬ IsErrOf result BuildFault.OutOfMemory → result ≡ adding (codes "aud") self.old }
+        ensures answer { ¬ IsErrOf result BuildFault.OutOfMemory
+            → result ≡ added_as (adding (codes "aud") self.old) }
         ensures ok { OnOk result
             (self.new ≡ put (codes "aud") (list_of_texts (map (λ s. s.now) values.now)) self.old) }
         ensures err { OnErr result (self.new ≡ self.old) }
@@ -98,8 +103,9 @@ impl Builder {
     /// Those of [`ClaimSet::from_octets`] on that text: `ClaimKind` where a registered claim has another kind. `OutOfMemory`
     /// comes where an allocation was refused, in place of any other answer.
     pub fn finish(self) -> Result<ClaimSet, ClaimFault<'static>>
-        ensures answer { Answers ClaimFault.OutOfMemory (λ c. c) result (claim_set_of (compact_text (object self))) }
-        ensures order { AreInOrder (names self) }
+        ensures answer { Answers ClaimFault.OutOfMemory (λ c. c) result
+            (claim_set_of (compact_text (object self))) }
+        ensures order { AreInOrder (member_names self) }
     {
         let Builder { alloc, members } = self;
         match members.finish() {

@@ -25,7 +25,11 @@ fn join(
     payload: &[u8],
     signature: &[u8],
 ) -> Result<(), AllocError>
-    ensures { OnOk result (token.new.items ≡ token.old.items ++ signing_input (record { protected = protected.now; payload = payload.now }) ++ 46 ∷ [] ++ signature.now) }
+    ensures { OnOk result
+        (token.new.items
+        ≡ token.old.items
+        ++ signing_input (record { protected = protected.now; payload = payload.now }) ++ 46 ∷ []
+        ++ signature.now) }
 {
     token.extend_from_slice(protected)?;
     token.push(b'.')?;
@@ -38,19 +42,28 @@ fn join(
 #[tactic(auto, unfolding(crate::specs::Issued::within))]
 fn compact_token<B: Budget>(
     alloc: Global,
-    b: &mut B,
+    budget: &mut B,
     signer: &Signer<'_>,
     payload: &[u8],
 ) -> Result<Vec<u8>, IssueFault>
-    requires { B.calls b.old + 1 < 2 ^ 32 }
-    ensures answer { Answers IssueFault.OutOfMemory (λ v. v.items) result (within (B.ceiling b.old - B.octets b.old) (signing_cost payload.now (signer_parts signer.now) ∷ []) (compact_token payload.now (signer_parts signer.now))) }
-    ensures paid { Pays result (due 1 (within (B.ceiling b.old - B.octets b.old) (signing_cost payload.now (signer_parts signer.now) ∷ []) (compact_token payload.now (signer_parts signer.now)))) (λ n. (B.octets b.new ≡ B.octets b.old + n * signing_cost payload.now (signer_parts signer.now)) × (B.calls b.new ≡ B.calls b.old + n)) }
-    ensures ceiling { B.ceiling b.new ≡ B.ceiling b.old }
-    ensures unchanged { IfErr result (λ e. e ≢ IssueFault.OutOfMemory → b.new ≡ b.old) }
+    requires { B.calls budget.old + 1 < 2 ^ 32 }
+    ensures answer { Answers IssueFault.OutOfMemory (λ v. v.items) result
+        (within (B.ceiling budget.old - B.octets budget.old)
+        (signing_cost payload.now (signer_parts signer.now) ∷ [])
+        (compact_token payload.now (signer_parts signer.now))) }
+    ensures paid { Pays result
+        (due 1 (within (B.ceiling budget.old - B.octets budget.old)
+        (signing_cost payload.now (signer_parts signer.now) ∷ [])
+        (compact_token payload.now (signer_parts signer.now))))
+        (λ n. (B.octets budget.new
+        ≡ B.octets budget.old + n * signing_cost payload.now (signer_parts signer.now))
+        × (B.calls budget.new ≡ B.calls budget.old + n)) }
+    ensures ceiling { B.ceiling budget.new ≡ B.ceiling budget.old }
+    ensures unchanged { IfErr result (λ e. e ≢ IssueFault.OutOfMemory → budget.new ≡ budget.old) }
 {
     let len = compact_len(signer, payload).ok_or(IssueFault::TooLong)?;
     let mut token = Vec::with_capacity(alloc, len)?;
-    let signature = signer.sign(alloc, b, 0, payload)?;
+    let signature = signer.sign(alloc, budget, 0, payload)?;
     join(&mut token, &signer.protected, payload, &signature)?;
     Ok(token)
 }
@@ -71,23 +84,33 @@ fn compact_token<B: Budget>(
 #[tactic(auto, unfolding(crate::specs::Issued::compact_of))]
 pub fn issue_compact<B: Budget>(
     alloc: Global,
-    b: &mut B,
+    budget: &mut B,
     alg: Alg,
     key: &Key,
     typ: Option<&str>,
     claims: &ClaimSet,
 ) -> Result<Vec<u8>, IssueFault>
-    requires { B.calls b.old + 32 < 2 ^ 32 }
-    ensures answer { Answers IssueFault.OutOfMemory (λ v. v.items) result (compact_of (B.ceiling b.old - B.octets b.old) (text_of typ.entry) claims.now (pair_of alg key.now)) }
-    ensures signed { IfOk result (λ v. (most : ℕ) → IsSignedToken most v.items (compact_signed (text_of typ.entry) claims.now (pair_of alg key.now))) }
+    requires { B.calls budget.old + 32 < 2 ^ 32 }
+    ensures answer { Answers IssueFault.OutOfMemory (λ v. v.items) result
+        (compact_of (B.ceiling budget.old - B.octets budget.old) (text_of typ.entry) claims.now
+        (pair_of alg key.now)) }
+    ensures signed { IfOk result
+        (λ v. (most : ℕ)
+        → IsSignedToken most v.items
+        (compact_signed (text_of typ.entry) claims.now (pair_of alg key.now))) }
 
     // What the budget counts.
-    ensures paid { Pays result (due 1 (compact_of (B.ceiling b.old - B.octets b.old) (text_of typ.entry) claims.now (pair_of alg key.now))) (λ n. (B.octets b.new ≡ B.octets b.old + n * pair_cost (text_of typ.entry) claims.now (pair_of alg key.now)) × (B.calls b.new ≡ B.calls b.old + n)) }
-    ensures ceiling { B.ceiling b.new ≡ B.ceiling b.old }
-    ensures unchanged { IfErr result (λ e. e ≢ IssueFault.OutOfMemory → b.new ≡ b.old) }
+    ensures paid { Pays result
+        (due 1 (compact_of (B.ceiling budget.old - B.octets budget.old) (text_of typ.entry)
+        claims.now (pair_of alg key.now)))
+        (λ n. (B.octets budget.new
+        ≡ B.octets budget.old + n * pair_cost (text_of typ.entry) claims.now (pair_of alg key.now))
+        × (B.calls budget.new ≡ B.calls budget.old + n)) }
+    ensures ceiling { B.ceiling budget.new ≡ B.ceiling budget.old }
+    ensures unchanged { IfErr result (λ e. e ≢ IssueFault.OutOfMemory → budget.new ≡ budget.old) }
 {
     compact_tokens_are_signed();
     let signer = Signer::new(alloc, 0, alg, key, typ)?;
     let payload = spell(alloc, claims.octets())?;
-    compact_token(alloc, b, &signer, &payload)
+    compact_token(alloc, budget, &signer, &payload)
 }

@@ -25,7 +25,8 @@ fn add_members(
     protected: &[u8],
     signature: &[u8],
 ) -> Result<(), AllocError>
-    ensures { OnOk result (token.new.items ≡ token.old.items ++ codes "{\"payload\":\"" ++ payload.now ++ codes "\","
+    ensures { OnOk result
+        (token.new.items ≡ token.old.items ++ codes "{\"payload\":\"" ++ payload.now ++ codes "\","
         ++ text_members protected.now signature.now) }
 {
     add_text(token, b"{\"payload\":\"", payload)?;
@@ -37,19 +38,28 @@ fn add_members(
 #[tactic(auto, unfolding(crate::specs::Issued::within))]
 fn flattened_token<B: Budget>(
     alloc: Global,
-    b: &mut B,
+    budget: &mut B,
     signer: &Signer<'_>,
     payload: &[u8],
 ) -> Result<Vec<u8>, IssueFault>
-    requires { B.calls b.old + 1 < 2 ^ 32 }
-    ensures answer { Answers IssueFault.OutOfMemory (λ v. v.items) result (within (B.ceiling b.old - B.octets b.old) (signing_cost payload.now (signer_parts signer.now) ∷ []) (flattened_token payload.now (signer_parts signer.now))) }
-    ensures paid { Pays result (due 1 (within (B.ceiling b.old - B.octets b.old) (signing_cost payload.now (signer_parts signer.now) ∷ []) (flattened_token payload.now (signer_parts signer.now)))) (λ n. (B.octets b.new ≡ B.octets b.old + n * signing_cost payload.now (signer_parts signer.now)) × (B.calls b.new ≡ B.calls b.old + n)) }
-    ensures ceiling { B.ceiling b.new ≡ B.ceiling b.old }
-    ensures unchanged { IfErr result (λ e. e ≢ IssueFault.OutOfMemory → b.new ≡ b.old) }
+    requires { B.calls budget.old + 1 < 2 ^ 32 }
+    ensures answer { Answers IssueFault.OutOfMemory (λ v. v.items) result
+        (within (B.ceiling budget.old - B.octets budget.old)
+        (signing_cost payload.now (signer_parts signer.now) ∷ [])
+        (flattened_token payload.now (signer_parts signer.now))) }
+    ensures paid { Pays result
+        (due 1 (within (B.ceiling budget.old - B.octets budget.old)
+        (signing_cost payload.now (signer_parts signer.now) ∷ [])
+        (flattened_token payload.now (signer_parts signer.now))))
+        (λ n. (B.octets budget.new
+        ≡ B.octets budget.old + n * signing_cost payload.now (signer_parts signer.now))
+        × (B.calls budget.new ≡ B.calls budget.old + n)) }
+    ensures ceiling { B.ceiling budget.new ≡ B.ceiling budget.old }
+    ensures unchanged { IfErr result (λ e. e ≢ IssueFault.OutOfMemory → budget.new ≡ budget.old) }
 {
     let len = flattened_len(signer, payload).ok_or(IssueFault::TooLong)?;
     let mut token = Vec::with_capacity(alloc, len)?;
-    let signature = signer.sign(alloc, b, 0, payload)?;
+    let signature = signer.sign(alloc, budget, 0, payload)?;
     add_members(&mut token, payload, &signer.protected, &signature)?;
     Ok(token)
 }
@@ -70,23 +80,33 @@ fn flattened_token<B: Budget>(
 #[tactic(auto, unfolding(crate::specs::Issued::flattened_of))]
 pub fn issue_flat<B: Budget>(
     alloc: Global,
-    b: &mut B,
+    budget: &mut B,
     alg: Alg,
     key: &Key,
     typ: Option<&str>,
     claims: &ClaimSet,
 ) -> Result<Vec<u8>, IssueFault>
-    requires { B.calls b.old + 32 < 2 ^ 32 }
-    ensures answer { Answers IssueFault.OutOfMemory (λ v. v.items) result (flattened_of (B.ceiling b.old - B.octets b.old) (text_of typ.entry) claims.now (pair_of alg key.now)) }
-    ensures signed { IfOk result (λ v. (most : ℕ) → IsSignedToken most v.items (flattened_signed (text_of typ.entry) claims.now (pair_of alg key.now))) }
+    requires { B.calls budget.old + 32 < 2 ^ 32 }
+    ensures answer { Answers IssueFault.OutOfMemory (λ v. v.items) result
+        (flattened_of (B.ceiling budget.old - B.octets budget.old) (text_of typ.entry) claims.now
+        (pair_of alg key.now)) }
+    ensures signed { IfOk result
+        (λ v. (most : ℕ)
+        → IsSignedToken most v.items
+        (flattened_signed (text_of typ.entry) claims.now (pair_of alg key.now))) }
 
     // What the budget counts.
-    ensures paid { Pays result (due 1 (flattened_of (B.ceiling b.old - B.octets b.old) (text_of typ.entry) claims.now (pair_of alg key.now))) (λ n. (B.octets b.new ≡ B.octets b.old + n * pair_cost (text_of typ.entry) claims.now (pair_of alg key.now)) × (B.calls b.new ≡ B.calls b.old + n)) }
-    ensures ceiling { B.ceiling b.new ≡ B.ceiling b.old }
-    ensures unchanged { IfErr result (λ e. e ≢ IssueFault.OutOfMemory → b.new ≡ b.old) }
+    ensures paid { Pays result
+        (due 1 (flattened_of (B.ceiling budget.old - B.octets budget.old) (text_of typ.entry)
+        claims.now (pair_of alg key.now)))
+        (λ n. (B.octets budget.new
+        ≡ B.octets budget.old + n * pair_cost (text_of typ.entry) claims.now (pair_of alg key.now))
+        × (B.calls budget.new ≡ B.calls budget.old + n)) }
+    ensures ceiling { B.ceiling budget.new ≡ B.ceiling budget.old }
+    ensures unchanged { IfErr result (λ e. e ≢ IssueFault.OutOfMemory → budget.new ≡ budget.old) }
 {
     flattened_tokens_are_signed();
     let signer = Signer::new(alloc, 0, alg, key, typ)?;
     let payload = spell(alloc, claims.octets())?;
-    flattened_token(alloc, b, &signer, &payload)
+    flattened_token(alloc, budget, &signer, &payload)
 }

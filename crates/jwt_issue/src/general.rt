@@ -31,8 +31,12 @@ fn signers<'a>(
     typ: Option<&str>,
 ) -> Result<Vec<Signer<'a>>, IssueFault>
     requires { length pairs.now ≤ 32 }
-    ensures answer { Answers IssueFault.OutOfMemory (λ v. map signer_parts v.items) result (unless (first_unfit 0 (map pair_parts pairs.now)) (Ok (map (signer_of (text_of typ.entry)) (map pair_parts pairs.now)))) }
-    ensures utf8 { OnOk result (All (λ pair. IsUtf8 (compact_text (object (header (text_of typ.entry) pair)))) (map pair_parts pairs.now)) }
+    ensures answer { Answers IssueFault.OutOfMemory (λ v. map signer_parts v.items) result
+        (unless (first_unfit 0 (map pair_parts pairs.now))
+        (Ok (map (signer_of (text_of typ.entry)) (map pair_parts pairs.now)))) }
+    ensures utf8 { OnOk result
+        (All (λ pair. IsUtf8 (compact_text (object (header (text_of typ.entry) pair))))
+        (map pair_parts pairs.now)) }
 {
     let mut signers = Vec::with_capacity(alloc, pairs.len())?;
     for i in 0..pairs.len() {
@@ -49,7 +53,11 @@ fn add_element(
     protected: &[u8],
     signature: &[u8],
 ) -> Result<(), AllocError>
-    ensures { OnOk result (token.new.items ≡ token.old.items ++ ((if later then 44 ∷ [] else []) ++ (codes "{" ++ text_members protected.now signature.now))) }
+    ensures { OnOk result
+        (token.new.items
+        ≡ token.old.items
+        ++ ((if later then 44 ∷ [] else [])
+        ++ (codes "{" ++ text_members protected.now signature.now))) }
 {
     if later {
         token.push(b',')?;
@@ -62,22 +70,34 @@ fn add_element(
 #[tactic(auto, unfolding(crate::specs::Issued::signature_text))]
 fn add_signed<B: Budget>(
     alloc: Global,
-    b: &mut B,
+    budget: &mut B,
     i: u32,
     signer: &Signer<'_>,
     payload: &[u8],
     token: &mut Vec<u8>,
 ) -> Result<(), IssueFault>
-    requires { B.calls b.old + 1 < 2 ^ 32 }
-    ensures text { OnOk result (token.new.items ≡ token.old.items ++ ((if nat_lt 0 i then 44 ∷ [] else []) ++ element payload.now (signer_parts signer.now))) }
+    requires { B.calls budget.old + 1 < 2 ^ 32 }
+    ensures text { OnOk result
+        (token.new.items
+        ≡ token.old.items
+        ++ ((if nat_lt 0 i then 44 ∷ [] else [])
+        ++ element payload.now (signer_parts signer.now))) }
     ensures fault { IfErr result (λ e. e ≢ IssueFault.OutOfMemory → e ≡ IssueFault.Spent i) }
-    ensures afforded { OnOk result (B.octets b.old + signing_cost payload.now (signer_parts signer.now) ≤ B.ceiling b.old) }
-    ensures spent { IfErr result (λ e. e ≢ IssueFault.OutOfMemory → B.ceiling b.old < B.octets b.old + signing_cost payload.now (signer_parts signer.now)) }
-    ensures unchanged { IfErr result (λ e. e ≢ IssueFault.OutOfMemory → b.new ≡ b.old) }
-    ensures paid { PaysOnce result (λ n. (B.octets b.new ≡ B.octets b.old + n * signing_cost payload.now (signer_parts signer.now)) × (B.calls b.new ≡ B.calls b.old + n)) }
-    ensures ceiling { B.ceiling b.new ≡ B.ceiling b.old }
+    ensures afforded { OnOk result
+        (B.octets budget.old + signing_cost payload.now (signer_parts signer.now) ≤ B.ceiling
+        budget.old) }
+    ensures spent { IfErr result
+        (λ e. e ≢ IssueFault.OutOfMemory
+        → B.ceiling budget.old < B.octets budget.old + signing_cost payload.now
+        (signer_parts signer.now)) }
+    ensures unchanged { IfErr result (λ e. e ≢ IssueFault.OutOfMemory → budget.new ≡ budget.old) }
+    ensures paid { PaysOnce result
+        (λ n. (B.octets budget.new
+        ≡ B.octets budget.old + n * signing_cost payload.now (signer_parts signer.now))
+        × (B.calls budget.new ≡ B.calls budget.old + n)) }
+    ensures ceiling { B.ceiling budget.new ≡ B.ceiling budget.old }
 {
-    let signature = signer.sign(alloc, b, i, payload)?;
+    let signature = signer.sign(alloc, budget, i, payload)?;
     add_element(token, i > 0, &signer.protected, &signature)?;
     Ok(())
 }
@@ -85,22 +105,39 @@ fn add_signed<B: Budget>(
 /// Adds the elements of `signatures`, each signed when those before it are paid.
 fn add_elements<B: Budget>(
     alloc: Global,
-    b: &mut B,
+    budget: &mut B,
     signers: &[Signer<'_>],
     payload: &[u8],
     token: &mut Vec<u8>,
 ) -> Result<(), IssueFault>
     requires few { length signers.now ≤ 32 }
-    requires room { B.calls b.old + 32 < 2 ^ 32 }
-    ensures text { OnOk result (token.new.items ≡ token.old.items ++ join_with_byte 44 (map (element payload.now) (map signer_parts signers.now))) }
-    ensures afforded { OnOk result (first_spent 0 (B.ceiling b.old - B.octets b.old) (map (signing_cost payload.now) (map signer_parts signers.now)) ≡ None) }
-    ensures fault { IfErr result (λ e. e ≢ IssueFault.OutOfMemory → first_spent 0 (B.ceiling b.old - B.octets b.old) (map (signing_cost payload.now) (map signer_parts signers.now)) ≡ Some e) }
-    ensures paid { Pays result (due (length signers.now) (unless (first_spent 0 (B.ceiling b.old - B.octets b.old) (map (signing_cost payload.now) (map signer_parts signers.now))) (Ok payload.now))) (λ n. (B.octets b.new ≡ B.octets b.old + sum (take n (map (signing_cost payload.now) (map signer_parts signers.now)))) × (B.calls b.new ≡ B.calls b.old + n)) }
-    ensures unchanged { IfErr result (λ e. e ≢ IssueFault.OutOfMemory → ((i : ℕ) → e ≢ IssueFault.Spent (i + 1)) → b.new ≡ b.old) }
-    ensures ceiling { B.ceiling b.new ≡ B.ceiling b.old }
+    requires room { B.calls budget.old + 32 < 2 ^ 32 }
+    ensures text { OnOk result
+        (token.new.items
+        ≡ token.old.items
+        ++ join_with_byte 44 (map (element payload.now) (map signer_parts signers.now))) }
+    ensures afforded { OnOk result
+        (first_spent 0 (B.ceiling budget.old - B.octets budget.old)
+        (map (signing_cost payload.now) (map signer_parts signers.now)) ≡ None) }
+    ensures fault { IfErr result
+        (λ e. e ≢ IssueFault.OutOfMemory
+        → first_spent 0 (B.ceiling budget.old - B.octets budget.old)
+        (map (signing_cost payload.now) (map signer_parts signers.now)) ≡ Some e) }
+    ensures paid { Pays result
+        (due (length signers.now)
+        (unless (first_spent 0 (B.ceiling budget.old - B.octets budget.old)
+        (map (signing_cost payload.now) (map signer_parts signers.now))) (Ok payload.now)))
+        (λ n. (B.octets budget.new
+        ≡ B.octets budget.old + sum
+        (take n (map (signing_cost payload.now) (map signer_parts signers.now))))
+        × (B.calls budget.new ≡ B.calls budget.old + n)) }
+    ensures unchanged { IfErr result
+        (λ e. e ≢ IssueFault.OutOfMemory → ((i : ℕ) → e ≢ IssueFault.Spent (i + 1))
+        → budget.new ≡ budget.old) }
+    ensures ceiling { B.ceiling budget.new ≡ B.ceiling budget.old }
 {
     for i in 0..signers.len() {
-        add_signed(alloc, b, i as u32, &signers[i], payload, token)?;
+        add_signed(alloc, budget, i as u32, &signers[i], payload, token)?;
     }
     Ok(())
 }
@@ -109,23 +146,36 @@ fn add_elements<B: Budget>(
 #[tactic(auto, unfolding(crate::specs::Issued::within))]
 fn general_token<B: Budget>(
     alloc: Global,
-    b: &mut B,
+    budget: &mut B,
     signers: &[Signer<'_>],
     payload: &[u8],
 ) -> Result<Vec<u8>, IssueFault>
     requires some { 0 < length signers.now }
     requires few { length signers.now ≤ 32 }
-    requires room { B.calls b.old + 32 < 2 ^ 32 }
-    ensures answer { Answers IssueFault.OutOfMemory (λ v. v.items) result (within (B.ceiling b.old - B.octets b.old) (map (signing_cost payload.now) (map signer_parts signers.now)) (general_token payload.now (map signer_parts signers.now))) }
-    ensures paid { Pays result (due (length signers.now) (within (B.ceiling b.old - B.octets b.old) (map (signing_cost payload.now) (map signer_parts signers.now)) (general_token payload.now (map signer_parts signers.now)))) (λ n. (B.octets b.new ≡ B.octets b.old + sum (take n (map (signing_cost payload.now) (map signer_parts signers.now)))) × (B.calls b.new ≡ B.calls b.old + n)) }
-    ensures unchanged { IfErr result (λ e. e ≢ IssueFault.OutOfMemory → ((i : ℕ) → e ≢ IssueFault.Spent (i + 1)) → b.new ≡ b.old) }
-    ensures ceiling { B.ceiling b.new ≡ B.ceiling b.old }
+    requires room { B.calls budget.old + 32 < 2 ^ 32 }
+    ensures answer { Answers IssueFault.OutOfMemory (λ v. v.items) result
+        (within (B.ceiling budget.old - B.octets budget.old)
+        (map (signing_cost payload.now) (map signer_parts signers.now))
+        (general_token payload.now (map signer_parts signers.now))) }
+    ensures paid { Pays result
+        (due (length signers.now)
+        (within (B.ceiling budget.old - B.octets budget.old)
+        (map (signing_cost payload.now) (map signer_parts signers.now))
+        (general_token payload.now (map signer_parts signers.now))))
+        (λ n. (B.octets budget.new
+        ≡ B.octets budget.old + sum
+        (take n (map (signing_cost payload.now) (map signer_parts signers.now))))
+        × (B.calls budget.new ≡ B.calls budget.old + n)) }
+    ensures unchanged { IfErr result
+        (λ e. e ≢ IssueFault.OutOfMemory → ((i : ℕ) → e ≢ IssueFault.Spent (i + 1))
+        → budget.new ≡ budget.old) }
+    ensures ceiling { B.ceiling budget.new ≡ B.ceiling budget.old }
 {
     let len = general_len(signers, payload).ok_or(IssueFault::TooLong)?;
     let mut token = Vec::with_capacity(alloc, len)?;
     add_text(&mut token, b"{\"payload\":\"", payload)?;
     token.extend_from_slice(b"\",\"signatures\":[")?;
-    add_elements(alloc, b, signers, payload, &mut token)?;
+    add_elements(alloc, budget, signers, payload, &mut token)?;
     token.extend_from_slice(b"]}")?;
     Ok(token)
 }
@@ -149,20 +199,32 @@ fn general_token<B: Budget>(
 #[tactic(auto, unfolding(crate::specs::Issued::general_of))]
 pub fn issue_json<B: Budget>(
     alloc: Global,
-    b: &mut B,
+    budget: &mut B,
     pairs: &[(Alg, &Key)],
     typ: Option<&str>,
     claims: &ClaimSet,
 ) -> Result<Vec<u8>, IssueFault>
-    requires { B.calls b.old + 32 < 2 ^ 32 }
-    ensures answer { Answers IssueFault.OutOfMemory (λ v. v.items) result (general_of (B.ceiling b.old - B.octets b.old) (text_of typ.entry) claims.now (map pair_parts pairs.now)) }
+    requires { B.calls budget.old + 32 < 2 ^ 32 }
+    ensures answer { Answers IssueFault.OutOfMemory (λ v. v.items) result
+        (general_of (B.ceiling budget.old - B.octets budget.old) (text_of typ.entry) claims.now
+        (map pair_parts pairs.now)) }
     ensures signed { IfOk result (λ v. (most : ℕ) → length pairs.now ≤ most
-        → IsSignedToken most v.items (general_signed (text_of typ.entry) claims.now (map pair_parts pairs.now))) }
+        → IsSignedToken most v.items
+        (general_signed (text_of typ.entry) claims.now (map pair_parts pairs.now))) }
 
     // What the budget counts.
-    ensures paid { Pays result (due (length pairs.now) (general_of (B.ceiling b.old - B.octets b.old) (text_of typ.entry) claims.now (map pair_parts pairs.now))) (λ n. (B.octets b.new ≡ B.octets b.old + sum (take n (pair_costs (text_of typ.entry) claims.now (map pair_parts pairs.now)))) × (B.calls b.new ≡ B.calls b.old + n)) }
-    ensures unchanged { IfErr result (λ e. e ≢ IssueFault.OutOfMemory → ((i : ℕ) → e ≢ IssueFault.Spent (i + 1)) → b.new ≡ b.old) }
-    ensures ceiling { B.ceiling b.new ≡ B.ceiling b.old }
+    ensures paid { Pays result
+        (due (length pairs.now)
+        (general_of (B.ceiling budget.old - B.octets budget.old) (text_of typ.entry) claims.now
+        (map pair_parts pairs.now)))
+        (λ n. (B.octets budget.new
+        ≡ B.octets budget.old + sum
+        (take n (pair_costs (text_of typ.entry) claims.now (map pair_parts pairs.now))))
+        × (B.calls budget.new ≡ B.calls budget.old + n)) }
+    ensures unchanged { IfErr result
+        (λ e. e ≢ IssueFault.OutOfMemory → ((i : ℕ) → e ≢ IssueFault.Spent (i + 1))
+        → budget.new ≡ budget.old) }
+    ensures ceiling { B.ceiling budget.new ≡ B.ceiling budget.old }
 {
     if pairs.is_empty() {
         return Err(IssueFault::NoKey);
@@ -173,5 +235,5 @@ pub fn issue_json<B: Budget>(
     general_tokens_are_signed();
     let signers = signers(alloc, pairs, typ)?;
     let payload = spell(alloc, claims.octets())?;
-    general_token(alloc, b, &signers, &payload)
+    general_token(alloc, budget, &signers, &payload)
 }

@@ -14,7 +14,8 @@ use std::alloc::Global;
 
 /// The compact text of the protected header.
 fn header_text(alloc: Global, alg: Alg, key: &Key, typ: Option<&str>) -> Result<Vec<u8>, IssueFault>
-    ensures ok { IfOk result (λ v. v.items ≡ compact_text (object (header (text_of typ.entry) (pair_of alg key.now)))) }
+    ensures ok { IfOk result
+        (λ v. v.items ≡ compact_text (object (header (text_of typ.entry) (pair_of alg key.now)))) }
     ensures utf8 { IfOk result (λ v. IsUtf8 v.items) }
     ensures err { IsOkUnless result IssueFault.OutOfMemory }
 {
@@ -58,8 +59,10 @@ pub(crate) fn protected_text(
     key: &Key,
     typ: Option<&str>,
 ) -> Result<Vec<u8>, IssueFault>
-    ensures ok { IfOk result (λ v. v.items ≡ protected_text (text_of typ.entry) (pair_of alg key.now)) }
-    ensures utf8 { OnOk result (IsUtf8 (compact_text (object (header (text_of typ.entry) (pair_of alg key.now))))) }
+    ensures ok { IfOk result
+        (λ v. v.items ≡ protected_text (text_of typ.entry) (pair_of alg key.now)) }
+    ensures utf8 { OnOk result
+        (IsUtf8 (compact_text (object (header (text_of typ.entry) (pair_of alg key.now))))) }
     ensures err { IsOkUnless result IssueFault.OutOfMemory }
 {
     let text = header_text(alloc, alg, key, typ)?;

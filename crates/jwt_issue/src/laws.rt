@@ -14,8 +14,10 @@ use jwt_text::laws::quoted_texts;
 
 /// A signature isn't made exactly where its cost and those before it exceed what is left, and it is the first such.
 pub fn spent_is_the_first_beyond()
-    ensures none { (left : ℕ) (costs : List ℕ) → (first_spent 0 left costs ≡ None) ↔ (sum costs ≤ left) }
-    ensures some { (left : ℕ) (costs : List ℕ) (i : ℕ) → (first_spent 0 left costs ≡ Some (IssueFault.Spent i))
+    ensures none { (left : ℕ) (costs : List ℕ)
+        → (first_spent 0 left costs ≡ None) ↔ (sum costs ≤ left) }
+    ensures some { (left : ℕ) (costs : List ℕ) (i : ℕ)
+        → (first_spent 0 left costs ≡ Some (IssueFault.Spent i))
         ↔ ((i < length costs) × (sum (take i costs) ≤ left) × (left < sum (take (i + 1) costs))) }
 {}
 
@@ -25,7 +27,8 @@ pub fn spent_is_the_first_beyond()
 pub fn compact_tokens_are_signed()
     ensures { (most : ℕ) (typ : Option (List ℕ)) (claims : List ℕ) (pair : PairParts)
         → IsUtf8 (compact_text (object (header typ pair))) → AreOctets claims
-        → IsSignedToken most (compact_token (spelling claims) (signer_of typ pair)) (compact_signed typ claims pair) }
+        → IsSignedToken most (compact_token (spelling claims) (signer_of typ pair))
+        (compact_signed typ claims pair) }
 {
     quoted_texts();
     tags_are_octets();
@@ -35,7 +38,8 @@ pub fn compact_tokens_are_signed()
 pub fn flattened_tokens_are_signed()
     ensures { (most : ℕ) (typ : Option (List ℕ)) (claims : List ℕ) (pair : PairParts)
         → IsUtf8 (compact_text (object (header typ pair))) → AreOctets claims
-        → IsSignedToken most (flattened_token (spelling claims) (signer_of typ pair)) (flattened_signed typ claims pair) }
+        → IsSignedToken most (flattened_token (spelling claims) (signer_of typ pair))
+        (flattened_signed typ claims pair) }
 {
     quoted_texts();
     tags_are_octets();
@@ -49,7 +53,8 @@ pub fn general_tokens_are_signed()
         → 0 < length pairs → length pairs ≤ most
         → All (λ pair. IsUtf8 (compact_text (object (header typ pair)))) pairs
         → AreOctets claims
-        → IsSignedToken most (general_token (spelling claims) (map (signer_of typ) pairs)) (general_signed typ claims pairs) }
+        → IsSignedToken most (general_token (spelling claims) (map (signer_of typ) pairs))
+        (general_signed typ claims pairs) }
 {
     quoted_texts();
     tags_are_octets();

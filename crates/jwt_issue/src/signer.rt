@@ -36,8 +36,12 @@ impl<'a> Signer<'a> {
         key: &'a Key,
         typ: Option<&str>,
     ) -> Result<Signer<'a>, IssueFault>
-        ensures answer { Answers IssueFault.OutOfMemory signer_parts result (unless (unfit i (pair_of alg key.entry.now)) (Ok (signer_of (text_of typ.entry) (pair_of alg key.entry.now)))) }
-        ensures utf8 { OnOk result (IsUtf8 (compact_text (object (header (text_of typ.entry) (pair_of alg key.entry.now))))) }
+        ensures answer { Answers IssueFault.OutOfMemory signer_parts result
+            (unless (unfit i (pair_of alg key.entry.now))
+            (Ok (signer_of (text_of typ.entry) (pair_of alg key.entry.now)))) }
+        ensures utf8 { OnOk result
+            (IsUtf8 (compact_text
+            (object (header (text_of typ.entry) (pair_of alg key.entry.now))))) }
     {
         if let Some(fault) = unfit(i, alg, key) {
             return Err(fault);
@@ -56,24 +60,34 @@ impl<'a> Signer<'a> {
     pub(crate) fn sign<B: Budget>(
         &self,
         alloc: Global,
-        b: &mut B,
+        budget: &mut B,
         i: u32,
         payload: &[u8],
     ) -> Result<Vec<u8>, IssueFault>
-        requires { B.calls b.old + 1 < 2 ^ 32 }
-        ensures text { IfOk result (λ v. v.items ≡ signature_text payload.now (signer_parts self.now)) }
+        requires { B.calls budget.old + 1 < 2 ^ 32 }
+        ensures text { IfOk result
+            (λ v. v.items ≡ signature_text payload.now (signer_parts self.now)) }
         ensures fault { IfErr result (λ e. e ≢ IssueFault.OutOfMemory → e ≡ IssueFault.Spent i) }
-        ensures afforded { OnOk result (B.octets b.old + signing_cost payload.now (signer_parts self.now) ≤ B.ceiling b.old) }
-        ensures spent { IfErr result (λ e. e ≢ IssueFault.OutOfMemory → B.ceiling b.old < B.octets b.old + signing_cost payload.now (signer_parts self.now)) }
-        ensures unchanged { IfErr result (λ e. e ≢ IssueFault.OutOfMemory → b.new ≡ b.old) }
-        ensures paid { PaysOnce result (λ n. (B.octets b.new ≡ B.octets b.old + n * signing_cost payload.now (signer_parts self.now)) × (B.calls b.new ≡ B.calls b.old + n)) }
-        ensures ceiling { B.ceiling b.new ≡ B.ceiling b.old }
+        ensures afforded { OnOk result
+            (B.octets budget.old + signing_cost payload.now (signer_parts self.now) ≤ B.ceiling
+            budget.old) }
+        ensures spent { IfErr result
+            (λ e. e ≢ IssueFault.OutOfMemory
+            → B.ceiling budget.old < B.octets budget.old + signing_cost payload.now
+            (signer_parts self.now)) }
+        ensures unchanged { IfErr result
+            (λ e. e ≢ IssueFault.OutOfMemory → budget.new ≡ budget.old) }
+        ensures paid { PaysOnce result
+            (λ n. (B.octets budget.new
+            ≡ B.octets budget.old + n * signing_cost payload.now (signer_parts self.now))
+            × (B.calls budget.new ≡ B.calls budget.old + n)) }
+        ensures ceiling { B.ceiling budget.new ≡ B.ceiling budget.old }
     {
         let message = Message {
             protected: &self.protected,
             payload,
         };
-        let Ok(tag) = hmac(b, self.alg, self.secret, message.parts()) else {
+        let Ok(tag) = hmac(budget, self.alg, self.secret, message.parts()) else {
             return Err(IssueFault::Spent(i));
         };
         spell(alloc, tag.octets())

@@ -11,7 +11,8 @@ const MOST: usize = 1_048_576;
 
 /// The octets of a signature text, over any payload.
 fn signature_len(signer: &Signer<'_>) -> usize
-    ensures is { (payload : List ℕ) → length (signature_text payload (signer_parts signer.now)) ≡ result }
+    ensures is { (payload : List ℕ)
+        → length (signature_text payload (signer_parts signer.now)) ≡ result }
     ensures few { result ≤ 86 }
 {
     tags_are_digests();
@@ -27,7 +28,9 @@ fn at_most(len: usize) -> Option<usize>
 
 /// The octets of the token in compact form, `None` where they are too many.
 pub(crate) fn compact_len(signer: &Signer<'_>, payload: &[u8]) -> Option<usize>
-    ensures { SomeIff result (length (compact_token payload.now (signer_parts signer.now)) ≤ 1048576) (length (compact_token payload.now (signer_parts signer.now))) }
+    ensures { SomeIff result
+        (length (compact_token payload.now (signer_parts signer.now)) ≤ 1048576)
+        (length (compact_token payload.now (signer_parts signer.now))) }
 {
     if signer.protected.len() > MOST || payload.len() > MOST {
         return None;
@@ -37,7 +40,9 @@ pub(crate) fn compact_len(signer: &Signer<'_>, payload: &[u8]) -> Option<usize>
 
 /// The octets of the token in flattened JSON form, `None` where they are too many.
 pub(crate) fn flattened_len(signer: &Signer<'_>, payload: &[u8]) -> Option<usize>
-    ensures { SomeIff result (length (flattened_token payload.now (signer_parts signer.now)) ≤ 1048576) (length (flattened_token payload.now (signer_parts signer.now))) }
+    ensures { SomeIff result
+        (length (flattened_token payload.now (signer_parts signer.now)) ≤ 1048576)
+        (length (flattened_token payload.now (signer_parts signer.now))) }
 {
     if signer.protected.len() > MOST || payload.len() > MOST {
         return None;
@@ -49,7 +54,9 @@ pub(crate) fn flattened_len(signer: &Signer<'_>, payload: &[u8]) -> Option<usize
 /// The octets of the token in general JSON form, `None` where they are too many.
 pub(crate) fn general_len(signers: &[Signer<'_>], payload: &[u8]) -> Option<usize>
     requires { 0 < length signers.now }
-    ensures { SomeIff result (length (general_token payload.now (map signer_parts signers.now)) ≤ 1048576) (length (general_token payload.now (map signer_parts signers.now))) }
+    ensures { SomeIff result
+        (length (general_token payload.now (map signer_parts signers.now)) ≤ 1048576)
+        (length (general_token payload.now (map signer_parts signers.now))) }
 {
     if payload.len() > MOST {
         return None;

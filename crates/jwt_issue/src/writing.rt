@@ -18,7 +18,8 @@ pub(crate) fn add_signature(
     protected: &[u8],
     signature: &[u8],
 ) -> Result<(), AllocError>
-    ensures { OnOk result (token.new.items ≡ token.old.items ++ text_members protected.now signature.now) }
+    ensures { OnOk result
+        (token.new.items ≡ token.old.items ++ text_members protected.now signature.now) }
 {
     add_text(token, b"\"protected\":\"", protected)?;
     add_text(token, b"\",\"signature\":\"", signature)?;

@@ -1,12 +1,13 @@
 -- The reader of compact form against its form.
-use Rattle.std.proofs.Common.{◌≡◌, ℕ, Bool, true, false, cond, List, [], ◌∷◌, ◌++◌, Ok, refl, sym, subst}
+use Rattle.std.proofs.Common.{◌≡◌, ℕ, Bool, true, false, cond, List, [], ◌∷◌, ◌++◌, Some, Ok, refl, sym, ap, subst, ◌∙◌}
 use Rattle.std.specs.Prelude.{All}
 use Rattle.std.specs.List.{slice_split, onto_first, join_with_byte}
 use Rattle.std.proofs.lemmas.List.Splits.{slice_split_at, slice_split_none, join_with_byte-slice_split}
 use Rattle.std.proofs.lemmas.List.Elements.{All-nil, All-cons, All-head, All-tail}
-use Rattle.jwt_jws.specs.Forms.{SpelledToken, is_period, compact, compact_of, compact_token}
-use Rattle.jwt_jws.specs.CompactForm.{ReadsCompact, IsReadCompact}
+use Rattle.jwt_jws.specs.Forms.{SpelledToken, CompactTexts, is_period, compact, compact_of, compact_texts, compact_token, three_texts}
+use Rattle.jwt_jws.specs.CompactForm.{IsCompact, ReadsCompact, IsReadCompact, PartsCompact}
 use Rattle.jwt_jws.proofs.Shapes.{HasNoPeriod}
+use Rattle.jwt_jws.proofs.Texts.{texts_read}
 
 pub reads_compact : ReadsCompact
 unfolding compact
@@ -40,10 +41,35 @@ three_parts (a ∷ b ∷ c ∷ d ∷ f ∷ x ∷ rest) t e = absurd cc
 
 pub is_read_compact : IsReadCompact
 unfolding compact
-is_read_compact z t e =
+is_read_compact z t closed e =
     let w = three_parts (slice_split is_period z) t e in
     let free : All HasNoPeriod (w.0 ∷ w.1 ∷ w.2 ∷ []) = subst (λ (ps : List (List ℕ)). All HasNoPeriod ps) w.3 (parts_free z) in
     let rest = All-tail HasNoPeriod w.0 (w.1 ∷ w.2 ∷ []) free in
     let last = All-tail HasNoPeriod w.1 (w.2 ∷ []) rest in
     let whole : join_with_byte 46 (slice_split is_period z) ≡ z = join_with_byte-slice_split 46 z in
-    (w.0, w.1, w.2, record { joined = sym (rw w.3 at whole); protected = All-head HasNoPeriod w.0 (w.1 ∷ w.2 ∷ []) free; payload = All-head HasNoPeriod w.1 (w.2 ∷ []) rest; signature = All-head HasNoPeriod w.2 [] last }, w.4)
+    (w.0, w.1, w.2, record { joined = sym (rw w.3 at whole); protected = All-head HasNoPeriod w.0 (w.1 ∷ w.2 ∷ []) free; payload = All-head HasNoPeriod w.1 (w.2 ∷ []) rest; signature = All-head HasNoPeriod w.2 [] last; no_object = closed }, w.4)
+
+inside : {A : Type 0} {x y : A} → Some x ≡ Some y → x ≡ y
+inside e = cc e
+
+three_are : (parts : List (List ℕ)) (h p g : List ℕ) → three_texts parts ≡ Some (record { protected = h; payload = p; signature = g }) → compact_of parts ≡ Ok (compact_token h p g)
+three_are [] h p g e = absurd cc
+three_are (a ∷ []) h p g e = absurd cc
+three_are (a ∷ b ∷ []) h p g e = absurd cc
+three_are (a ∷ b ∷ c ∷ []) h p g e = ap (λ (t : CompactTexts). Ok (compact_token t.protected t.payload t.signature)) (inside e)
+three_are (a ∷ b ∷ c ∷ d ∷ rest) h p g e = absurd cc
+
+texts_are : (z h p g : List ℕ) → compact_texts z ≡ Some (record { protected = h; payload = p; signature = g }) → compact z ≡ Ok (compact_token h p g)
+unfolding compact
+texts_are z h p g e = three_are (slice_split is_period z) h p g e
+
+pub parts_compact : PartsCompact
+parts_compact z h p g closed = (
+  λ e. made e (is_read_compact z (compact_token h p g) closed (texts_are z h p g e)),
+  λ is. texts_read z h p g (reads_compact z h p g is),
+)
+  where
+    made : compact_texts z ≡ Some (record { protected = h; payload = p; signature = g })
+        → (a b c : List ℕ) × IsCompact z a b c × (compact_token h p g ≡ compact_token a b c) → IsCompact z h p g
+    made e (a, b, c, is, same) =
+        subst (λ (t : CompactTexts). IsCompact z t.protected t.payload t.signature) (inside (sym (texts_read z a b c (reads_compact z a b c is)) ∙ e)) is

@@ -5,6 +5,7 @@ pub mod Each
 pub mod FaultLaws
 pub mod MessageLengths
 pub mod Periods
+pub mod SignaturesLeft
 pub mod SignedLaws
 pub mod Shapes
 pub mod Texts

@@ -12,7 +12,7 @@ use Rattle.jwt_text.specs.TextLengths.{text_octets, items_text_octets, members_t
 use Rattle.jwt_jws.specs.Token.{SignatureParts, Token, message_of}
 use Rattle.jwt_jws.specs.Forms.{Spelled, SpelledToken, compact_token}
 use Rattle.jwt_jws.specs.CompactForm.{IsCompact}
-use Rattle.jwt_jws.specs.SignedToken.{IsSpelledIn, IsGeneral, IsFlattened, IsSpelledToken, IsSignature, MessagesFit, SignaturesAreFew}
+use Rattle.jwt_jws.specs.SignedToken.{IsSpelledIn, IsGeneral, IsFlattened, IsJson, IsSpelledToken, IsSignature, MessagesFit, SignaturesAreFew}
 use Rattle.jwt_jws.specs.declared.fault.Form.{Form}
 use Rattle.jwt_jws.proofs.Shapes.{IsElement}
 
@@ -112,8 +112,8 @@ module _ (texts : TextLaw) (member : MemberLaw) (members : MembersLaw) where
   spelled_fits : (most : ℕ) (z : List ℕ) (t : SpelledToken) → IsSpelledToken most z t → All (Fits z t.payload) t.signatures
   spelled_fits most z t is =
       ⊎_elim
-      (λ c. subst (λ u. All (Fits z u.payload) u.signatures) (sym c.1.4) (compact_fits z c.1.0 c.1.1 c.1.2 c.1.3))
-      (λ j. ⊎_elim (general_fits most z j.1.0 t j.1.1) (flattened_fits z j.1.0 t j.1.1) j.1.3) is
+      (λ c. subst (λ u. All (Fits z u.payload) u.signatures) (sym c.4) (compact_fits z c.0 c.1 c.2 c.3))
+      (λ (j : IsJson most z t). ⊎_elim (general_fits most z j.members t j.text) (flattened_fits z j.members t j.text) j.shape) is
 
   abbrev Bounded : List ℕ → Token → SignatureParts → Type 0
   Bounded z t s = length (signing_input (message_of t s)) ≤ length z
@@ -150,8 +150,8 @@ zip_length R (x ∷ xs) (y ∷ ys) h = ap suc (zip_length R xs ys h.1)
 spelled_few : (most : ℕ) (z : List ℕ) (t : SpelledToken) → 0 < most → IsSpelledToken most z t → length t.signatures ≤ most
 spelled_few most z t some is =
     ⊎_elim
-    (λ c. subst (λ u. length u.signatures ≤ most) (sym c.1.4) (omega arith))
-    (λ j. ⊎_elim (λ (g : IsGeneral most j.1.0 t). g.few) (λ (f : IsFlattened j.1.0 t). omega (arith, ap length f.signature.1)) j.1.3) is
+    (λ c. subst (λ u. length u.signatures ≤ most) (sym c.4) (omega arith))
+    (λ (j : IsJson most z t). ⊎_elim (λ (g : IsGeneral most j.members t). g.few) (λ (f : IsFlattened j.members t). omega (arith, ap length f.signature.1)) j.shape) is
 
 pub signatures_are_few : SignaturesAreFew
 signatures_are_few most z t some is =

@@ -255,24 +255,24 @@ read_as_ok (Err text.Json) m e = absurd cc
 read_as_ok (Err text.NotObject) m e = absurd cc
 read_as_ok (Err text.NameTwice) m e = absurd cc
 
-abbrev pub IsJson : ℕ → Members → SpelledToken → Type 0
-IsJson most m t = (has (codes "ciphertext") m ≡ false) × (IsGeneral most m t ⊎ IsFlattened m t)
+abbrev pub IsMembers : ℕ → Members → SpelledToken → Type 0
+IsMembers most m t = (has (codes "ciphertext") m ≡ false) × (IsGeneral most m t ⊎ IsFlattened m t)
 
 abbrev pub json_by : Bool → Bool → Bool → Result SpelledToken FormFault → Result SpelledToken FormFault → Result SpelledToken FormFault
 json_by encrypted one several flat many = cond encrypted (Err Encrypted) (cond one (cond several (Err WrongMembers) flat) many)
 
-pub json_read : (most : ℕ) (m : Members) (t : SpelledToken) → json_of most m ≡ Ok t → IsJson most m t
+pub json_read : (most : ℕ) (m : Members) (t : SpelledToken) → json_of most m ≡ Ok t → IsMembers most m t
 unfolding json_of
 json_read most m t e = by_members (has (codes "ciphertext") m) (has (codes "signature") m) (has (codes "signatures") m) refl refl refl e
   where
     by_members : (c s ss : Bool) → has (codes "ciphertext") m ≡ c → has (codes "signature") m ≡ s → has (codes "signatures") m ≡ ss
-        → json_by c s ss (flattened m) (general most m) ≡ Ok t → IsJson most m t
+        → json_by c s ss (flattened m) (general most m) ≡ Ok t → IsMembers most m t
     by_members true s ss c_is s_is ss_is e = absurd cc
     by_members false true true c_is s_is ss_is e = absurd cc
     by_members false true false c_is s_is ss_is e = (c_is, inr (flattened_read m t ss_is e))
     by_members false false ss c_is s_is ss_is e = (c_is, inl (general_read most m t s_is e))
 
-pub json_made : (most : ℕ) (m : Members) (t : SpelledToken) → IsJson most m t → json_of most m ≡ Ok t
+pub json_made : (most : ℕ) (m : Members) (t : SpelledToken) → IsMembers most m t → json_of most m ≡ Ok t
 unfolding json_of
 json_made most m t (clear, inl general_form) = rw (clear, general_form.one_at_the_top) (general_made most m t general_form)
 json_made most m t (clear, inr flat) =
@@ -287,13 +287,13 @@ spelled_token_read objects most z t e = by_brace (opens_object z) refl e
     by_brace true is e =
         let M = bind_ok (read_as (object_of z)) (json_of most) t e in
         let form = json_read most M.0 t M.2 in
-        inr (is, (M.0, (objects z M.0).0 (read_as_ok (object_of z) M.0 M.1), form.0, form.1))
-    by_brace false is e = inl (is, is_read_compact z t e)
+        inr (record { opens = is; members = M.0; text = (objects z M.0).0 (read_as_ok (object_of z) M.0 M.1); plain = form.0; shape = form.1 })
+    by_brace false is e = inl (is_read_compact z t is e)
 
 pub spelled_token_made : ObjectLaw → (most : ℕ) (z : List ℕ) (t : SpelledToken) → IsSpelledToken most z t → spelled_token most z ≡ Ok t
 unfolding spelled_token
-spelled_token_made objects most z t (inl c) = rw c.0 (reads_compact z c.1.0 c.1.1 c.1.2 c.1.3 ∙ ap Ok (sym c.1.4))
-spelled_token_made objects most z t (inr j) = rw (j.0, (objects z j.1.0).1 j.1.1) (json_made most j.1.0 t (j.1.2, j.1.3))
+spelled_token_made objects most z t (inl c) = rw c.3.no_object (reads_compact z c.0 c.1 c.2 c.3 ∙ ap Ok (sym c.4))
+spelled_token_made objects most z t (inr j) = rw (j.opens, (objects z j.members).1 j.text) (json_made most j.members t (j.plain, j.shape))
 
 -- ---- the token
 

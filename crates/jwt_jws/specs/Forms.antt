@@ -6,7 +6,7 @@ use Rattle.serde_json.specs.Data.{Data, Members, no_members}
 use Rattle.serde_json.specs.Find.{get_member, as_object}
 use Rattle.jwt_text.specs.Answers.{◌>>=◌, or_fault, some_or, each}
 use Rattle.jwt_text.specs.Base64url.{spelled}
-use Rattle.jwt_text.specs.Members.{has, text_at, list_at, names}
+use Rattle.jwt_text.specs.Members.{has, text_at, list_at, member_names}
 use Rattle.jwt_text.specs.ObjectText.{object_of}
 use Rattle.jwt_text.specs.declared.fault.TextFault.{TextFault}
 use Rattle.jwt_text.specs.declared.fault.TextFault.TheVariants.{NameTwice as TextNameTwice}
@@ -125,7 +125,7 @@ unprotected_of i (Some (Some u)) = Ok (Some u)
 -- some name is in both headers
 abbrev pub overlap : Members → Option Members → Bool
 overlap p None = false
-overlap p (Some u) = list_any (λ name. has name p) (names u)
+overlap p (Some u) = list_any (λ name. has name p) (member_names u)
 
 unfoldable pub signature_of : Form → ℕ → Spelled → Result SignatureParts FormFault
 signature_of form i s = do

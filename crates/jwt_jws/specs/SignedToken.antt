@@ -1,5 +1,5 @@
 -- When octets are a signed token (RFC 7515, sections 5.2 and 7), and of which signatures.
-use Rattle.std.specs.Prelude.{◌≡◌, ℕ, true, false, List, [], ◌∷◌, ◌<◌, ◌≤◌, ◌⊎◌, ◌↔◌, Ok, length, Some, All, option_map, codes}
+use Rattle.std.specs.Prelude.{◌≡◌, ℕ, true, false, List, [], ◌∷◌, ◌<◌, ◌≤◌, ◌⊎◌, ◌↔◌, Ok, length, None, Some, All, option_map, codes}
 use Rattle.std.specs.List.{AllZip}
 use Rattle.serde_json.specs.Data.{Data, Members, no_members}
 use Rattle.serde_json.specs.Find.{get_member, as_object}
@@ -8,7 +8,7 @@ use Rattle.jwt_text.specs.Members.{has, text_at, list_at}
 use Rattle.jwt_text.specs.ObjectText.{IsObjectText}
 use Rattle.jwt_mac.specs.Verifying.{signing_input}
 use Rattle.jwt_jws.specs.Token.{SignatureParts, Token, message_of}
-use Rattle.jwt_jws.specs.Forms.{Spelled, SpelledToken, opens_object, compact_token, form_of, overlap}
+use Rattle.jwt_jws.specs.Forms.{Spelled, SpelledToken, opens_object, form_of, overlap}
 use Rattle.jwt_jws.specs.CompactForm.{IsCompact}
 use Rattle.jwt_jws.specs.declared.fault.Form.{Form}
 use Rattle.jwt_jws.specs.declared.fault.Form.TheVariants.{Compact, General, Flattened}
@@ -37,11 +37,20 @@ pub record IsFlattened (m : Members) (t : SpelledToken) : Type 0 where
   pub payload : text_at (codes "payload") m ≡ Some t.payload
   pub signature : (w : Spelled) × (t.signatures ≡ w ∷ []) × IsSpelledIn m w
 
--- compact form (RFC 7515, section 7.1), or the text of an object in JSON form that isn't encrypted (RFC 7516, section 7.2)
+-- JSON form: the text of an object in general or in flattened form that isn't encrypted (RFC 7516, section 7.2)
+pub record IsJson (most : ℕ) (z : List ℕ) (t : SpelledToken) : Type 0 where
+  pub opens : opens_object z ≡ true
+  pub members : Members
+  pub text : IsObjectText z members
+  pub plain : has (codes "ciphertext") members ≡ false
+  pub shape : IsGeneral most members t ⊎ IsFlattened members t
+
+-- compact form, with one signature and no unprotected header, or JSON form
 abbrev pub IsSpelledToken : ℕ → List ℕ → SpelledToken → Type 0
 IsSpelledToken most z t =
-    ((opens_object z ≡ false) × ((h p g : List ℕ) × IsCompact z h p g × (t ≡ compact_token h p g)))
-    ⊎ ((opens_object z ≡ true) × ((m : Members) × IsObjectText z m × (has (codes "ciphertext") m ≡ false) × (IsGeneral most m t ⊎ IsFlattened m t)))
+    ((h p g : List ℕ) × IsCompact z h p g
+    × (t ≡ record { form = Compact; payload = p; signatures = record { protected = h; header = None; signature = g } ∷ [] }))
+    ⊎ IsJson most z t
 
 -- ---- what the texts stand for
 

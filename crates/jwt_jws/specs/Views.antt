@@ -1,10 +1,11 @@
 -- What contracts see of this crate's values.
-use Rattle.std.specs.Prelude.{Option, Some, None, ◌∷◌, map, All}
+use Rattle.std.specs.Prelude.{Option, Some, None, List, ◌∷◌, drop, map, All}
 use Rattle.serde_json.specs.Data.{Members}
 use Rattle.jwt_text.specs.Parts.{part_octets, IsLent}
 use Rattle.jwt_jws.specs.Token.{SignatureParts, Token}
 use Rattle.jwt_jws.specs.Forms.{CompactTexts, Spelled, SpelledToken, compact_token}
 use Rattle.jwt_jws.specs.declared.signature.Signature.{Signature}
+use Rattle.jwt_jws.specs.declared.signed.Signatures.{Signatures}
 use Rattle.jwt_jws.specs.declared.signed.Signed.{Signed}
 use Rattle.jwt_jws.specs.declared.unprotected.Unprotected.{Unprotected}
 use Rattle.jwt_jws.specs.declared.unprotected.Unprotected.TheVariants.{Absent, OtherKind, Members as AnObject}
@@ -17,6 +18,10 @@ parts s = record { protected_text = part_octets s.protected_text; protected = s.
 
 abbrev pub token : Signed → Token
 token t = record { form = t.form; payload_text = part_octets t.payload_text; payload = t.payload.items; signatures = parts t.first ∷ map parts t.more.items }
+
+-- the signatures that are still to come
+abbrev pub signatures_left : Signatures → List SignatureParts
+signatures_left s = drop s.number (token s.signed.now).signatures
 
 -- no octet of the signing input is copied
 abbrev pub AreLent : Signed → Type 0

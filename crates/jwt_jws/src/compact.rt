@@ -72,7 +72,9 @@ pub(crate) fn segments_of(octets: &[u8]) -> Result<CompactTexts<'_>, FormFault>
 /// decoded, and it takes no memory.
 pub fn compact_texts(octets: &[u8]) -> Option<CompactTexts<'_>>
     ensures texts { option_map texts_view result ≡ compact_texts octets.now }
-    ensures sized { IfSome result (λ t. length t.protected.now + length t.payload.now + length t.signature.now + 2 ≡ length octets.now) }
+    ensures sized { IfSome result
+        (λ t. length t.protected.now + length t.payload.now + length t.signature.now + 2
+        ≡ length octets.now) }
 {
     match segments_of(octets) {
         Ok(texts) => Some(texts),

@@ -37,7 +37,9 @@ fn repeats_text(alloc: Global, list: &jwt_text::List<'_>) -> Result<bool, AllocE
 // Adds a text, and answers whether it is new.
 fn add<'a>(seen: &mut BTreeMap<&'a str, ()>, text: &'a str) -> Result<bool, AllocError>
     ensures new { IfOk result (λ new. new ≡ not (has_text seen.old text.now)) }
-    ensures all { OnOk result ((other : List ℕ) → has_text seen.new other ≡ (bytes_eq text.now other || has_text seen.old other)) }
+    ensures all { OnOk result
+        ((other : List ℕ)
+        → has_text seen.new other ≡ (bytes_eq text.now other || has_text seen.old other)) }
 {
     match seen.insert(text, ()) {
         Ok(old) => Ok(old.is_none()),

@@ -32,7 +32,8 @@ pub(crate) struct SpelledJson<'a> {
 }
 
 fn text_of<'a>(object: &ObjectRef<'a>, name: &str) -> Result<&'a [u8], FormFault>
-    ensures { Answers FormFault.OutOfMemory (λ s. s.now) result (some_or WrongMembers (text_at name.now object.now)) }
+    ensures { Answers FormFault.OutOfMemory (λ s. s.now) result
+        (some_or WrongMembers (text_at name.now object.now)) }
 {
     match object.text(name) {
         Some(text) => Ok(text.as_bytes()),
@@ -73,7 +74,9 @@ fn spelled_of<'a>(object: &ObjectRef<'a>) -> Result<SpelledSignature<'a>, FormFa
 
 fn element_of<'a>(list: &jwt_text::List<'a>, i: usize) -> Result<SpelledSignature<'a>, FormFault>
     requires { i < length list.now }
-    ensures { (d : Data) → Answers FormFault.OutOfMemory spelled_view result (spelled_element i (slice_index_or list.now i d)) }
+    ensures { (d : Data)
+        → Answers FormFault.OutOfMemory spelled_view result
+        (spelled_element i (slice_index_or list.now i d)) }
 {
     match list.object(i) {
         Some(object) => spelled_of(&object),
@@ -85,7 +88,8 @@ fn spelled_elements<'a>(
     alloc: Global,
     list: &jwt_text::List<'a>,
 ) -> Result<Vec<SpelledSignature<'a>>, FormFault>
-    ensures { Answers FormFault.OutOfMemory (λ v. map spelled_view v.items) result (each spelled_element 0 list.now) }
+    ensures { Answers FormFault.OutOfMemory (λ v. map spelled_view v.items) result
+        (each spelled_element 0 list.now) }
 {
     let mut spelled = Vec::new(alloc);
     for i in 0..list.len() {

@@ -19,4 +19,4 @@ pub use compact::{CompactTexts, compact_texts};
 pub use fault::{Form, FormFault, Place};
 pub use parsing::{parse, parse_with};
 pub use signature::Signature;
-pub use signed::Signed;
+pub use signed::{Signatures, Signed};

@@ -23,7 +23,8 @@ fn compact_signed<'a>(
     segments: &CompactTexts<'a>,
     scratch: &mut Scratch,
 ) -> Result<Signed<'a>, FormFault>
-    ensures value { Answers FormFault.OutOfMemory token result (signed_of (compact_view segments.now)) }
+    ensures value { Answers FormFault.OutOfMemory token result
+        (signed_of (compact_view segments.now)) }
     ensures lent { IfOk result AreLent }
 {
     let payload = octets_of(alloc, segments.payload, Place::Payload)?;
@@ -54,7 +55,8 @@ fn owned_signature<'a>(
     spelled: &SpelledSignature<'_>,
     scratch: &mut Scratch,
 ) -> Result<Signature<'a>, FormFault>
-    ensures { Answers FormFault.OutOfMemory parts result (signature_of form i (spelled_view spelled.now)) }
+    ensures { Answers FormFault.OutOfMemory parts result
+        (signature_of form i (spelled_view spelled.now)) }
 {
     let text = Part::Owned(Vec::from_slice(alloc, spelled.protected)?);
     make_signature(
@@ -76,7 +78,8 @@ fn later_signatures<'a>(
     scratch: &mut Scratch,
 ) -> Result<Vec<Signature<'a>>, FormFault>
     requires { length spelled.now ≤ 31 }
-    ensures value { Answers FormFault.OutOfMemory (λ v. map parts v.items) result (each (signature_of form) 1 (map spelled_view spelled.now)) }
+    ensures value { Answers FormFault.OutOfMemory (λ v. map parts v.items) result
+        (each (signature_of form) 1 (map spelled_view spelled.now)) }
     ensures count { IfOk result (λ v. length v.items ≡ length spelled.now) }
 {
     let mut signatures = Vec::with_capacity(alloc, spelled.len())?;
@@ -98,7 +101,7 @@ fn json_signed<'a>(
     ensures { Answers FormFault.OutOfMemory token result (signed_of (json_view spelled.now)) }
 {
     let Some((first, later)) = spelled.signatures.split_first() else {
-        unreachable!();
+        return Err(FormFault::Members);
     };
     let payload = octets_of(alloc, spelled.payload, Place::Payload)?;
     let first = owned_signature(alloc, spelled.form, 0, first, scratch)?;

@@ -24,7 +24,7 @@ pub struct Signed<'a> {
 }
 
 impl<'a> Signed<'a> {
-    ghost use Rattle.jwt_jws.specs.Views.{parts, token};
+    ghost use Rattle.jwt_jws.specs.Views.{parts, signatures_left, token};
 
     /// The serialization.
     pub fn form(&self) -> Form
@@ -57,7 +57,8 @@ impl<'a> Signed<'a> {
     /// The number of signatures, 1 to 32.
     pub fn count(&self) -> u32
         ensures count { result ≡ length (token self.now).signatures }
-        ensures range { (0 < length (token self.now).signatures) × (length (token self.now).signatures ≤ 32) }
+        ensures range { (0 < length (token self.now).signatures)
+            × (length (token self.now).signatures ≤ 32) }
     {
         1 + self.more.len() as u32
     }
@@ -73,16 +74,28 @@ impl<'a> Signed<'a> {
         }
     }
 
+    /// The signatures, in order.
+    pub fn iter(&self) -> Signatures<'_, 'a>
+        ensures { signatures_left result ≡ (token self.now).signatures }
+    {
+        Signatures {
+            signed: self,
+            number: 0,
+        }
+    }
+
     // Of those after the first, the one at this place, from 0.
     fn later(&self, place: usize) -> Option<&Signature<'a>>
-        ensures { option_map (λ s. parts s.now) result ≡ slice_get (map parts self.now.more.items) place }
+        ensures { option_map (λ s. parts s.now) result
+            ≡ slice_get (map parts self.now.more.items) place }
     {
         self.more.get(place)
     }
 
     /// The signing input of signature `i`, from 0, lent (RFC 7515, section 5.1); `None` past the last.
     pub fn message(&self, i: u32) -> Option<Message<'_>>
-        ensures { option_map message_octets result ≡ option_map (message_of (token self.now)) (slice_get (token self.now).signatures i) }
+        ensures { option_map message_octets result
+            ≡ option_map (message_of (token self.now)) (slice_get (token self.now).signatures i) }
     {
         match self.signature(i) {
             Some(signature) => Some(Message {
@@ -91,5 +104,29 @@ impl<'a> Signed<'a> {
             }),
             None => None,
         }
+    }
+}
+
+/// The signatures of a token, from [`Signed::iter`].
+#[derive(Clone, Copy)]
+pub struct Signatures<'s, 'a> {
+    signed: &'s Signed<'a>,
+    number: u32,
+}
+
+impl<'s, 'a> Iterator for Signatures<'s, 'a> {
+    ghost use Rattle.std.specs.Iterator.{YieldsFirstBy, item_count};
+    ghost use Rattle.jwt_jws.specs.Views.{parts, signatures_left};
+
+    type Item = &'s Signature<'a>;
+
+    ghost next_gives = { YieldsFirstBy (λ s. parts s.now) signatures_left };
+
+    ghost remaining = { item_count signatures_left };
+
+    fn next(&mut self) -> Option<&'s Signature<'a>> {
+        let signature = self.signed.signature(self.number)?;
+        self.number += 1;
+        Some(signature)
     }
 }

@@ -17,7 +17,8 @@ use std::alloc::Global;
 
 /// The octets that a text of the token spells.
 pub(crate) fn octets_of(alloc: Global, text: &[u8], place: Place) -> Result<Vec<u8>, FormFault>
-    ensures { Answers FormFault.OutOfMemory (λ v. v.items) result (or_fault (Base64 place) (spelled text.now)) }
+    ensures { Answers FormFault.OutOfMemory (λ v. v.items) result
+        (or_fault (Base64 place) (spelled text.now)) }
 {
     match jwt_text::decode(alloc, text) {
         Ok(octets) => Ok(octets),
@@ -28,7 +29,8 @@ pub(crate) fn octets_of(alloc: Global, text: &[u8], place: Place) -> Result<Vec<
 
 /// The same, into a buffer in place of what it holds.
 fn octets_into(text: &[u8], place: Place, buffer: &mut Vec<u8>) -> Result<(), FormFault>
-    ensures { Answers FormFault.OutOfMemory (λ _. buffer.new.items) result (or_fault (Base64 place) (spelled text.now)) }
+    ensures { Answers FormFault.OutOfMemory (λ _. buffer.new.items) result
+        (or_fault (Base64 place) (spelled text.now)) }
 {
     match jwt_text::decode_into(text, buffer) {
         Ok(()) => Ok(()),
@@ -44,7 +46,8 @@ fn header_of(
     i: u32,
     scratch: &mut Scratch,
 ) -> Result<Object, FormFault>
-    ensures { Answers FormFault.OutOfMemory (λ o. o) result (or_fault (Header i) (object_of octets.now)) }
+    ensures { Answers FormFault.OutOfMemory (λ o. o) result
+        (or_fault (Header i) (object_of octets.now)) }
 {
     match object_with(alloc, octets, scratch) {
         Ok(object) => Ok(object),
@@ -79,7 +82,8 @@ fn unprotected_header(
     i: u32,
     header: &Unprotected<'_>,
 ) -> Result<Option<Object>, FormFault>
-    ensures { Answers FormFault.OutOfMemory (λ o. o) result (unprotected_of i (header_view header.now)) }
+    ensures { Answers FormFault.OutOfMemory (λ o. o) result
+        (unprotected_of i (header_view header.now)) }
 {
     match header {
         Unprotected::Absent => Ok(None),
@@ -114,7 +118,11 @@ pub(crate) fn make_signature<'a>(
     scratch: &mut Scratch,
 ) -> Result<Signature<'a>, FormFault>
     ensures value { Answers FormFault.OutOfMemory parts result (signature_of form i
-        (record { protected = part_octets protected_text.entry; header = header_view header.now; signature = signature.now })) }
+        (record {
+          protected = part_octets protected_text.entry;
+          header = header_view header.now;
+          signature = signature.now;
+        })) }
     ensures same_text { IfOk result (λ s. s.protected_text ≡ protected_text.entry) }
 {
     let mut octets = Vec::with_capacity(alloc, protected_text.octets().len().max(signature.len()))?;

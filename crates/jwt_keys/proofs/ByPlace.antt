@@ -7,7 +7,8 @@ use Rattle.jwt_keys.specs.declared.skip.SkipReason.{SkipReason}
 use Rattle.serde_json.specs.Find.{as_object, as_str}
 use Rattle.jwt_keys.specs.Entries.{text_or_empty}
 use Rattle.jwt_keys.specs.KeySets.{keys_from, skips_from}
-use Rattle.jwt_keys.specs.Entries.{key_in, key_if, skip_if}
+use Rattle.jwt_keys.specs.Entries.{key_in, key_by_steps, key_if, skip_if}
+use Rattle.jwt_keys.proofs.SkipTable.{key_in_is}
 
 key_here : (base : ℕ) (ds : List Data) (i : ℕ) → i < length ds → keys_from (base + i) (drop i ds) ≡ key_if (key_in (base + i) (option_and_then as_object (slice_get ds i))) ++ keys_from (suc (base + i)) (drop (suc i) ds)
 key_here base [] i l = absurd (omega arith)
@@ -16,10 +17,11 @@ key_here base (d ∷ ds) (suc i) l =
     let e : base + suc i ≡ suc base + i = omega arith in
     rw e (key_here (suc base) ds i (omega arith))
 
-pub keys_more : (ds : List Data) (i : ℕ) → i < length ds → keys_from i (drop i ds) ≡ key_if (key_in i (option_and_then as_object (slice_get ds i))) ++ keys_from (i + 1) (drop (i + 1) ds)
+pub keys_more : (ds : List Data) (i : ℕ) → i < length ds → keys_from i (drop i ds) ≡ key_if (key_by_steps i (option_and_then as_object (slice_get ds i))) ++ keys_from (i + 1) (drop (i + 1) ds)
 keys_more ds i l =
     let e : 0 + i ≡ i = omega arith in
-    rw add-one (rw e at (key_here 0 ds i l))
+    let is = key_in_is i (option_and_then as_object (slice_get ds i)) in
+    rw (← is) (rw add-one (rw e at (key_here 0 ds i l)))
 
 skip_here : (base : ℕ) (ds : List Data) (i : ℕ) → i < length ds → skips_from (base + i) (drop i ds) ≡ skip_if (base + i) (key_in (base + i) (option_and_then as_object (slice_get ds i))) ++ skips_from (suc (base + i)) (drop (suc i) ds)
 skip_here base [] i l = absurd (omega arith)
@@ -28,10 +30,11 @@ skip_here base (d ∷ ds) (suc i) l =
     let e : base + suc i ≡ suc base + i = omega arith in
     rw e (skip_here (suc base) ds i (omega arith))
 
-pub skips_more : (ds : List Data) (i : ℕ) → i < length ds → skips_from i (drop i ds) ≡ skip_if i (key_in i (option_and_then as_object (slice_get ds i))) ++ skips_from (i + 1) (drop (i + 1) ds)
+pub skips_more : (ds : List Data) (i : ℕ) → i < length ds → skips_from i (drop i ds) ≡ skip_if i (key_by_steps i (option_and_then as_object (slice_get ds i))) ++ skips_from (i + 1) (drop (i + 1) ds)
 skips_more ds i l =
     let e : 0 + i ≡ i = omega arith in
-    rw add-one (rw e at (skip_here 0 ds i l))
+    let is = key_in_is i (option_and_then as_object (slice_get ds i)) in
+    rw (← is) (rw add-one (rw e at (skip_here 0 ds i l)))
 
 text_here : (ds : List Data) (i : ℕ) → i < length ds → map text_or_empty (drop i ds) ≡ unwrap_or (option_and_then as_str (slice_get ds i)) [] ∷ map text_or_empty (drop (suc i) ds)
 text_here [] i l = absurd (omega arith)

@@ -10,14 +10,14 @@ use Rattle.jwt_text.specs.Rows.{Row, first_row}
 use Rattle.jwt_keys.specs.Keys.{KeyParts}
 use Rattle.jwt_keys.specs.Kinds.{kind_at}
 use Rattle.jwt_keys.specs.SkipTable.{skip_rows, shape_skip_of, octet_skip_of}
-use Rattle.jwt_keys.specs.Entries.{parts_of, key_of_kind, key_of, key_in, key_if, skip_if}
+use Rattle.jwt_keys.specs.Entries.{parts_of, key_of_kind, key_of, key_in, key_by_steps, key_if, skip_if}
 use Rattle.jwt_keys.specs.KeySets.{keys_from, skips_from}
 use Rattle.jwt_keys.specs.Laws.{is_readable, given_at, ListsEachEntry}
 use Rattle.jwt_keys.specs.Numbers.{numbers}
 use Rattle.jwt_keys.specs.declared.skip.Skip.{Skip}
 use Rattle.jwt_keys.specs.declared.skip.SkipReason.{SkipReason}
 use Rattle.jwt_keys.specs.declared.kind.Kind.{Kind}
-use Rattle.jwt_keys.proofs.SkipTable.{ByRows, by_rows}
+use Rattle.jwt_keys.proofs.SkipTable.{ByRows, by_rows, key_in_is}
 
 -- ---- a key has the place of its entry
 
@@ -37,10 +37,13 @@ of_shape : (place : ℕ) (o : Option SkipReason) (a : Result KeyParts SkipReason
 of_shape place None a h = h
 of_shape place (Some reason) a h = tt
 
-has_place : (place : ℕ) (entry : Option Members) → HasPlace place (key_in place entry)
+by_steps : (place : ℕ) (entry : Option Members) → HasPlace place (key_by_steps place entry)
 unfolding key_of
-has_place place None = tt
-has_place place (Some ms) = of_shape place (shape_skip_of ms) (key_of_kind place (kind_at ms) ms) (of_kind place (kind_at ms) ms)
+by_steps place None = tt
+by_steps place (Some ms) = of_shape place (shape_skip_of ms) (key_of_kind place (kind_at ms) ms) (of_kind place (kind_at ms) ms)
+
+has_place : (place : ℕ) (entry : Option Members) → HasPlace place (key_in place entry)
+has_place place entry = rw (key_in_is place entry) (by_steps place entry)
 
 -- ---- the places
 

@@ -1,15 +1,16 @@
 -- The entry's reading answers the first row of the table.
 use Rattle.std.proofs.Common.{◌≡◌, ℕ, true, false, cond, List, [], ◌∷◌, ◌++◌, Option, Some, None, refl, sym, ◌∙◌}
-use Rattle.std.specs.Prelude.{MatchResult, Result, Ok, Err, is_none}
+use Rattle.std.specs.Prelude.{MatchResult, Result, Ok, Err, is_none, option_and_then}
 use Rattle.serde_json.specs.Data.{Members}
-use Rattle.jwt_text.specs.Answers.{unless}
+use Rattle.jwt_text.specs.Answers.{◌>>=◌, unless, some_or}
 use Rattle.jwt_text.specs.Rows.{Row, first_row, NoRow, IsFirstRow}
 use Rattle.jwt_keys.specs.Keys.{KeyParts}
 use Rattle.jwt_keys.specs.Kinds.{kind_at}
 use Rattle.jwt_keys.specs.SkipTable.{skip_rows, shape_rows, octet_rows, octet_rows_of, shape_skip_of, octet_skip_of}
-use Rattle.jwt_keys.specs.Entries.{key_in, key_of, key_of_kind, parts_of}
+use Rattle.jwt_keys.specs.Entries.{key_with, key_in, key_of, key_of_kind, key_by_steps, parts_of}
 use Rattle.jwt_keys.specs.Laws.{IsKeyOf, SkipsByTheTable}
 use Rattle.jwt_keys.specs.declared.skip.SkipReason.{SkipReason}
+use Rattle.jwt_keys.specs.declared.skip.SkipReason.TheVariants.{NotObject}
 use Rattle.jwt_keys.specs.declared.kind.Kind.{Kind}
 use Rattle.jwt_keys.proofs.FirstRows.{no_row, first_row_is}
 
@@ -49,9 +50,9 @@ of_members : (place : ℕ) (ms : Members) → ByRows (shape_rows ms ++ octet_row
 unfolding key_of shape_skip_of
 of_members place ms = after_shape (shape_rows ms) (octet_rows_of (kind_at ms) ms) (first_row (shape_rows ms)) (key_of_kind place (kind_at ms) ms) refl (λ e. of_kind place ms (kind_at ms) (kind_is_there ms e))
 
-pub by_rows : (place : ℕ) (entry : Option Members) → ByRows (skip_rows entry) (key_in place entry)
-by_rows place None = refl
-by_rows place (Some ms) = of_members place ms
+by_steps : (place : ℕ) (entry : Option Members) → ByRows (skip_rows entry) (key_by_steps place entry)
+by_steps place None = refl
+by_steps place (Some ms) = of_members place ms
 
 module _ (place : ℕ) (ms : Members) (k : KeyParts) where
   of_rows : (o : Option SkipReason) (kind : Kind) → kind_at ms ≡ Some kind → unless o (Ok (parts_of place kind ms)) ≡ Ok k → IsKeyOf place (Some ms) k
@@ -63,10 +64,29 @@ module _ (place : ℕ) (ms : Members) (k : KeyParts) where
   of_shape None None is e = absurd cc
   of_shape None (Some kind) is e = of_rows (octet_skip_of kind ms) kind is e
 
-is_key : (place : ℕ) (entry : Option Members) (k : KeyParts) → key_in place entry ≡ Ok k → IsKeyOf place entry k
+key_of_steps : (place : ℕ) (entry : Option Members) (k : KeyParts) → key_by_steps place entry ≡ Ok k → IsKeyOf place entry k
 unfolding key_of
-is_key place None k e = absurd cc
-is_key place (Some ms) k e = of_shape place ms k (shape_skip_of ms) (kind_at ms) refl e
+key_of_steps place None k e = absurd cc
+key_of_steps place (Some ms) k e = of_shape place ms k (shape_skip_of ms) (kind_at ms) refl e
+
+of_key : (place : ℕ) (entry : Option Members) (k : KeyParts) → IsKeyOf place entry k → some_or NotObject (option_and_then (key_with place) entry) ≡ Ok k
+of_key place entry k (ms, kind, there, known, is) = rw (there, known, is) refl
+
+-- the key of an entry by the table is its key by steps
+unless_row : (place : ℕ) (entry : Option Members) (answer : Result KeyParts SkipReason) → key_by_steps place entry ≡ answer → ByRows (skip_rows entry) answer
+    → unless (first_row (skip_rows entry)) (some_or NotObject (option_and_then (key_with place) entry)) ≡ answer
+unless_row place entry (Ok k) e h = rw h (of_key place entry k (key_of_steps place entry k e))
+unless_row place entry (Err r) e h = rw h refl
+
+pub key_in_is : (place : ℕ) (entry : Option Members) → key_in place entry ≡ key_by_steps place entry
+unfolding key_in
+key_in_is place entry = unless_row place entry (key_by_steps place entry) refl (by_steps place entry)
+
+pub by_rows : (place : ℕ) (entry : Option Members) → ByRows (skip_rows entry) (key_in place entry)
+by_rows place entry = rw (key_in_is place entry) (by_steps place entry)
+
+is_key : (place : ℕ) (entry : Option Members) (k : KeyParts) → key_in place entry ≡ Ok k → IsKeyOf place entry k
+is_key place entry k e = key_of_steps place entry k (sym (key_in_is place entry) ∙ e)
 
 told : (place : ℕ) (entry : Option Members) (answer : Result KeyParts SkipReason) → key_in place entry ≡ answer → ByRows (skip_rows entry) answer
     → MatchResult answer (λ k. NoRow (skip_rows entry) × IsKeyOf place entry k) (λ reason. IsFirstRow (skip_rows entry) reason)

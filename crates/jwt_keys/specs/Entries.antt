@@ -1,13 +1,14 @@
 -- What an entry of a key set is read as (RFC 7517, sections 4 and 5).
-use Rattle.std.specs.Prelude.{ℕ, List, [], ◌∷◌, map, Option, Some, None, option_map, unwrap_or, codes, Result, Ok, Err}
+use Rattle.std.specs.Prelude.{ℕ, List, [], ◌∷◌, map, Option, Some, None, option_map, option_and_then, unwrap_or, codes, Result, Ok, Err}
 use Rattle.serde_json.specs.Data.{Data, Members}
 use Rattle.serde_json.specs.Find.{as_str}
-use Rattle.jwt_text.specs.Answers.{unless}
+use Rattle.jwt_text.specs.Answers.{◌>>=◌, unless, some_or}
 use Rattle.jwt_text.specs.Members.{text_at, list_at}
+use Rattle.jwt_text.specs.Rows.{first_row}
 use Rattle.jwt_mac.specs.Verifying.{KeyOctets, OctKey, RsaKey, EcKey, OkpKey}
 use Rattle.jwt_keys.specs.Keys.{KeyParts}
 use Rattle.jwt_keys.specs.Kinds.{kind_at}
-use Rattle.jwt_keys.specs.SkipTable.{member_octets, shape_skip_of, octet_skip_of}
+use Rattle.jwt_keys.specs.SkipTable.{member_octets, skip_rows, shape_skip_of, octet_skip_of}
 use Rattle.jwt_keys.specs.Thumbprints.{thumbprint_of}
 use Rattle.jwt_keys.specs.declared.skip.SkipReason.{SkipReason}
 use Rattle.jwt_keys.specs.declared.skip.SkipReason.TheVariants.{NotObject, CrvUnknown}
@@ -38,18 +39,28 @@ parts_of place kind ms = record {
   place = place;
 }
 
+-- the key with these members, at its place; none where they tell no kind
+abbrev pub key_with : ℕ → Members → Option KeyParts
+key_with place ms = option_map (λ kind. parts_of place kind ms) (kind_at ms)
+
+-- the key of an entry that is no object or has these members, or the first row of the skip table that holds
+unfoldable pub key_in : ℕ → Option Members → Result KeyParts SkipReason
+key_in place entry = unless (first_row (skip_rows entry)) (some_or NotObject (option_and_then (key_with place) entry))
+
+-- ---- the same in the order in which the rows are tried
+
 abbrev pub key_of_kind : ℕ → Option Kind → Members → Result KeyParts SkipReason
 key_of_kind place None ms = Err CrvUnknown
 key_of_kind place (Some kind) ms = unless (octet_skip_of kind ms) (Ok (parts_of place kind ms))
 
--- the key with these members, at its place, or the first of rows 2 to 9 of the skip table that holds
+-- the key with these members, or the first of rows 2 to 9 that holds
 unfoldable pub key_of : ℕ → Members → Result KeyParts SkipReason
 key_of place ms = unless (shape_skip_of ms) (key_of_kind place (kind_at ms) ms)
 
--- the key of an entry that is no object or has these members, at its place, or the first row that holds
-abbrev pub key_in : ℕ → Option Members → Result KeyParts SkipReason
-key_in place None = Err NotObject
-key_in place (Some ms) = key_of place ms
+abbrev pub key_by_steps : ℕ → Option Members → Result KeyParts SkipReason
+key_by_steps place entry = some_or NotObject entry >>= key_of place
+
+-- ---- what an entry adds to the keys and to the skips
 
 abbrev pub key_if : Result KeyParts SkipReason → List KeyParts
 key_if (Ok k) = k ∷ []

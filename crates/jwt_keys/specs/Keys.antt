@@ -37,8 +37,8 @@ abbrev pub has_thumbprint : List ℕ → KeyParts → Bool
 has_thumbprint name k = is_none_and k.kid (bytes_eq name k.thumbprint)
 
 -- the key answers to this name, where thumb also by its thumbprint
-abbrev pub names : List ℕ → Bool → KeyParts → Bool
-names name thumb k = has_kid name k || (thumb && has_thumbprint name k)
+abbrev pub has_name : List ℕ → Bool → KeyParts → Bool
+has_name name thumb k = has_kid name k || (thumb && has_thumbprint name k)
 
 -- `use`, where present, is sig (RFC 7517, section 4.2)
 abbrev pub is_for_signatures : Option (List ℕ) → Bool

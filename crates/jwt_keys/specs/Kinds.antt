@@ -77,8 +77,8 @@ point_size Ed25519 = 32
 point_size Ed448 = 57
 
 -- the numbers of octets that such a member may have: 1 to 4,096 here, or what the curve says
-abbrev pub fits : Kind → ℕ → Bool
-fits OctKind n = nat_le 1 n && nat_le n 4096
-fits RsaKind n = nat_le 1 n && nat_le n 4096
-fits (EcKind curve) n = n == coordinate_size curve
-fits (OkpKind curve) n = n == point_size curve
+abbrev pub allows_size : Kind → ℕ → Bool
+allows_size OctKind n = nat_le 1 n && nat_le n 4096
+allows_size RsaKind n = nat_le 1 n && nat_le n 4096
+allows_size (EcKind curve) n = n == coordinate_size curve
+allows_size (OkpKind curve) n = n == point_size curve

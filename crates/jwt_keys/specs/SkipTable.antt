@@ -3,11 +3,11 @@ use Rattle.std.specs.Prelude.{ℕ, ◌&&◌, ◌||◌, Bool, false, not, List, [
 use Rattle.std.specs.Option.{option_map_or}
 use Rattle.std.specs.List.{list_all}
 use Rattle.serde_json.specs.Data.{Members, no_members}
-use Rattle.jwt_text.specs.Members.{has, text_at, list_at, are_texts}
+use Rattle.jwt_text.specs.Members.{has, text_at, list_at, are_texts, is_no_text}
 use Rattle.jwt_text.specs.Answers.{some_or}
 use Rattle.jwt_text.specs.Base64url.{octets_of}
 use Rattle.jwt_text.specs.Rows.{Row, ◌⇒◌, first_row}
-use Rattle.jwt_keys.specs.Kinds.{key_type_at, kind_at, required, encoded, fits}
+use Rattle.jwt_keys.specs.Kinds.{key_type_at, kind_at, required, encoded, allows_size}
 use Rattle.jwt_keys.specs.declared.skip.SkipReason.{SkipReason}
 use Rattle.jwt_keys.specs.declared.skip.SkipReason.TheVariants.{NotObject, MemberMissing, MemberKind, KtyUnknown, CrvUnknown, Base64, Length}
 use Rattle.jwt_keys.specs.declared.kind.KeyType.{KeyType}
@@ -18,10 +18,6 @@ use Rattle.jwt_keys.specs.declared.kind.Kind.{Kind}
 -- a required member of this key type is absent
 abbrev pub lacks : KeyType → Members → Bool
 lacks key_type ms = not (list_all (λ name. has name ms) (required key_type))
-
--- a member that is there and no text
-abbrev pub is_no_text : List ℕ → Members → Bool
-is_no_text name ms = has name ms && is_none (text_at name ms)
 
 -- a member that is there and no list of texts
 abbrev pub is_no_texts : List ℕ → Members → Bool
@@ -54,7 +50,7 @@ abbrev pub is_misspelled : Kind → Members → Bool
 is_misspelled kind ms = not (list_all (λ name. is_some (octets_at name ms)) (encoded kind))
 
 abbrev pub has_other_size : Kind → Members → Bool
-has_other_size kind ms = not (list_all (λ name. fits kind (length (member_octets name ms))) (encoded kind))
+has_other_size kind ms = not (list_all (λ name. allows_size kind (length (member_octets name ms))) (encoded kind))
 
 -- ---- the table
 

@@ -4,7 +4,7 @@ ghost use Rattle.std.specs.Prelude.{◌≡◌, ◌≤◌, ◌++◌, option_map, 
 ghost use Rattle.serde_json.specs.Find.{as_str};
 ghost use Rattle.jwt_text.specs.Members.{text_at, list_at};
 ghost use Rattle.jwt_keys.specs.Answers.{ReadsAs};
-ghost use Rattle.jwt_keys.specs.Entries.{octets_in, text_or_empty, parts_of, key_of, key_in, key_if, skip_if};
+ghost use Rattle.jwt_keys.specs.Entries.{octets_in, text_or_empty, parts_of, key_of, key_by_steps, key_if, skip_if};
 ghost use Rattle.jwt_keys.specs.Keys.{secret_length};
 ghost use Rattle.jwt_keys.specs.Materials.{material_octets};
 ghost use Rattle.jwt_keys.specs.Views.{key_parts};
@@ -117,9 +117,9 @@ pub(crate) fn add_entry(
     entry: Option<ObjectRef<'_>>,
 ) -> Result<(), AllocError>
     ensures keys { OnOk result (map key_parts keys.new.items
-        ≡ map key_parts keys.old.items ++ key_if (key_in place entry.entry)) }
+        ≡ map key_parts keys.old.items ++ key_if (key_by_steps place entry.entry)) }
     ensures skipped { OnOk result (skipped.new.items
-        ≡ skipped.old.items ++ skip_if place (key_in place entry.entry)) }
+        ≡ skipped.old.items ++ skip_if place (key_by_steps place entry.entry)) }
 {
     let Some(members) = entry else {
         skipped.push(Skip {

@@ -46,7 +46,8 @@ impl Index {
         ensures kids { OnOk result ((q : List ℕ) → group self.new.by_kid q
             ≡ added (has_kid q (key_parts key.now)) number (group self.old.by_kid q)) }
         ensures thumbprints { OnOk result ((q : List ℕ) → group self.new.by_thumbprint q
-            ≡ added (has_thumbprint q (key_parts key.now)) number (group self.old.by_thumbprint q)) }
+            ≡ added (has_thumbprint q (key_parts key.now)) number
+            (group self.old.by_thumbprint q)) }
     {
         match &key.kid {
             Some(kid) => add_number(alloc, &mut self.by_kid, kid.as_str(), number),

@@ -25,7 +25,7 @@ pub struct Key {
 
 impl Key {
     ghost use Rattle.jwt_mac.specs.Verifying.{key_octets};
-    ghost use Rattle.jwt_keys.specs.Keys.{permits_of, names};
+    ghost use Rattle.jwt_keys.specs.Keys.{permits_of, has_name};
     ghost use Rattle.jwt_keys.specs.Views.{key_parts};
 
     /// The kind of the key and the octets that its members spell, lent (RFC 7518, section 6; RFC 8037, section 2).
@@ -76,6 +76,13 @@ impl Key {
         self.thumbprint.as_bytes()
     }
 
+    /// The same as [`Key::thumbprint`], as a text.
+    pub fn thumbprint_text(&self) -> &str
+        ensures { result.now ≡ (key_parts self.now).thumbprint }
+    {
+        self.thumbprint.as_str()
+    }
+
     /// The place of its entry in the list `keys`, from 0, skipped entries counted.
     pub fn place(&self) -> u32
         ensures { result ≡ (key_parts self.now).place }
@@ -86,7 +93,7 @@ impl Key {
     /// Whether the key answers to this name: its `kid` is the name or, where `thumb`, it has no `kid` and its thumbprint is.
     /// Both are compared octet by octet.
     pub fn is_named(&self, name: &str, thumb: bool) -> bool
-        ensures { result ≡ names name.now thumb (key_parts self.now) }
+        ensures { result ≡ has_name name.now thumb (key_parts self.now) }
     {
         match &self.kid {
             Some(kid) => name == kid.as_str(),

@@ -1,7 +1,7 @@
 //! Key types and curves.
 
 ghost use Rattle.std.specs.Prelude.{◌≡◌};
-ghost use Rattle.jwt_keys.specs.Kinds.{key_type_at, curve_named, ed_curve_named, kind_named, coordinate_size, point_size, fits};
+ghost use Rattle.jwt_keys.specs.Kinds.{key_type_at, curve_named, ed_curve_named, kind_named, coordinate_size, point_size, allows_size};
 
 use jwt_mac::{Curve, EdCurve};
 use jwt_text::ObjectRef;
@@ -94,8 +94,8 @@ fn point_size(curve: EdCurve) -> usize
 }
 
 /// Whether a member of a key of this kind may have so many octets.
-pub(crate) fn fits(kind: Kind, count: usize) -> bool
-    ensures { result ≡ fits kind count }
+pub(crate) fn allows_size(kind: Kind, count: usize) -> bool
+    ensures { result ≡ allows_size kind count }
 {
     match kind {
         Kind::Oct | Kind::Rsa => 1 <= count && count <= 4096,

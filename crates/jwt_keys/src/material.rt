@@ -9,7 +9,7 @@ ghost use Rattle.jwt_keys.specs.Keys.{secret_length};
 ghost use Rattle.jwt_keys.specs.Materials.{material_octets};
 
 use crate::fault::EntryFault;
-use crate::kind::{Kind, fits};
+use crate::kind::{Kind, allows_size};
 use crate::skip::SkipReason;
 use jwt_mac::{Curve, EdCurve};
 use jwt_text::{ObjectRef, TextFault, decode};
@@ -57,14 +57,15 @@ pub(crate) fn read_material(
     kind: Kind,
     members: &ObjectRef<'_>,
 ) -> Result<Material, EntryFault>
-    ensures answer { let answer = unless (octet_skip_of kind members.now) (Ok (octets_in kind members.now)) in
+    ensures answer { let answer = unless (octet_skip_of kind members.now)
+        (Ok (octets_in kind members.now)) in
         ReadsAs material_octets result answer }
     ensures bounded { IfOk result (λ material. secret_length (material_octets material) ≤ 4096) }
 {
     match kind {
         Kind::Oct => {
             let k = octets(alloc, members, "k")?;
-            if !fits(kind, k.len()) {
+            if !allows_size(kind, k.len()) {
                 return Err(EntryFault::Skipped(SkipReason::Length));
             }
             Ok(Material::Oct { k })
@@ -72,7 +73,7 @@ pub(crate) fn read_material(
         Kind::Rsa => {
             let n = octets(alloc, members, "n")?;
             let e = octets(alloc, members, "e")?;
-            if !(fits(kind, n.len()) && fits(kind, e.len())) {
+            if !(allows_size(kind, n.len()) && allows_size(kind, e.len())) {
                 return Err(EntryFault::Skipped(SkipReason::Length));
             }
             Ok(Material::Rsa { n, e })
@@ -80,14 +81,14 @@ pub(crate) fn read_material(
         Kind::Ec(curve) => {
             let x = octets(alloc, members, "x")?;
             let y = octets(alloc, members, "y")?;
-            if !(fits(kind, x.len()) && fits(kind, y.len())) {
+            if !(allows_size(kind, x.len()) && allows_size(kind, y.len())) {
                 return Err(EntryFault::Skipped(SkipReason::Length));
             }
             Ok(Material::Ec { curve, x, y })
         }
         Kind::Okp(curve) => {
             let x = octets(alloc, members, "x")?;
-            if !fits(kind, x.len()) {
+            if !allows_size(kind, x.len()) {
                 return Err(EntryFault::Skipped(SkipReason::Length));
             }
             Ok(Material::Okp { curve, x })

@@ -2,7 +2,7 @@
 
 ghost use Rattle.std.specs.Prelude.{◌≡◌, ◌≤◌, ◌<◌, ◌&&◌, ◌↔◌, [], length, map, Err, IfOk, IfSome, IsTrue, slice_get, option_map};
 ghost use Rattle.std.specs.Slice.Iter.{iter_rest};
-ghost use Rattle.jwt_keys.specs.Keys.{has_thumbprint, names, secret_length};
+ghost use Rattle.jwt_keys.specs.Keys.{has_thumbprint, has_name, secret_length};
 ghost use Rattle.jwt_keys.specs.Numbers.{IsLeastFrom};
 ghost use Rattle.jwt_keys.specs.Views.{IsIndex, key_parts};
 
@@ -122,7 +122,8 @@ impl KeySet {
     /// The key of this number, counted from 0, skipped entries left out; `None` where there are no more than `j`. A secret has at
     /// most 4,096 octets.
     pub fn key(&self, j: u32) -> Option<&Key>
-        ensures key { option_map (λ k. key_parts k.now) result ≡ slice_get (key_set self.now).keys j }
+        ensures key { option_map (λ k. key_parts k.now) result
+            ≡ slice_get (key_set self.now).keys j }
         ensures secret { IfSome result (λ k. secret_length (key_parts k.now).octets ≤ 4096) }
     {
         self.keys.get(j as usize)
@@ -146,7 +147,7 @@ impl KeySet {
     /// thumbprint; `None` where there is none. Names are compared octet by octet. It looks the name up in ordered
     /// maps and searches its numbers by halves, and takes no memory.
     pub fn with_kid(&self, kid: &str, thumb: bool, from: u32) -> Option<u32>
-        ensures { IsLeastFrom (names kid.now thumb) (key_set self.now).keys from result }
+        ensures { IsLeastFrom (has_name kid.now thumb) (key_set self.now).keys from result }
     {
         let own = first_from(&self.index.by_kid, kid, from);
         earlier(own, self.thumbprint_from(thumb, kid, from))
@@ -154,7 +155,8 @@ impl KeySet {
 
     /// The least number at or after `from` of a key without `kid` and with this thumbprint, where `thumb`.
     fn thumbprint_from(&self, thumb: bool, text: &str, from: u32) -> Option<u32>
-        ensures { IsLeastFrom (λ k. thumb && has_thumbprint text.now k) (key_set self.now).keys from result }
+        ensures { IsLeastFrom (λ k. thumb && has_thumbprint text.now k) (key_set self.now).keys
+            from result }
     {
         if thumb {
             first_from(&self.index.by_thumbprint, text, from)
@@ -165,7 +167,7 @@ impl KeySet {
 
     /// What [`KeySet::with_kid`] answers, by a plain search over the keys in order.
     pub fn search_kid(&self, kid: &str, thumb: bool, from: u32) -> Option<u32>
-        ensures { IsLeastFrom (names kid.now thumb) (key_set self.now).keys from result }
+        ensures { IsLeastFrom (has_name kid.now thumb) (key_set self.now).keys from result }
     {
         for j in from as usize..self.keys.len() {
             if self.keys[j].is_named(kid, thumb) {

@@ -2,9 +2,9 @@
 
 ghost use Rattle.std.specs.Prelude.{◌≡◌, Some, None, is_some, MatchResult};
 ghost use Rattle.std.specs.List.{list_all};
-ghost use Rattle.jwt_text.specs.Members.{text_at};
+ghost use Rattle.jwt_text.specs.Members.{text_at, is_no_text};
 ghost use Rattle.jwt_keys.specs.Kinds.{kind_at, required};
-ghost use Rattle.jwt_keys.specs.SkipTable.{lacks, is_no_text, is_no_texts, has_other_kind, shape_skip_of};
+ghost use Rattle.jwt_keys.specs.SkipTable.{lacks, is_no_texts, has_other_kind, shape_skip_of};
 
 use crate::kind::{KeyType, Kind, key_type_of, kind_of};
 use crate::skip::SkipReason;

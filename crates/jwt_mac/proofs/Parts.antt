@@ -1,10 +1,10 @@
 -- Three pieces, joined.
 use Rattle.std.proofs.Common.{◌≡◌, ℕ, List, [], ◌∷◌, ◌++◌, length, get_or, ap, ◌∙◌, sym, arith, append_assoc, append-nil}
 use Rattle.std.specs.Borrow.{Bor}
-use Rattle.jwt_mac.specs.Hmac.{joined}
+use Rattle.jwt_mac.specs.Hmac.{all_octets}
 
 pub joined-three : (parts : List (Bor (List ℕ))) (d : Bor (List ℕ)) → length parts ≡ 3 →
-    joined parts ≡ (get_or parts 0 d).now ++ (get_or parts 1 d).now ++ (get_or parts 2 d).now
+    all_octets parts ≡ (get_or parts 0 d).now ++ (get_or parts 1 d).now ++ (get_or parts 2 d).now
 joined-three [] d three = absurd (omega arith)
 joined-three (a ∷ []) d three = absurd (omega arith)
 joined-three (a ∷ b ∷ []) d three = absurd (omega arith)

@@ -41,7 +41,8 @@ impl Alg {
     #[tactic(auto, unfolding(crate::specs::Algorithm::alg_named))]
     pub fn from_text(name: &str) -> Option<Alg>
         ensures is { result ≡ alg_named name.now }
-        ensures named { MatchOption result ((alg : Alg) → name.now ≢ name_of alg) (λ alg. name.now ≡ name_of alg) }
+        ensures named { MatchOption result ((alg : Alg) → name.now ≢ name_of alg)
+            (λ alg. name.now ≡ name_of alg) }
     {
         match name {
             "HS256" => Some(Alg::HS256),
@@ -125,7 +126,8 @@ impl Alg {
 /// Some(0) for an algorithm that isn't HMAC. None exactly where the number doesn't fit a `u64`.
 #[tactic(auto, unfolding(crate::specs::Algorithm::try_cost))]
 pub fn cost(alg: Alg, key_len: u64, message_len: u64) -> Option<u64>
-    ensures { SomeIff result (try_cost alg key_len message_len < 2 ^ 64) (try_cost alg key_len message_len) }
+    ensures { SomeIff result (try_cost alg key_len message_len < 2 ^ 64)
+        (try_cost alg key_len message_len) }
 {
     if !alg.is_hmac() {
         return Some(0);

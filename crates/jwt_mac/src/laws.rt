@@ -5,10 +5,12 @@ ghost use Rattle.jwt_mac.specs.declared.algorithm.Alg.{Alg};
 
 /// A tag has as many octets as a digest of its algorithm's hash function (RFC 2104, section 2).
 pub fn tags_are_digests()
-    ensures { (alg : Alg) (key message : List ℕ) → length (tag_of alg key message) ≡ digest_size alg }
+    ensures { (alg : Alg) (key message : List ℕ)
+        → length (tag_of alg key message) ≡ digest_size alg }
 {}
 
 /// A tag is octets: each of its numbers is below 256.
 pub fn tags_are_octets()
-    ensures { (alg : Alg) (key message : List ℕ) (i : ℕ) → slice_index (tag_of alg key message) i < 256 }
+    ensures { (alg : Alg) (key message : List ℕ) (i : ℕ)
+        → slice_index (tag_of alg key message) i < 256 }
 {}

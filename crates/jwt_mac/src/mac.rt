@@ -1,7 +1,7 @@
 //! HMAC (RFC 2104) with SHA-2, fed piece by piece and paid from a budget.
 
 ghost use Rattle.std.specs.Prelude.{◌≡◌, ◌≤◌, ◌<◌, ◌^◌, ◌+◌, ℕ, List, [], ◌∷◌, ◌++◌, length, take, replicate, ◌-◌, IsTrue, SomeIff, IfOk, OnOk, OnErr};
-ghost use Rattle.jwt_mac.specs.Hmac.{block_key, masked, hmac_of, joined};
+ghost use Rattle.jwt_mac.specs.Hmac.{block_key, masked, hmac_of, all_octets};
 ghost use Rattle.jwt_mac.specs.Algorithm.{is_hmac_alg, digest_size, tag_of, cost_of, sha256_of, sha384_of, sha512_of};
 
 use crate::algorithm::{Alg, cost};
@@ -73,7 +73,7 @@ fn mask_octets(octets: &[u8; MOST_BLOCK], mask: u8) -> [u8; MOST_BLOCK]
 fn mac_with<H: HashFunction>(block: usize, key: &[u8], parts: [&[u8]; 3]) -> Tag
     requires least { 64 ≤ block }
     requires most { block ≤ MOST_BLOCK }
-    ensures tag { result ≡ hmac_of H.hash block key.now (joined parts.entry) }
+    ensures tag { result ≡ hmac_of H.hash block key.now (all_octets parts.entry) }
     ensures size { length result ≡ H.size }
 {
     let padded = key_block::<H>(block, key);
@@ -95,20 +95,21 @@ fn mac_with<H: HashFunction>(block: usize, key: &[u8], parts: [&[u8]; 3]) -> Tag
 #[tactic(auto, unfolding(crate::specs::Algorithm::tag_of))]
 fn tag_with(alg: Alg, key: &[u8], parts: [&[u8]; 3]) -> Tag
     requires { IsTrue (is_hmac_alg alg) }
-    ensures tag { result ≡ tag_of alg key.now (joined parts.entry) }
+    ensures tag { result ≡ tag_of alg key.now (all_octets parts.entry) }
     ensures size { length result ≡ digest_size alg }
 {
     match alg {
         Alg::HS256 => mac_with::<Sha256>(64, key, parts),
         Alg::HS384 => mac_with::<Sha384>(128, key, parts),
-        Alg::HS512 => mac_with::<Sha512>(128, key, parts),
-        _ => unreachable!(),
+        // HS512, by the condition.
+        _ => mac_with::<Sha512>(128, key, parts),
     }
 }
 
 // How many octets the parts have, if a `u64` holds their number.
 fn total_len(parts: [&[u8]; 3]) -> Option<u64>
-    ensures { SomeIff result (length (joined parts.entry) < 2 ^ 64) (length (joined parts.entry)) }
+    ensures { SomeIff result (length (all_octets parts.entry) < 2 ^ 64)
+        (length (all_octets parts.entry)) }
 {
     (parts[0].len() as u64)
         .checked_add(parts[1].len() as u64)?
@@ -123,30 +124,40 @@ fn total_len(parts: [&[u8]; 3]) -> Option<u64>
 ///
 /// Spent comes exactly where the cost exceeds what is left, so also where no `u64` holds it, and then
 /// the budget is as before. Else the octets rise by exactly the cost, and the calls by one.
-pub fn hmac<B: Budget>(b: &mut B, alg: Alg, key: &[u8], parts: [&[u8]; 3]) -> Result<Tag, Spent>
+pub fn hmac<B: Budget>(
+    budget: &mut B,
+    alg: Alg,
+    key: &[u8],
+    parts: [&[u8]; 3],
+) -> Result<Tag, Spent>
     requires hmac { IsTrue (is_hmac_alg alg) }
-    requires room { B.calls b.old + 1 < 2 ^ 32 }
+    requires room { B.calls budget.old + 1 < 2 ^ 32 }
 
-    ensures tag { IfOk result (λ tag. tag ≡ tag_of alg key.now (joined parts.entry)) }
+    ensures tag { IfOk result (λ tag. tag ≡ tag_of alg key.now (all_octets parts.entry)) }
     ensures size { IfOk result (λ tag. length tag ≡ digest_size alg) }
 
     // What the budget counts.
-    ensures paid { OnOk result (B.octets b.new ≡ B.octets b.old + cost_of alg key.now (joined parts.entry)) }
-    ensures called { OnOk result (B.calls b.new ≡ B.calls b.old + 1) }
-    ensures ceiling { B.ceiling b.new ≡ B.ceiling b.old }
+    ensures paid { OnOk result
+        (B.octets budget.new ≡ B.octets budget.old + cost_of alg key.now (all_octets parts.entry)) }
+    ensures called { OnOk result (B.calls budget.new ≡ B.calls budget.old + 1) }
+    ensures ceiling { B.ceiling budget.new ≡ B.ceiling budget.old }
 
     // Spent comes exactly where the cost is too much, and changes nothing.
-    ensures afforded { OnOk result (B.octets b.old + cost_of alg key.now (joined parts.entry) ≤ B.ceiling b.old) }
-    ensures spent { OnErr result (B.ceiling b.old < B.octets b.old + cost_of alg key.now (joined parts.entry)) }
-    ensures unchanged { OnErr result (b.new ≡ b.old) }
+    ensures afforded { OnOk result
+        (B.octets budget.old + cost_of alg key.now (all_octets parts.entry) ≤ B.ceiling
+        budget.old) }
+    ensures spent { OnErr result
+        (B.ceiling budget.old < B.octets budget.old + cost_of alg key.now
+        (all_octets parts.entry)) }
+    ensures unchanged { OnErr result (budget.new ≡ budget.old) }
 {
     let message_len = total_len(parts).ok_or(Spent)?;
     let price = cost(alg, key.len() as u64, message_len).ok_or(Spent)?;
-    if b.left() < price {
+    if budget.left() < price {
         return Err(Spent);
     }
-    b.feed(price);
-    b.call();
+    budget.feed(price);
+    budget.call();
     Ok(tag_with(alg, key, parts))
 }
 
@@ -155,7 +166,7 @@ pub fn hmac<B: Budget>(b: &mut B, alg: Alg, key: &[u8], parts: [&[u8]; 3]) -> Re
 /// no HMAC work, and is paid from no budget.
 #[tactic(auto, unfolding(crate::specs::Algorithm::sha256_of))]
 pub fn sha256(parts: [&[u8]; 3]) -> [u8; 32]
-    ensures { result ≡ sha256_of (joined parts.entry) }
+    ensures { result ≡ sha256_of (all_octets parts.entry) }
 {
     let mut hasher = Sha256::new();
     hasher.update(parts[0]);
@@ -169,7 +180,7 @@ pub fn sha256(parts: [&[u8]; 3]) -> [u8; 32]
 /// budget.
 #[tactic(auto, unfolding(crate::specs::Algorithm::sha384_of))]
 pub fn sha384(parts: [&[u8]; 3]) -> [u8; 48]
-    ensures { result ≡ sha384_of (joined parts.entry) }
+    ensures { result ≡ sha384_of (all_octets parts.entry) }
 {
     let mut hasher = Sha384::new();
     hasher.update(parts[0]);
@@ -183,7 +194,7 @@ pub fn sha384(parts: [&[u8]; 3]) -> [u8; 48]
 /// budget.
 #[tactic(auto, unfolding(crate::specs::Algorithm::sha512_of))]
 pub fn sha512(parts: [&[u8]; 3]) -> [u8; 64]
-    ensures { result ≡ sha512_of (joined parts.entry) }
+    ensures { result ≡ sha512_of (all_octets parts.entry) }
 {
     let mut hasher = Sha512::new();
     hasher.update(parts[0]);
@@ -197,7 +208,7 @@ pub fn sha512(parts: [&[u8]; 3]) -> [u8; 64]
 /// no budget.
 #[tactic(auto, unfolding(crate::specs::Algorithm::sha512_of))]
 pub fn sha512_behind(first: &[u8], second: &[u8], parts: [&[u8]; 3]) -> [u8; 64]
-    ensures { result ≡ sha512_of (first.now ++ second.now ++ joined parts.entry) }
+    ensures { result ≡ sha512_of (first.now ++ second.now ++ all_octets parts.entry) }
 {
     let mut hasher = Sha512::new();
     hasher.update(first);

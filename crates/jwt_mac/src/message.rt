@@ -1,7 +1,7 @@
 //! What is signed, and the key that a signature is checked by, both lent.
 
 ghost use Rattle.std.specs.Prelude.{◌≡◌, ◌∷◌, [], map};
-ghost use Rattle.jwt_mac.specs.Hmac.{joined};
+ghost use Rattle.jwt_mac.specs.Hmac.{all_octets};
 
 /// The two texts of a signing input (RFC 7515, section 5.1), as they stand in the token.
 #[derive(Clone, Copy)]
@@ -18,8 +18,9 @@ impl<'a> Message<'a> {
     /// The signing input in three pieces: the protected text, a period, the payload text. Nothing
     /// is copied.
     pub fn parts(&self) -> [&'a [u8]; 3]
-        ensures pieces { map (λ part. part.now) result ≡ self.now.protected.now ∷ (46 ∷ []) ∷ self.now.payload.now ∷ [] }
-        ensures whole { joined result ≡ signing_input (message_octets self.now) }
+        ensures pieces { map (λ part. part.now) result
+            ≡ self.now.protected.now ∷ (46 ∷ []) ∷ self.now.payload.now ∷ [] }
+        ensures whole { all_octets result ≡ signing_input (message_octets self.now) }
     {
         [self.protected, b".", self.payload]
     }

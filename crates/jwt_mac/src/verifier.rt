@@ -30,8 +30,10 @@ pub trait Verifier: Drop {
     /// NoMemory only where it may lack memory.
     fn verify(&self, alg: Alg, key: &KeyView, message: Message, signature: &[u8]) -> Answer
         ensures { AnswersBy
-            ((meaning self.now).accepts alg (key_octets key.now) (message_octets message.entry) signature.now)
-            ((meaning self.now).may_lack alg (key_octets key.now) (message_octets message.entry) signature.now)
+            ((meaning self.now).accepts alg (key_octets key.now) (message_octets message.entry)
+            signature.now)
+            ((meaning self.now).may_lack alg (key_octets key.now) (message_octets message.entry)
+            signature.now)
             result };
 }
 
@@ -39,7 +41,7 @@ pub trait Verifier: Drop {
 ///
 /// The conditions: the algorithm isn't HMAC, and the budget has fewer than `u32::MAX` calls.
 pub fn ask<B: Budget>(
-    b: &mut B,
+    budget: &mut B,
     verifier: &Box<dyn Verifier>,
     alg: Alg,
     key: &KeyView,
@@ -47,19 +49,21 @@ pub fn ask<B: Budget>(
     signature: &[u8],
 ) -> Answer
     requires other { is_hmac_alg alg ≡ false }
-    requires room { B.calls b.old + 1 < 2 ^ 32 }
+    requires room { B.calls budget.old + 1 < 2 ^ 32 }
 
     ensures answer { AnswersBy
-        ((meaning verifier.now).accepts alg (key_octets key.now) (message_octets message.entry) signature.now)
-        ((meaning verifier.now).may_lack alg (key_octets key.now) (message_octets message.entry) signature.now)
+        ((meaning verifier.now).accepts alg (key_octets key.now) (message_octets message.entry)
+        signature.now)
+        ((meaning verifier.now).may_lack alg (key_octets key.now) (message_octets message.entry)
+        signature.now)
         result }
 
     // What the budget counts.
-    ensures octets { B.octets b.new ≡ B.octets b.old }
-    ensures calls { B.calls b.new ≡ B.calls b.old + 1 }
-    ensures ceiling { B.ceiling b.new ≡ B.ceiling b.old }
+    ensures octets { B.octets budget.new ≡ B.octets budget.old }
+    ensures calls { B.calls budget.new ≡ B.calls budget.old + 1 }
+    ensures ceiling { B.ceiling budget.new ≡ B.ceiling budget.old }
 {
-    b.call();
+    budget.call();
     verifier.verify(alg, key, message, signature)
 }
 
@@ -72,7 +76,8 @@ fn is_for(verifier: &Box<dyn Verifier>, alg: Alg) -> bool
 
 /// The first verifier that names the algorithm, which is the one that decides; None where none does.
 pub fn first_for(verifiers: &[Box<dyn Verifier>], alg: Alg) -> Option<&Box<dyn Verifier>>
-    ensures { option_map (λ v. meaning v.now) result ≡ first_naming (map meaning verifiers.now) alg }
+    ensures { option_map (λ v. meaning v.now) result
+        ≡ first_naming (map meaning verifiers.now) alg }
 {
     for verifier in verifiers {
         if is_for(verifier, alg) {

@@ -12,7 +12,7 @@ use Rattle.jwt_mac.specs.Algorithm.{name_of}
 use Rattle.jwt_mac.specs.Verifying.{Meaning}
 use Rattle.jwt_text.specs.Rows.{◌⇒◌, NoRow}
 use Rattle.jwt_jws.specs.Token.{SignatureParts, kid}
-use Rattle.jwt_keys.specs.Keys.{KeyParts, is_kid, is_none_and, is_for_signatures, allows, permits_of, names}
+use Rattle.jwt_keys.specs.Keys.{KeyParts, is_kid, is_none_and, is_for_signatures, allows, permits_of, has_name}
 use Rattle.jwt_policy.specs.Settings.{Settings}
 use Rattle.jwt_policy.specs.Texts.{some_passes}
 use Rattle.jwt_policy.specs.Bars.{alg, can_verify, bar_rows, bar_of}
@@ -98,7 +98,7 @@ fitting p s key verifiers fails fit =
       key_alg = λ name is. sym ((bytes_eq-Decides (name_of at.0) name).0 (every_at (bytes_eq (name_of at.0)) key.alg for_key.1 name is));
       key_use = uses key.key_use permits.0;
       key_ops = allowed (codes "verify") key.key_ops permits.1;
-      answers = λ name is. named name p.header.thumb_kid key.kid key.thumbprint (every_at (λ n. names n p.header.thumb_kid key) (kid s) parts.1 name is);
+      answers = λ name is. named name p.header.thumb_kid key.kid key.thumbprint (every_at (λ n. has_name n p.header.thumb_kid key) (kid s) parts.1 name is);
     }
   where
     some_same : (a b : Alg) → Some a ≡ Some b → a ≡ b
@@ -119,7 +119,7 @@ is_eligible p s key verifiers unbarred h =
     (and_from (suits a key.octets) (option_map_or (bytes_eq (name_of a)) key.alg true) h.suited
     (every_from (bytes_eq (name_of a)) key.alg (λ name is. (bytes_eq-Decides (name_of a) name).1 (sym (h.key_alg name is))))) in
     let permits = and_from (is_for_signatures key.key_use) (allows (codes "verify") key.key_ops) (uses_from key.key_use h.key_use) (allowed_from (codes "verify") key.key_ops h.key_ops) in
-    let answers = every_from (λ n. names n p.header.thumb_kid key) (kid s) (λ name is. named_from name p.header.thumb_kid key.kid key.thumbprint (h.answers name is)) in
+    let answers = every_from (λ n. has_name n p.header.thumb_kid key) (kid s) (λ name is. named_from name p.header.thumb_kid key.kid key.thumbprint (h.answers name is)) in
     and_from (is_none (bar_of p s verifiers)) (fits p s key) (ap is_none (unbarred h.unbarred))
     (and_from (some_passes (is_for key) (alg s) && permits_of (codes "verify") key) (answers_to p s key)
     (and_from (some_passes (is_for key) (alg s)) (permits_of (codes "verify") key) for_alg permits)

@@ -1,11 +1,11 @@
--- The names of an object, place by place.
+-- The member_names of an object, place by place.
 use Rattle.std.proofs.Common.{◌≡◌, ℕ, zero, suc, ◌+◌, ◌≤◌, List, [], ◌∷◌, length, drop, slice_get, Bool, true, false, not, Option, Some, None, cond, ap, ◌∙◌, refl, arith, add-one}
 use Rattle.serde_json.specs.Data.{Members, no_members, member}
 use Rattle.serde_json.specs.Events.{members_len}
-use Rattle.jwt_text.specs.Members.{names}
+use Rattle.jwt_text.specs.Members.{member_names}
 use Rattle.jwt_policy.specs.Document.{is_known, unknown_in}
 
-pub length_names : (ms : Members) → length (names ms) ≡ members_len ms
+pub length_names : (ms : Members) → length (member_names ms) ≡ members_len ms
 length_names no_members = refl
 length_names (member k d ms) = ap suc (length_names ms)
 

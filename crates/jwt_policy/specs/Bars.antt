@@ -7,12 +7,12 @@ use Rattle.serde_json.specs.Data.{Data}
 use Rattle.jwt_mac.specs.declared.algorithm.Alg.{Alg}
 use Rattle.jwt_mac.specs.Algorithm.{is_hmac_alg, name_of, alg_named}
 use Rattle.jwt_mac.specs.Verifying.{Meaning, first_naming}
-use Rattle.jwt_text.specs.Members.{has, text_at, list_at, are_texts}
+use Rattle.jwt_text.specs.Members.{has, text_at, list_at, are_texts, is_no_text}
 use Rattle.jwt_text.specs.Rows.{Row, ◌⇒◌, first_row}
 use Rattle.jwt_jws.specs.Token.{SignatureParts, in_unprotected, in_header, alg_text, kid}
 use Rattle.jwt_jws.specs.Crit.{crit_repeats}
 use Rattle.jwt_policy.specs.Settings.{Settings}
-use Rattle.jwt_policy.specs.Texts.{some_passes, is_among, any_text, is_no_text, same_media_type}
+use Rattle.jwt_policy.specs.Texts.{some_passes, is_among, any_text, same_media_type}
 use Rattle.jwt_policy.specs.declared.sig_fault.SigFault.{SigFault}
 use Rattle.jwt_policy.specs.declared.sig_fault.SigFault.TheVariants.{AlgMissing, AlgNone, AlgUnknown, AlgNotAllowed, NoVerifier, KeyUrl, EncHeader, Unencoded, CritShape, CritUnknown, TypShape, TypMismatch, Nested, KidShape, KidMissing}
 

@@ -3,10 +3,10 @@ use Rattle.std.specs.Prelude.{ℕ, List, [], ◌∷◌, codes, Bool, not, ◌&&�
 use Rattle.serde_json.specs.Data.{Members}
 use Rattle.serde_json.specs.Find.{get_member, as_number}
 use Rattle.jwt_text.specs.Answers.{or_fault, ◌>>=◌, unless}
-use Rattle.jwt_text.specs.Members.{has, list_at, whole_at, are_texts}
+use Rattle.jwt_text.specs.Members.{has, list_at, whole_at, are_texts, is_no_text}
 use Rattle.jwt_text.specs.ObjectText.{object_of}
 use Rattle.jwt_text.specs.Rows.{Row, ◌⇒◌, first_row}
-use Rattle.jwt_policy.specs.Texts.{some_passes, is_no_text}
+use Rattle.jwt_policy.specs.Texts.{some_passes}
 use Rattle.jwt_policy.specs.declared.claim_fault.Claim.{Claim}
 use Rattle.jwt_policy.specs.declared.claim_fault.Claim.TheVariants.{Iss, Sub, Aud, Exp, Nbf, Iat, Jti}
 use Rattle.jwt_policy.specs.declared.claim_fault.ClaimFault.{ClaimFault}

@@ -7,7 +7,7 @@ use Rattle.jwt_text.specs.Answers.{◌>>=◌}
 use Rattle.jwt_text.specs.declared.fault.TextFault.{TextFault}
 use Rattle.jwt_text.specs.declared.fault.TextFault.TheVariants.{NameTwice}
 use Rattle.jwt_text.specs.ObjectText.{object_of}
-use Rattle.jwt_text.specs.Members.{whole_at, names}
+use Rattle.jwt_text.specs.Members.{whole_at, member_names}
 use Rattle.jwt_policy.specs.Settings.{RunSettings, HeaderSettings, ClaimSettings, Settings}
 use Rattle.jwt_policy.specs.Texts.{some_passes, is_among}
 use Rattle.jwt_policy.specs.MemberKinds.{optional, whole_of, whole_in, flag_in, mode_in, typ_in, texts_in, understood_in, algs_in}
@@ -52,7 +52,7 @@ settings_of ms = do
   max_calls ← optional (whole_of 0 32768) (codes "max_calls") ms
   Ok (record { run = run; header = header; claims = claims; max_calls = max_calls })
 
--- ---- the names
+-- ---- the member_names
 
 abbrev pub names_of_version_one : List (List ℕ)
 names_of_version_one =
@@ -77,7 +77,7 @@ unknown_in two ts = find (λ t. not (is_known two t)) ts
 
 -- the first unknown name, in ascending byte order
 abbrev pub first_unknown : Members → Option (List ℕ)
-first_unknown ms = unknown_in (is_version_two ms) (names ms)
+first_unknown ms = unknown_in (is_version_two ms) (member_names ms)
 
 -- ---- the document
 

@@ -8,7 +8,7 @@ use Rattle.jwt_mac.specs.declared.message.Curve.TheVariants.{P256, P384, P521}
 use Rattle.jwt_mac.specs.Algorithm.{name_of}
 use Rattle.jwt_mac.specs.Verifying.{KeyOctets, OctKey, RsaKey, EcKey, OkpKey, Meaning}
 use Rattle.jwt_jws.specs.Token.{SignatureParts, kid}
-use Rattle.jwt_keys.specs.Keys.{KeyParts, permits_of, names}
+use Rattle.jwt_keys.specs.Keys.{KeyParts, permits_of, has_name}
 use Rattle.jwt_policy.specs.Settings.{Settings}
 use Rattle.jwt_policy.specs.Texts.{some_passes}
 use Rattle.jwt_policy.specs.Bars.{alg, bar_of}
@@ -41,7 +41,7 @@ is_for key a = suits a key.octets && option_map_or (bytes_eq (name_of a)) key.al
 
 -- where the signature has a `kid`, the key answers to it (RFC 7515, section 4.1.4)
 abbrev pub answers_to : Settings → SignatureParts → KeyParts → Bool
-answers_to p s key = option_map_or (λ name. names name p.header.thumb_kid key) (kid s) true
+answers_to p s key = option_map_or (λ name. has_name name p.header.thumb_kid key) (kid s) true
 
 -- what eligibility asks of the pair, the bar aside
 abbrev pub fits : Settings → SignatureParts → KeyParts → Bool

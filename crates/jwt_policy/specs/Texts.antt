@@ -1,11 +1,10 @@
 -- Texts, lists of texts, and media types.
-use Rattle.std.specs.Prelude.{ℕ, List, ◌++◌, Bool, false, ◌&&◌, ◌==◌, codes, Option, is_none, if◌then◌else◌}
+use Rattle.std.specs.Prelude.{ℕ, List, ◌++◌, Bool, false, ◌&&◌, ◌==◌, codes, Option, if◌then◌else◌}
 use Rattle.std.specs.Option.{option_map_or}
 use Rattle.std.specs.List.{list_any}
 use Rattle.std.specs.Str.{bytes_eq, str_eq_ignore_ascii_case}
 use Rattle.serde_json.specs.Data.{Data, Members}
 use Rattle.serde_json.specs.Find.{as_str}
-use Rattle.jwt_text.specs.Members.{has, text_at}
 
 -- there is a value, and it passes
 abbrev pub some_passes : {A : Type 0} → (A → Bool) → Option A → Bool
@@ -18,10 +17,6 @@ is_among ts t = list_any (λ u. bytes_eq t u) ts
 -- some element of a list is a text, and it passes
 abbrev pub any_text : (List ℕ → Bool) → List Data → Bool
 any_text test ds = list_any (λ d. some_passes test (as_str d)) ds
-
--- a member is there, and is no text
-abbrev pub is_no_text : List ℕ → Members → Bool
-is_no_text name ms = has name ms && is_none (text_at name ms)
 
 -- a media type in full: `application/` is put before one that holds no `/` (RFC 7515, section 4.1.9)
 abbrev pub media_type : List ℕ → List ℕ

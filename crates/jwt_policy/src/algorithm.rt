@@ -33,7 +33,8 @@ pub(crate) fn lacks_alg(signature: &Signature<'_>) -> bool
 
 /// Whether `alg` is `none`.
 pub(crate) fn is_alg_none(signature: &Signature<'_>) -> bool
-    ensures { result ≡ some_passes (λ t. bytes_eq t (codes "none")) (alg_text (parts signature.now)) }
+    ensures { result
+        ≡ some_passes (λ t. bytes_eq t (codes "none")) (alg_text (parts signature.now)) }
 {
     match signature.alg_text() {
         Some(text) => text == "none",

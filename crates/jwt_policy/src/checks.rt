@@ -66,7 +66,9 @@ fn any_among(texts: &[String], list: &List<'_>) -> bool
 
 /// Whether a text of `aud` is among these.
 fn names_audience(audiences: &[String], claims: &ObjectRef<'_>) -> bool
-    ensures { result ≡ (some_passes (is_among (map string_bytes audiences.now)) (text_at (codes "aud") claims.now)
+    ensures { result
+        ≡ (some_passes (is_among (map string_bytes audiences.now))
+        (text_at (codes "aud") claims.now)
         || some_passes (any_text (is_among (map string_bytes audiences.now)))
         (list_at (codes "aud") claims.now)) }
 {
@@ -83,7 +85,8 @@ fn names_audience(audiences: &[String], claims: &ObjectRef<'_>) -> bool
 /// Whether `aud` is there and names none of the policy's audiences.
 fn is_other_audience(policy: &Policy, claims: &ObjectRef<'_>) -> bool
     ensures { result ≡ (has (codes "aud") claims.now
-        && not (some_passes (is_among policy.now.claims.audiences) (text_at (codes "aud") claims.now)
+        && not (some_passes (is_among policy.now.claims.audiences)
+        (text_at (codes "aud") claims.now)
         || some_passes (any_text (is_among policy.now.claims.audiences))
         (list_at (codes "aud") claims.now))) }
 {

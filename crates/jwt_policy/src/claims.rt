@@ -1,10 +1,10 @@
 //! The claims of a payload (RFC 7519, section 4).
 
 ghost use Rattle.std.specs.Prelude.{◌≡◌, ◌&&◌, not, option_map, IsErrOf, codes};
-ghost use Rattle.jwt_text.specs.Members.{are_texts, list_at, text_at, whole_at};
+ghost use Rattle.jwt_text.specs.Members.{are_texts, list_at, text_at, whole_at, is_no_text};
 ghost use Rattle.jwt_policy.specs.ClaimKinds.{claims_of, kind_fault, is_no_number, is_no_date};
 ghost use Rattle.jwt_policy.specs.Audiences.{audience_data, aud_at};
-ghost use Rattle.jwt_policy.specs.Texts.{is_no_text, some_passes};
+ghost use Rattle.jwt_policy.specs.Texts.{some_passes};
 
 use crate::claim_fault::{Claim, ClaimFault};
 use crate::texts::is_no_text;

@@ -47,7 +47,8 @@ impl Policy {
     /// allocation was refused, in place of any other answer but `TooLong`.
     #[tactic(auto, unfolding(crate::specs::Document::policy_of))]
     pub fn read(alloc: Global, document: &[u8]) -> Result<Policy, PolicyFault>
-        ensures answer { ¬ IsErrOf result PolicyFault.OutOfMemory → result ≡ policy_of document.now }
+        ensures answer { ¬ IsErrOf result PolicyFault.OutOfMemory
+            → result ≡ policy_of document.now }
         ensures too_long { 65536 < length document.now → result ≡ Err PolicyFault.TooLong }
     {
         if document.len() > MAX_OCTETS {

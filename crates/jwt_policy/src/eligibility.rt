@@ -1,9 +1,10 @@
 //! Which pairs of a signature and a key are eligible.
 
-ghost use Rattle.std.specs.Prelude.{◌≡◌, map};
+ghost use Rattle.std.specs.Prelude.{◌≡◌, Some, map};
 ghost use Rattle.jwt_mac.specs.Verifying.{key_octets};
 ghost use Rattle.jwt_jws.specs.Views.{parts};
 ghost use Rattle.jwt_keys.specs.Views.{key_parts};
+ghost use Rattle.jwt_policy.specs.Bars.{alg};
 ghost use Rattle.jwt_policy.specs.Eligible.{suits, is_for, answers_to, fits, eligible_for};
 
 use crate::algorithm::known_alg;
@@ -65,16 +66,15 @@ fn answers_to(policy: &Policy, signature: &Signature<'_>, key: &Key) -> bool
     }
 }
 
-/// What [`eligible`] asks of the pair, the bar of the signature aside. A run computes [`bar`] once for a signature and this once
-/// for each of its keys. It takes no memory.
-pub fn fits(policy: &Policy, signature: &Signature<'_>, key: &Key) -> bool
+/// What [`eligible`] asks of the pair, the bar of the signature aside. A run computes [`bar`] and [`known_alg`] once for a
+/// signature and this once for each of its keys. It takes no memory.
+///
+/// The condition: `named` is the algorithm that the signature's protected header names.
+pub fn fits(policy: &Policy, signature: &Signature<'_>, named: Alg, key: &Key) -> bool
+    requires { alg (parts signature.now) ≡ Some named }
     ensures { result ≡ fits policy.now (parts signature.now) (key_parts key.now) }
 {
-    let for_alg = match known_alg(signature) {
-        Some(alg) => is_for(key, alg),
-        None => false,
-    };
-    for_alg && key.permits("verify") && answers_to(policy, signature, key)
+    is_for(key, named) && key.permits("verify") && answers_to(policy, signature, key)
 }
 
 /// Whether the key may be tried on the signature. All of these hold:
@@ -95,7 +95,15 @@ pub fn eligible(
     key: &Key,
     verifiers: &[Box<dyn Verifier>],
 ) -> bool
-    ensures { result ≡ eligible_for policy.now (parts signature.now) (key_parts key.now) (map meaning verifiers.now) }
+    ensures { result
+        ≡ eligible_for policy.now (parts signature.now) (key_parts key.now)
+        (map meaning verifiers.now) }
 {
-    bar(policy, signature, verifiers).is_none() && fits(policy, signature, key)
+    if bar(policy, signature, verifiers).is_some() {
+        return false;
+    }
+    match known_alg(signature) {
+        Some(named) => fits(policy, signature, named, key),
+        None => false,
+    }
 }

@@ -1,10 +1,10 @@
 //! Members of the JOSE header, which is the union of the protected and the unprotected header (RFC 7515, section 4).
 
 ghost use Rattle.std.specs.Prelude.{◌≡◌, ◌||◌, ◌&&◌, codes, is_none, not};
-ghost use Rattle.jwt_text.specs.Members.{text_at};
+ghost use Rattle.jwt_text.specs.Members.{text_at, is_no_text};
 ghost use Rattle.jwt_jws.specs.Token.{in_header, kid};
 ghost use Rattle.jwt_jws.specs.Views.{parts};
-ghost use Rattle.jwt_policy.specs.Texts.{is_no_text, same_media_type, some_passes};
+ghost use Rattle.jwt_policy.specs.Texts.{same_media_type, some_passes};
 
 use crate::media::same_media_type;
 use crate::policy::Policy;

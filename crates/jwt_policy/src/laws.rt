@@ -67,5 +67,6 @@ pub fn eligible_pairs()
 /// Claims are refused by nothing under a policy exactly where they hold in words: the required ones are there, the issuer and an
 /// audience are among the policy's, and the dates hold, over unbounded whole numbers.
 pub fn claims_hold()
-    ensures { (p : Settings) (ms : Members) (now : ℤ) → (check_of p ms now ≡ None) ↔ ClaimsHold p ms now }
+    ensures { (p : Settings) (ms : Members) (now : ℤ)
+        → (check_of p ms now ≡ None) ↔ ClaimsHold p ms now }
 {}

@@ -35,7 +35,8 @@ fn whole_of(
     low: u64,
     high: u64,
 ) -> Result<u64, PolicyFault>
-    ensures value { ¬ IsErrOf result PolicyFault.OutOfMemory → result ≡ whole_of low high name.now members.now }
+    ensures value { ¬ IsErrOf result PolicyFault.OutOfMemory
+        → result ≡ whole_of low high name.now members.now }
     ensures range { IfOk result (λ n. (low ≤ n) × (n ≤ high)) }
 {
     let Some(value) = members.whole(name) else {
@@ -57,7 +58,8 @@ pub(crate) fn whole(
     default: u64,
 ) -> Result<u64, PolicyFault>
     requires { (low ≤ default) × (default ≤ high) }
-    ensures value { ¬ IsErrOf result PolicyFault.OutOfMemory → result ≡ whole_in low high default name.now members.now }
+    ensures value { ¬ IsErrOf result PolicyFault.OutOfMemory
+        → result ≡ whole_in low high default name.now members.now }
     ensures range { IfOk result (λ n. (low ≤ n) × (n ≤ high)) }
 {
     if members.has(name) {
@@ -76,7 +78,8 @@ pub(crate) fn optional(
     high: u64,
 ) -> Result<Option<u32>, PolicyFault>
     requires { high < 2 ^ 32 }
-    ensures value { ¬ IsErrOf result PolicyFault.OutOfMemory → result ≡ optional (whole_of low high) name.now members.now }
+    ensures value { ¬ IsErrOf result PolicyFault.OutOfMemory
+        → result ≡ optional (whole_of low high) name.now members.now }
     ensures range { IfOk result (λ o. IfSome o (λ n. (low ≤ n) × (n ≤ high))) }
 {
     if !members.has(name) {
@@ -132,7 +135,8 @@ pub(crate) fn typ(
     members: &ObjectRef<'_>,
     name: &str,
 ) -> Result<Option<String>, PolicyFault>
-    ensures { Answers PolicyFault.OutOfMemory (option_map string_bytes) result (typ_in name.now members.now) }
+    ensures { Answers PolicyFault.OutOfMemory (option_map string_bytes) result
+        (typ_in name.now members.now) }
 {
     if !members.has(name) {
         return Ok(None);
@@ -151,7 +155,8 @@ pub(crate) fn typ(
 /// A list of texts that is there.
 #[tactic(auto, using(crate::proofs::AllSome::joined_more, crate::proofs::AllSome::joined_stop, crate::proofs::AllSome::joined_end, crate::proofs::AllSome::joined_start))]
 fn texts_of(alloc: Global, members: &ObjectRef<'_>, name: &str) -> Result<Vec<String>, PolicyFault>
-    ensures { Answers PolicyFault.OutOfMemory (λ v. map string_bytes v.items) result (texts_of name.now members.now) }
+    ensures { Answers PolicyFault.OutOfMemory (λ v. map string_bytes v.items) result
+        (texts_of name.now members.now) }
 {
     let Some(list) = members.list(name) else {
         return Err(PolicyFault::member(alloc, name));
@@ -172,7 +177,8 @@ pub(crate) fn texts(
     members: &ObjectRef<'_>,
     name: &str,
 ) -> Result<Vec<String>, PolicyFault>
-    ensures { Answers PolicyFault.OutOfMemory (λ v. map string_bytes v.items) result (texts_in name.now members.now) }
+    ensures { Answers PolicyFault.OutOfMemory (λ v. map string_bytes v.items) result
+        (texts_in name.now members.now) }
 {
     if members.has(name) {
         texts_of(alloc, members, name)
@@ -207,7 +213,8 @@ pub(crate) fn understood(
     members: &ObjectRef<'_>,
     name: &str,
 ) -> Result<Vec<String>, PolicyFault>
-    ensures { Answers PolicyFault.OutOfMemory (λ v. map string_bytes v.items) result (understood_in name.now members.now) }
+    ensures { Answers PolicyFault.OutOfMemory (λ v. map string_bytes v.items) result
+        (understood_in name.now members.now) }
 {
     let texts = texts(alloc, members, name)?;
     if any_reserved(&texts) {
@@ -219,7 +226,8 @@ pub(crate) fn understood(
 /// The algorithms of these names. `NoAlgorithm` where there is none.
 #[tactic(auto, using(crate::proofs::AllSome::joined_first, crate::proofs::AllSome::joined_start, std::proofs::lemmas::List::at_drop_more, std::proofs::lemmas::List::at_drop_all, crate::proofs::AllSome::joined_none))]
 fn algs_named(alloc: Global, name: &str, texts: &[String]) -> Result<Vec<Alg>, PolicyFault>
-    ensures value { Answers PolicyFault.OutOfMemory (λ v. v.items) result (algs_named name.now (map string_bytes texts.now)) }
+    ensures value { Answers PolicyFault.OutOfMemory (λ v. v.items) result
+        (algs_named name.now (map string_bytes texts.now)) }
     ensures some { IfOk result (λ v. 1 ≤ length v.items) }
 {
     if texts.is_empty() {
@@ -241,7 +249,8 @@ pub(crate) fn algs(
     members: &ObjectRef<'_>,
     name: &str,
 ) -> Result<Vec<Alg>, PolicyFault>
-    ensures value { Answers PolicyFault.OutOfMemory (λ v. v.items) result (algs_in name.now members.now) }
+    ensures value { Answers PolicyFault.OutOfMemory (λ v. v.items) result
+        (algs_in name.now members.now) }
     ensures some { IfOk result (λ v. 1 ≤ length v.items) }
 {
     if !members.has(name) {

@@ -24,9 +24,25 @@ impl Model for RunPart {
 
     ghost Value = { RunSettings };
 
-    ghost view = { λ p. record { version = p.version; algs = p.algs.items; mode = p.mode; limit = p.limit; work = p.work; max_signatures = p.max_signatures; line_feed = p.line_feed } };
+    ghost view = { λ p. record {
+      version = p.version;
+      algs = p.algs.items;
+      mode = p.mode;
+      limit = p.limit;
+      work = p.work;
+      max_signatures = p.max_signatures;
+      line_feed = p.line_feed;
+    } };
 
-    ghost invariant = { λ p. IsRunInRange (record { version = p.version; algs = p.algs.items; mode = p.mode; limit = p.limit; work = p.work; max_signatures = p.max_signatures; line_feed = p.line_feed }) };
+    ghost invariant = { λ p. IsRunInRange (record {
+      version = p.version;
+      algs = p.algs.items;
+      mode = p.mode;
+      limit = p.limit;
+      work = p.work;
+      max_signatures = p.max_signatures;
+      line_feed = p.line_feed;
+    }) };
 }
 
 /// What a header has to be.
@@ -44,7 +60,12 @@ impl Model for HeaderPart {
 
     ghost Value = { HeaderSettings };
 
-    ghost view = { λ p. record { typ = option_map string_bytes p.typ; need_kid = p.need_kid; thumb_kid = p.thumb_kid; understood = map string_bytes p.understood.items } };
+    ghost view = { λ p. record {
+      typ = option_map string_bytes p.typ;
+      need_kid = p.need_kid;
+      thumb_kid = p.thumb_kid;
+      understood = map string_bytes p.understood.items;
+    } };
 }
 
 /// What the claims have to be.
@@ -64,9 +85,21 @@ impl Model for ClaimPart {
 
     ghost Value = { ClaimSettings };
 
-    ghost view = { λ p. record { issuers = map string_bytes p.issuers.items; audiences = map string_bytes p.audiences.items; required = map string_bytes p.required.items; leeway = p.leeway; max_age = p.max_age } };
+    ghost view = { λ p. record {
+      issuers = map string_bytes p.issuers.items;
+      audiences = map string_bytes p.audiences.items;
+      required = map string_bytes p.required.items;
+      leeway = p.leeway;
+      max_age = p.max_age;
+    } };
 
-    ghost invariant = { λ p. IsClaimInRange (record { issuers = map string_bytes p.issuers.items; audiences = map string_bytes p.audiences.items; required = map string_bytes p.required.items; leeway = p.leeway; max_age = p.max_age }) };
+    ghost invariant = { λ p. IsClaimInRange (record {
+      issuers = map string_bytes p.issuers.items;
+      audiences = map string_bytes p.audiences.items;
+      required = map string_bytes p.required.items;
+      leeway = p.leeway;
+      max_age = p.max_age;
+    }) };
 }
 
 /// What a service asks of the tokens that it takes, as its document says (RFC 8725). [`Policy::read`] reads it, and each getter
@@ -92,7 +125,12 @@ impl Model for Policy {
 
     ghost Value = { Settings };
 
-    ghost view = { λ p. record { run = p.run; header = p.header; claims = p.claims; max_calls = p.max_calls } };
+    ghost view = { λ p. record {
+      run = p.run;
+      header = p.header;
+      claims = p.claims;
+      max_calls = p.max_calls;
+    } };
 
     ghost invariant = { λ p. IfSome p.max_calls (λ n. n ≤ 32768) };
 }

@@ -1,7 +1,8 @@
 //! Texts, and lists of texts.
 
 ghost use Rattle.std.specs.Prelude.{◌≡◌, map, string_bytes};
-ghost use Rattle.jwt_policy.specs.Texts.{is_among, is_no_text};
+ghost use Rattle.jwt_text.specs.Members.{is_no_text};
+ghost use Rattle.jwt_policy.specs.Texts.{is_among};
 
 use jwt_text::ObjectRef;
 

@@ -1,7 +1,7 @@
 //! The hash functions of RSA signatures.
 
 ghost use Rattle.std.specs.Prelude.{◌≡◌, ◌≤◌, length};
-ghost use Rattle.jwt_mac.specs.Hmac.{joined};
+ghost use Rattle.jwt_mac.specs.Hmac.{all_octets};
 
 use crate::digest::Digest;
 use jwt_mac::{sha256, sha384, sha512};
@@ -39,7 +39,7 @@ impl Hash {
     // The digest of the octets that the parts make, joined.
     #[tactic(auto, unfolding(crate::specs::Hashing::digest_of))]
     pub fn digest(self, parts: [&[u8]; 3]) -> Digest
-        ensures is { result ≡ digest_of self (joined parts.entry) }
+        ensures is { result ≡ digest_of self (all_octets parts.entry) }
         ensures size { length result ≡ digest_size self }
     {
         match self {

@@ -1,7 +1,7 @@
 //! EMSA-PKCS1-v1_5 (RFC 8017, section 9.2).
 
 ghost use Rattle.std.specs.Prelude.{◌≡◌, ◌≢◌, ◌+◌, ◌≤◌, ◌↔◌, ◌++◌, ℕ, List, length, IsTrue, MatchOption};
-ghost use Rattle.jwt_mac.specs.Hmac.{joined};
+ghost use Rattle.jwt_mac.specs.Hmac.{all_octets};
 ghost use Rattle.jwt_rsa.specs.Pkcs1.{framed, encoded, pkcs1_accepts};
 
 use crate::hash::Hash;
@@ -10,14 +10,16 @@ use rsa_number::MOST_OCTETS;
 
 // What stands before an end, if octets end so.
 pub fn before<'a>(octets: &'a [u8], end: &[u8]) -> Option<&'a [u8]>
-    ensures { MatchOption result ((front : List ℕ) → octets.now ≢ front ++ end.now) (λ front. octets.now ≡ front.now ++ end.now) }
+    ensures { MatchOption result ((front : List ℕ) → octets.now ≢ front ++ end.now)
+        (λ front. octets.now ≡ front.now ++ end.now) }
 {
     octets.strip_suffix(end)
 }
 
 // What stands behind a start, if octets start so.
 fn behind<'a>(octets: &'a [u8], start: &[u8]) -> Option<&'a [u8]>
-    ensures { MatchOption result ((rest : List ℕ) → octets.now ≢ start.now ++ rest) (λ rest. octets.now ≡ start.now ++ rest.now) }
+    ensures { MatchOption result ((rest : List ℕ) → octets.now ≢ start.now ++ rest)
+        (λ rest. octets.now ≡ start.now ++ rest.now) }
 {
     octets.strip_prefix(start)
 }
@@ -52,7 +54,7 @@ fn is_encoded(em: &[u8], info: &[u8], digest: &[u8]) -> bool
 // RSASSA-PKCS1-V1_5-VERIFY (RFC 8017, section 8.2.2), of the octets that the parts make, joined.
 #[tactic(auto, unfolding(crate::specs::Pkcs1::pkcs1_accepts))]
 pub fn accepts(hash: Hash, n: &[u8], e: &[u8], parts: [&[u8]; 3], signature: &[u8]) -> bool
-    ensures { result ≡ pkcs1_accepts hash n.now e.now (joined parts.entry) signature.now }
+    ensures { result ≡ pkcs1_accepts hash n.now e.now (all_octets parts.entry) signature.now }
 {
     let Some(key) = PublicKey::of(n, e) else {
         return false;

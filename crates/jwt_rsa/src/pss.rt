@@ -1,7 +1,7 @@
 //! RSASSA-PSS (RFC 8017, sections 8.1.2, 9.1.2 and B.2.1).
 
 ghost use Rattle.std.specs.Prelude.{◌≡◌, ℕ, slice_index, ◌+◌, ◌-◌, ◌*◌, ◌^◌, ◌<◌, ◌≤◌, ◌++◌, ◌∷◌, [], length, take, replicate, ◌↔◌, IsTrue};
-ghost use Rattle.jwt_mac.specs.Hmac.{joined};
+ghost use Rattle.jwt_mac.specs.Hmac.{all_octets};
 ghost use Rattle.jwt_rsa.specs.Hashing.{digest_size};
 ghost use Rattle.jwt_rsa.specs.Pss.{mgf1, xored, without_top, pss_verified, pss_represents, pss_accepts};
 ghost use Rattle.rsa_number.specs.Octets.{i2osp};
@@ -85,7 +85,8 @@ fn is_verified(hash: Hash, m_hash: &[u8], em: &[u8], unused: usize, db: &mut [u8
 #[tactic(auto, unfolding(crate::specs::Pss::pss_represents))]
 fn represents(hash: Hash, n: &Modulus, m_hash: &[u8], em: &[u8]) -> bool
     requires { length em.now ≡ length n.now }
-    ensures { (m : ℕ) → m < 256 ^ length n.now → em.now ≡ i2osp m (length n.now) → result ≡ pss_represents hash n.now m_hash.now m }
+    ensures { (m : ℕ) → m < 256 ^ length n.now → em.now ≡ i2osp m (length n.now)
+        → result ≡ pss_represents hash n.now m_hash.now m }
 {
     let k = n.size();
     let em_bits = n.bits() - 1;
@@ -105,7 +106,7 @@ fn represents(hash: Hash, n: &Modulus, m_hash: &[u8], em: &[u8]) -> bool
 // RSASSA-PSS-VERIFY (RFC 8017, section 8.1.2), of the octets that the parts make, joined.
 #[tactic(auto, unfolding(crate::specs::Pss::pss_accepts))]
 pub fn accepts(hash: Hash, n: &[u8], e: &[u8], parts: [&[u8]; 3], signature: &[u8]) -> bool
-    ensures { result ≡ pss_accepts hash n.now e.now (joined parts.entry) signature.now }
+    ensures { result ≡ pss_accepts hash n.now e.now (all_octets parts.entry) signature.now }
 {
     let Some(key) = PublicKey::of(n, e) else {
         return false;

@@ -19,7 +19,8 @@ pub struct PublicKey<'a> {
 impl<'a> PublicKey<'a> {
     // The key of these octets, which zeros may lead; None exactly where it isn't taken.
     pub fn of(n: &'a [u8], e: &[u8]) -> Option<PublicKey<'a>>
-        ensures { SomeIff result (IsTrue (is_key (os2ip n.now) (os2ip e.now))) (record { n = without_zeros n.now; e = os2ip e.now }) }
+        ensures { SomeIff result (IsTrue (is_key (os2ip n.now) (os2ip e.now)))
+            (record { n = without_zeros n.now; e = os2ip e.now }) }
     {
         let n = Modulus::of(n)?;
         let e = number(e)?;
@@ -44,8 +45,12 @@ impl<'a> PublicKey<'a> {
     // the modulus: false where the signature hasn't as many, or its number isn't less than the modulus.
     pub fn recover(&self, em: &mut [u8], signature: &[u8]) -> bool
         requires { length em.old ≡ length self.now.n }
-        ensures asked { IsTrue result ↔ ((length signature.now ≡ length self.now.n) × (os2ip signature.now < os2ip self.now.n)) }
-        ensures number { OnTrue result (em.new ≡ i2osp (rsavp1 (os2ip self.now.n) self.now.e (os2ip signature.now)) (length self.now.n)) }
+        ensures asked { IsTrue result ↔
+            ((length signature.now ≡ length self.now.n)
+            × (os2ip signature.now < os2ip self.now.n)) }
+        ensures number { OnTrue result
+            (em.new ≡ i2osp (rsavp1 (os2ip self.now.n) self.now.e (os2ip signature.now))
+            (length self.now.n)) }
     {
         signature.len() == self.n.size() && self.n.power(em, signature, self.e)
     }

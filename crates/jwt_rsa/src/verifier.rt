@@ -24,7 +24,9 @@ fn is_ps(alg: Alg) -> bool
 
 // Whether a signature by RS256, RS384 or RS512 is accepted.
 fn is_accepted_rs(alg: Alg, key: &KeyView, message: Message, signature: &[u8]) -> bool
-    ensures { result ≡ accepts_rs alg (key_octets key.now) (signing_input (message_octets message.entry)) signature.now }
+    ensures { result
+        ≡ accepts_rs alg (key_octets key.now) (signing_input (message_octets message.entry))
+        signature.now }
 {
     let KeyView::Rsa { n, e } = key else {
         return false;
@@ -39,7 +41,9 @@ fn is_accepted_rs(alg: Alg, key: &KeyView, message: Message, signature: &[u8]) -
 
 // Whether a signature by PS256, PS384 or PS512 is accepted.
 fn is_accepted_ps(alg: Alg, key: &KeyView, message: Message, signature: &[u8]) -> bool
-    ensures { result ≡ accepts_ps alg (key_octets key.now) (signing_input (message_octets message.entry)) signature.now }
+    ensures { result
+        ≡ accepts_ps alg (key_octets key.now) (signing_input (message_octets message.entry))
+        signature.now }
 {
     let KeyView::Rsa { n, e } = key else {
         return false;

@@ -2,9 +2,10 @@
 use Rattle.std.specs.Prelude.{ℕ, Bool, true, false, ◌&&◌, List}
 use Rattle.std.specs.Str.{bytes_eq}
 use Rattle.jwt_mac.specs.declared.algorithm.Alg.{Alg}
-use Rattle.jwt_mac.specs.declared.algorithm.Alg.TheVariants.{RS256, PS256, EdDSA}
+use Rattle.jwt_mac.specs.declared.algorithm.Alg.TheVariants.{RS256, PS256}
 use Rattle.jwt_mac.specs.Algorithm.{name_of}
 use Rattle.jwt_mac.specs.Verifying.{Meaning, KeyOctets, RsaKey, OkpKey}
+use Rattle.jwt_ed25519.specs.Meanings.{names_eddsa}
 
 -- the signature's octets are the modulus, or the public key
 abbrev pub is_public : KeyOctets → List ℕ → Bool
@@ -32,10 +33,6 @@ counting_meaning = record {
   accepts = λ alg key message signature. false;
   may_lack = λ alg key message signature. true;
 }
-
-abbrev pub names_eddsa : Alg → Bool
-names_eddsa EdDSA = true
-names_eddsa _ = false
 
 -- it names EdDSA, and may lack memory
 abbrev pub lacking_meaning : Meaning

@@ -216,6 +216,28 @@ fn a_read_that_fails_ends_with_status_3(rt: HostRuntime) -> Result<(), Fail> {
     Ok(())
 }
 
+/// Runs in JSON, and what each reads to its end.
+static READING_IN_JSON: [(&[&str], &str); 3] = [
+    (&["jwt", "show", "--json"], TOKEN_A),
+    (&["jwt", "keys", "--json"], r#"{"keys":[]}"#),
+    (&["jwt", "verify", "--json", "--now", MOMENT], VERIFY_INPUT),
+];
+
+#[test]
+fn a_read_that_fails_is_told_in_json(rt: HostRuntime) -> Result<(), Fail> {
+    let line: &[u8] = b"{\"verdict\":\"failed\",\"fault\":\"Read\"}\n";
+    for &(words, text) in &READING_IN_JSON {
+        let input = filled(rt.alloc(), text)?;
+        for left in 0..=input.len() {
+            let mut source = Drip::new(input.as_bytes(), left);
+            let (out, status) = dripped(rt.alloc(), words, &mut source);
+            assert_eq!(rt; out.as_slice(), line);
+            assert_eq!(rt; (status, source.rest.len()), (3, input.len() - left));
+        }
+    }
+    Ok(())
+}
+
 // One octet past the limit is taken and no more; with a key that is refused none.
 #[test]
 fn mac_takes_what_it_may(rt: HostRuntime) -> Result<(), Fail> {
@@ -240,12 +262,22 @@ fn an_endless_input_is_too_long(rt: HostRuntime) -> Result<(), Fail> {
 }
 
 /// Runs that print a line.
-static WRITING: [(&[&str], &str, &str); 2] = [
+static WRITING: [(&[&str], &str, &str); 4] = [
+    (
+        &["jwt", "show", "--json"],
+        "e30..",
+        "{\"unverified\":{\"form\":\"compact\",\"payload\":null,\"signatures\":[{\"protected\":{},\"octets\":0}]}}\n",
+    ),
     (&["jwt", "mac", "--k", KEY_A], TOKEN_A, LINE_A),
     (
         &["jwt", "verify", "--now", MOMENT],
         VERIFY_INPUT,
         "accepted sig=0 key=0 tries=1 work=295\n",
+    ),
+    (
+        &["jwt", "keys", "--json"],
+        r#"{"keys":[{}]}"#,
+        "{\"keys\":[],\"skipped\":[{\"place\":0,\"reason\":\"MemberMissing\"}]}\n",
     ),
 ];
 
@@ -1160,7 +1192,36 @@ fn verify_prints_json(rt: HostRuntime) -> Result<(), Fail> {
             r#"{"alg":["HS256"]}"#,
             "",
             "",
-            r#"{"verdict":"refused","document":"policy","fault":"Member","member":"alg"}"#,
+            r#"{"verdict":"refused","document":"policy","fault":"Member","member":"alg","nearest":"algs"}"#,
+            1,
+        ),
+        (
+            r#"{"algs":["HS256"],"audience":["a"]}"#,
+            "",
+            "",
+            r#"{"verdict":"refused","document":"policy","fault":"Member","member":"audience","nearest":"audiences"}"#,
+            1,
+        ),
+        // Two edits from "typ", and three from it; and a known name with another kind.
+        (
+            r#"{"algs":["HS256"],"tipe":"JWT"}"#,
+            "",
+            "",
+            r#"{"verdict":"refused","document":"policy","fault":"Member","member":"tipe","nearest":"typ"}"#,
+            1,
+        ),
+        (
+            r#"{"algs":["HS256"],"tipes":"JWT"}"#,
+            "",
+            "",
+            r#"{"verdict":"refused","document":"policy","fault":"Member","member":"tipes"}"#,
+            1,
+        ),
+        (
+            r#"{"algs":["HS256"],"typ":7}"#,
+            "",
+            "",
+            r#"{"verdict":"refused","document":"policy","fault":"Member","member":"typ"}"#,
             1,
         ),
         (
@@ -1190,6 +1251,124 @@ fn json_names_a_file_that_is_unread(rt: HostRuntime) -> Result<(), Fail> {
     let line: &[u8] = b"{\"verdict\":\"failed\",\"fault\":\"Read\",\"file\":\"a \\\"k\\\"\"}\n";
     assert_eq!(rt; out.as_slice(), line);
     assert_eq!(rt; status, 3);
+    Ok(())
+}
+
+/// An entry for each reason that one is skipped for.
+const SKIPPED_KEYS: &str =
+    r#"{"keys":[7,{},{"kty":7},{"kty":"XYZ"},{"kty":"EC","crv":"X","x":"AA","y":"AA"},{"kty":"oct","k":"AA=="},{"kty":"oct","k":""}]}"#;
+
+// Each key has the members that its line has, and each skipped entry its place and its reason.
+#[test]
+fn keys_prints_json(rt: HostRuntime) -> Result<(), Fail> {
+    let alloc = rt.alloc();
+    let cases = [
+        (
+            r#"{"keys":[{"kty":"XYZ"},{"kty":"oct","k":"AA","kid":"a\n\"","alg":"HS256"},7,{"kty":"oct","k":"AA"}]}"#,
+            r#"{"keys":[{"place":1,"kty":"oct","kid":"a\n\"","alg":"HS256","size":1,"thumbprint":"xoNKolCCOwo3X8anKSSJQKMilUpNMW2KQv6Md8OcdL0"},{"place":3,"kty":"oct","size":1,"thumbprint":"xoNKolCCOwo3X8anKSSJQKMilUpNMW2KQv6Md8OcdL0"}],"skipped":[{"place":0,"reason":"KtyUnknown"},{"place":2,"reason":"NotObject"}]}"#,
+            0,
+        ),
+        (
+            r#"{"keys":[{"kty":"RSA","n":"<RSA_N>","e":"AQAB","alg":"RS256","kid":"2011-04-29"}]}"#,
+            r#"{"keys":[{"place":0,"kty":"RSA","kid":"2011-04-29","alg":"RS256","size":256,"thumbprint":"NzbLsXh8uDCcd-6MNwXF4W_7noWXFZAfHkxZsRGC9Xs"}],"skipped":[]}"#,
+            0,
+        ),
+        (
+            SKIPPED_KEYS,
+            r#"{"keys":[],"skipped":[{"place":0,"reason":"NotObject"},{"place":1,"reason":"MemberMissing"},{"place":2,"reason":"MemberKind"},{"place":3,"reason":"KtyUnknown"},{"place":4,"reason":"CrvUnknown"},{"place":5,"reason":"Base64"},{"place":6,"reason":"Length"}]}"#,
+            0,
+        ),
+        (r#"{"keys":[]}"#, r#"{"keys":[],"skipped":[]}"#, 0),
+        (
+            r#"{"keys":7}"#,
+            r#"{"verdict":"refused","document":"keys","fault":"NotKeySet"}"#,
+            1,
+        ),
+        (
+            "{",
+            r#"{"verdict":"refused","document":"keys","fault":"Json"}"#,
+            1,
+        ),
+        (
+            r#"{"keys":[],"keys":[]}"#,
+            r#"{"verdict":"refused","document":"keys","fault":"NameTwice"}"#,
+            1,
+        ),
+    ];
+    for (set, line, status) in cases {
+        let input = filled(alloc, set)?;
+        let wanted = format!(in alloc; "{line}\n")?;
+        let (out, code) = printed(alloc, &["jwt", "keys", "--json"], input.as_bytes());
+        assert_eq!(rt; out.as_slice(), wanted.as_bytes());
+        assert_eq!(rt; code, status);
+    }
+    Ok(())
+}
+
+// The headers and the payload stand as they were written, under a name that says that nothing is verified.
+#[test]
+fn show_prints_json(rt: HostRuntime) -> Result<(), Fail> {
+    let alloc = rt.alloc();
+    let cases = [
+        (
+            TOKEN_A,
+            r#"{"unverified":{"form":"compact","payload":{"iss":"joe","exp":1300819380,"http://example.com/is_root":true},"signatures":[{"protected":{"typ":"JWT","alg":"HS256"},"octets":32}]}}"#,
+            0,
+        ),
+        (
+            r#"{"payload":"e30","signatures":[{"signature":"AQAB"},{"protected":"eyJhbGciOjd9","header":{"kid":"k"},"signature":""}]}
+"#,
+            r#"{"unverified":{"form":"json","payload":{},"signatures":[{"octets":3},{"protected":{"alg":7},"header":{"kid":"k"},"octets":0}]}}"#,
+            0,
+        ),
+        (
+            r#"{"payload":"eyJhdWQiOlsiYSIsImIiXSwiZXhwIjotNX0","header":{"x":[1.50, -0],"kid":null},"signature":""}"#,
+            r#"{"unverified":{"form":"flattened","payload":{"aud":["a","b"],"exp":-5},"signatures":[{"header":{"x":[1.50,-0],"kid":null},"octets":0}]}}"#,
+            0,
+        ),
+        (
+            r#"{"payload":"e30","protected":"","signature":""}"#,
+            r#"{"unverified":{"form":"flattened","payload":{},"signatures":[{"octets":0}]}}"#,
+            0,
+        ),
+        // A payload of the octets 1, 0 and 1, and one that is a list.
+        (
+            "e30.AQAB.",
+            r#"{"unverified":{"form":"compact","payload":null,"signatures":[{"protected":{},"octets":0}]}}"#,
+            0,
+        ),
+        (
+            "e30.W10.",
+            r#"{"unverified":{"form":"compact","payload":[],"signatures":[{"protected":{},"octets":0}]}}"#,
+            0,
+        ),
+        ("", r#"{"verdict":"refused","fault":"Empty"}"#, 1),
+        (
+            "a.b.c.d.e",
+            r#"{"verdict":"refused","fault":"Encrypted"}"#,
+            1,
+        ),
+        (
+            "e30.A.",
+            r#"{"verdict":"refused","fault":"Base64","part":"payload"}"#,
+            1,
+        ),
+        (
+            r#"{"payload":"e30","signatures":[{"signature":""},{"header":7,"signature":""}]}"#,
+            r#"{"verdict":"refused","fault":"UnprotectedKind","signature":1}"#,
+            1,
+        ),
+    ];
+    let words = ["jwt", "show", "--json", "--limit", "179"];
+    for (token, line, status) in cases {
+        let wanted = format!(in alloc; "{line}\n")?;
+        let (out, code) = printed(alloc, &words, token.as_bytes());
+        assert_eq!(rt; out.as_slice(), wanted.as_bytes());
+        assert_eq!(rt; code, status);
+    }
+    let short = ["jwt", "show", "--json", "--limit", "178"];
+    let too_long = "{\"verdict\":\"refused\",\"fault\":\"TooLong\"}\n";
+    assert!(rt; prints(alloc, &short, TOKEN_A.as_bytes(), too_long, 1));
     Ok(())
 }
 

@@ -193,6 +193,25 @@ fn reads_three_forms(rt: HostRuntime) -> Result<(), Fail> {
 }
 
 #[test]
+fn signatures_are_gone_through_in_order(rt: HostRuntime) -> Result<(), Fail> {
+    let alloc = rt.alloc();
+    let signed = parse(
+        alloc,
+        br#"{"payload":"e30","signatures":[{"signature":"","header":{"kid":"a"}},{"signature":"","header":{"kid":"b"}},{"signature":""}]}"#,
+        3,
+    )
+    .ok()
+    .ok_or("general")?;
+    let mut kids = String::new(alloc);
+    for signature in signed.iter() {
+        kids.push_str(signature.kid().unwrap_or("none"))?;
+        kids.push_str(",")?;
+    }
+    assert_eq!(rt; kids.as_str(), "a,b,none,");
+    Ok(())
+}
+
+#[test]
 fn sees_a_name_that_stands_twice_in_crit(rt: HostRuntime) -> Result<(), Fail> {
     let cases: [(&[u8], bool); 5] = [
         (b"{}", false),

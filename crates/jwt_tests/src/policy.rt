@@ -5,6 +5,7 @@ use jwt_keys::Key;
 use jwt_mac::{Alg, Verifier};
 use jwt_policy::{
     Audience, ClaimFault, Claims, Mode, Policy, PolicyFault, SigFault, bar, check, eligible, fits,
+    known_alg,
 };
 use jwt_text::encode_text;
 use std::alloc::Global;
@@ -404,7 +405,11 @@ fn is_eligible_in(alloc: Global, policy: &Policy, token: &str, key: &Key) -> Res
     let signature = signed.signature(0).ok_or("no signature")?;
     let same: Box<dyn Verifier> = Box::new(alloc, Asked { kind: SAME })?;
     let found = eligible(policy, signature, key, &[same]);
-    if found && !fits(policy, signature, key) {
+    let fit = match known_alg(signature) {
+        Some(alg) => fits(policy, signature, alg, key),
+        None => false,
+    };
+    if found && !fit {
         return Err("eligible and unfit".into());
     }
     Ok(found)

@@ -1,4 +1,4 @@
--- What is read of a value has as many entries as names are written in it exactly where no object in it has a name twice.
+-- What is read of a value has as many entries as member_names are written in it exactly where no object in it has a name twice.
 use Rattle.std.proofs.Common.{◌≡◌, ◌≢◌, ◌↔◌, ℕ, zero, suc, ◌+◌, ◌<◌, ◌≤◌, Bool, true, false, List, [], ◌∷◌, length, get_or, Option, Some, None, option_map, option_and_then, is_some, Ordering, Less, Equal, Greater, nat_cmp, refl, sym, ap, ◌∙◌, subst, arith}
 use Rattle.std.proofs.lemmas.Bool.{true≢false, false≢true}
 use Rattle.std.proofs.lemmas.Cmp.{nat_list_cmp_total}
@@ -13,7 +13,7 @@ use Rattle.serde_json.specs.Data.{Num, Data, null, boolean, number, string, arra
 use Rattle.serde_json.specs.Find.{get_member}
 use Rattle.serde_json.specs.Read.{number_of, of_json, of_items, of_members}
 use Rattle.serde_json.proofs.Views.{get_member-put, get_member-put_other}
-use Rattle.jwt_text.specs.Members.{has, names, AreInOrder}
+use Rattle.jwt_text.specs.Members.{has, member_names, AreInOrder}
 use Rattle.jwt_text.specs.ObjectText.{entries, items_entries, members_entries}
 use Rattle.jwt_text.proofs.OrderLemmas.{put_in_order, none_in_order}
 use Rattle.jwt_text.specs.NamesWritten.{names_written, items_names_written, members_names_written}
@@ -37,7 +37,7 @@ absent_at Equal k e ms is h = absurd cc
 absent_at Greater k e ms is h = h
 
 -- a name below all others is absent
-absent : (k : List ℕ) (ms : Members) → AllByRecursion (λ n. slice_cmp nat_cmp k n ≡ Less) (names ms) → has k ms ≡ false
+absent : (k : List ℕ) (ms : Members) → AllByRecursion (λ n. slice_cmp nat_cmp k n ≡ Less) (member_names ms) → has k ms ≡ false
 absent k no_members h = refl
 absent k (member l e ms) h = absent_at (slice_cmp nat_cmp k l) k e ms h.0 (absent k ms h.1)
 
@@ -46,18 +46,18 @@ below k l [] lower h = h
 below k l (n ∷ ns) lower h = (nat_list_cmp_total.trans k l n lower h.0, below k l ns lower h.1)
 
 old_at : (o : Ordering) (k l : List ℕ) (d e : Data) (ms : Members) → slice_cmp nat_cmp k l ≡ o → is_some (match_ordering o (get_member k ms) (Some e) (get_member k ms)) ≡ true
-    → AllByRecursion (λ n. slice_cmp nat_cmp l n ≡ Less) (names ms) → (has k ms ≡ true → members_entries (put k d ms) ≤ entries d + members_entries ms)
+    → AllByRecursion (λ n. slice_cmp nat_cmp l n ≡ Less) (member_names ms) → (has k ms ≡ true → members_entries (put k d ms) ≤ entries d + members_entries ms)
     → members_entries (match_ordering o (member k d (member l e ms)) (member l d ms) (member l e (put k d ms))) ≤ entries d + suc (entries e + members_entries ms)
-old_at Less k l d e ms is h above ih = absurd (true≢false (sym h ∙ absent k ms (below k l (names ms) is above)))
+old_at Less k l d e ms is h above ih = absurd (true≢false (sym h ∙ absent k ms (below k l (member_names ms) is above)))
 old_at Equal k l d e ms is h above ih = omega arith
 old_at Greater k l d e ms is h above ih = omega (arith, ih h)
 
-pub put_old : (k : List ℕ) (d : Data) (ms : Members) → AreInOrder (names ms) → has k ms ≡ true → members_entries (put k d ms) ≤ entries d + members_entries ms
+pub put_old : (k : List ℕ) (d : Data) (ms : Members) → AreInOrder (member_names ms) → has k ms ≡ true → members_entries (put k d ms) ≤ entries d + members_entries ms
 unfolding IsStrictlySortedBy
 put_old k d no_members order h = absurd (false≢true h)
 put_old k d (member l e ms) order h = old_at (slice_cmp nat_cmp k l) k l d e ms refl h order.0 (put_old k d ms order.1)
 
--- ---- distinct names, one by one
+-- ---- distinct member_names, one by one
 
 abbrev Apart : List ℕ → List (List ℕ) → Type 0
 Apart k [] = ⊤
@@ -87,7 +87,7 @@ distinct_both k ks a h (suc i) (suc j) d l m = h i j d (omega arith) (omega arit
 distinct_none : AreDistinct []
 distinct_none i j d l m = absurd (omega arith)
 
--- none of the names stands among the members
+-- none of the member_names stands among the members
 abbrev Fresh : List (List ℕ) → Members → Type 0
 Fresh [] ms = ⊤
 Fresh (k ∷ ks) ms = (has k ms ≡ false) × Fresh ks ms
@@ -156,7 +156,7 @@ turn_old k ks d found n m e f g r U V P old less one more = (
   (λ h. absurd (omega (arith, one.0, more.0)), λ h. absurd (true≢false (sym old ∙ h.2.0))),
 )
 
-turn : (b : Bool) (k : List ℕ) (d : Data) (j : json.Json) (ms : json.Members) (found r : Members) → has k found ≡ b → AreInOrder (names found)
+turn : (b : Bool) (k : List ℕ) (d : Data) (j : json.Json) (ms : json.Members) (found r : Members) → has k found ≡ b → AreInOrder (member_names found)
     → Keeps (entries d) (names_written j) (HasUniqueKeys j) → KeepsMembers ms (put k d found) r → KeepsMembers (json.member k j ms) found r
 turn false k d j ms found r is order one more =
     turn_new k (keys ms) d found (names_written j) (members_names_written ms) (entries d) (members_entries found) (members_entries r) (HasUniqueKeys j) (MembersHaveUniqueKeys ms) refl refl is one
@@ -188,7 +188,7 @@ abbrev OfItems : json.Items → Type 0
 OfItems js = (ds : Items) → of_items js ≡ Some ds → Keeps (items_entries ds) (items_names_written js) (ItemsHaveUniqueKeys js)
 
 abbrev OfMembers : json.Members → Type 0
-OfMembers ms = (found r : Members) → of_members ms found ≡ Some r → AreInOrder (names found) → KeepsMembers ms found r
+OfMembers ms = (found r : Members) → of_members ms found ≡ Some r → AreInOrder (member_names found) → KeepsMembers ms found r
 
 in_array : (js : json.Items) (o : Option Items) → OfItems js → of_items js ≡ o → (d : Data) → option_map array o ≡ Some d → Keeps (entries d) (items_names_written js) (ItemsHaveUniqueKeys js)
 in_array js None ih is d e = absurd cc
@@ -212,7 +212,7 @@ at_item : (j : json.Json) (js : json.Items) (o : Option Data) → OfJson j → O
 at_item j js None first rest is ds e = absurd cc
 at_item j js (Some d) first rest is ds e = after_item j js d (of_items js) (first d is) rest refl ds e
 
-at_member : (k : List ℕ) (j : json.Json) (ms : json.Members) (o : Option Data) → OfJson j → OfMembers ms → of_json j ≡ o → (found r : Members) → option_and_then (λ d. of_members ms (put k d found)) o ≡ Some r → AreInOrder (names found)
+at_member : (k : List ℕ) (j : json.Json) (ms : json.Members) (o : Option Data) → OfJson j → OfMembers ms → of_json j ≡ o → (found r : Members) → option_and_then (λ d. of_members ms (put k d found)) o ≡ Some r → AreInOrder (member_names found)
     → KeepsMembers (json.member k j ms) found r
 at_member k j ms None first rest is found r e order = absurd cc
 at_member k j ms (Some d) first rest is found r e order = turn (has k found) k d j ms found r refl order (first d is) (rest (put k d found) r e (put_in_order k d found order))

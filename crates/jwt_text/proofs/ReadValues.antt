@@ -8,7 +8,7 @@ use Rattle.json.specs.Json as json
 use Rattle.json.proofs.Grammar.{members_end, value_is, read_key-shorter}
 use Rattle.serde_json.specs.Data.{Data, null, boolean, number, string, array, object}
 use Rattle.serde_json.specs.Read.{number_of, of_json}
-use Rattle.jwt_text.specs.Members.{names, AreInOrder}
+use Rattle.jwt_text.specs.Members.{member_names, AreInOrder}
 use Rattle.jwt_text.specs.NamesWritten.{names_written}
 use Rattle.jwt_text.specs.ObjectText.{entries}
 use Rattle.jwt_text.specs.declared.node.Entry.{Entry}
@@ -33,7 +33,7 @@ module _ (k : ℕ) (old now : List Token) (before after : Store) (built : List E
       let ps = map (pair k after) built in
       let qs = map (pair k after) sorted in
       let pairs : IsPermutation ps qs = IsPermutation-map (pair k after) built sorted moved in
-      let ascend : AreInOrder (names (members_from qs)) = subst AreInOrder (sym (names-data k after sorted)) order in
+      let ascend : AreInOrder (member_names (members_from qs)) = subst AreInOrder (sym (names-data k after sorted)) order in
       record {
         trees = to.all;
         parsed = to.parsed;

@@ -13,7 +13,7 @@ use Rattle.std.specs.Ordering.{match_ordering}
 use Rattle.serde_json.specs.Data.{Data, Members, no_members, member, put}
 use Rattle.serde_json.specs.Find.{get_member}
 use Rattle.serde_json.proofs.Views.{get_member-put, get_member-put_other}
-use Rattle.jwt_text.specs.Members.{has, names, AreInOrder}
+use Rattle.jwt_text.specs.Members.{has, member_names, AreInOrder}
 use Rattle.jwt_text.specs.ObjectText.{entries, members_entries}
 use Rattle.jwt_text.proofs.OrderLemmas.{put_in_order, none_in_order}
 use Rattle.jwt_text.specs.Flat.{members_from, Each}
@@ -53,8 +53,8 @@ same_name k l e = (bytes_eq-Decides k l).0 (sym (is_eq-slice_cmp k l) ∙ ap is_
 get_first : (k : List ℕ) (d : Data) (ms : Members) → get_member k (member k d ms) ≡ Some d
 get_first k d ms = at_equal (slice_cmp nat_cmp k k) (get_member k ms) d (equals_itself k)
 
--- below all names: no member has it
-get_absent : (k : List ℕ) (ms : Members) → AllByRecursion (λ n. slice_cmp nat_cmp k n ≡ Less) (names ms) → get_member k ms ≡ None
+-- below all member_names: no member has it
+get_absent : (k : List ℕ) (ms : Members) → AllByRecursion (λ n. slice_cmp nat_cmp k n ≡ Less) (member_names ms) → get_member k ms ≡ None
 get_absent k no_members h = refl
 get_absent k (member l e ms) h = at_less (slice_cmp nat_cmp k l) (get_member k ms) e h.0 ∙ get_absent k ms h.1
 
@@ -62,8 +62,8 @@ pub lower_names : (k l : List ℕ) (ns : List (List ℕ)) → slice_cmp nat_cmp 
 lower_names k l [] lower h = h
 lower_names k l (n ∷ ns) lower h = (nat_list_cmp_total.trans k l n lower h.0, lower_names k l ns lower h.1)
 
-get_below : (k l : List ℕ) (e : Data) (ms : Members) → slice_cmp nat_cmp k l ≡ Less → AllByRecursion (λ n. slice_cmp nat_cmp l n ≡ Less) (names ms) → get_member k (member l e ms) ≡ None
-get_below k l e ms lower above = get_absent k (member l e ms) (lower, lower_names k l (names ms) lower above)
+get_below : (k l : List ℕ) (e : Data) (ms : Members) → slice_cmp nat_cmp k l ≡ Less → AllByRecursion (λ n. slice_cmp nat_cmp l n ≡ Less) (member_names ms) → get_member k (member l e ms) ≡ None
+get_below k l e ms lower above = get_absent k (member l e ms) (lower, lower_names k l (member_names ms) lower above)
 
 -- ---- the members of one are among those of the other
 
@@ -77,7 +77,7 @@ none_some (Some b) a e f = absurd cc
 some_same : {A : Type 0} (a b : A) → Some a ≡ Some b → a ≡ b
 some_same a b e = cc
 
-rest_within : (k : List ℕ) (d e : Data) (xs ys : Members) → AllByRecursion (λ n. slice_cmp nat_cmp k n ≡ Less) (names xs) → Within (member k d xs) (member k e ys) → Within xs ys
+rest_within : (k : List ℕ) (d e : Data) (xs ys : Members) → AllByRecursion (λ n. slice_cmp nat_cmp k n ≡ Less) (member_names xs) → Within (member k d xs) (member k e ys) → Within xs ys
 rest_within k d e xs ys above h x y g = by_order (slice_cmp nat_cmp x k) refl
   where
     -- a name among the others is another one
@@ -95,7 +95,7 @@ pub flipped : (k l : List ℕ) → slice_cmp nat_cmp k l ≡ Greater → slice_c
 flipped k l e = rw (nat_list_cmp_total.antisymm l k, e) refl
 
 -- two objects in order that answer the same are the same
-pub same_members : (a b : Members) → AreInOrder (names a) → AreInOrder (names b) → Within a b → Within b a → a ≡ b
+pub same_members : (a b : Members) → AreInOrder (member_names a) → AreInOrder (member_names b) → Within a b → Within b a → a ≡ b
 unfolding IsStrictlySortedBy
 same_members no_members no_members oa ob f g = refl
 same_members (member k d xs) no_members oa ob f g = none_some (get_member k no_members) d refl (f k d (get_first k d xs))
@@ -109,7 +109,7 @@ same_members (member k d xs) (member l e ys) oa ob f g = by_order (slice_cmp nat
         let name : k ≡ l = same_name k l is in
         let first : Within (member l d xs) (member l e ys) = subst (λ x. Within (member x d xs) (member l e ys)) name f in
         let back : Within (member l e ys) (member l d xs) = subst (λ x. Within (member l e ys) (member x d xs)) name g in
-        let above : AllByRecursion (λ n. slice_cmp nat_cmp l n ≡ Less) (names xs) = subst (λ x. AllByRecursion (λ n. slice_cmp nat_cmp x n ≡ Less) (names xs)) name oa.0 in
+        let above : AllByRecursion (λ n. slice_cmp nat_cmp l n ≡ Less) (member_names xs) = subst (λ x. AllByRecursion (λ n. slice_cmp nat_cmp x n ≡ Less) (member_names xs)) name oa.0 in
         let value : e ≡ d = some_same e d (sym (get_first l e ys) ∙ first l d (get_first l d xs)) in
         let rest : xs ≡ ys = others (rest_within l d e xs ys above first) (rest_within l e d ys xs ob.0 back) in
         λ i. member (name i) (sym value i) (rest i)
@@ -159,13 +159,13 @@ all_there : (ps : List Pair) (a : Members) → Each (λ p. has p.0 (put_all ps a
 all_there [] a = tt
 all_there (p ∷ ps) a = (all_keep p.0 ps (put p.0 p.1 a) (ap is_some (get_member-put p.0 p.1 a)), all_there ps (put p.0 p.1 a))
 
-all_in_order : (ps : List Pair) (a : Members) → AreInOrder (names a) → AreInOrder (names (put_all ps a))
+all_in_order : (ps : List Pair) (a : Members) → AreInOrder (member_names a) → AreInOrder (member_names (put_all ps a))
 all_in_order [] a h = h
 all_in_order (p ∷ ps) a h = all_in_order ps (put p.0 p.1 a) (put_in_order p.0 p.1 a h)
 
 -- ---- what stands in order
 
-later_get : (x k : List ℕ) (d : Data) (y : Data) (ms : Members) → AllByRecursion (λ n. slice_cmp nat_cmp k n ≡ Less) (names ms) → get_member x ms ≡ Some y → get_member x (member k d ms) ≡ Some y
+later_get : (x k : List ℕ) (d : Data) (y : Data) (ms : Members) → AllByRecursion (λ n. slice_cmp nat_cmp k n ≡ Less) (member_names ms) → get_member x ms ≡ Some y → get_member x (member k d ms) ≡ Some y
 later_get x k d y ms above g = by_order (slice_cmp nat_cmp x k) refl
   where
     by_order : (o : Ordering) → slice_cmp nat_cmp x k ≡ o → get_member x (member k d ms) ≡ Some y
@@ -173,11 +173,11 @@ later_get x k d y ms above g = by_order (slice_cmp nat_cmp x k) refl
     by_order Equal is = none_some (get_member x ms) y (ap (λ z. get_member z ms) (same_name x k is) ∙ get_absent k ms above) g
     by_order Greater is = at_greater (slice_cmp nat_cmp x k) (get_member x ms) d is ∙ g
 
-each_later : (k : List ℕ) (d : Data) (ms : Members) (qs : List Pair) → AllByRecursion (λ n. slice_cmp nat_cmp k n ≡ Less) (names ms) → Each (λ q. get_member q.0 ms ≡ Some q.1) qs → Each (λ q. get_member q.0 (member k d ms) ≡ Some q.1) qs
+each_later : (k : List ℕ) (d : Data) (ms : Members) (qs : List Pair) → AllByRecursion (λ n. slice_cmp nat_cmp k n ≡ Less) (member_names ms) → Each (λ q. get_member q.0 ms ≡ Some q.1) qs → Each (λ q. get_member q.0 (member k d ms) ≡ Some q.1) qs
 each_later k d ms [] above h = tt
 each_later k d ms (q ∷ qs) above h = (later_get q.0 k d q.1 ms above h.0, each_later k d ms qs above h.1)
 
-pub each_found : (qs : List Pair) → AreInOrder (names (members_from qs)) → Each (λ q. get_member q.0 (members_from qs) ≡ Some q.1) qs
+pub each_found : (qs : List Pair) → AreInOrder (member_names (members_from qs)) → Each (λ q. get_member q.0 (members_from qs) ≡ Some q.1) qs
 unfolding IsStrictlySortedBy
 each_found [] h = tt
 each_found (q ∷ qs) h = (get_first q.0 q.1 (members_from qs), each_later q.0 q.1 (members_from qs) qs h.0 (each_found qs h.1))
@@ -202,7 +202,7 @@ there_and_within a b (q ∷ qs) f h g = (by_answer (get_member q.0 a) refl h.0, 
     by_answer (Some y) is s = is ∙ sym (f q.0 y is) ∙ g.0
 
 -- members that were put in one after another are those in order, where those in order ascend
-pub put_in_any_order : (ps qs : List Pair) → IsPermutation ps qs → AreInOrder (names (members_from qs)) → put_all ps no_members ≡ members_from qs
+pub put_in_any_order : (ps qs : List Pair) → IsPermutation ps qs → AreInOrder (member_names (members_from qs)) → put_all ps no_members ≡ members_from qs
 put_in_any_order ps qs moved order =
     let b = members_from qs in
     let a = put_all ps no_members in

@@ -3,7 +3,7 @@ ghost use Rattle.std.specs.Prelude.{◌≡◌, ◌↔◌, [], length, slice_get,
 ghost use Rattle.std.specs.List.{list_any};
 ghost use Rattle.serde_json.specs.Find.{as_str, as_object};
 ghost use Rattle.serde_json.specs.Events.{members_len};
-ghost use Rattle.jwt_text.specs.Members.{has, text_at, is_number_at, whole_at, flag_at, list_at, object_at, names, AreInOrder, are_texts, compact_at};
+ghost use Rattle.jwt_text.specs.Members.{has, text_at, is_number_at, whole_at, flag_at, list_at, object_at, member_names, AreInOrder, are_texts, compact_at};
 
 use crate::TextFault;
 use crate::compact::compact_node;
@@ -140,8 +140,8 @@ impl<'a> ObjectRef<'a> {
 
     /// The name at this place, from 0, in ascending byte order; `None` past the last.
     pub fn name(&self, place: usize) -> Option<&'a str>
-        ensures name { option_map (λ s. s.now) result ≡ slice_get (names self.now) place }
-        ensures order { AreInOrder (names self.now) }
+        ensures name { option_map (λ s. s.now) result ≡ slice_get (member_names self.now) place }
+        ensures order { AreInOrder (member_names self.now) }
     {
         if place < self.entries.len() {
             Some(self.store.text(self.entries[place].name))
@@ -152,7 +152,7 @@ impl<'a> ObjectRef<'a> {
 
     /// Whether some name is in both objects. Each name of this one is looked up in the other.
     pub fn shares_name(&self, other: &ObjectRef<'_>) -> bool
-        ensures { result ≡ list_any (λ name. has name other.now) (names self.now) }
+        ensures { result ≡ list_any (λ name. has name other.now) (member_names self.now) }
     {
         share_name(self.store, self.entries, other)
     }
@@ -202,7 +202,8 @@ impl<'a> List<'a> {
 
     /// The text at this place, from 0; `None` past the last, or where the element is of another kind.
     pub fn text(&self, place: usize) -> Option<&'a str>
-        ensures { option_map (λ s. s.now) result ≡ option_and_then as_str (slice_get self.now place) }
+        ensures { option_map (λ s. s.now) result
+            ≡ option_and_then as_str (slice_get self.now place) }
     {
         if place < self.nodes.len() {
             self.store.text_at(self.nodes[place])

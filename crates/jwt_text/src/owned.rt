@@ -2,7 +2,7 @@
 ghost use Rattle.std.specs.Prelude.{◌≡◌, length, slice_get, option_map, IfOk, IsOkUnless};
 ghost use Rattle.serde_json.specs.Data.{no_members};
 ghost use Rattle.serde_json.specs.Events.{members_len};
-ghost use Rattle.jwt_text.specs.Members.{has, text_at, is_number_at, whole_at, flag_at, list_at, object_at, names, AreInOrder, compact_at};
+ghost use Rattle.jwt_text.specs.Members.{has, text_at, is_number_at, whole_at, flag_at, list_at, object_at, member_names, AreInOrder, compact_at};
 
 use crate::TextFault;
 use crate::lent::{List, ObjectRef};
@@ -114,8 +114,8 @@ impl Object {
 
     /// The name at this place, from 0, in ascending byte order; `None` past the last.
     pub fn name(&self, place: usize) -> Option<&str>
-        ensures name { option_map (λ s. s.now) result ≡ slice_get (names self.now) place }
-        ensures order { AreInOrder (names self.now) }
+        ensures name { option_map (λ s. s.now) result ≡ slice_get (member_names self.now) place }
+        ensures order { AreInOrder (member_names self.now) }
     {
         self.lend().name(place)
     }

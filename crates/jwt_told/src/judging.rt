@@ -5,7 +5,7 @@ ghost use Rattle.jwt_keys.specs.KeySets.{key_set};
 ghost use Rattle.jwt_verify.specs.Table.{work};
 ghost use Rattle.jwt_verify.specs.Accepted.{IsVerdict};
 ghost use Rattle.jwt_verify.specs.Paying.{IsWithin};
-ghost use Rattle.jwt_verify.specs.Reports.{FoundMemory, IsReport, terms};
+ghost use Rattle.jwt_verify.specs.Reports.{FoundMemory, IsReport, IsReadAs, terms};
 ghost use Rattle.jwt_verify.specs.Verdict.{token_of};
 ghost use Rattle.jwt_verify.specs.declared.report.Fault.TheVariants.{OutOfMemory};
 ghost use Rattle.jwt_verify.specs.declared.report.Verdict.TheVariants.{Refused};
@@ -18,7 +18,7 @@ use crate::questions::{Asking, Question, first_open};
 use jwt_keys::KeySet;
 use jwt_mac::{Budget, CountDown, Verifier};
 use jwt_policy::Policy;
-use jwt_verify::{Fault, Report, Try, Verdict, judge};
+use jwt_verify::{Fault, JudgedToken, Report, Try, Verdict, judge_signed};
 use std::alloc::{AllocError, Global};
 
 /// The same answers, shared, in a box.
@@ -29,32 +29,19 @@ fn boxed(alloc: Global, answers: &Answers) -> Result<Box<Answers>, AllocError>
     Ok(Box::new(alloc, shared)?)
 }
 
-/// A report that memory was refused before anything was tried.
-fn nothing_tried<'p>(alloc: Global) -> Report<'p>
-    ensures verdict { result.verdict ≡ Refused OutOfMemory }
-    ensures tries { result.tries.items ≡ [] }
+/// A report that memory was refused before anything was read or tried.
+fn nothing_tried<'a, 'p>(alloc: Global) -> JudgedToken<'a, 'p>
+    ensures verdict { result.report.verdict ≡ Refused OutOfMemory }
+    ensures tries { result.report.tries.items ≡ [] }
+    ensures token { result.token ≡ None }
 {
-    Report {
-        verdict: Verdict::Refused(Fault::OutOfMemory),
-        states: Vec::new(alloc),
-        tries: Vec::new(alloc),
-    }
-}
-
-/// The report with the verdict that memory was refused.
-fn without_memory<'p>(report: Report<'p>) -> Report<'p>
-    ensures verdict { result.verdict ≡ Refused OutOfMemory }
-    ensures tries { result.tries.items ≡ report.entry.tries.items }
-{
-    let Report {
-        verdict: _,
-        states,
-        tries,
-    } = report;
-    Report {
-        verdict: Verdict::Refused(Fault::OutOfMemory),
-        states,
-        tries,
+    JudgedToken {
+        report: Report {
+            verdict: Verdict::Refused(Fault::OutOfMemory),
+            states: Vec::new(alloc),
+            tries: Vec::new(alloc),
+        },
+        token: None,
     }
 }
 
@@ -86,51 +73,53 @@ fn asking(first: Try, report: Report<'_>) -> Asking
     }
 }
 
-/// The report on octets in hand by a verifier that means what was told.
-fn judge_under<'p>(
+/// The report on octets in hand by a verifier that means what was told, with the token.
+fn judge_under<'a, 'p>(
     alloc: Global,
-    octets: &[u8],
+    octets: &'a [u8],
     keys: &KeySet,
     policy: &'p Policy,
     now: i64,
     answers: &Answers,
     verifiers: &[Box<dyn Verifier>],
     budget: &mut CountDown,
-) -> Report<'p>
+) -> JudgedToken<'a, 'p>
     requires one { map meaning verifiers.now ≡ told_meaning (told answers.now) ∷ [] }
     requires no_octets { ⟦<CountDown as Budget>⟧.octets budget.old ≡ 0 }
     requires no_calls { ⟦<CountDown as Budget>⟧.calls budget.old ≡ 0 }
     ensures report { IsReport
         (terms policy.now keys.now now (told_meaning (told answers.now) ∷ []))
-        octets.now (⟦<CountDown as Budget>⟧.ceiling budget.old) result }
+        octets.now (⟦<CountDown as Budget>⟧.ceiling budget.old) result.report }
+    ensures token { IsReadAs (token_of policy.now octets.now) result.report.verdict result.token }
     ensures within { IsWithin policy.now.max_calls (⟦<CountDown as Budget>⟧.calls budget.new) }
-    ensures octets { ⟦<CountDown as Budget>⟧.octets budget.new ≡ work result.tries.items }
-    ensures calls { ⟦<CountDown as Budget>⟧.calls budget.new ≡ length result.tries.items }
+    ensures octets { ⟦<CountDown as Budget>⟧.octets budget.new ≡ work result.report.tries.items }
+    ensures calls { ⟦<CountDown as Budget>⟧.calls budget.new ≡ length result.report.tries.items }
     ensures ceiling { ⟦<CountDown as Budget>⟧.ceiling budget.new
         ≡ ⟦<CountDown as Budget>⟧.ceiling budget.old }
 {
-    judge(alloc, octets, keys, policy, now, verifiers, budget)
+    judge_signed(alloc, octets, keys, policy, now, verifiers, budget)
 }
 
-/// The report on octets in hand, where these answers, shared, are the one verifier.
+/// The report on octets in hand, where these answers, shared, are the one verifier, with the token.
 #[tactic(auto, unfolding(jwt_verify::specs::Table::work), using(crate::proofs::Blank::nothing))]
-fn judge_by<'p>(
+fn judge_by<'a, 'p>(
     alloc: Global,
-    octets: &[u8],
+    octets: &'a [u8],
     keys: &KeySet,
     policy: &'p Policy,
     now: i64,
     answers: &Answers,
     budget: &mut CountDown,
-) -> Report<'p>
+) -> JudgedToken<'a, 'p>
     requires no_octets { ⟦<CountDown as Budget>⟧.octets budget.old ≡ 0 }
     requires no_calls { ⟦<CountDown as Budget>⟧.calls budget.old ≡ 0 }
     ensures report { IsReport
         (terms policy.now keys.now now (told_meaning (told answers.now) ∷ []))
-        octets.now (⟦<CountDown as Budget>⟧.ceiling budget.old) result }
+        octets.now (⟦<CountDown as Budget>⟧.ceiling budget.old) result.report }
+    ensures token { IsReadAs (token_of policy.now octets.now) result.report.verdict result.token }
     ensures within { IsWithin policy.now.max_calls (⟦<CountDown as Budget>⟧.calls budget.new) }
-    ensures octets { ⟦<CountDown as Budget>⟧.octets budget.new ≡ work result.tries.items }
-    ensures calls { ⟦<CountDown as Budget>⟧.calls budget.new ≡ length result.tries.items }
+    ensures octets { ⟦<CountDown as Budget>⟧.octets budget.new ≡ work result.report.tries.items }
+    ensures calls { ⟦<CountDown as Budget>⟧.calls budget.new ≡ length result.report.tries.items }
     ensures ceiling { ⟦<CountDown as Budget>⟧.ceiling budget.new
         ≡ ⟦<CountDown as Budget>⟧.ceiling budget.old }
 {
@@ -213,13 +202,15 @@ pub fn judge_told<'p>(
         ≡ ⟦<CountDown as Budget>⟧.ceiling budget.old }
 {
     right_answers();
-    let report = judge_by(alloc, octets, keys, policy, now, answers, budget);
+    let JudgedToken { report, token } = judge_by(alloc, octets, keys, policy, now, answers, budget);
     if !found_memory(&report.verdict) {
         return Ok(report);
     }
-    match first_open(alloc, octets, keys, policy, answers, &report.tries) {
-        Ok(None) => Ok(report),
-        Ok(Some(first)) => Err(asking(first, report)),
-        Err(_) => Ok(without_memory(report)),
+    match token {
+        Some(signed) => match first_open(answers, &signed, keys, &report.tries) {
+            Some(first) => Err(asking(first, report)),
+            None => Ok(report),
+        },
+        None => Ok(report),
     }
 }

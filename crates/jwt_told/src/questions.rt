@@ -1,19 +1,19 @@
 //! The questions about a token that no answer was told to.
 
-ghost use Rattle.std.specs.Prelude.{option_map, ◌≡◌, IfOk, MatchOption, Ok, IsErr, false, true};
+ghost use Rattle.std.specs.Prelude.{option_map, ◌≡◌, IfOk, MatchOption, Ok, IsErr};
 ghost use Rattle.std.specs.List.{find};
 ghost use Rattle.jwt_keys.specs.KeySets.{key_set};
 ghost use Rattle.jwt_jws.specs.Views.{token};
-ghost use Rattle.jwt_verify.specs.Verdict.{token_of, without_line_feed};
+ghost use Rattle.jwt_verify.specs.Verdict.{token_of};
 ghost use Rattle.jwt_told.specs.Told.{told};
 ghost use Rattle.jwt_told.specs.Questions.{question_parts, question_at, is_open, asks_open, first_open};
 
 use crate::answers::Answers;
-use jwt_jws::{FormFault, Signed, parse};
+use jwt_jws::Signed;
 use jwt_keys::KeySet;
 use jwt_mac::{Alg, KeyView, Message};
 use jwt_policy::{Policy, known_alg};
-use jwt_verify::Try;
+use jwt_verify::{Fault, Try};
 use std::alloc::{AllocError, Global};
 
 /// A pair of signature and key whose validity wasn't told.
@@ -79,22 +79,11 @@ pub struct Asked<'a> {
     pub signature: &'a [u8],
 }
 
-/// The octets without one line feed at their end, where that is to be dropped.
-fn without_line_feed(octets: &[u8], drops: bool) -> &[u8]
-    ensures { result.now ≡ without_line_feed drops octets.now }
-{
-    if drops && octets.len() > 0 && octets[octets.len() - 1] == 10 {
-        &octets[..octets.len() - 1]
-    } else {
-        octets
-    }
-}
-
-/// The signed token that the octets are, as a run under the policy reads it (RFC 7515, section 7); `None` where they are none.
+/// The signed token that the octets are, as [`jwt_verify::read_token`] reads it under the policy;
+/// `None` where they are none.
 ///
 /// # Errors
 /// Where an allocation was refused.
-#[tactic(auto, unfolding(jwt_verify::specs::Verdict::token_of))]
 pub fn read_token<'a>(
     alloc: Global,
     octets: &'a [u8],
@@ -104,13 +93,9 @@ pub fn read_token<'a>(
         (IsErr (token_of policy.now octets.now))
         (λ s. token_of policy.now octets.now ≡ Ok (token s))) }
 {
-    if octets.len() > policy.limit() as usize {
-        return Ok(None);
-    }
-    let text = without_line_feed(octets, policy.line_feed());
-    match parse(alloc, text, policy.max_signatures()) {
+    match jwt_verify::read_token(alloc, octets, policy) {
         Ok(signed) => Ok(Some(signed)),
-        Err(FormFault::OutOfMemory) => Err(AllocError),
+        Err(Fault::OutOfMemory) => Err(AllocError),
         Err(_) => Ok(None),
     }
 }
@@ -136,14 +121,14 @@ fn is_open(answers: &Answers, signed: &Signed<'_>, keys: &KeySet, i: u32, j: u32
 }
 
 /// The first of these tries whose question is open.
-fn first_open_of(
+pub(crate) fn first_open(
     answers: &Answers,
     signed: &Signed<'_>,
     keys: &KeySet,
     tries: &[Try],
 ) -> Option<Try>
-    ensures { result
-        ≡ find (asks_open (told answers.now) (token signed.now) (key_set keys.now).keys) tries.now }
+    ensures { result ≡ first_open (told answers.now)
+        (Ok (token signed.now)) (key_set keys.now).keys tries.now }
 {
     for each in tries {
         if is_open(answers, signed, keys, each.signature, each.key) {
@@ -151,22 +136,4 @@ fn first_open_of(
         }
     }
     None
-}
-
-/// The first of these tries of a token whose question is open.
-pub(crate) fn first_open(
-    alloc: Global,
-    octets: &[u8],
-    keys: &KeySet,
-    policy: &Policy,
-    answers: &Answers,
-    tries: &[Try],
-) -> Result<Option<Try>, AllocError>
-    ensures { IfOk result (λ o. o ≡ first_open (told answers.now)
-        (token_of policy.now octets.now) (key_set keys.now).keys tries.now) }
-{
-    match read_token(alloc, octets, policy)? {
-        Some(signed) => Ok(first_open_of(answers, &signed, keys, tries)),
-        None => Ok(None),
-    }
 }

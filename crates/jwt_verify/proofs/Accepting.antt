@@ -22,7 +22,7 @@ use Rattle.jwt_verify.specs.declared.report.Verdict.{Verdict}
 use Rattle.jwt_verify.specs.declared.report.Verdict.TheVariants.{Accepted}
 use Rattle.jwt_verify.specs.Table.{Table, below, verifies, verified, outcome, stop, ending}
 use Rattle.jwt_verify.specs.Trying.{table_of}
-use Rattle.jwt_verify.specs.Verdict.{Terms, Signing, VerifiedBy, Unverified, first_in, key_at, fault_at, unverified, verified_or, signing_in, signing_of, checked, claimed, concluded, ended, token_verdict, formed, token_of, decided, verdict_of, table, without_line_feed}
+use Rattle.jwt_verify.specs.Verdict.{Terms, Signing, VerifiedBy, Unverified, first_in, key_at, fault_at, unverified, verified_or, signing_in, signing_of, checked, claims_verdict, conclusion, unless_stopped, token_verdict, formed, token_of, decided, verdict_of, table, without_line_feed}
 use Rattle.jwt_verify.specs.Accepted.{IsLeastKey, Counts, IsVerifiedBy}
 use Rattle.jwt_verify.proofs.First.{first_zero, first_here, first_more, first_none_at, first-below, or_else}
 use Rattle.jwt_verify.proofs.Walking.{find-below}
@@ -168,21 +168,21 @@ checked_is : (i j a b : ℕ) (ms claims : Members) (o : Option ClaimFault) → c
 checked_is i j a b ms claims (Some f) h = cc
 checked_is i j a b ms claims None h = let x : a ≡ i = cc in let y : b ≡ j = cc in let z : ms ≡ claims = cc in (x, y, z, refl)
 
-claimed_is : (p : Settings) (now : ℤ) (i j a b : ℕ) (claims : Members) (r : Result Members ClaimFault) → claimed p now a b r ≡ Accepted i j claims
+claimed_is : (p : Settings) (now : ℤ) (i j a b : ℕ) (claims : Members) (r : Result Members ClaimFault) → claims_verdict p now a b r ≡ Accepted i j claims
     → (a ≡ i) × (b ≡ j) × (r ≡ Ok claims) × (check_of p claims now ≡ None)
 claimed_is p now i j a b claims (Err f) h = cc
 claimed_is p now i j a b claims (Ok ms) h =
     let q = checked_is i j a b ms claims (check_of p ms now) h in
     (q.0, q.1, ap Ok q.2, ap (λ ms. check_of p ms now) (sym q.2) ∙ q.3)
 
-concluded_is : (p : Settings) (now : ℤ) (payload : List ℕ) (i j : ℕ) (claims : Members) (s : Signing) → concluded p now payload s ≡ Accepted i j claims
+concluded_is : (p : Settings) (now : ℤ) (payload : List ℕ) (i j : ℕ) (claims : Members) (s : Signing) → conclusion p now payload s ≡ Accepted i j claims
     → (s ≡ VerifiedBy i j) × (claims_of payload ≡ Ok claims) × (check_of p claims now ≡ None)
 concluded_is p now payload i j claims (Unverified a f) h = cc
 concluded_is p now payload i j claims (VerifiedBy a b) h =
     let q = claimed_is p now i j a b claims (claims_of payload) h in
     (rw (q.0, q.1) refl, q.2, q.3)
 
-ended_is : (r : End) (v : Verdict) (i j : ℕ) (claims : Members) → ended r v ≡ Accepted i j claims → (r ≡ end.Done) × (v ≡ Accepted i j claims)
+ended_is : (r : End) (v : Verdict) (i j : ℕ) (claims : Members) → unless_stopped r v ≡ Accepted i j claims → (r ≡ end.Done) × (v ≡ Accepted i j claims)
 ended_is end.Done v i j claims h = (refl, h)
 ended_is (end.WorkExceeded a b) v i j claims h = cc
 ended_is (end.CallsExceeded a b) v i j claims h = cc
@@ -216,7 +216,7 @@ accepted_words q x w i j claims (Err f) e h = cc
 accepted_words q x w i j claims (Ok t) e h =
     let T = table_of q.policy q.verifiers q.keys t in
     let same : T ≡ table q x = table_of_token q x t (sym e) in
-    let a = ended_is (ending T w q.policy.max_calls) (concluded q.policy q.now t.payload (signing_of T)) i j claims h in
+    let a = ended_is (ending T w q.policy.max_calls) (conclusion q.policy q.now t.payload (signing_of T)) i j claims h in
     let b = concluded_is q.policy q.now t.payload i j claims (signing_of T) a.1 in
     record {
       token = t;
@@ -236,8 +236,8 @@ words_accepted q x w i j claims a =
     let same : table q x ≡ T = sym (table_of_token q x t e) in
     let none : stop T w q.policy.max_calls ≡ None = subst (λ t. stop t w q.policy.max_calls ≡ None) same a.unstopped in
     let by : signing_of T ≡ VerifiedBy i j = (signing_by_words T (unbarred_by q.policy q.verifiers q.keys t) i j).1 (subst (λ t. IsVerifiedBy t i j) same a.verified_by) in
-    ap (decided q w) e ∙ ap (λ r. ended r (concluded q.policy q.now t.payload (signing_of T))) (stop_done T w q.policy.max_calls none)
-    ∙ ap (concluded q.policy q.now t.payload) by ∙ ap (claimed q.policy q.now i j) a.read ∙ ap (checked i j claims) a.hold
+    ap (decided q w) e ∙ ap (λ r. unless_stopped r (conclusion q.policy q.now t.payload (signing_of T))) (stop_done T w q.policy.max_calls none)
+    ∙ ap (conclusion q.policy q.now t.payload) by ∙ ap (claims_verdict q.policy q.now i j) a.read ∙ ap (checked i j claims) a.hold
 
 pub accepts_exactly_holds : AcceptsStepwise
 unfolding verdict_of

@@ -35,7 +35,7 @@ use Rattle.jwt_verify.specs.declared.tries.End.{End}
 use Rattle.jwt_verify.specs.declared.report.InputFault.TheVariants.{TooLong}
 use Rattle.jwt_verify.specs.Table.{Table, tries, work, is_within, affords, paid, stop, ending, states_at, states}
 use Rattle.jwt_verify.specs.Trying.{cost_under, cost_by, at_pair, table_of}
-use Rattle.jwt_verify.specs.Verdict.{Terms, Signing, VerifiedBy, Unverified, signing_of, checked, claimed, concluded, ended, token_verdict, formed, token_of, token_or_none, table, decided, verdict_of, without_line_feed}
+use Rattle.jwt_verify.specs.Verdict.{Terms, Signing, VerifiedBy, Unverified, signing_of, checked, claims_verdict, conclusion, unless_stopped, token_verdict, formed, token_of, token_or_none, table, decided, verdict_of, without_line_feed}
 use Rattle.jwt_verify.specs.Laws.{greatest, common_cost, long_secret, long_key, work_bound, CeilingSuffices}
 use Rattle.jwt_verify.proofs.Bounds.{work_bounded}
 use Rattle.jwt_verify.proofs.Judged.{table_of_token}
@@ -195,15 +195,15 @@ checked_work : (a b i j : ℕ) (claims : Members) (o : Option ClaimFault) → ch
 checked_work a b i j claims None h = cc
 checked_work a b i j claims (Some f) h = cc
 
-claimed_work : (p : Settings) (now : ℤ) (a b i j : ℕ) (r : Result Members ClaimFault) → claimed p now a b r ≡ Refused (WorkExceeded i j) → ⊥
+claimed_work : (p : Settings) (now : ℤ) (a b i j : ℕ) (r : Result Members ClaimFault) → claims_verdict p now a b r ≡ Refused (WorkExceeded i j) → ⊥
 claimed_work p now a b i j (Ok claims) h = checked_work a b i j claims (check_of p claims now) h
 claimed_work p now a b i j (Err f) h = cc
 
-concluded_work : (p : Settings) (now : ℤ) (payload : List ℕ) (i j : ℕ) (s : Signing) → concluded p now payload s ≡ Refused (WorkExceeded i j) → ⊥
+concluded_work : (p : Settings) (now : ℤ) (payload : List ℕ) (i j : ℕ) (s : Signing) → conclusion p now payload s ≡ Refused (WorkExceeded i j) → ⊥
 concluded_work p now payload i j (VerifiedBy a b) h = claimed_work p now a b i j (claims_of payload) h
 concluded_work p now payload i j (Unverified a f) h = cc
 
-ended_work : (r : End) (p : Settings) (now : ℤ) (payload : List ℕ) (i j : ℕ) (s : Signing) → ended r (concluded p now payload s) ≡ Refused (WorkExceeded i j) → r ≡ end.WorkExceeded i j
+ended_work : (r : End) (p : Settings) (now : ℤ) (payload : List ℕ) (i j : ℕ) (s : Signing) → unless_stopped r (conclusion p now payload s) ≡ Refused (WorkExceeded i j) → r ≡ end.WorkExceeded i j
 ended_work end.Done p now payload i j s h = absurd (concluded_work p now payload i j s h)
 ended_work (end.WorkExceeded a b) p now payload i j s h = let x : a ≡ i = cc in let y : b ≡ j = cc in rw (x, y) refl
 ended_work (end.CallsExceeded a b) p now payload i j s h = cc
@@ -239,7 +239,7 @@ module _ (q : Terms) (x : List ℕ) (w v : ℕ) (enough : work (tries (table q x
   decided_same (Ok t) e =
       let T = table_of q.policy q.verifiers q.keys t in
       let s : ending T w q.policy.max_calls ≡ ending T v q.policy.max_calls = subst (λ t. ending t w q.policy.max_calls ≡ ending t v q.policy.max_calls) (sym (table_of_token q x t (sym e))) (ending_same (table q x) q.policy.max_calls w v enough as_well) in
-      ap (λ r. ended r (concluded q.policy q.now t.payload (signing_of T))) s
+      ap (λ r. unless_stopped r (conclusion q.policy q.now t.payload (signing_of T))) s
 
   pub suffices : ((i j : ℕ) → verdict_of q x w ≢ Refused (WorkExceeded i j)) × (verdict_of q x w ≡ verdict_of q x v)
       × (paid (table q x) w q.policy.max_calls ≡ paid (table q x) v q.policy.max_calls) × (states (table q x) w q.policy.max_calls ≡ states (table q x) v q.policy.max_calls)

@@ -30,7 +30,7 @@ use Rattle.jwt_verify.specs.declared.report.Verdict.{Verdict}
 use Rattle.jwt_verify.specs.declared.report.Verdict.TheVariants.{Accepted, Refused}
 use Rattle.jwt_verify.specs.Table.{Table, entry, pairs, tries, affords, work, paid, stop, states_at, states, ending, is_within, IsRun}
 use Rattle.jwt_verify.specs.Trying.{at_pair, table_of}
-use Rattle.jwt_verify.specs.Verdict.{Terms, Signing, VerifiedBy, Unverified, checked, claimed, concluded, ended, token_verdict, signing_of, formed, token_of, table, decided, verdict_of, without_line_feed}
+use Rattle.jwt_verify.specs.Verdict.{Terms, Signing, VerifiedBy, Unverified, checked, claims_verdict, conclusion, unless_stopped, token_verdict, signing_of, formed, token_of, table, decided, verdict_of, without_line_feed}
 use Rattle.jwt_verify.specs.Reports.{FoundMemory}
 use Rattle.jwt_verify.specs.Steps.{IsWhole}
 use Rattle.jwt_verify.specs.declared.settled.Signing.{Signing as Decided}
@@ -81,18 +81,18 @@ done_stop t w calls h = go (stop t w calls) h
 
 pub run_says : (q : Terms) (w : ℕ) (t : Token) (es : List Try) (sts : List SigState) (r : End) (s : Decided) (v : Verdict)
     → IsRun (table_of q.policy q.verifiers q.keys t) w q.policy.max_calls es sts r → IsSigned (table_of q.policy q.verifiers q.keys t) s r
-    → (v ≢ Refused OutOfMemory → v ≡ ended r (concluded q.policy q.now t.payload (signing_view s)))
+    → (v ≢ Refused OutOfMemory → v ≡ unless_stopped r (conclusion q.policy q.now t.payload (signing_view s)))
     → FoundMemory v → v ≡ token_verdict q w t
 unfolding token_verdict
 run_says q w t es sts end.Done s v h signed k found =
     let T = table_of q.policy q.verifiers q.keys t in
-    k (found_not v found) ∙ ap (concluded q.policy q.now t.payload) signed ∙ ap (λ r. ended r (concluded q.policy q.now t.payload (signing_of T))) h.2
+    k (found_not v found) ∙ ap (conclusion q.policy q.now t.payload) signed ∙ ap (λ r. unless_stopped r (conclusion q.policy q.now t.payload (signing_of T))) h.2
 run_says q w t es sts (end.WorkExceeded i j) s v h signed k found =
     let T = table_of q.policy q.verifiers q.keys t in
-    k (found_not v found) ∙ ap (λ r. ended r (concluded q.policy q.now t.payload (signing_of T))) h.2
+    k (found_not v found) ∙ ap (λ r. unless_stopped r (conclusion q.policy q.now t.payload (signing_of T))) h.2
 run_says q w t es sts (end.CallsExceeded i j) s v h signed k found =
     let T = table_of q.policy q.verifiers q.keys t in
-    k (found_not v found) ∙ ap (λ r. ended r (concluded q.policy q.now t.payload (signing_of T))) h.2
+    k (found_not v found) ∙ ap (λ r. unless_stopped r (conclusion q.policy q.now t.payload (signing_of T))) h.2
 run_says q w t es sts (end.VerifierMemory i j) s v h signed k found = absurd (subst FoundMemory (k (found_not v found)) found)
 
 -- ---- the report
@@ -109,7 +109,7 @@ checked_not : (i j : ℕ) (claims : Members) (o : Option ClaimFault) (f : Fault)
 checked_not i j claims None f n h = cc
 checked_not i j claims (Some g) f n h = claim_not f g n h
 
-claimed_not : (p : Settings) (now : ℤ) (i j : ℕ) (r : Result Members ClaimFault) (f : Fault) → IsOther f → claimed p now i j r ≡ Refused f → ⊥
+claimed_not : (p : Settings) (now : ℤ) (i j : ℕ) (r : Result Members ClaimFault) (f : Fault) → IsOther f → claims_verdict p now i j r ≡ Refused f → ⊥
 claimed_not p now i j (Ok claims) f n h = checked_not i j claims (check_of p claims now) f n h
 claimed_not p now i j (Err g) f n h = claim_not f g n h
 
@@ -117,17 +117,17 @@ signature_not : (i : ℕ) (g : SigFault) (f : Fault) → IsOther f → Refused (
 signature_not i g f (inl n) h = cc
 signature_not i g f (inr n) h = cc
 
-concluded_not : (p : Settings) (now : ℤ) (payload : List ℕ) (s : Signing) (f : Fault) → IsOther f → concluded p now payload s ≡ Refused f → ⊥
+concluded_not : (p : Settings) (now : ℤ) (payload : List ℕ) (s : Signing) (f : Fault) → IsOther f → conclusion p now payload s ≡ Refused f → ⊥
 concluded_not p now payload (VerifiedBy i j) f n h = claimed_not p now i j (claims_of payload) f n h
 concluded_not p now payload (Unverified i g) f n h = signature_not i g f n h
 
-read_not : (r : End) (p : Settings) (now : ℤ) (payload : List ℕ) (s : Signing) → ended r (concluded p now payload s) ≡ Refused (Text Read) → ⊥
+read_not : (r : End) (p : Settings) (now : ℤ) (payload : List ℕ) (s : Signing) → unless_stopped r (conclusion p now payload s) ≡ Refused (Text Read) → ⊥
 read_not end.Done p now payload s h = concluded_not p now payload s (Text Read) (inr refl) h
 read_not (end.WorkExceeded i j) p now payload s h = cc
 read_not (end.CallsExceeded i j) p now payload s h = cc
 read_not (end.VerifierMemory i j) p now payload s h = cc
 
-pub run_read : (r : End) (p : Settings) (now : ℤ) (payload : List ℕ) (s : Signing) (v : Verdict) → (v ≢ Refused OutOfMemory → v ≡ ended r (concluded p now payload s)) → v ≢ Refused (Text Read)
+pub run_read : (r : End) (p : Settings) (now : ℤ) (payload : List ℕ) (s : Signing) (v : Verdict) → (v ≢ Refused OutOfMemory → v ≡ unless_stopped r (conclusion p now payload s)) → v ≢ Refused (Text Read)
 run_read r p now payload s v k e = read_not r p now payload s (sym (k (λ m. (let z = sym e ∙ m in cc))) ∙ e)
 
 module _ (t : Table) (w : ℕ) (calls : Option ℕ) (es : List Try) (sts : List SigState) where
@@ -160,7 +160,7 @@ module _ (t : Table) (w : ℕ) (calls : Option ℕ) (es : List Try) (sts : List 
   ]
 
   pub run_whole : (r : End) (p : Settings) (now : ℤ) (payload : List ℕ) (s : Signing) (v : Verdict) → IsRun t w calls es sts r
-      → (v ≢ Refused OutOfMemory → v ≡ ended r (concluded p now payload s)) → IsWhole t w calls es sts v
+      → (v ≢ Refused OutOfMemory → v ≡ unless_stopped r (conclusion p now payload s)) → IsWhole t w calls es sts v
   run_whole end.Done p now payload s v h k = by_memory v (λ n. whole v (λ e. concluded_not p now payload s VerifierMemory (inl refl) (sym (k n) ∙ e)) (h.0, h.1))
   run_whole (end.WorkExceeded i j) p now payload s v h k = by_memory v (λ n. whole v (λ e. (let q : Refused (WorkExceeded i j) ≡ Refused VerifierMemory = sym (k n) ∙ e in cc)) (h.0, h.1))
   run_whole (end.CallsExceeded i j) p now payload s v h k = by_memory v (λ n. whole v (λ e. (let q : Refused (CallsExceeded i j) ≡ Refused VerifierMemory = sym (k n) ∙ e in cc)) (h.0, h.1))

@@ -5,7 +5,7 @@ use Rattle.jwt_policy.specs.Settings.{Settings}
 use Rattle.jwt_verify.specs.declared.tries.End.{End}
 use Rattle.jwt_verify.specs.declared.tries.End.TheVariants as end
 use Rattle.jwt_verify.specs.Table.{Table, ending, states, states_at}
-use Rattle.jwt_verify.specs.Verdict.{concluded, ended, signing_of}
+use Rattle.jwt_verify.specs.Verdict.{conclusion, unless_stopped, signing_of}
 use Rattle.jwt_verify.specs.Steps.{signing_by}
 use Rattle.jwt_verify.specs.Laws.{with_valid, verdict_by, LeastTries}
 use Rattle.jwt_verify.proofs.Least.{changed_states, same_run}
@@ -14,12 +14,12 @@ use Rattle.jwt_verify.proofs.Judged.{done_stop}
 
 -- the same end, and under it the same conclusion, give the same verdict
 ended_same : (t : Table) (v : ℕ → ℕ → Bool) (octets : ℕ) (calls : Option ℕ) (p : Settings) (now : ℤ) (payload : List ℕ) (r : End)
-    → ended r (concluded p now payload (signing_of (with_valid t v))) ≡ ended r (concluded p now payload (signing_of t))
+    → unless_stopped r (conclusion p now payload (signing_of (with_valid t v))) ≡ unless_stopped r (conclusion p now payload (signing_of t))
     → r ≡ ending t octets calls → ending (with_valid t v) octets calls ≡ ending t octets calls
     → verdict_by (with_valid t v) octets calls p now payload ≡ verdict_by t octets calls p now payload
 ended_same t v octets calls p now payload r same here ends =
-    ap (λ e. ended e (concluded p now payload (signing_of (with_valid t v)))) (ends ∙ sym here)
-    ∙ same ∙ ap (λ e. ended e (concluded p now payload (signing_of t))) here
+    ap (λ e. unless_stopped e (conclusion p now payload (signing_of (with_valid t v)))) (ends ∙ sym here)
+    ∙ same ∙ ap (λ e. unless_stopped e (conclusion p now payload (signing_of t))) here
 
 -- the signatures of a run that didn't stop come to what its states say
 signing_same : (t : Table) (v : ℕ → ℕ → Bool) (octets : ℕ) (calls : Option ℕ) → ((i j : ℕ) → t.eligible i j ≡ true → t.bar i ≡ None)
@@ -37,7 +37,7 @@ verdict_same : (t : Table) (v : ℕ → ℕ → Bool) (octets : ℕ) (calls : Op
 verdict_same t v octets calls unbarred same ends p now payload = go (ending t octets calls) refl
   where
     go : (r : End) → r ≡ ending t octets calls → verdict_by (with_valid t v) octets calls p now payload ≡ verdict_by t octets calls p now payload
-    go end.Done e = ended_same t v octets calls p now payload end.Done (ap (concluded p now payload) (signing_same t v octets calls unbarred e ends same)) e ends
+    go end.Done e = ended_same t v octets calls p now payload end.Done (ap (conclusion p now payload) (signing_same t v octets calls unbarred e ends same)) e ends
     go (end.WorkExceeded i j) e = ended_same t v octets calls p now payload (end.WorkExceeded i j) refl e ends
     go (end.CallsExceeded i j) e = ended_same t v octets calls p now payload (end.CallsExceeded i j) refl e ends
     go (end.VerifierMemory i j) e = ended_same t v octets calls p now payload (end.VerifierMemory i j) refl e ends

@@ -24,7 +24,7 @@ use Rattle.jwt_verify.specs.declared.report.Fault.TheVariants.{OutOfMemory, Text
 use Rattle.jwt_verify.specs.declared.report.Verdict.TheVariants.{Refused}
 use Rattle.jwt_verify.specs.Table.{Table, below, verified, pairs, tries, paid, stop, ending, is_within}
 use Rattle.jwt_verify.specs.Trying.{table_of}
-use Rattle.jwt_verify.specs.Verdict.{Terms, Signing, VerifiedBy, Unverified, first_in, key_at, fault_at, unverified, verified_or, signing_in, signing_of, checked, claimed, concluded, ended, token_verdict, formed, token_of, decided, verdict_of, table, token_or_none, without_line_feed}
+use Rattle.jwt_verify.specs.Verdict.{Terms, Signing, VerifiedBy, Unverified, first_in, key_at, fault_at, unverified, verified_or, signing_in, signing_of, checked, claims_verdict, conclusion, unless_stopped, token_verdict, formed, token_of, decided, verdict_of, table, token_or_none, without_line_feed}
 use Rattle.jwt_verify.specs.Accepted.{IsVerifiedBy, IsFirstUnverified}
 use Rattle.jwt_verify.proofs.Below.{below-zero}
 use Rattle.jwt_verify.proofs.First.{first_here, first_none_at}
@@ -56,8 +56,8 @@ zip_some : {X Y : Type 0} (P : X → Y → Type 0) (xs : List X) (ys : List Y) �
 zip_some P xs ys h l = omega (arith, AllZip-long P xs ys h, l)
 
 spelled_some : (most : ℕ) (z : List ℕ) (w : SpelledToken) → IsSpelledToken most z w → 0 < length w.signatures
-spelled_some most z w (inl h) = rw h.1.4 (omega arith)
-spelled_some most z w (inr h) = elim h.1.3 [
+spelled_some most z w (inl h) = rw h.4 (omega arith)
+spelled_some most z w (inr h) = elim h.shape [
   | inl g ↦ g.some
   | inr f ↦ rw f.signature.1 (omega arith)
 ]
@@ -120,7 +120,7 @@ module _ (t : Table) (barred : (i j : ℕ) → t.eligible i j ≡ true → t.bar
 
 -- ---- a token
 
-claim_words : (q : Terms) (payload : List ℕ) (i j : ℕ) (f : Fault) (r : Result Members ClaimFault) → r ≡ claims_of payload → claimed q.policy q.now i j r ≡ Refused f
+claim_words : (q : Terms) (payload : List ℕ) (i j : ℕ) (f : Fault) (r : Result Members ClaimFault) → r ≡ claims_of payload → claims_verdict q.policy q.now i j r ≡ Refused f
     → (g : ClaimFault) × (Claim g ≡ f) × IsClaimFaultStepwise q payload g
 claim_words q payload i j f (Err g) e h = (g, refusal (Claim g) f h, inl (sym e))
 claim_words q payload i j f (Ok claims) e h = go (check_of q.policy claims q.now) refl h
@@ -136,7 +136,7 @@ module _ (q : Terms) (x : List ℕ) (w : ℕ) (f : Fault) (t : Token) (here : to
   same : T ≡ table q x
   same = table_of_token q x t here
 
-  signing_words : (s : Signing) → s ≡ signing_of T → stop T w q.policy.max_calls ≡ None → concluded q.policy q.now t.payload s ≡ Refused f → IsFaultStepwise q x w f
+  signing_words : (s : Signing) → s ≡ signing_of T → stop T w q.policy.max_calls ≡ None → conclusion q.policy q.now t.payload s ≡ Refused f → IsFaultStepwise q x w f
   signing_words (VerifiedBy i j) e none h =
       let c = claim_words q t.payload i j f (claims_of t.payload) refl h in
       let by : IsVerifiedBy T i j = (signing_by_words T (unbarred_by q.policy q.verifiers q.keys t) i j).0 (sym e) in
@@ -158,7 +158,7 @@ module _ (q : Terms) (x : List ℕ) (w : ℕ) (f : Fault) (t : Token) (here : to
       )
 
   stop_words : (o : Option Try) → o ≡ stop T w q.policy.max_calls → (b : Bool) → b ≡ is_within q.policy.max_calls (length (paid T w q.policy.max_calls) + 1)
-      → ended (option_map_or (λ e. if b then end.WorkExceeded e.signature e.key else end.CallsExceeded e.signature e.key) o end.Done) (concluded q.policy q.now t.payload (signing_of T)) ≡ Refused f
+      → unless_stopped (option_map_or (λ e. if b then end.WorkExceeded e.signature e.key else end.CallsExceeded e.signature e.key) o end.Done) (conclusion q.policy q.now t.payload (signing_of T)) ≡ Refused f
       → IsFaultStepwise q x w f
   stop_words None e b k h = signing_words (signing_of T) refl (sym e) h
   stop_words (Some s) e true k h = subst (IsFaultStepwise q x w) (refusal (WorkExceeded s.signature s.key) f h)
@@ -200,17 +200,17 @@ stops_token q x w e h = go (token_of q.policy x) refl
         cc
 
 pub verdict_token : (q : Terms) (x : List ℕ) (w : ℕ) (t : Token) → token_of q.policy x ≡ Ok t
-    → verdict_of q x w ≡ ended (ending (table q x) w q.policy.max_calls) (concluded q.policy q.now t.payload (signing_of (table q x)))
+    → verdict_of q x w ≡ unless_stopped (ending (table q x) w q.policy.max_calls) (conclusion q.policy q.now t.payload (signing_of (table q x)))
 unfolding verdict_of token_verdict
 verdict_token q x w t here =
-    ap (decided q w) here ∙ ap (λ t2. ended (ending t2 w q.policy.max_calls) (concluded q.policy q.now t.payload (signing_of t2))) (table_of_token q x t here)
+    ap (decided q w) here ∙ ap (λ t2. unless_stopped (ending t2 w q.policy.max_calls) (conclusion q.policy q.now t.payload (signing_of t2))) (table_of_token q x t here)
 
 verdict_unstopped : (q : Terms) (x : List ℕ) (w : ℕ) (t : Token) (s : Signing) → token_of q.policy x ≡ Ok t → stop (table q x) w q.policy.max_calls ≡ None
-    → signing_of (table q x) ≡ s → verdict_of q x w ≡ concluded q.policy q.now t.payload s
+    → signing_of (table q x) ≡ s → verdict_of q x w ≡ conclusion q.policy q.now t.payload s
 verdict_unstopped q x w t s here none signing =
     verdict_token q x w t here
-    ∙ ap (λ r. ended r (concluded q.policy q.now t.payload (signing_of (table q x)))) (stop_done (table q x) w q.policy.max_calls none)
-    ∙ ap (concluded q.policy q.now t.payload) signing
+    ∙ ap (λ r. unless_stopped r (conclusion q.policy q.now t.payload (signing_of (table q x)))) (stop_done (table q x) w q.policy.max_calls none)
+    ∙ ap (conclusion q.policy q.now t.payload) signing
 
 ending_work : (t : Table) (w : ℕ) (calls : Option ℕ) (i j : ℕ) → StopsStepwise t w calls i j → is_within calls (length (paid t w calls) + 1) ≡ true → ending t w calls ≡ end.WorkExceeded i j
 ending_work t w calls i j s y = rw (s.1, y) (rw (s.2, s.3) refl)
@@ -231,9 +231,9 @@ module _ (t : Table) (barred : (i j : ℕ) → t.eligible i j ≡ true → t.bar
   unfolding signing_of
   unverified_is i g h is = unverified_by t.mode i g h is
 
-claim_fault_is : (q : Terms) (payload : List ℕ) (i j : ℕ) (f : ClaimFault) → IsClaimFaultStepwise q payload f → claimed q.policy q.now i j (claims_of payload) ≡ Refused (Claim f)
-claim_fault_is q payload i j f (inl e) = ap (claimed q.policy q.now i j) e
-claim_fault_is q payload i j f (inr c) = ap (claimed q.policy q.now i j) c.1 ∙ ap (checked i j c.0) c.2
+claim_fault_is : (q : Terms) (payload : List ℕ) (i j : ℕ) (f : ClaimFault) → IsClaimFaultStepwise q payload f → claims_verdict q.policy q.now i j (claims_of payload) ≡ Refused (Claim f)
+claim_fault_is q payload i j f (inl e) = ap (claims_verdict q.policy q.now i j) e
+claim_fault_is q payload i j f (inr c) = ap (claims_verdict q.policy q.now i j) c.1 ∙ ap (checked i j c.0) c.2
 
 form_is : (q : Terms) (x : List ℕ) (f : FormFault) → length x ≤ q.policy.run.limit → form_of q.policy.run.max_signatures (without_line_feed q.policy.run.line_feed x) ≡ Err f
     → token_of q.policy x ≡ Err (Form f)
@@ -252,10 +252,10 @@ words_fault reads q x w VerifierMemory h = absurd h
 words_fault reads q x w (Form f) h = of_none q x w (Form f) (form_is q x f h.0 h.1)
 words_fault reads q x w (WorkExceeded i j) (s, y) =
     let t = stops_token q x w s.0 s.1 in
-    verdict_token q x w t.0 t.1 ∙ ap (λ r. ended r (concluded q.policy q.now t.0.payload (signing_of (table q x)))) (ending_work (table q x) w q.policy.max_calls i j s y)
+    verdict_token q x w t.0 t.1 ∙ ap (λ r. unless_stopped r (conclusion q.policy q.now t.0.payload (signing_of (table q x)))) (ending_work (table q x) w q.policy.max_calls i j s y)
 words_fault reads q x w (CallsExceeded i j) (s, n) =
     let t = stops_token q x w s.0 s.1 in
-    verdict_token q x w t.0 t.1 ∙ ap (λ r. ended r (concluded q.policy q.now t.0.payload (signing_of (table q x)))) (ending_calls (table q x) w q.policy.max_calls i j s n)
+    verdict_token q x w t.0 t.1 ∙ ap (λ r. unless_stopped r (conclusion q.policy q.now t.0.payload (signing_of (table q x)))) (ending_calls (table q x) w q.policy.max_calls i j s n)
 words_fault reads q x w (Signature i f) (t, is, none, first, fault) =
     let here = is_token q x t is in
     let same = table_of_token q x t here in

@@ -17,7 +17,7 @@ use Rattle.jwt_verify.specs.declared.report.Fault.{Fault}
 use Rattle.jwt_verify.specs.declared.report.Verdict.TheVariants.{Accepted, Refused}
 use Rattle.jwt_verify.specs.Table.{Table, below, verifies, verified, outcome, stop, states_at}
 use Rattle.jwt_verify.specs.Trying.{table_of}
-use Rattle.jwt_verify.specs.Verdict.{Terms, Signing, VerifiedBy, Unverified, first_in, fault_of, key_at, fault_at, unverified, verified_or, signing_in, signing_of, checked, claimed, concluded, ended, token_verdict, token_of, decided, verdict_of, table}
+use Rattle.jwt_verify.specs.Verdict.{Terms, Signing, VerifiedBy, Unverified, first_in, fault_of, key_at, fault_at, unverified, verified_or, signing_in, signing_of, checked, claims_verdict, conclusion, unless_stopped, token_verdict, token_of, decided, verdict_of, table}
 use Rattle.jwt_verify.specs.Accepted.{IsLeastKey, Counts, IsVerifiedBy}
 use Rattle.jwt_verify.specs.Laws.{AreAmong, with_keys, MoreKeys, SameKeys, kind_of, without_key}
 use Rattle.jwt_verify.proofs.First.{first_agree}
@@ -88,7 +88,7 @@ abbrev blind : Signing → Signing
 blind (VerifiedBy i j) = VerifiedBy i 0
 blind (Unverified i f) = Unverified i f
 
-blind_claimed : (p : Settings) (now : ℤ) (i j : ℕ) (r : Result Members ClaimFault) → without_key (claimed p now i j r) ≡ without_key (claimed p now i 0 r)
+blind_claimed : (p : Settings) (now : ℤ) (i j : ℕ) (r : Result Members ClaimFault) → without_key (claims_verdict p now i j r) ≡ without_key (claims_verdict p now i 0 r)
 blind_claimed p now i j (Err f) = refl
 blind_claimed p now i j (Ok claims) = go (check_of p claims now)
   where
@@ -96,7 +96,7 @@ blind_claimed p now i j (Ok claims) = go (check_of p claims now)
     go None = refl
     go (Some f) = refl
 
-blind_concluded : (p : Settings) (now : ℤ) (payload : List ℕ) (s : Signing) → without_key (concluded p now payload s) ≡ without_key (concluded p now payload (blind s))
+blind_concluded : (p : Settings) (now : ℤ) (payload : List ℕ) (s : Signing) → without_key (conclusion p now payload s) ≡ without_key (conclusion p now payload (blind s))
 blind_concluded p now payload (VerifiedBy i j) = blind_claimed p now i j (claims_of payload)
 blind_concluded p now payload (Unverified i f) = refl
 
@@ -158,12 +158,12 @@ same_signing t u mode count same kinds =
     ∙ ap (λ n. blind (signing_in u.mode (first_in (key_at u) (below n)) (first_in (fault_at u) (below n)))) (sym count)
 
 verdict_here : (q : Terms) (x : List ℕ) (w : ℕ) (t : Token) → token_of q.policy x ≡ Ok t → stop (table q x) w q.policy.max_calls ≡ None
-    → verdict_of q x w ≡ concluded q.policy q.now t.payload (signing_of (table_of q.policy q.verifiers q.keys t))
+    → verdict_of q x w ≡ conclusion q.policy q.now t.payload (signing_of (table_of q.policy q.verifiers q.keys t))
 unfolding verdict_of token_verdict
 verdict_here q x w t e none =
     let T = table_of q.policy q.verifiers q.keys t in
     let free : stop T w q.policy.max_calls ≡ None = subst (λ t. stop t w q.policy.max_calls ≡ None) (sym (table_of_token q x t e)) none in
-    ap (decided q w) e ∙ ap (λ r. ended r (concluded q.policy q.now t.payload (signing_of T))) (stop_done T w q.policy.max_calls free)
+    ap (decided q w) e ∙ ap (λ r. unless_stopped r (conclusion q.policy q.now t.payload (signing_of T))) (stop_done T w q.policy.max_calls free)
 
 verdict_refused : (q : Terms) (x : List ℕ) (w : ℕ) (f : Fault) → token_of q.policy x ≡ Err f → verdict_of q x w ≡ Refused f
 unfolding verdict_of
@@ -187,7 +187,7 @@ same_keys_unstopped q others x w other_w h k none other_none = go (token_of q.po
         let U = table_of q.policy q.verifiers others t in
         let s : blind (signing_of T) ≡ blind (signing_of U) = same_signing T U refl refl (verified_same q.policy q.verifiers t q.keys others h k) (outcome_same q.policy q.verifiers t q.keys others h k) in (
           ap without_key (verdict_here q x w t (sym e) none) ∙ blind_concluded q.policy q.now t.payload (signing_of T)
-              ∙ ap (λ s. without_key (concluded q.policy q.now t.payload s)) s
+              ∙ ap (λ s. without_key (conclusion q.policy q.now t.payload s)) s
               ∙ sym (blind_concluded q.policy q.now t.payload (signing_of U)) ∙ sym (ap without_key (verdict_here (with_keys q others) x other_w t (sym e) other_none)),
           ap (λ o. map kind_of (states_at (table q x) o)) none ∙ ap (λ t. map kind_of (states_at t None)) (sym (table_of_token q x t (sym e)))
               ∙ states_same q.policy q.verifiers t q.keys others h k

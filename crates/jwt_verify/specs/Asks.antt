@@ -2,7 +2,7 @@
 use Rattle.std.specs.Prelude.{ℕ, ◌≡◌, ◌⊎◌, ◌↔◌, ◌≤◌, true, false, List, length, slice_get, Some}
 use Rattle.jwt_mac.specs.declared.algorithm.Alg.{Alg}
 use Rattle.jwt_mac.specs.Algorithm.{is_hmac_alg, tag_of}
-use Rattle.jwt_mac.specs.Verifying.{Meaning, KeyOctets, OctKey, MessageOctets, signing_input, first_naming}
+use Rattle.jwt_mac.specs.Verifying.{Meaning, OctKey, MessageOctets, signing_input, first_naming}
 use Rattle.jwt_text.specs.Rows.{IsFirstRow}
 use Rattle.jwt_jws.specs.Token.{Token, SignatureParts, message_of}
 use Rattle.jwt_jws.specs.SignedToken.{IsSignedToken}

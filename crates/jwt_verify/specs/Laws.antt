@@ -3,7 +3,7 @@ use Rattle.serde_json.specs.Data.{Members}
 use Rattle.jwt_keys.specs.Keys.{KeyParts}
 use Rattle.jwt_verify.specs.declared.report.Verdict.{Verdict}
 use Rattle.jwt_verify.specs.declared.report.Verdict.TheVariants.{Accepted, Refused}
-use Rattle.jwt_verify.specs.Verdict.{Terms, concluded, ended, signing_of, token_of, token_or_none, table, verdict_of}
+use Rattle.jwt_verify.specs.Verdict.{Terms, conclusion, unless_stopped, signing_of, token_of, token_or_none, table, verdict_of}
 use Rattle.jwt_mac.specs.declared.algorithm.Alg.{Alg}
 use Rattle.jwt_mac.specs.Algorithm.{is_hmac_alg, block_size, digest_size, key_cost}
 use Rattle.jwt_mac.specs.Verifying.{KeyOctets, OctKey, signing_input}
@@ -39,7 +39,7 @@ with_valid t v = record { signatures = t.signatures; keys = t.keys; mode = t.mod
 
 -- the verdict of a run over the table
 abbrev pub verdict_by : Table → ℕ → Option ℕ → Settings → ℤ → List ℕ → Verdict
-verdict_by t octets calls p now payload = ended (ending t octets calls) (concluded p now payload (signing_of t))
+verdict_by t octets calls p now payload = unless_stopped (ending t octets calls) (conclusion p now payload (signing_of t))
 
 -- What two validities agree on, for the paid tries of one, decides all that a run leaves, and its verdict; where they differ at one
 -- paid try alone, the states differ. No key is eligible for a barred signature.

@@ -1,8 +1,10 @@
 -- What a report on a token holds.
-use Rattle.std.specs.Prelude.{◌≡◌, ◌≤◌, ◌+◌, ◌*◌, ◌⊎◌, ℕ, ℤ, ◌++◌, true, List, [], ◌∷◌, length, map, slice_get, Option, Some}
+use Rattle.std.specs.Prelude.{◌≡◌, ◌≢◌, ◌≤◌, ◌+◌, ◌*◌, ◌⊎◌, ℕ, ℤ, ◌++◌, true, List, [], ◌∷◌, length, map, slice_get, Option, Some, None, Result, Ok, IsErr}
 use Rattle.std.specs.List.{All, sum_by}
 use Rattle.jwt_mac.specs.Verifying.{Meaning}
+use Rattle.jwt_jws.specs.declared.signed.Signed.{Signed}
 use Rattle.jwt_jws.specs.Token.{Token}
+use Rattle.jwt_jws.specs.Views.{token as token_view}
 use Rattle.jwt_keys.specs.declared.set.KeySet.{KeySet}
 use Rattle.jwt_keys.specs.Views.{key_parts}
 use Rattle.jwt_policy.specs.Settings.{Settings}
@@ -10,6 +12,7 @@ use Rattle.jwt_policy.specs.Laws.{IsEligible}
 use Rattle.jwt_verify.specs.declared.report.Try.{Try}
 use Rattle.jwt_verify.specs.declared.report.SigState.{SigState}
 use Rattle.jwt_verify.specs.declared.report.InputFault.TheVariants.{Read}
+use Rattle.jwt_verify.specs.declared.report.Fault.{Fault}
 use Rattle.jwt_verify.specs.declared.report.Fault.TheVariants.{OutOfMemory, VerifierMemory, Text}
 use Rattle.jwt_verify.specs.declared.report.Report.{Report}
 use Rattle.jwt_verify.specs.declared.report.Verdict.{Verdict}
@@ -50,6 +53,11 @@ pub record IsReport (q : Terms) (x : List ℕ) (w : ℕ) (r : Report) : Type 0 w
   pub blank : ((token : Token) → ¬ IsToken q x token)
       → (r.tries.items ≡ []) × ((r.verdict ≡ Refused OutOfMemory) ⊎ (FoundMemory r.verdict × (r.states.items ≡ [])))
 
+-- the token that was read for this verdict is the one that the octets are; none where they are none, or memory was refused
+abbrev pub IsReadAs : Result Token Fault → Verdict → Option Signed → Type 0
+IsReadAs r v (Some signed) = r ≡ Ok (token_view signed)
+IsReadAs r v None = v ≢ Refused OutOfMemory → IsErr r
+
 -- each of these tries is of an eligible pair
 abbrev pub AreEligible : Terms → List ℕ → List Try → Type 0
 AreEligible q x es = (token : Token) → IsToken q x token → All (λ e. AtPair token q.keys e.signature e.key (λ s key. IsEligible q.policy s key q.verifiers)) es
@@ -66,7 +74,3 @@ abbrev pub Failed : Verdict → List Try → List SigState → Type 0
 Failed (Refused (Text Read)) es sts = (es ≡ []) × (sts ≡ [])
 Failed (Refused OutOfMemory) es sts = (es ≡ []) × (sts ≡ [])
 Failed _ es sts = ⊥
-
--- at most so many octets of x were taken, and the others are still to come
-abbrev pub TakesAtMost : ℕ → List ℕ → Option (List ℕ) → Type 0
-TakesAtMost most x rest = (front : List ℕ) × (back : List ℕ) × (x ≡ front ++ back) × (rest ≡ Some back) × (length front ≤ most)

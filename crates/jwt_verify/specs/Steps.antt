@@ -1,6 +1,6 @@
 -- What the private functions say, by the steps of the definitions: what is held of a source, what a run leaves, and what the
 -- signatures in given states come to.
-use Rattle.std.specs.Prelude.{◌≡◌, ◌+◌, ℕ, ◌++◌, Bool, true, drop, Result, Ok, Err, List, [], ◌∷◌, length, slice_get, Option, Some, None, option_and_then}
+use Rattle.std.specs.Prelude.{◌≡◌, ◌+◌, ◌≤◌, ℕ, ◌++◌, Bool, true, drop, Result, Ok, Err, List, [], ◌∷◌, length, slice_get, Option, Some, None, option_and_then}
 use Rattle.jwt_text.specs.Intake.{Bounded, taken}
 use Rattle.jwt_jws.specs.Token.{Token}
 use Rattle.jwt_policy.specs.declared.mode.Mode.{Mode}
@@ -17,12 +17,13 @@ use Rattle.jwt_verify.specs.declared.report.Verdict.TheVariants.{Refused}
 use Rattle.jwt_verify.specs.Table.{Table, below, work, paid, states, states_at}
 use Rattle.jwt_verify.specs.Verdict.{Terms, Signing, fault_of, first_in, signing_in, table, verdict_of}
 use Rattle.jwt_verify.specs.Asks.{IsToken}
-use Rattle.jwt_verify.specs.Reports.{FoundMemory, IsReport, AreEligible, IsBounded, TakesAtMost}
+use Rattle.jwt_verify.specs.Reports.{FoundMemory, IsReport, AreEligible, IsBounded}
 
 -- the octets of x that are held, and what is still to come; or memory was refused, and not more were taken
 abbrev pub Holds : Result Bounded Fault → ℕ → List ℕ → Option (List ℕ) → Type 0
 Holds (Ok held) limit x rest = (held.octets ≡ taken x limit) × (rest ≡ Some (drop (limit + 1) x))
-Holds (Err OutOfMemory) limit x rest = TakesAtMost (limit + 1) x rest
+Holds (Err OutOfMemory) limit x rest =
+    (front back : List ℕ) × (x ≡ front ++ back) × (rest ≡ Some back) × (length front ≤ limit + 1)
 Holds (Err _) limit x rest = Unit {0}
 
 -- why nothing is held, by whether the source has failed

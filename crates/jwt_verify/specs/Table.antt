@@ -1,5 +1,5 @@
 -- Which pairs of signature and key are tried, which of these are paid, and what becomes of each signature.
-use Rattle.std.specs.Prelude.{ℕ, ◌+◌, ◌≡◌, ◌++◌, ◌∷◌, [], ◌==◌, Bool, true, false, ◌&&◌, not, if◌then◌else◌, nat_le, nat_lt, List, map, length, take, slice_get, Option, None, Some}
+use Rattle.std.specs.Prelude.{ℕ, ◌+◌, ◌≡◌, ◌++◌, ◌∷◌, [], ◌==◌, Bool, true, false, ◌&&◌, not, if◌then◌else◌, nat_le, nat_lt, List, map, length, take, slice_get, Option, Some}
 use Rattle.std.specs.List.{range_with_len, list_any, list_all, filter, flat_map, find, sum_by, prefix_len}
 use Rattle.std.specs.Option.{option_map_or}
 use Rattle.jwt_policy.specs.declared.mode.Mode.{Mode}

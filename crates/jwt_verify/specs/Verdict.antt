@@ -112,26 +112,26 @@ abbrev pub checked : (signature key : ℕ) → Members → Option ClaimFault →
 checked i j claims None = Accepted i j claims
 checked i j claims (Some f) = Refused (Claim f)
 
-abbrev pub claimed : Settings → ℤ → (signature key : ℕ) → Result Members ClaimFault → Verdict
-claimed p now i j (Ok claims) = checked i j claims (check_of p claims now)
-claimed p now i j (Err f) = Refused (Claim f)
+abbrev pub claims_verdict : Settings → ℤ → (signature key : ℕ) → Result Members ClaimFault → Verdict
+claims_verdict p now i j (Ok claims) = checked i j claims (check_of p claims now)
+claims_verdict p now i j (Err f) = Refused (Claim f)
 
 -- the claims are looked at once the signatures are verified (RFC 7519, section 7.2)
-abbrev pub concluded : Settings → ℤ → List ℕ → Signing → Verdict
-concluded p now payload (VerifiedBy i j) = claimed p now i j (claims_of payload)
-concluded p now payload (Unverified i f) = Refused (Signature i f)
+abbrev pub conclusion : Settings → ℤ → List ℕ → Signing → Verdict
+conclusion p now payload (VerifiedBy i j) = claims_verdict p now i j (claims_of payload)
+conclusion p now payload (Unverified i f) = Refused (Signature i f)
 
 -- a run that stopped gives a refusal
-abbrev pub ended : End → Verdict → Verdict
-ended (end.WorkExceeded i j) v = Refused (WorkExceeded i j)
-ended (end.CallsExceeded i j) v = Refused (CallsExceeded i j)
-ended (end.VerifierMemory i j) v = Refused VerifierMemory
-ended end.Done v = v
+abbrev pub unless_stopped : End → Verdict → Verdict
+unless_stopped (end.WorkExceeded i j) v = Refused (WorkExceeded i j)
+unless_stopped (end.CallsExceeded i j) v = Refused (CallsExceeded i j)
+unless_stopped (end.VerifierMemory i j) v = Refused VerifierMemory
+unless_stopped end.Done v = v
 
 -- the verdict on a signed token, where w is the budget's ceiling
 unfoldable pub token_verdict : Terms → ℕ → Token → Verdict
 token_verdict q w t = let table = table_of q.policy q.verifiers q.keys t in
-    ended (ending table w q.policy.max_calls) (concluded q.policy q.now t.payload (signing_of table))
+    unless_stopped (ending table w q.policy.max_calls) (conclusion q.policy q.now t.payload (signing_of table))
 
 abbrev pub decided : Terms → ℕ → Result Token Fault → Verdict
 decided q w (Ok t) = token_verdict q w t

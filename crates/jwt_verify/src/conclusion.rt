@@ -1,7 +1,7 @@
 //! From the end of a run to the verdict.
 
 ghost use Rattle.std.specs.Prelude.{◌≡◌, ◌≢◌};
-ghost use Rattle.jwt_verify.specs.Verdict.{concluded, ended};
+ghost use Rattle.jwt_verify.specs.Verdict.{conclusion, unless_stopped};
 ghost use Rattle.jwt_verify.specs.declared.report.Verdict.TheVariants.{Refused};
 ghost use Rattle.jwt_verify.specs.declared.report.Fault.TheVariants.{OutOfMemory};
 ghost use Rattle.jwt_verify.specs.Settled.{signing_view};
@@ -23,7 +23,7 @@ fn conclude<'p>(
     scratch: &mut Scratch,
 ) -> Verdict<'p>
     ensures { result ≢ Refused OutOfMemory → result
-        ≡ concluded asked.now.policy.now asked.now.moment payload.now (signing_view signing) }
+        ≡ conclusion asked.now.policy.now asked.now.moment payload.now (signing_view signing) }
 {
     let (signature, key) = match signing {
         Signing::VerifiedBy(signature, key) => (signature, key),
@@ -55,7 +55,9 @@ pub(crate) fn verdict_after<'p>(
     scratch: &mut Scratch,
 ) -> Verdict<'p>
     ensures { result ≢ Refused OutOfMemory → result
-        ≡ ended outcome.end (concluded asked.now.policy.now asked.now.moment payload.now (signing_view outcome.signing)) }
+        ≡ unless_stopped outcome.end
+        (conclusion asked.now.policy.now asked.now.moment payload.now
+        (signing_view outcome.signing)) }
 {
     match outcome.end {
         End::Done => conclude(alloc, asked, payload, outcome.signing, scratch),

@@ -10,7 +10,8 @@ ghost use Rattle.jwt_verify.specs.Verdict.{token_verdict, token_of, without_line
 ghost use Rattle.jwt_verify.specs.Accepted.{IsVerdict};
 ghost use Rattle.jwt_verify.specs.Laws.{IsBefore};
 ghost use Rattle.jwt_verify.specs.Paying.{IsWithin};
-ghost use Rattle.jwt_verify.specs.Reports.{FoundMemory, IsReport, AreEligible, IsBounded, Failed, TakesAtMost, terms};
+ghost use Rattle.jwt_text.specs.Intake.{TakesAtMost};
+ghost use Rattle.jwt_verify.specs.Reports.{FoundMemory, IsReport, IsReadAs, AreEligible, IsBounded, Failed, terms};
 ghost use Rattle.jwt_verify.specs.Steps.{IsWhole, IsListed, Holds, IsSourceFault};
 ghost use Rattle.jwt_verify.specs.declared.report.InputFault.TheVariants.{Read};
 ghost use Rattle.jwt_verify.specs.declared.report.Fault.TheVariants.{OutOfMemory, Text};
@@ -40,9 +41,9 @@ fn without_line_feed(octets: &[u8], drops: bool) -> &[u8]
     }
 }
 
-/// The signed token that the octets are (RFC 7515, section 7), or why they are none.
+/// The signed token that the octets are, read with a scratch at hand, or why they are none.
 #[tactic(auto, unfolding(crate::specs::Verdict::token_of))]
-fn read_token<'a, 'p>(
+fn read_with<'a, 'p>(
     alloc: Global,
     octets: &'a [u8],
     policy: &'p Policy,
@@ -59,6 +60,31 @@ fn read_token<'a, 'p>(
         Err(FormFault::OutOfMemory) => Err(Fault::OutOfMemory),
         Err(fault) => Err(Fault::Form(fault)),
     }
+}
+
+/// The signed token that the octets are, as [`judge`] reads it under the policy (RFC 7515, section 7).
+/// Nothing is verified.
+///
+/// # Errors
+/// Why the octets are none: `Text(TooLong)`, more octets than the policy's `limit`, or `Form`.
+/// `OutOfMemory` comes where an allocation was refused.
+pub fn read_token<'a, 'p>(
+    alloc: Global,
+    octets: &'a [u8],
+    policy: &'p Policy,
+) -> Result<Signed<'a>, Fault<'p>>
+    ensures { Answers Fault.OutOfMemory token result (token_of policy.now octets.now) }
+{
+    read_with(alloc, octets, policy, &mut Scratch::new(alloc))
+}
+
+/// A report, and the token that it is on.
+#[derive(Drop)]
+pub struct JudgedToken<'a, 'p> {
+    /// The report.
+    pub report: Report<'p>,
+    /// The token that was read; `None` where the octets are none, or memory was refused.
+    pub token: Option<Signed<'a>>,
 }
 
 /// The verdict on a signed token.
@@ -109,25 +135,34 @@ fn refused<'p>(alloc: Global, fault: Fault<'p>) -> Report<'p>
     }
 }
 
-/// The report on octets in hand, by the steps of the definitions.
-fn judge_octets<'p, B: Budget>(
+/// The report on octets in hand, by the steps of the definitions, with the token.
+fn judge_octets<'a, 'p, B: Budget>(
     alloc: Global,
     asked: &Asked<'_, 'p, '_>,
-    octets: &[u8],
+    octets: &'a [u8],
     budget: &mut B,
-) -> Report<'p>
+) -> JudgedToken<'a, 'p>
     requires no_octets { B.octets budget.old ≡ 0 }
     requires no_calls { B.calls budget.old ≡ 0 }
-    ensures listed { IsListed (asked_terms meaning asked.now) octets.now (B.ceiling budget.old) result }
-    ensures read { result.verdict ≢ Refused (Text Read) }
-    ensures octets { B.octets budget.new ≡ work result.tries.items }
-    ensures calls { B.calls budget.new ≡ length result.tries.items }
+    ensures listed { IsListed (asked_terms meaning asked.now)
+        octets.now (B.ceiling budget.old) result.report }
+    ensures token { IsReadAs (token_of asked.now.policy.now octets.now)
+        result.report.verdict result.token }
+    ensures read { result.report.verdict ≢ Refused (Text Read) }
+    ensures octets { B.octets budget.new ≡ work result.report.tries.items }
+    ensures calls { B.calls budget.new ≡ length result.report.tries.items }
     ensures ceiling { B.ceiling budget.new ≡ B.ceiling budget.old }
 {
     let mut scratch = Scratch::new(alloc);
-    match read_token(alloc, octets, asked.policy, &mut scratch) {
-        Ok(signed) => judge_token(alloc, asked, &signed, budget, &mut scratch),
-        Err(fault) => refused(alloc, fault),
+    match read_with(alloc, octets, asked.policy, &mut scratch) {
+        Ok(signed) => JudgedToken {
+            report: judge_token(alloc, asked, &signed, budget, &mut scratch),
+            token: Some(signed),
+        },
+        Err(fault) => JudgedToken {
+            report: refused(alloc, fault),
+            token: None,
+        },
     }
 }
 
@@ -156,17 +191,17 @@ pub fn judge<'p, B: Budget>(
     policy: &'p Policy,
     now: i64,
     verifiers: &[Box<dyn Verifier>],
-    b: &mut B,
+    budget: &mut B,
 ) -> Report<'p>
-    requires no_octets { B.octets b.old ≡ 0 }
-    requires no_calls { B.calls b.old ≡ 0 }
+    requires no_octets { B.octets budget.old ≡ 0 }
+    requires no_calls { B.calls budget.old ≡ 0 }
 
     // The verdict is that on the octets, unless memory was refused; and what else the report holds.
     ensures verdict { FoundMemory result.verdict
         → IsVerdict (terms policy.now keys.now now (map meaning verifiers.now))
-        octets.now (B.ceiling b.old) result.verdict }
+        octets.now (B.ceiling budget.old) result.verdict }
     ensures report { IsReport (terms policy.now keys.now now (map meaning verifiers.now))
-        octets.now (B.ceiling b.old) result }
+        octets.now (B.ceiling budget.old) result }
     ensures read { result.verdict ≢ Refused (Text Read) }
 
     // No pair is tried twice, and each is eligible; the octets are within the bound, the calls within the policy's ceiling.
@@ -174,13 +209,13 @@ pub fn judge<'p, B: Budget>(
     ensures eligible { AreEligible (terms policy.now keys.now now (map meaning verifiers.now))
         octets.now result.tries.items }
     ensures bound { IsBounded (terms policy.now keys.now now (map meaning verifiers.now))
-        octets.now result.tries.items (B.octets b.new) }
-    ensures within { IsWithin policy.now.max_calls (B.calls b.new) }
+        octets.now result.tries.items (B.octets budget.new) }
+    ensures within { IsWithin policy.now.max_calls (B.calls budget.new) }
 
     // The budget agrees with the tries.
-    ensures octets { B.octets b.new ≡ work result.tries.items }
-    ensures calls { B.calls b.new ≡ length result.tries.items }
-    ensures ceiling { B.ceiling b.new ≡ B.ceiling b.old }
+    ensures octets { B.octets budget.new ≡ work result.tries.items }
+    ensures calls { B.calls budget.new ≡ length result.tries.items }
+    ensures ceiling { B.ceiling budget.new ≡ B.ceiling budget.old }
 {
     reports_in_words();
     let asked = Asked {
@@ -189,20 +224,65 @@ pub fn judge<'p, B: Budget>(
         moment: now,
         verifiers,
     };
-    judge_octets(alloc, &asked, octets, b)
+    let JudgedToken { report, token: _ } = judge_octets(alloc, &asked, octets, budget);
+    report
+}
+
+/// The report as [`judge`] gives it, with the token that was read for it: a caller who has more to ask
+/// of the token needn't read it again.
+///
+/// The condition: the budget is new.
+///
+/// # Refused
+/// As [`judge`] refuses.
+pub fn judge_signed<'a, 'p, B: Budget>(
+    alloc: Global,
+    octets: &'a [u8],
+    keys: &KeySet,
+    policy: &'p Policy,
+    now: i64,
+    verifiers: &[Box<dyn Verifier>],
+    budget: &mut B,
+) -> JudgedToken<'a, 'p>
+    requires no_octets { B.octets budget.old ≡ 0 }
+    requires no_calls { B.calls budget.old ≡ 0 }
+
+    // The report is the one of `judge`.
+    ensures report { IsReport (terms policy.now keys.now now (map meaning verifiers.now))
+        octets.now (B.ceiling budget.old) result.report }
+    ensures read { result.report.verdict ≢ Refused (Text Read) }
+    ensures within { IsWithin policy.now.max_calls (B.calls budget.new) }
+
+    // The token is the one that the octets are.
+    ensures token { IsReadAs (token_of policy.now octets.now) result.report.verdict result.token }
+
+    // The budget agrees with the tries.
+    ensures octets { B.octets budget.new ≡ work result.report.tries.items }
+    ensures calls { B.calls budget.new ≡ length result.report.tries.items }
+    ensures ceiling { B.ceiling budget.new ≡ B.ceiling budget.old }
+{
+    reports_in_words();
+    let asked = Asked {
+        keys,
+        policy,
+        moment: now,
+        verifiers,
+    };
+    judge_octets(alloc, &asked, octets, budget)
 }
 
 /// The octets of the source, as far as they are looked at: all, or one more than the limit.
-fn take_in<'p, R: Source>(alloc: Global, r: &mut R, limit: u32) -> Result<Intake, Fault<'p>>
+fn take_in<'p, R: Source>(alloc: Global, source: &mut R, limit: u32) -> Result<Intake, Fault<'p>>
     requires least { 1 ≤ limit }
     requires greatest { limit ≤ 1048576 }
-    ensures octets { IfSome (R.remaining r.old) (λ x. Holds result limit x (R.remaining r.new)) }
+    ensures octets { IfSome (R.remaining source.old)
+        (λ x. Holds result limit x (R.remaining source.new)) }
     ensures bound { IfOk result (λ held. length held.octets ≤ limit + 1) }
-    ensures ok { OnOk result (R.failed r.new ≡ false) }
-    ensures fault { IfErr result (IsSourceFault (R.failed r.new)) }
+    ensures ok { OnOk result (R.failed source.new ≡ false) }
+    ensures fault { IfErr result (IsSourceFault (R.failed source.new)) }
 {
     let mut intake = Intake::new(alloc, limit);
-    match intake.read_from(r) {
+    match intake.read_from(source) {
         Ok(()) => Ok(intake),
         Err(TextFault::TooLong) => Ok(intake),
         Err(TextFault::Read) => Err(Fault::Text(InputFault::Read)),
@@ -237,53 +317,54 @@ fn take_in<'p, R: Source>(alloc: Global, r: &mut R, limit: u32) -> Result<Intake
 /// tried.
 pub fn validate<'p, R: Source, B: Budget>(
     alloc: Global,
-    r: &mut R,
+    source: &mut R,
     keys: &KeySet,
     policy: &'p Policy,
     now: i64,
     verifiers: &[Box<dyn Verifier>],
-    b: &mut B,
+    budget: &mut B,
 ) -> Report<'p>
-    requires no_octets { B.octets b.old ≡ 0 }
-    requires no_calls { B.calls b.old ≡ 0 }
+    requires no_octets { B.octets budget.old ≡ 0 }
+    requires no_calls { B.calls budget.old ≡ 0 }
 
     // Of a source whose octets are known, unless a read failed: the verdict is that on them, unless memory was refused; what else
     // the report holds; and what was taken.
-    ensures verdict { IfSome (R.remaining r.old) (λ x. result.verdict ≢ Refused (Text Read)
+    ensures verdict { IfSome (R.remaining source.old) (λ x. result.verdict ≢ Refused (Text Read)
         → FoundMemory result.verdict
         → IsVerdict (terms policy.now keys.now now (map meaning verifiers.now))
-        x (B.ceiling b.old) result.verdict) }
-    ensures report { IfSome (R.remaining r.old) (λ x. result.verdict ≢ Refused (Text Read)
+        x (B.ceiling budget.old) result.verdict) }
+    ensures report { IfSome (R.remaining source.old) (λ x. result.verdict ≢ Refused (Text Read)
         → IsReport (terms policy.now keys.now now (map meaning verifiers.now))
-        x (B.ceiling b.old) result) }
-    ensures eligible { IfSome (R.remaining r.old) (λ x.
+        x (B.ceiling budget.old) result) }
+    ensures eligible { IfSome (R.remaining source.old) (λ x.
         AreEligible (terms policy.now keys.now now (map meaning verifiers.now))
         x result.tries.items) }
-    ensures bound { IfSome (R.remaining r.old) (λ x.
+    ensures bound { IfSome (R.remaining source.old) (λ x.
         IsBounded (terms policy.now keys.now now (map meaning verifiers.now))
-        x result.tries.items (B.octets b.new)) }
-    ensures taken { IfSome (R.remaining r.old) (λ x. result.verdict ≢ Refused (Text Read)
+        x result.tries.items (B.octets budget.new)) }
+    ensures taken { IfSome (R.remaining source.old) (λ x. result.verdict ≢ Refused (Text Read)
         → result.verdict ≢ Refused OutOfMemory
-        → R.remaining r.new ≡ Some (drop (policy.now.run.limit + 1) x)) }
-    ensures most { IfSome (R.remaining r.old) (λ x. result.verdict ≢ Refused (Text Read)
-        → TakesAtMost (policy.now.run.limit + 1) x (R.remaining r.new)) }
+        → R.remaining source.new ≡ Some (drop (policy.now.run.limit + 1) x)) }
+    ensures most { IfSome (R.remaining source.old) (λ x. result.verdict ≢ Refused (Text Read)
+        → TakesAtMost (policy.now.run.limit + 1) x (R.remaining source.new)) }
 
     // Of every source, also of one whose octets aren't known: unless a read failed, some octets have this report.
     ensures some { result.verdict ≢ Refused (Text Read)
         → (x : List ℕ) × (length x ≤ policy.now.run.limit + 1)
         × IsReport (terms policy.now keys.now now (map meaning verifiers.now))
-        x (B.ceiling b.old) result }
+        x (B.ceiling budget.old) result }
     ensures once { AllPairs IsBefore result.tries.items }
-    ensures within { IsWithin policy.now.max_calls (B.calls b.new) }
-    ensures failed { R.failed r.new ≡ true → Failed result.verdict result.tries.items result.states.items }
-    ensures read { result.verdict ≡ Refused (Text Read) → R.failed r.new ≡ true }
-    ensures octets { B.octets b.new ≡ work result.tries.items }
-    ensures calls { B.calls b.new ≡ length result.tries.items }
-    ensures ceiling { B.ceiling b.new ≡ B.ceiling b.old }
+    ensures within { IsWithin policy.now.max_calls (B.calls budget.new) }
+    ensures failed { R.failed source.new ≡ true
+        → Failed result.verdict result.tries.items result.states.items }
+    ensures read { result.verdict ≡ Refused (Text Read) → R.failed source.new ≡ true }
+    ensures octets { B.octets budget.new ≡ work result.tries.items }
+    ensures calls { B.calls budget.new ≡ length result.tries.items }
+    ensures ceiling { B.ceiling budget.new ≡ B.ceiling budget.old }
 {
     reports_in_words();
-    match take_in(alloc, r, policy.limit()) {
-        Ok(intake) => judge(alloc, intake.octets(), keys, policy, now, verifiers, b),
+    match take_in(alloc, source, policy.limit()) {
+        Ok(intake) => judge(alloc, intake.octets(), keys, policy, now, verifiers, budget),
         Err(fault) => refused(alloc, fault),
     }
 }

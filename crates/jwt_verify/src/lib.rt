@@ -3,6 +3,7 @@
 //! [`validate`] takes a token from a source and [`judge`] takes it in hand. Both try the eligible pairs of signature and key in
 //! order, each at most once, paid from the caller's [`Budget`](jwt_mac::Budget), and stop before a pair that would pass its
 //! ceiling or the policy's `max_calls` (RFC 7515, section 5.2; RFC 8725, section 3).
+//! [`judge_signed`] hands out the token that it read beside the report.
 #![tactic(auto)]
 
 mod asked;
@@ -16,5 +17,5 @@ mod settled;
 mod tries;
 mod unbarred;
 
-pub use judging::{judge, validate};
+pub use judging::{JudgedToken, judge, judge_signed, read_token, validate};
 pub use report::{Fault, InputFault, Report, SigState, Try, Verdict};

@@ -7,6 +7,7 @@ ghost use Rattle.jwt_jws.specs.Token.{kid};
 ghost use Rattle.jwt_jws.specs.Views.{parts};
 ghost use Rattle.jwt_keys.specs.Numbers.{IsLeastFrom};
 ghost use Rattle.jwt_keys.specs.KeySets.{key_set};
+ghost use Rattle.jwt_policy.specs.Bars.{alg};
 ghost use Rattle.jwt_policy.specs.Eligible.{fits};
 ghost use Rattle.jwt_verify.specs.AskedTable.{asked_table};
 ghost use Rattle.jwt_verify.specs.Walk.{NoneEligible};
@@ -15,17 +16,18 @@ ghost use Rattle.jwt_verify.specs.Pairs.{IsOpen, IsWay, IsNextPair};
 use crate::asked::Asked;
 use crate::pair::{Pair, Way};
 use crate::unbarred::Unbarred;
-use jwt_jws::Signature;
 use jwt_keys::KeySet;
 use jwt_mac::KeyView;
 use jwt_policy::{Policy, fits};
 
 /// Whether key `j` fits.
-fn fits_at(policy: &Policy, keys: &KeySet, signature: &Signature<'_>, j: u32) -> bool
-    ensures { result ≡ option_map_or (fits policy.now (parts signature.now)) (slice_get (key_set keys.now).keys j) false }
+fn fits_at(policy: &Policy, keys: &KeySet, unbarred: &Unbarred<'_, '_, '_>, j: u32) -> bool
+    requires { alg (parts unbarred.now.signature.now) ≡ Some unbarred.now.alg }
+    ensures { result ≡ option_map_or (fits policy.now (parts unbarred.now.signature.now))
+        (slice_get (key_set keys.now).keys j) false }
 {
     match keys.key(j) {
-        Some(key) => fits(policy, signature, key),
+        Some(key) => fits(policy, unbarred.signature, unbarred.alg, key),
         None => false,
     }
 }
@@ -34,16 +36,18 @@ fn fits_at(policy: &Policy, keys: &KeySet, signature: &Signature<'_>, j: u32) ->
 fn next_named(
     policy: &Policy,
     keys: &KeySet,
-    signature: &Signature<'_>,
+    unbarred: &Unbarred<'_, '_, '_>,
     name: &str,
     from: u32,
 ) -> Option<u32>
-    requires { kid (parts signature.now) ≡ Some name.now }
-    ensures { IsLeastFrom (fits policy.now (parts signature.now)) (key_set keys.now).keys from result }
+    requires algorithm { alg (parts unbarred.now.signature.now) ≡ Some unbarred.now.alg }
+    requires kid { kid (parts unbarred.now.signature.now) ≡ Some name.now }
+    ensures { IsLeastFrom (fits policy.now (parts unbarred.now.signature.now))
+        (key_set keys.now).keys from result }
 {
     let mut start = from;
     'named: while let Some(j) = keys.with_kid(name, policy.thumb_kid(), start) {
-        if fits_at(policy, keys, signature, j) {
+        if fits_at(policy, keys, unbarred, j) {
             return Some(j);
         }
         start = j + 1;
@@ -52,11 +56,18 @@ fn next_named(
 }
 
 /// The first key at or after `from` that fits, of all.
-fn next_of_all(policy: &Policy, keys: &KeySet, signature: &Signature<'_>, from: u32) -> Option<u32>
-    ensures { IsLeastFrom (fits policy.now (parts signature.now)) (key_set keys.now).keys from result }
+fn next_of_all(
+    policy: &Policy,
+    keys: &KeySet,
+    unbarred: &Unbarred<'_, '_, '_>,
+    from: u32,
+) -> Option<u32>
+    requires { alg (parts unbarred.now.signature.now) ≡ Some unbarred.now.alg }
+    ensures { IsLeastFrom (fits policy.now (parts unbarred.now.signature.now))
+        (key_set keys.now).keys from result }
 {
     'keys: for j in from..keys.len() {
-        if fits_at(policy, keys, signature, j) {
+        if fits_at(policy, keys, unbarred, j) {
             return Some(j);
         }
     }
@@ -64,18 +75,26 @@ fn next_of_all(policy: &Policy, keys: &KeySet, signature: &Signature<'_>, from: 
 }
 
 /// The first key at or after `from` that fits the signature. Where it has a `kid`, only the keys of that name are looked at.
-fn next_fitting(policy: &Policy, keys: &KeySet, signature: &Signature<'_>, from: u32) -> Option<u32>
-    ensures { IsLeastFrom (fits policy.now (parts signature.now)) (key_set keys.now).keys from result }
+fn next_fitting(
+    policy: &Policy,
+    keys: &KeySet,
+    unbarred: &Unbarred<'_, '_, '_>,
+    from: u32,
+) -> Option<u32>
+    requires { alg (parts unbarred.now.signature.now) ≡ Some unbarred.now.alg }
+    ensures { IsLeastFrom (fits policy.now (parts unbarred.now.signature.now))
+        (key_set keys.now).keys from result }
 {
-    match signature.kid() {
-        Some(name) => next_named(policy, keys, signature, name, from),
-        None => next_of_all(policy, keys, signature, from),
+    match unbarred.signature.kid() {
+        Some(name) => next_named(policy, keys, unbarred, name, from),
+        None => next_of_all(policy, keys, unbarred, from),
     }
 }
 
 /// How the signature is compared with a key; `None` where the algorithm is HMAC and the key is no secret.
 fn way<'k, 'v>(unbarred: &Unbarred<'_, '_, 'v>, key: KeyView<'k>) -> Option<Way<'k, 'v>>
-    ensures { IsWay meaning (option_map (λ v. meaning v.now) unbarred.now.verifier) (key_octets key.entry) result }
+    ensures { IsWay meaning (option_map (λ v. meaning v.now) unbarred.now.verifier)
+        (key_octets key.entry) result }
 {
     match (unbarred.verifier, key) {
         (Some(verifier), key) => Some(Way::Asked(verifier, key)),
@@ -96,7 +115,7 @@ pub(crate) fn next_eligible<'s, 'k, 'v>(
         (NoneEligible t unbarred.now.number from t.keys)
         (IsNextPair meaning t unbarred.now.number from) }
 {
-    let Some(number) = next_fitting(asked.policy, asked.keys, unbarred.signature, from) else {
+    let Some(number) = next_fitting(asked.policy, asked.keys, unbarred, from) else {
         return None;
     };
     let Some(key) = asked.keys.key(number) else {

@@ -41,7 +41,8 @@ pub(crate) fn try_pair<B: Budget>(pair: &Pair<'_, '_, '_>, budget: &mut B) -> Re
     ensures paid { OnOk result (B.octets budget.new ≡ B.octets budget.old + pair_cost pair.now) }
     ensures fits { OnOk result (B.octets budget.new ≤ B.ceiling budget.new) }
     ensures called { OnOk result (B.calls budget.new ≡ B.calls budget.old + 1) }
-    ensures answer { IfOk result (AnswersBy (pair_accepts meaning pair.now) (pair_may_lack meaning pair.now)) }
+    ensures answer { IfOk result
+        (AnswersBy (pair_accepts meaning pair.now) (pair_may_lack meaning pair.now)) }
 {
     let Pair {
         alg,

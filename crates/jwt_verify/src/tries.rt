@@ -86,7 +86,8 @@ fn pay<B: Budget>(
         max_calls tries.new.items }
     ensures err { OnErr result (tries.new.items ≡ tries.old.items) }
     ensures tried { IfOk result
-        (IsTried meaning (B.ceiling budget.old) max_calls tries.old.items pair.now tries.new.items) }
+        (IsTried meaning (B.ceiling budget.old) max_calls tries.old.items pair.now
+        tries.new.items) }
 {
     if !allows_call(budget, max_calls) {
         return Ok(Tried::Stop(End::CallsExceeded(pair.signature, pair.key)));
@@ -218,7 +219,9 @@ fn walk<B: Budget>(
 /// The signatures that are left were not reached.
 fn fill(states: &mut Vec<SigState>, count: u32) -> Result<(), AllocError>
     requires { length states.old.items ≤ count }
-    ensures { OnOk result (states.new.items ≡ states.old.items ++ replicate (count - length states.old.items) SigState.NotReached) }
+    ensures { OnOk result
+        (states.new.items
+        ≡ states.old.items ++ replicate (count - length states.old.items) SigState.NotReached) }
 {
     for _ in states.len()..count as usize {
         states.push(SigState::NotReached)?;
@@ -247,7 +250,8 @@ pub(crate) fn run<B: Budget>(
         (B.ceiling budget.old) asked.now.policy.now.max_calls ≡ tries.new.items ++ more) }
 
     ensures run { IfOk result (λ o. IsRun (asked_table meaning asked.now signed.now)
-        (B.ceiling budget.old) asked.now.policy.now.max_calls tries.new.items states.new.items o.end) }
+        (B.ceiling budget.old) asked.now.policy.now.max_calls tries.new.items states.new.items
+        o.end) }
     ensures signing { IfOk result
         (λ o. IsSigned (asked_table meaning asked.now signed.now) o.signing o.end) }
 {

@@ -42,7 +42,8 @@ impl<'s, 't, 'v> Unbarred<'s, 't, 'v> {
         requires { IsThere numbered.now }
         ensures { MatchResult result
             (IsUnbarred meaning asked.now numbered.now)
-            (λ f. (asked_table meaning asked.now numbered.now.signed.now).bar numbered.now.number ≡ Some f) }
+            (λ f. (asked_table meaning asked.now numbered.now.signed.now).bar numbered.now.number
+            ≡ Some f) }
     {
         bar_is_first_row();
         let Numbered {
@@ -72,7 +73,8 @@ impl<'s, 't, 'v> Unbarred<'s, 't, 'v> {
 
     /// The signing input, lent (RFC 7515, section 5.1).
     pub(crate) fn message(&self) -> Message<'s>
-        ensures { message_octets result ≡ message_of (token self.now.signed.now) (parts self.now.signature.now) }
+        ensures { message_octets result
+            ≡ message_of (token self.now.signed.now) (parts self.now.signature.now) }
     {
         Message {
             protected: self.signature.protected_text(),

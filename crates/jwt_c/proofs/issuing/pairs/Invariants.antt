@@ -1,7 +1,7 @@
 use Rattle.std.proofs.Common.{◌≡◌, map, take}
 use Rattle.jwt_keys.specs.KeySets.{key_set}
 use Rattle.jwt_issue.specs.Views.{pair_parts}
-use Rattle.jwt_c.specs.Issuing.{pair}
+use Rattle.jwt_issue.specs.Issued.{pair}
 use Rattle.jwt_c.proofs.issuing.pairs.Given as goal
 
 abbrev pub invariant-keys : goal.invariant-keys

@@ -9,4 +9,4 @@ pub returns-in-Err-TooLong-clause-line : goal.returns-in-Err-TooLong-clause-line
 returns-in-Err-TooLong-clause-line g c =
     IfSome_then (g.R.Source.remaining c.args.r.now) c.in-Err-TooLong.ensures.input
     (λ x h. let long = rw c.in-Err-TooLong.field-0-is at h in
-    subst (λ (a : Answer). IfOk c.refused_keys.result (λ r. reply_view r ≡ a)) (set_too_long x _ long.0 long.1) c.refused_keys.ensures)
+    subst (λ (a : Answer). IfOk c.told_keys.result (λ r. reply_view r ≡ a)) (set_too_long c.args.json x _ long.0 long.1) c.told_keys.ensures)

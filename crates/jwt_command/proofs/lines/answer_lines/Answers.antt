@@ -5,7 +5,7 @@ use Rattle.jwt_keys.specs.KeySets.{key_set}
 use Rattle.jwt_command.specs.Lines.{LineAnswered, LineEnds, with_held}
 use Rattle.jwt_command.specs.Printed.{Answer}
 use Rattle.jwt_command.specs.Told.{told}
-use Rattle.jwt_command.specs.Verify.{terms}
+use Rattle.jwt_command.specs.Verify.{terms_of_keys}
 use Rattle.jwt_command.specs.Views.{reply_view}
 use Rattle.jwt_command.proofs.WalkedLines.{Bounded, Line, answering_more, answering_none, lines_done, lines_ended, lines_failed, lines_memory, told_bounded}
 use Rattle.jwt_command.proofs.lines.answer_lines.Goals as goal
@@ -13,7 +13,7 @@ use Rattle.jwt_command.proofs.lines.answer_lines.Goals as goal
 pub lines-init : goal.lines-init
 lines-init g c =
     let vs = map (λ b. (goal.Verifier-dyn g (b.vtable, b.value)).meaning b.value) c.args.verifiers.now in
-    let at : ℕ → List ℕ → Answer = λ m l. (told c.args.json).token (terms vs m c.args.policy.now (key_set c.args.keys.now)) l in
+    let at : ℕ → List ℕ → Answer = λ m l. (told c.args.json).token (terms_of_keys vs m c.args.policy.now (key_set c.args.keys.now)) l in
     let unanswered = (told c.args.json).read_failed in
     let known = g.R.Source.remaining c.args.r.now in
     record { answering = answering_none at (with_held c.args.policy.now.run.limit g.C.Clock.says) c.args.now known c.in-Ok.ahead (g.W.Sink.contents c.args.w.now) c.in-Ok.ensures }
@@ -21,7 +21,7 @@ lines-init g c =
 pub returns-in_default : goal.returns-in_default
 returns-in_default g c =
     let vs = map (λ b. (goal.Verifier-dyn g (b.vtable, b.value)).meaning b.value) c.args.verifiers.now in
-    let at : ℕ → List ℕ → Answer = λ m l. (told c.args.json).token (terms vs m c.args.policy.now (key_set c.args.keys.now)) l in
+    let at : ℕ → List ℕ → Answer = λ m l. (told c.args.json).token (terms_of_keys vs m c.args.policy.now (key_set c.args.keys.now)) l in
     let unanswered = (told c.args.json).read_failed in
     let known = g.R.Source.remaining c.args.r.now in
     lines_memory at unanswered (with_held c.args.policy.now.run.limit g.C.Clock.says) c.args.now 0 known (prepend_known [] known) _ (g.W.Sink.contents c.args.w.now) (g.W.Sink.contents c.args.w.now) _ _ _ (answering_none at (with_held c.args.policy.now.run.limit g.C.Clock.says) c.args.now known [] (g.W.Sink.contents c.args.w.now) refl) c.lack_memory.ensures
@@ -29,11 +29,11 @@ returns-in_default g c =
 pub returns-in-Some : goal.returns-in-Some
 returns-in-Some g c =
     let vs = map (λ b. (goal.Verifier-dyn g (b.vtable, b.value)).meaning b.value) c.args.verifiers.now in
-    let at : ℕ → List ℕ → Answer = λ m l. (told c.args.json).token (terms vs m c.args.policy.now (key_set c.args.keys.now)) l in
+    let at : ℕ → List ℕ → Answer = λ m l. (told c.args.json).token (terms_of_keys vs m c.args.policy.now (key_set c.args.keys.now)) l in
     let unanswered = (told c.args.json).read_failed in
     let known = g.R.Source.remaining c.args.r.now in
     let left = prepend_known c.lines.ahead (g.R.Source.remaining c.lines.r) in
-    let same : Bounded c.args.policy.now.run.limit at = (λ m l. told_bounded c.args.json (terms vs m c.args.policy.now (key_set c.args.keys.now)) l) in
+    let same : Bounded c.args.policy.now.run.limit at = (λ m l. told_bounded c.args.json (terms_of_keys vs m c.args.policy.now (key_set c.args.keys.now)) l) in
     let taken = IfSome_then left c.take_line.ensures.line (λ y f. f (c.in-Ok-true.is ∙ ap Ok c.in-Ok-true.field-0-test)) in
     let line = subst (λ n. IfSome left (λ y. Line n y c.take_line.new.line.items (prepend_known c.take_line.new.ahead (g.R.Source.remaining c.take_line.new.r)))) c.limit-limit.ensures.value taken in
     lines_ended c.args.policy.now.run.limit at unanswered g.C.Clock.says c.args.now c.lines.number known left _ c.take_line.new.line.items _ (g.W.Sink.contents c.args.w.now) (g.W.Sink.contents c.lines.w) (g.W.Sink.contents c.answer_line.new.w) _ _ same c.lines.invariant.answering line
@@ -42,7 +42,7 @@ returns-in-Some g c =
 pub returns-in-Ok-false : goal.returns-in-Ok-false
 returns-in-Ok-false g c =
     let vs = map (λ b. (goal.Verifier-dyn g (b.vtable, b.value)).meaning b.value) c.args.verifiers.now in
-    let at : ℕ → List ℕ → Answer = λ m l. (told c.args.json).token (terms vs m c.args.policy.now (key_set c.args.keys.now)) l in
+    let at : ℕ → List ℕ → Answer = λ m l. (told c.args.json).token (terms_of_keys vs m c.args.policy.now (key_set c.args.keys.now)) l in
     let unanswered = (told c.args.json).read_failed in
     let known = g.R.Source.remaining c.args.r.now in
     let left = prepend_known c.lines.ahead (g.R.Source.remaining c.lines.r) in
@@ -52,7 +52,7 @@ returns-in-Ok-false g c =
 pub returns-in-Err-Read : goal.returns-in-Err-Read
 returns-in-Err-Read g c =
     let vs = map (λ b. (goal.Verifier-dyn g (b.vtable, b.value)).meaning b.value) c.args.verifiers.now in
-    let at : ℕ → List ℕ → Answer = λ m l. (told c.args.json).token (terms vs m c.args.policy.now (key_set c.args.keys.now)) l in
+    let at : ℕ → List ℕ → Answer = λ m l. (told c.args.json).token (terms_of_keys vs m c.args.policy.now (key_set c.args.keys.now)) l in
     let unanswered = (told c.args.json).read_failed in
     let known = g.R.Source.remaining c.args.r.now in
     let left = prepend_known c.lines.ahead (g.R.Source.remaining c.lines.r) in
@@ -61,7 +61,7 @@ returns-in-Err-Read g c =
 pub returns-in-Err : goal.returns-in-Err
 returns-in-Err g c =
     let vs = map (λ b. (goal.Verifier-dyn g (b.vtable, b.value)).meaning b.value) c.args.verifiers.now in
-    let at : ℕ → List ℕ → Answer = λ m l. (told c.args.json).token (terms vs m c.args.policy.now (key_set c.args.keys.now)) l in
+    let at : ℕ → List ℕ → Answer = λ m l. (told c.args.json).token (terms_of_keys vs m c.args.policy.now (key_set c.args.keys.now)) l in
     let unanswered = (told c.args.json).read_failed in
     let known = g.R.Source.remaining c.args.r.now in
     let left = prepend_known c.lines.ahead (g.R.Source.remaining c.lines.r) in
@@ -70,11 +70,11 @@ returns-in-Err g c =
 pub lines-preserved : goal.lines-preserved
 lines-preserved g c =
     let vs = map (λ b. (goal.Verifier-dyn g (b.vtable, b.value)).meaning b.value) c.args.verifiers.now in
-    let at : ℕ → List ℕ → Answer = λ m l. (told c.args.json).token (terms vs m c.args.policy.now (key_set c.args.keys.now)) l in
+    let at : ℕ → List ℕ → Answer = λ m l. (told c.args.json).token (terms_of_keys vs m c.args.policy.now (key_set c.args.keys.now)) l in
     let unanswered = (told c.args.json).read_failed in
     let known = g.R.Source.remaining c.args.r.now in
     let left = prepend_known c.lines.ahead (g.R.Source.remaining c.lines.r) in
-    let same : Bounded c.args.policy.now.run.limit at = (λ m l. told_bounded c.args.json (terms vs m c.args.policy.now (key_set c.args.keys.now)) l) in
+    let same : Bounded c.args.policy.now.run.limit at = (λ m l. told_bounded c.args.json (terms_of_keys vs m c.args.policy.now (key_set c.args.keys.now)) l) in
     let taken = IfSome_then left c.take_line.ensures.line (λ y f. f (c.in-Ok-true.is ∙ ap Ok c.in-Ok-true.field-0-test)) in
     let line = subst (λ n. IfSome left (λ y. Line n y c.take_line.new.line.items (prepend_known c.take_line.new.ahead (g.R.Source.remaining c.take_line.new.r)))) c.limit-limit.ensures.value taken in
     record {
@@ -85,7 +85,7 @@ lines-preserved g c =
 pub returns : goal.returns
 returns g c =
     let vs = map (λ b. (goal.Verifier-dyn g (b.vtable, b.value)).meaning b.value) c.args.verifiers.now in
-    let at : ℕ → List ℕ → Answer = λ m l. (told c.args.json).token (terms vs m c.args.policy.now (key_set c.args.keys.now)) l in
+    let at : ℕ → List ℕ → Answer = λ m l. (told c.args.json).token (terms_of_keys vs m c.args.policy.now (key_set c.args.keys.now)) l in
     let unanswered = (told c.args.json).read_failed in
     let known = g.R.Source.remaining c.args.r.now in
     let left = prepend_known c.lines.ahead (g.R.Source.remaining c.lines.r) in

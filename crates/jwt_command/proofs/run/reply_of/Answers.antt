@@ -1,6 +1,6 @@
 use Rattle.std.proofs.Common.{◌≡◌, ◌⊎◌, ◌∙◌, ap, subst, ℕ, List, None, Option, IfSome, true}
 use Rattle.jwt_command.specs.Documents.{most_unless_unread, unread}
-use Rattle.jwt_command.specs.Input.{TakesAtMost}
+use Rattle.jwt_text.specs.Intake.{TakesAtMost}
 use Rattle.jwt_command.specs.Seen.{seen}
 use Rattle.jwt_command.specs.Stops.{most_in_hand, most_taken}
 use Rattle.jwt_command.specs.Views.{held_view}

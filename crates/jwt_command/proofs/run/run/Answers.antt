@@ -1,6 +1,6 @@
 use Rattle.std.proofs.Common.{◌≡◌, ◌⊎◌, IfSome, is_some, subst, true}
 use Rattle.jwt_command.specs.Documents.{Held, unread}
-use Rattle.jwt_command.specs.Input.{TakesAtMost}
+use Rattle.jwt_text.specs.Intake.{TakesAtMost}
 use Rattle.jwt_command.specs.Stops.{most_taken}
 use Rattle.jwt_command.specs.Words.{files_in_order}
 use Rattle.jwt_command.proofs.run.run.Goals as goal

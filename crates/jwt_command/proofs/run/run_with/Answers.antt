@@ -3,7 +3,7 @@ use Rattle.std.specs.Borrow.{Bor}
 use Rattle.clap.specs.Words.{Text}
 use Rattle.jwt_command.specs.Answered.{answer_of}
 use Rattle.jwt_command.specs.Documents.{unread}
-use Rattle.jwt_command.specs.Input.{TakesAtMost}
+use Rattle.jwt_text.specs.Intake.{TakesAtMost}
 use Rattle.jwt_command.specs.Runs.{Runs, reads_nothing}
 use Rattle.jwt_command.specs.Seen.{lines_view, requested, seen}
 use Rattle.jwt_command.specs.Stops.{most_taken}

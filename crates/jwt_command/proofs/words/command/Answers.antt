@@ -12,7 +12,7 @@ pub returns : goal.returns
 returns c =
     let top : app_of c.subcommand_required.result ≡ top_app = search rules in
     let one = c.in_ok-subcommand.ensures.shape c.in_ok-mac_command.ensures.local ∙ ap₂ more top c.in_ok-mac_command.ensures.shape in
-    let two = c.in_ok-subcommand-2.ensures.shape c.keys_command.ensures.local ∙ ap₂ more one c.keys_command.ensures.shape in
+    let two = c.in_ok-subcommand-2.ensures.shape c.in_ok-keys_command.ensures.local ∙ ap₂ more one c.in_ok-keys_command.ensures.shape in
     let three = c.in_ok-subcommand-3.ensures.shape c.in_ok-show_command.ensures.local ∙ ap₂ more two c.in_ok-show_command.ensures.shape in
     let four = c.in_ok-subcommand-4.ensures.shape c.in_ok-verify_command.ensures.local ∙ ap₂ more three c.in_ok-verify_command.ensures.shape in
     IfOk-weaker c.subcommand-5.result _ (λ r. app_of r ≡ jwt_app c.args.has_clock)

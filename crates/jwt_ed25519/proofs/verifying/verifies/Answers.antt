@@ -1,7 +1,7 @@
 use Rattle.std.proofs.Common.{◌&&◌, take, drop, ap, ◌∙◌, sym, arith}
 use Rattle.std.specs.Prelude.{not}
 use Rattle.std.proofs.lemmas.List.{length-take-le}
-use Rattle.jwt_mac.specs.Hmac.{joined}
+use Rattle.jwt_mac.specs.Hmac.{all_octets}
 use Rattle.jwt_ed25519.specs.Elements.{coordinates}
 use Rattle.jwt_ed25519.specs.Limbs.{number}
 use Rattle.jwt_ed25519.specs.Octets.{number_of}
@@ -17,25 +17,25 @@ pub holds-requires : goal.holds-requires
 holds-requires c = length-take-le 32 c.args.signature.now (omega arith)
 
 pub returns-then-signature-ne64 : goal.returns-then-signature-ne64
-returns-then-signature-ne64 c = other_length c.args.key.now (joined c.args.parts) c.args.signature.now c.if-signature-ne64.true
+returns-then-signature-ne64 c = other_length c.args.key.now (all_octets c.args.parts) c.args.signature.now c.if-signature-ne64.true
 
 pub returns-then-not-is_less : goal.returns-then-not-is_less
 returns-then-not-is_less c =
     let s = number c.from_octets-s.result in
     let is = c.from_octets-s.ensures ∙ ap number_of (second_half c.args.signature.now c.if-signature-ne64.false) in
     let above = not_less _ _ _ c.is_less.ensures c.if-not-is_less.true in
-    s_above c.args.key.now (joined c.args.parts) c.args.signature.now s is (omega (arith, above, c.order.ensures))
+    s_above c.args.key.now (all_octets c.args.parts) c.args.signature.now s is (omega (arith, above, c.order.ensures))
 
 pub returns-in_default : goal.returns-in_default
 returns-in_default c =
     let is = c.from_octets-s.ensures ∙ ap number_of (second_half c.args.signature.now c.if-signature-ne64.false) in
     let below = c.is_less.ensures.0 c.if-not-is_less.false in
-    no_point c.args.key.now (joined c.args.parts) c.args.signature.now c.if-signature-ne64.false (omega (arith, is, below, c.order.ensures)) c.in_default.ensures
+    no_point c.args.key.now (all_octets c.args.parts) c.args.signature.now c.if-signature-ne64.false (omega (arith, is, below, c.order.ensures)) c.in_default.ensures
 
 pub returns-then-not-is_small : goal.returns-then-not-is_small
 returns-then-not-is_small c =
     let signature = c.args.signature.now in
-    let message = joined c.args.parts in
+    let message = all_octets c.args.parts in
     let A = coordinates c.in-Some.a in
     let is = c.from_octets-s.ensures ∙ ap number_of (second_half signature c.if-signature-ne64.false) in
     let below = c.is_less.ensures.0 c.if-not-is_less.false in
@@ -48,7 +48,7 @@ returns-then-not-is_small c =
 pub returns-else-not-is_small : goal.returns-else-not-is_small
 returns-else-not-is_small c =
     let signature = c.args.signature.now in
-    let message = joined c.args.parts in
+    let message = all_octets c.args.parts in
     let A = coordinates c.in-Some.a in
     let is = c.from_octets-s.ensures ∙ ap number_of (second_half signature c.if-signature-ne64.false) in
     let below = c.is_less.ensures.0 c.if-not-is_less.false in

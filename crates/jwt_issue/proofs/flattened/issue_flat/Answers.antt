@@ -16,9 +16,9 @@ returns-in_err-signer-clause-paid g c =
     let p = err_from_is_err_and c.from_residual.result c.from_residual.ensures.1 in
     let typ = text_of c.args.typ in
     let pair = pair_of c.args.alg c.args.key.now in
-    let left = g.B.Budget.ceiling c.args.b.now - g.B.Budget.octets c.args.b.now in
+    let left = g.B.Budget.ceiling c.args.budget.now - g.B.Budget.octets c.args.budget.now in
     let unspent = λ (j : ℕ). signer_unspent pair (signer_of typ pair) c.in_err-signer.field-0.0 j c.in_err-signer.ensures.answer in
-    let Paid : ℕ → Type 0 = λ n. (g.B.Budget.octets c.args.b.now ≡ g.B.Budget.octets c.args.b.now + n * pair_cost typ c.args.claims.now pair) × (g.B.Budget.calls c.args.b.now ≡ g.B.Budget.calls c.args.b.now + n) in
+    let Paid : ℕ → Type 0 = λ n. (g.B.Budget.octets c.args.budget.now ≡ g.B.Budget.octets c.args.budget.now + n * pair_cost typ c.args.claims.now pair) × (g.B.Budget.calls c.args.budget.now ≡ g.B.Budget.calls c.args.budget.now + n) in
     rw (p.1, p.2) (none_paid (Vec ℕ Global) c.in_err-signer.field-0.0 (due 1 (flattened_of left typ c.args.claims.now pair)) Paid unspent (omega arith, omega arith))
 
 pub returns-clause-paid : goal.returns-clause-paid
@@ -29,10 +29,10 @@ returns-clause-paid g c =
     let typ = text_of c.args.typ in
     let pair = pair_of c.args.alg c.args.key.now in
     let s = signer_parts c.in_ok-signer.signer in
-    let left = g.B.Budget.ceiling c.args.b.now - g.B.Budget.octets c.args.b.now in
+    let left = g.B.Budget.ceiling c.args.budget.now - g.B.Budget.octets c.args.budget.now in
     let price = same_cost typ c.args.claims.now pair text s c.in_ok-signer.ensures.answer payload in
     let answer = same_answer flattened_token left typ c.args.claims.now pair text s c.in_ok-signer.ensures.answer payload in
-    let Paid : ℕ → ℕ → Type 0 = λ price n. (g.B.Budget.octets c.flattened_token.new.b ≡ g.B.Budget.octets c.args.b.now + n * price) × (g.B.Budget.calls c.flattened_token.new.b ≡ g.B.Budget.calls c.args.b.now + n) in
+    let Paid : ℕ → ℕ → Type 0 = λ price n. (g.B.Budget.octets c.flattened_token.new.budget ≡ g.B.Budget.octets c.args.budget.now + n * price) × (g.B.Budget.calls c.flattened_token.new.budget ≡ g.B.Budget.calls c.args.budget.now + n) in
     subst (λ (most : ℕ). Pays c.flattened_token.result most (Paid (pair_cost typ c.args.claims.now pair))) (ap (λ (r : Result (List ℕ) IssueFault). due 1 r) answer)
     (subst (λ (price : ℕ). Pays c.flattened_token.result (due 1 (within left (signing_cost text s ∷ []) (flattened_token text s))) (Paid price)) price c.flattened_token.ensures.paid)
 
@@ -40,7 +40,7 @@ pub returns-clause-answer : goal.returns-clause-answer
 unfolding flattened_of
 returns-clause-answer g c =
     let payload : spelling c.args.claims.now ≡ c.deref.result.now = ap spelling (sym c.octets.ensures) ∙ sym c.in_ok-payload.ensures.ok ∙ sym c.deref.ensures.value in
-    let same = same_answer flattened_token (g.B.Budget.ceiling c.args.b.now - g.B.Budget.octets c.args.b.now) (text_of c.args.typ) c.args.claims.now (pair_of c.args.alg c.args.key.now) c.deref.result.now (signer_parts c.in_ok-signer.signer) c.in_ok-signer.ensures.answer payload in
+    let same = same_answer flattened_token (g.B.Budget.ceiling c.args.budget.now - g.B.Budget.octets c.args.budget.now) (text_of c.args.typ) c.args.claims.now (pair_of c.args.alg c.args.key.now) c.deref.result.now (signer_parts c.in_ok-signer.signer) c.in_ok-signer.ensures.answer payload in
     rw (← same) c.flattened_token.ensures.answer
 
 pub returns-clause-signed : goal.returns-clause-signed
@@ -50,7 +50,7 @@ returns-clause-signed g c =
     let typ = text_of c.args.typ in
     let pair = pair_of c.args.alg c.args.key.now in
     let s = signer_parts c.in_ok-signer.signer in
-    let left = g.B.Budget.ceiling c.args.b.now - g.B.Budget.octets c.args.b.now in
+    let left = g.B.Budget.ceiling c.args.budget.now - g.B.Budget.octets c.args.budget.now in
     let answer = same_answer flattened_token left typ c.args.claims.now pair text s c.in_ok-signer.ensures.answer payload in
     let claims : AreOctets c.args.claims.now = subst AreOctets c.octets.ensures c.in_ok-payload.ensures.octets in
     answered (λ (t : List ℕ). (most : ℕ) → IsSignedToken most t (flattened_signed typ c.args.claims.now pair)) c.flattened_token.result (unfit 0 pair) left (pair_cost typ c.args.claims.now pair ∷ []) (flattened_token (spelling c.args.claims.now) (signer_of typ pair))

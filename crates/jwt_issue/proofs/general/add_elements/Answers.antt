@@ -20,7 +20,7 @@ returns-in_err-add_signed-clause-fault g c =
     let within : i < length ss = omega (arith, length-map c.args.signers.now signer_parts) in
     let is = mapped_at signer_parts c.args.signers.now i c.index-signers-i.result c.loop-i-test.true c.index-signers-i.is in
     rw (p.1, p.2) (λ some. c.loop-i.invariant.left
-    ∙ stops_at price ss i _ s within is (omega (arith, c.in_err-add_signed.ensures.spent some, g.met.B.Budget.within c.loop-i.b))
+    ∙ stops_at price ss i _ s within is (omega (arith, c.in_err-add_signed.ensures.spent some, g.met.B.Budget.within c.loop-i.budget))
     ∙ ap Some (sym (c.in_err-add_signed.ensures.fault some)))
 
 pub returns-in_err-add_signed-clause-paid : goal.returns-in_err-add_signed-clause-paid
@@ -35,9 +35,9 @@ returns-in_err-add_signed-clause-paid g c =
     let more = sum_more price ss i s within is in
     let kept = c.loop-i.invariant in
     let size = length-map c.args.signers.now signer_parts in
-    let first = g.B.Budget.ceiling c.args.b.now - g.B.Budget.octets c.args.b.now in
-    let left = g.B.Budget.ceiling c.loop-i.b - g.B.Budget.octets c.loop-i.b in
-    let enough : g.B.Budget.octets c.add_signed.new.b ≡ g.B.Budget.octets c.loop-i.b + 1 * price s → price s ≤ left = λ one. omega (arith, one, g.met.B.Budget.within c.add_signed.new.b, c.in_err-add_signed.ensures.ceiling) in
+    let first = g.B.Budget.ceiling c.args.budget.now - g.B.Budget.octets c.args.budget.now in
+    let left = g.B.Budget.ceiling c.loop-i.budget - g.B.Budget.octets c.loop-i.budget in
+    let enough : g.B.Budget.octets c.add_signed.new.budget ≡ g.B.Budget.octets c.loop-i.budget + 1 * price s → price s ≤ left = λ one. omega (arith, one, g.met.B.Budget.within c.add_signed.new.budget, c.in_err-add_signed.ensures.ceiling) in
     rw (p.1, p.2) (paid_after ⊤ c.in_err-add_signed.field-0.0 i _ _ _
     (reached c.args.payload.now price ss (length c.args.signers.now) i first left size (omega arith) kept.left)
     (λ one. reached c.args.payload.now price ss (length c.args.signers.now) (i + 1) first (left - price s) size (omega arith) (kept.left ∙ goes_on price ss i left s within is (enough one.0)))

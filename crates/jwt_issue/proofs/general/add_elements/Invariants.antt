@@ -8,10 +8,10 @@ use Rattle.jwt_issue.proofs.general.add_elements.Given as goal
 abbrev pub invariant-loop-i : goal.invariant-loop-i
 invariant-loop-i g l = record {
   text : l.token.items ≡ l.initial.token.items ++ join_with_byte 44 (map (element l.payload) (take l.i (map signer_parts l.signers)));
-  left : first_spent 0 (g.B.Budget.ceiling l.initial.b - g.B.Budget.octets l.initial.b) (map (signing_cost l.payload) (map signer_parts l.signers))
-      ≡ first_spent l.i (g.B.Budget.ceiling l.b - g.B.Budget.octets l.b) (drop l.i (map (signing_cost l.payload) (map signer_parts l.signers)));
-  octets : g.B.Budget.octets l.b ≡ g.B.Budget.octets l.initial.b + sum (take l.i (map (signing_cost l.payload) (map signer_parts l.signers)));
-  calls : g.B.Budget.calls l.b ≡ g.B.Budget.calls l.initial.b + l.i;
-  first : l.i ≡ 0 → l.b ≡ l.initial.b;
-  ceiling : g.B.Budget.ceiling l.b ≡ g.B.Budget.ceiling l.initial.b;
+  left : first_spent 0 (g.B.Budget.ceiling l.initial.budget - g.B.Budget.octets l.initial.budget) (map (signing_cost l.payload) (map signer_parts l.signers))
+      ≡ first_spent l.i (g.B.Budget.ceiling l.budget - g.B.Budget.octets l.budget) (drop l.i (map (signing_cost l.payload) (map signer_parts l.signers)));
+  octets : g.B.Budget.octets l.budget ≡ g.B.Budget.octets l.initial.budget + sum (take l.i (map (signing_cost l.payload) (map signer_parts l.signers)));
+  calls : g.B.Budget.calls l.budget ≡ g.B.Budget.calls l.initial.budget + l.i;
+  first : l.i ≡ 0 → l.budget ≡ l.initial.budget;
+  ceiling : g.B.Budget.ceiling l.budget ≡ g.B.Budget.ceiling l.initial.budget;
 }

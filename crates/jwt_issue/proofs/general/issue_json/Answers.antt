@@ -34,7 +34,7 @@ returns-clause-answer g c =
     let fit = fit_answer (first_unfit 0 pairs) (map made pairs) (map signer_parts c.in_ok-signers.signers.items) c.in_ok-signers.ensures.answer in
     let signers : map made pairs ≡ ss = fit.1 ∙ ap (λ (xs : List Signer). map signer_parts xs) (sym c.deref.ensures.value) in
     let payload : spelling c.args.claims.now ≡ c.deref-2.result.now = ap spelling (sym c.octets.ensures) ∙ sym c.in_ok-payload.ensures.ok ∙ sym c.deref-2.ensures.value in
-    let left = g.B.Budget.ceiling c.args.b.now - g.B.Budget.octets c.args.b.now in
+    let left = g.B.Budget.ceiling c.args.budget.now - g.B.Budget.octets c.args.budget.now in
     let same = signers_answer general_token left (text_of c.args.typ) c.args.claims.now pairs c.deref-2.result.now ss fit.0 signers payload in
     let size = length-map c.args.pairs.now pair_parts in
     let some : 0 < length c.args.pairs.now = grind (arith, nat_tests, common_steps) in
@@ -52,14 +52,14 @@ returns-clause-paid g c =
     let signers : map made pairs ≡ ss = fit.1 ∙ ap (λ (xs : List Signer). map signer_parts xs) (sym c.deref.ensures.value) in
     let payload : spelling c.args.claims.now ≡ c.deref-2.result.now = ap spelling (sym c.octets.ensures) ∙ sym c.in_ok-payload.ensures.ok ∙ sym c.deref-2.ensures.value in
     let costs = signers_costs (text_of c.args.typ) c.args.claims.now pairs c.deref-2.result.now ss signers payload in
-    let left = g.B.Budget.ceiling c.args.b.now - g.B.Budget.octets c.args.b.now in
+    let left = g.B.Budget.ceiling c.args.budget.now - g.B.Budget.octets c.args.budget.now in
     let same = signers_answer general_token left (text_of c.args.typ) c.args.claims.now pairs c.deref-2.result.now ss fit.0 signers payload in
     let count = length-map c.args.pairs.now pair_parts in
     let some : 0 < length c.args.pairs.now = grind (arith, nat_tests, common_steps) in
     let answer = same ∙ some_pairs pairs _ (omega (arith, some)) (omega arith) in
     let size : length c.deref.result.now ≡ length c.args.pairs.now =
     sym (length-map c.deref.result.now signer_parts) ∙ sym (ap (λ (xs : List SignerParts). length xs) signers) ∙ length-map pairs made ∙ length-map c.args.pairs.now pair_parts in
-    let Paid : List ℕ → ℕ → Type 0 = λ prices n. (g.B.Budget.octets c.general_token.new.b ≡ g.B.Budget.octets c.args.b.now + sum (take n prices)) × (g.B.Budget.calls c.general_token.new.b ≡ g.B.Budget.calls c.args.b.now + n) in
+    let Paid : List ℕ → ℕ → Type 0 = λ prices n. (g.B.Budget.octets c.general_token.new.budget ≡ g.B.Budget.octets c.args.budget.now + sum (take n prices)) × (g.B.Budget.calls c.general_token.new.budget ≡ g.B.Budget.calls c.args.budget.now + n) in
     subst (λ (most : ℕ). Pays c.general_token.result most (Paid (pair_costs (text_of c.args.typ) c.args.claims.now pairs))) (ap₂ (λ (all : ℕ) (r : Result (List ℕ) IssueFault). due all r) size answer)
     (subst (λ (prices : List ℕ). Pays c.general_token.result (due (length c.deref.result.now) (within left (map (signing_cost c.deref-2.result.now) ss) (general_token c.deref-2.result.now ss))) (Paid prices)) costs c.general_token.ensures.paid)
 
@@ -72,7 +72,7 @@ returns-clause-signed g c =
     let fit = fit_answer (first_unfit 0 pairs) (map made pairs) (map signer_parts c.in_ok-signers.signers.items) c.in_ok-signers.ensures.answer in
     let signers : map made pairs ≡ ss = fit.1 ∙ ap (λ (xs : List Signer). map signer_parts xs) (sym c.deref.ensures.value) in
     let payload : spelling c.args.claims.now ≡ c.deref-2.result.now = ap spelling (sym c.octets.ensures) ∙ sym c.in_ok-payload.ensures.ok ∙ sym c.deref-2.ensures.value in
-    let left = g.B.Budget.ceiling c.args.b.now - g.B.Budget.octets c.args.b.now in
+    let left = g.B.Budget.ceiling c.args.budget.now - g.B.Budget.octets c.args.budget.now in
     let same = signers_answer general_token left typ c.args.claims.now pairs c.deref-2.result.now ss fit.0 signers payload in
     let count = length-map c.args.pairs.now pair_parts in
     let some : 0 < length c.args.pairs.now = grind (arith, nat_tests, common_steps) in

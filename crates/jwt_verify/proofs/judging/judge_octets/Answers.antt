@@ -12,7 +12,7 @@ returns-in-Ok-clause-listed g c =
     let q = asked_terms (λ b. (goal.Verifier-dyn g (b.vtable, b.value)).meaning b.value) c.args.asked.now in
     let x = c.args.octets.now in
     let w = g.B.Budget.ceiling c.args.budget.now in
-    let t = rw c.in-Ok.is at c.read_token.ensures in
+    let t = rw c.in-Ok.is at c.read_with.ensures in
     let same = table_of_token q x (token c.in-Ok.signed) t in
     let f = c.judge_token.ensures.front in
     record {
@@ -29,7 +29,7 @@ returns-clause-listed g c =
     let q = asked_terms (λ b. (goal.Verifier-dyn g (b.vtable, b.value)).meaning b.value) c.args.asked.now in
     let x = c.args.octets.now in
     let w = g.B.Budget.ceiling c.args.budget.now in
-    let e = rw c.in-Err.is at c.read_token.ensures in
+    let e = rw c.in-Err.is at c.read_with.ensures in
     record {
       verdict = rw c.refused.ensures.verdict (refused_says q x w c.in-Err.fault e);
       whole = rw (c.refused.ensures.tries, c.refused.ensures.states, c.refused.ensures.verdict) (refused_whole q x w c.args.asked.now.policy.now.max_calls c.in-Err.fault e);
@@ -42,5 +42,5 @@ returns-clause-octets g c = octets_none _ _ c.requires.no_octets c.refused.ensur
 pub returns-clause-read : goal.returns-clause-read
 returns-clause-read g c =
     let q = asked_terms (λ b. (goal.Verifier-dyn g (b.vtable, b.value)).meaning b.value) c.args.asked.now in
-    let e = rw c.in-Err.is at c.read_token.ensures in
+    let e = rw c.in-Err.is at c.read_with.ensures in
     rw c.refused.ensures.verdict (refused_read q c.args.octets.now c.in-Err.fault e)

@@ -4,7 +4,7 @@ use Rattle.std.proofs.lemmas.Int.{to_z-of_z}
 use Rattle.std.proofs.lemmas.Option.{IfSome_then}
 use Rattle.jwt_verify.specs.Reports.{terms, IsReport, AreEligible, IsBounded}
 use Rattle.jwt_verify.proofs.Judged.{octets_none}
-use Rattle.jwt_verify.proofs.Taking.{takes_taken}
+use Rattle.jwt_verify.proofs.Taking.{takes_taken, source_takes}
 use Rattle.jwt_verify.proofs.Reporting.{none_once, none_within, none_eligible, none_bounded, source_report}
 use Rattle.jwt_verify.proofs.judging.validate.Goals as goal
 
@@ -12,18 +12,18 @@ pub returns-in-Ok-clause-verdict : goal.returns-in-Ok-clause-verdict
 returns-in-Ok-clause-verdict g c =
     let v = map (λ b. (goal.Verifier-dyn g (b.vtable, b.value)).meaning b.value) c.args.verifiers.now in
     let q = terms c.args.policy.now c.args.keys.now c.args.now v in
-    let w = g.B.Budget.ceiling c.args.b.now in
+    let w = g.B.Budget.ceiling c.args.budget.now in
     let z = to_z-of_z w64 c.args.now c.ranges.now in
-    IfSome_then (g.R.Source.remaining c.args.r.now) c.in-Ok.ensures.octets
+    IfSome_then (g.R.Source.remaining c.args.source.now) c.in-Ok.ensures.octets
     (λ x k read. (c.reports_in_words.ensures.taken q x w c.judge.result (subst (λ y. IsReport q y w c.judge.result) (c.octets.ensures.value ∙ rw c.limit.ensures.value at k.0) (rw z at c.judge.ensures.report))).verdict)
 
 pub returns-in-Ok-clause-report : goal.returns-in-Ok-clause-report
 returns-in-Ok-clause-report g c =
     let v = map (λ b. (goal.Verifier-dyn g (b.vtable, b.value)).meaning b.value) c.args.verifiers.now in
     let q = terms c.args.policy.now c.args.keys.now c.args.now v in
-    let w = g.B.Budget.ceiling c.args.b.now in
+    let w = g.B.Budget.ceiling c.args.budget.now in
     let z = to_z-of_z w64 c.args.now c.ranges.now in
-    IfSome_then (g.R.Source.remaining c.args.r.now) c.in-Ok.ensures.octets
+    IfSome_then (g.R.Source.remaining c.args.source.now) c.in-Ok.ensures.octets
     (λ x k read. c.reports_in_words.ensures.taken q x w c.judge.result (subst (λ y. IsReport q y w c.judge.result) (c.octets.ensures.value ∙ rw c.limit.ensures.value at k.0) (rw z at c.judge.ensures.report)))
 
 pub returns-in-Ok-clause-eligible : goal.returns-in-Ok-clause-eligible
@@ -31,7 +31,7 @@ returns-in-Ok-clause-eligible g c =
     let v = map (λ b. (goal.Verifier-dyn g (b.vtable, b.value)).meaning b.value) c.args.verifiers.now in
     let q = terms c.args.policy.now c.args.keys.now c.args.now v in
     let z = to_z-of_z w64 c.args.now c.ranges.now in
-    IfSome_then (g.R.Source.remaining c.args.r.now) c.in-Ok.ensures.octets
+    IfSome_then (g.R.Source.remaining c.args.source.now) c.in-Ok.ensures.octets
     (λ x k token is. subst (λ y. AreEligible q y c.judge.result.tries.items) (c.octets.ensures.value ∙ rw c.limit.ensures.value at k.0) (rw z at c.judge.ensures.eligible) token (c.reports_in_words.ensures.token q x token is))
 
 pub returns-in-Ok-clause-bound : goal.returns-in-Ok-clause-bound
@@ -39,14 +39,14 @@ returns-in-Ok-clause-bound g c =
     let v = map (λ b. (goal.Verifier-dyn g (b.vtable, b.value)).meaning b.value) c.args.verifiers.now in
     let q = terms c.args.policy.now c.args.keys.now c.args.now v in
     let z = to_z-of_z w64 c.args.now c.ranges.now in
-    let octets = g.B.Budget.octets c.judge.new.b in
+    let octets = g.B.Budget.octets c.judge.new.budget in
     let bound = subst (λ n. IsBounded (terms c.args.policy.now c.args.keys.now n v) c.octets.result.now c.judge.result.tries.items octets) z c.judge.ensures.bound in
-    IfSome_then (g.R.Source.remaining c.args.r.now) c.in-Ok.ensures.octets
+    IfSome_then (g.R.Source.remaining c.args.source.now) c.in-Ok.ensures.octets
     (λ x k token is. subst (λ y. IsBounded q y c.judge.result.tries.items octets) (c.octets.ensures.value ∙ rw c.limit.ensures.value at k.0) bound token (c.reports_in_words.ensures.token q x token is))
 
 pub returns-in-Ok-clause-most : goal.returns-in-Ok-clause-most
 returns-in-Ok-clause-most g c =
-    IfSome_then (g.R.Source.remaining c.args.r.now) c.in-Ok.ensures.octets
+    IfSome_then (g.R.Source.remaining c.args.source.now) c.in-Ok.ensures.octets
     (λ x k read. takes_taken x c.args.policy.now.run.limit _ (rw c.limit.ensures.value at k.1))
 
 pub returns-in-Ok-clause-some : goal.returns-in-Ok-clause-some
@@ -58,37 +58,42 @@ pub returns-in-Err-clause-verdict : goal.returns-in-Err-clause-verdict
 returns-in-Err-clause-verdict g c =
     let v = map (λ b. (goal.Verifier-dyn g (b.vtable, b.value)).meaning b.value) c.args.verifiers.now in
     let q = terms c.args.policy.now c.args.keys.now c.args.now v in
-    let w = g.B.Budget.ceiling c.args.b.now in
-    IfSome_then (g.R.Source.remaining c.args.r.now) c.take_in.ensures.octets
+    let w = g.B.Budget.ceiling c.args.budget.now in
+    IfSome_then (g.R.Source.remaining c.args.source.now) c.take_in.ensures.octets
     (λ x k read. (source_report q x w c.refused.result _ c.in-Err.fault c.in-Err.ensures.fault c.refused.ensures.verdict c.refused.ensures.tries read).verdict)
 
 pub returns-in-Err-clause-report : goal.returns-in-Err-clause-report
 returns-in-Err-clause-report g c =
     let v = map (λ b. (goal.Verifier-dyn g (b.vtable, b.value)).meaning b.value) c.args.verifiers.now in
     let q = terms c.args.policy.now c.args.keys.now c.args.now v in
-    let w = g.B.Budget.ceiling c.args.b.now in
-    IfSome_then (g.R.Source.remaining c.args.r.now) c.take_in.ensures.octets
+    let w = g.B.Budget.ceiling c.args.budget.now in
+    IfSome_then (g.R.Source.remaining c.args.source.now) c.take_in.ensures.octets
     (λ x k read. source_report q x w c.refused.result _ c.in-Err.fault c.in-Err.ensures.fault c.refused.ensures.verdict c.refused.ensures.tries read)
 
 pub returns-in-Err-clause-eligible : goal.returns-in-Err-clause-eligible
 returns-in-Err-clause-eligible g c =
     let v = map (λ b. (goal.Verifier-dyn g (b.vtable, b.value)).meaning b.value) c.args.verifiers.now in
     let q = terms c.args.policy.now c.args.keys.now c.args.now v in
-    IfSome_then (g.R.Source.remaining c.args.r.now) c.take_in.ensures.octets
+    IfSome_then (g.R.Source.remaining c.args.source.now) c.take_in.ensures.octets
     (λ x k. none_eligible q x c.refused.result.tries.items c.refused.ensures.tries)
 
 pub returns-in-Err-clause-bound : goal.returns-in-Err-clause-bound
 returns-in-Err-clause-bound g c =
     let v = map (λ b. (goal.Verifier-dyn g (b.vtable, b.value)).meaning b.value) c.args.verifiers.now in
     let q = terms c.args.policy.now c.args.keys.now c.args.now v in
-    IfSome_then (g.R.Source.remaining c.args.r.now) c.take_in.ensures.octets
-    (λ x k. none_bounded q x c.refused.result.tries.items (g.B.Budget.octets c.args.b.now) c.requires.no_octets)
+    IfSome_then (g.R.Source.remaining c.args.source.now) c.take_in.ensures.octets
+    (λ x k. none_bounded q x c.refused.result.tries.items (g.B.Budget.octets c.args.budget.now) c.requires.no_octets)
+
+pub returns-in-Err-clause-most : goal.returns-in-Err-clause-most
+returns-in-Err-clause-most g c =
+    IfSome_then (g.R.Source.remaining c.args.source.now) c.in-Err.ensures.octets
+    (λ x k read. source_takes c.in-Err.fault _ c.args.policy.now.run.limit x _ c.refused.result.verdict c.in-Err.ensures.fault (rw c.limit.ensures.value at k) c.refused.ensures.verdict read)
 
 pub returns-in-Err-clause-some : goal.returns-in-Err-clause-some
 returns-in-Err-clause-some g c =
     let v = map (λ b. (goal.Verifier-dyn g (b.vtable, b.value)).meaning b.value) c.args.verifiers.now in
     let q = terms c.args.policy.now c.args.keys.now c.args.now v in
-    let w = g.B.Budget.ceiling c.args.b.now in
+    let w = g.B.Budget.ceiling c.args.budget.now in
     λ read. ([], omega arith, source_report q [] w c.refused.result _ c.in-Err.fault c.in-Err.ensures.fault c.refused.ensures.verdict c.refused.ensures.tries read)
 
 pub returns-in-Err-clause-once : goal.returns-in-Err-clause-once
@@ -97,7 +102,7 @@ returns-in-Err-clause-once g c =
 
 pub returns-in-Err-clause-within : goal.returns-in-Err-clause-within
 returns-in-Err-clause-within g c =
-    none_within c.args.policy.now.max_calls (g.B.Budget.calls c.args.b.now) c.requires.no_calls
+    none_within c.args.policy.now.max_calls (g.B.Budget.calls c.args.budget.now) c.requires.no_calls
 
 pub returns-in-Err-clause-octets : goal.returns-in-Err-clause-octets
 returns-in-Err-clause-octets g c = octets_none _ _ c.requires.no_octets c.refused.ensures.tries
