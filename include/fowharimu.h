@@ -5,9 +5,9 @@
  *     uint32_t fault;
  *     if (fow_open(&validator, policy, policy_len, keys, keys_len, &fault) != FOW_OK) { ... }
  *     while (fow_judge(&validator, token, token_len, now, &report) == FOW_ASKS) {
- *         if (fow_ask(&validator, token, token_len, report.signature, report.key, out, out_len, &asked) != FOW_OK) break;
+ *         if (fow_asked(&validator, out, out_len, &asked) != FOW_OK) break;
  *         bool valid = (your own cryptography on asked and out);
- *         if (fow_answer(&validator, token, token_len, report.signature, report.key, valid) != FOW_OK) break;
+ *         if (fow_answer_asked(&validator, valid) != FOW_OK) break;
  *     }
  *     if (report.verdict == FOW_OK) { ... it is accepted; every other verdict is none ... }
  *     fow_close(&validator);
@@ -259,8 +259,8 @@ void fow_close(fow_validator *validator);
  * in which what wasn't told counts as invalid, and the report names the first of them of which nothing was told. FOW_NOT_OPEN:
  * nothing is held. FOW_OUT_OF_MEMORY: nothing is said.
  *
- * After FOW_ASKS a caller answers the pair that the report names, and may answer the tries after it too, those whose `cost` is 0, until
- * one is valid: then what is tried may be other pairs, and the token is judged again. So a token is judged at most once more than it
+ * After FOW_ASKS a caller answers the pair that the report names (fow_asked, fow_answer_asked), and may answer the tries after it too,
+ * those whose `cost` is 0, until one is valid (fow_ask, fow_answer, which read the token again): then what is tried may be other pairs, and the token is judged again. So a token is judged at most once more than it
  * has signatures, however many keys there are. */
 uint32_t fow_judge(fow_validator *validator, const uint8_t *token, size_t token_len, int64_t now, fow_report *report);
 
@@ -275,6 +275,19 @@ uint32_t fow_try_of(fow_validator *validator, uint64_t n, fow_try *tried);
 /* The name of the claim that the last judging found missing (FOW_CLAIM_MISSING), as the policy spells it. FOW_ABSENT: it found
  * none missing, or one whose name is empty. */
 uint32_t fow_refused_claim(fow_validator *validator, uint8_t *out, size_t out_len, size_t *written);
+
+/* Writes the question of the last judging at the front of `out`: that about the pair that its report names. The length of the token and
+ * 16,384 octets are always enough.
+ *
+ * Proved: FOW_OK: `out` begins with the question whether that key made that signature of the token that was judged, and *asked has its
+ * sizes. FOW_ABSENT: the last judging asked nothing, or that is answered. */
+uint32_t fow_asked(fow_validator *validator, uint8_t *out, size_t out_len, fow_question *asked);
+
+/* Tells whether the key made the signature that the last judging asks about. Later verdicts rest on it as on fow_answer.
+ *
+ * Proved: FOW_OK: exactly this answer is told besides those told before. Else what was told is as before. FOW_ABSENT: the last judging
+ * asked nothing, or that is answered. After each of them nothing is asked. */
+uint32_t fow_answer_asked(fow_validator *validator, bool valid);
 
 /* Writes a question at the front of `out`. The token's length and 16,384 octets are always enough.
  *

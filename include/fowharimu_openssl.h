@@ -15,7 +15,7 @@ extern "C" {
 /* What OpenSSL made of the keys of one opened validator, by their numbers, and room for a question. Its members are private. It is
  * used by one call at a time. */
 typedef struct fow_openssl {
-    void **keys;
+    void *keys;
     size_t count;
     uint8_t *room;
     size_t size;

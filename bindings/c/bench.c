@@ -87,7 +87,8 @@ static void time_rsa(const char *name)
          fow_answer_rsa(&validator, token.at, token.len, 0, 0);
          CHECK(fow_judge(&validator, token.at, token.len, NOW, &report) == FOW_OK));
     CHECK(fow_ask(&validator, token.at, token.len, 0, 0, out, sizeof out, &asked) == FOW_OK);
-    time_openssl(&asked, out, crypto.keys[0]);
+    /* (a key that is kept begins with OpenSSL's) */
+    time_openssl(&asked, out, *(EVP_PKEY **)crypto.keys);
     fow_openssl_clear(&crypto);
     fow_close(&validator);
 }

@@ -69,6 +69,19 @@ static uint32_t ask_it(void)
     return fow_ask(&validator, token.at, token.len, 0, 0, out, sizeof out, &asked);
 }
 
+static uint32_t asked_of_it(void)
+{
+    fow_question asked;
+    return fow_asked(&validator, out, sizeof out, &asked);
+}
+
+/* (a question whose answer was refused memory is asked again by the next judging) */
+static uint32_t answer_asked(void)
+{
+    uint32_t verdict = judge_it();
+    return verdict == FOW_ASKS ? fow_answer_asked(&validator, true) : verdict;
+}
+
 static uint32_t answer_it(void)
 {
     return fow_answer(&validator, token.at, token.len, 0, 0, true);
@@ -143,12 +156,15 @@ static void refuse_on(const char *name, uint32_t verdict, uint32_t (*answer)(voi
     long before = held;
     refuse_each("fow_open", open_it, FOW_OK);
     refuse_each("fow_judge", judge_it, verdict);
+    refuse_each("fow_asked", asked_of_it, verdict == FOW_ASKS ? FOW_OK : FOW_ABSENT);
     refuse_each("fow_payload", payload_of_it, FOW_OK);
     refuse_each("fow_unverified_header", header_of_it, FOW_OK);
     refuse_each("fow_ask", ask_it, FOW_OK);
     refuse_each("fow_answer", answer_it, FOW_OK);
     refuse_each("fow_judge, told", judge_it, FOW_OK);
     refuse_each("fow_claim", claim_of_it, FOW_OK);
+    fow_forget(&validator);
+    refuse_each("fow_answer_asked", answer_asked, FOW_OK);
     fow_forget(&validator);
     refuse_each("fow_answer_rsa", answer_by_rsa, answer == answer_by_rsa ? FOW_OK : FOW_ABSENT);
     refuse_each("fow_answer_ed25519", answer_by_ed25519, answer == answer_by_ed25519 ? FOW_OK : FOW_ABSENT);

@@ -31,6 +31,8 @@ static void check_unopened(fow_validator *validator)
     CHECK(fow_refused_claim(validator, out, sizeof out, &written) == FOW_NOT_OPEN);
     CHECK(fow_ask(validator, out, 0, 0, 0, out + 1, sizeof out - 1, &asked) == FOW_NOT_OPEN);
     CHECK(fow_answer(validator, out, 0, 0, 0, true) == FOW_NOT_OPEN);
+    CHECK(fow_asked(validator, out, sizeof out, &asked) == FOW_NOT_OPEN);
+    CHECK(fow_answer_asked(validator, true) == FOW_NOT_OPEN);
     CHECK(fow_answer_rsa(validator, out, 0, 0, 0) == FOW_NOT_OPEN);
     CHECK(fow_answer_ed25519(validator, out, 0, 0, 0) == FOW_NOT_OPEN);
     CHECK(fow_payload(validator, out, 0, out + 1, sizeof out - 1, &written) == FOW_NOT_OPEN);
@@ -102,6 +104,8 @@ static void check_no_token(const char *name)
     CHECK(fow_ask(&validator, zeros, 3, 0, 0, out, sizeof out, &asked) == FOW_ABSENT);
     CHECK(fow_answer(&validator, zeros, 3, 0, 0, true) == FOW_ABSENT);
     CHECK(fow_answer_ed25519(&validator, zeros, 3, 0, 0) == FOW_ABSENT);
+    CHECK(fow_asked(&validator, out, sizeof out, &asked) == FOW_ABSENT);
+    CHECK(fow_answer_asked(&validator, true) == FOW_ABSENT);
     CHECK(fow_payload(&validator, zeros, 3, out, sizeof out, &written) == FOW_ABSENT);
     CHECK(fow_unverified_header(&validator, zeros, 3, 0, out, sizeof out, &written) == FOW_ABSENT);
     CHECK(fow_claim(&validator, (const uint8_t *)"iss", 3, out, sizeof out, &written) == FOW_ABSENT);
@@ -134,6 +138,14 @@ static void check_answers(const char *hmac, const char *rsa)
     CHECK(fow_answer(&one, token.at, token.len, 0, 0, true) == FOW_OK);
     CHECK(fow_judge(&one, token.at, token.len, NOW, &report) == FOW_REFUSED && report.fault == FOW_SIG_BAD_SIGNATURE);
     CHECK(fow_judge(&two, token.at, token.len, NOW, &report) == FOW_ASKS);
+    CHECK(fow_asked(&one, out, sizeof out, &asked) == FOW_ABSENT && fow_answer_asked(&one, true) == FOW_ABSENT);
+    CHECK(fow_asked(&two, out, 1, &asked) == FOW_TOO_SHORT);
+    memset(&asked, 0, sizeof asked);
+    CHECK(fow_asked(&two, out, sizeof out, &asked) == FOW_OK);
+    CHECK(asked.alg == FOW_RS256 && asked.kind == FOW_RSA && asked.second == 3 && memcmp(out, token.at, asked.input) == 0);
+    CHECK(fow_answer_asked(&two, true) == FOW_OK && fow_answer_asked(&two, true) == FOW_ABSENT);
+    CHECK(fow_judge(&two, token.at, token.len, NOW, &report) == FOW_OK);
+    CHECK(fow_asked(&two, out, sizeof out, &asked) == FOW_ABSENT);
     fow_forget(&one);
     CHECK(fow_judge(&one, token.at, token.len, NOW, &report) == FOW_ASKS);
     CHECK(fow_answer_rsa(&one, token.at, token.len, 0, 1) == FOW_ABSENT);

@@ -184,12 +184,37 @@ static int begin(EVP_MD_CTX *context, uint32_t alg, EVP_PKEY *key)
             && EVP_PKEY_CTX_set_rsa_pss_saltlen(inner, RSA_PSS_SALTLEN_DIGEST) == 1);
 }
 
-static enum answer verify_by(EVP_PKEY *key, uint32_t alg, const uint8_t *signature, size_t signature_len,
+/* What is made of a key once and kept: the key, and a context that is ready to verify with it by an algorithm. That is copied for each
+ * signature, since making it ready takes OpenSSL longer: it looks up the algorithms by name. */
+typedef struct made {
+    EVP_PKEY *key;
+    EVP_MD_CTX *ready;
+    uint32_t alg;
+} made;
+
+/* The context that is ready to verify with a key by an algorithm; NULL where it can't be had. */
+static const EVP_MD_CTX *ready_for(made *it, uint32_t alg)
+{
+    if (it->ready != NULL && it->alg == alg)
+        return it->ready;
+    EVP_MD_CTX *context = EVP_MD_CTX_new();
+    if (context == NULL || !begin(context, alg, it->key)) {
+        EVP_MD_CTX_free(context);
+        return NULL;
+    }
+    EVP_MD_CTX_free(it->ready);
+    it->ready = context;
+    it->alg = alg;
+    return context;
+}
+
+static enum answer verify_by(made *key, uint32_t alg, const uint8_t *signature, size_t signature_len,
     const uint8_t *input, size_t input_len)
 {
     enum answer answer = UNKNOWN;
+    const EVP_MD_CTX *ready = ready_for(key, alg);
     EVP_MD_CTX *context = EVP_MD_CTX_new();
-    if (context != NULL && begin(context, alg, key)) {
+    if (ready != NULL && context != NULL && EVP_MD_CTX_copy_ex(context, ready) == 1) {
         if (EVP_DigestVerify(context, signature, signature_len, input, input_len) == 1)
             answer = VALID;
         else if (!lacked_memory())
@@ -199,7 +224,7 @@ static enum answer verify_by(EVP_PKEY *key, uint32_t alg, const uint8_t *signatu
     return answer;
 }
 
-static enum answer verify_ecdsa(EVP_PKEY *key, const fow_question *asked, const uint8_t *octets)
+static enum answer verify_ecdsa(made *key, const fow_question *asked, const uint8_t *octets)
 {
     uint8_t *der = NULL;
     size_t half = field_octets(asked->kind);
@@ -211,7 +236,7 @@ static enum answer verify_ecdsa(EVP_PKEY *key, const fow_question *asked, const 
     return answer;
 }
 
-static enum answer verify(EVP_PKEY *key, const fow_question *asked, const uint8_t *octets)
+static enum answer verify(made *key, const fow_question *asked, const uint8_t *octets)
 {
     if (is_ecdsa(asked->alg))
         return verify_ecdsa(key, asked, octets);
@@ -223,7 +248,7 @@ static int hold_keys(fow_openssl *crypto, size_t count)
 {
     if (count <= crypto->count)
         return 1;
-    void **keys = realloc(crypto->keys, count * sizeof *keys);
+    made *keys = realloc(crypto->keys, count * sizeof *keys);
     if (keys == NULL)
         return 0;
     memset(keys + crypto->count, 0, (count - crypto->count) * sizeof *keys);
@@ -237,11 +262,12 @@ static enum answer answer_to(fow_openssl *crypto, uint32_t number, const fow_que
 {
     if (!hold_keys(crypto, (size_t)number + 1))
         return UNKNOWN;
-    if (crypto->keys[number] == NULL)
-        crypto->keys[number] = key_of(asked, octets);
-    if (crypto->keys[number] == NULL)
+    made *key = (made *)crypto->keys + number;
+    if (key->key == NULL)
+        key->key = key_of(asked, octets);
+    if (key->key == NULL)
         return lacked_memory() ? UNKNOWN : INVALID;
-    return verify(crypto->keys[number], asked, octets);
+    return verify(key, asked, octets);
 }
 
 /* Makes room for a question about a token of that length. */
@@ -266,17 +292,36 @@ typedef struct judging {
     size_t token_len;
 } judging;
 
+/* Whether the key made the signature of a question that is in the room for one. */
+static enum answer told_by(fow_openssl *crypto, uint32_t key, const fow_question *asked)
+{
+    ERR_clear_error();
+    enum answer answer = answer_to(crypto, key, asked, crypto->room);
+    ERR_clear_error();
+    return answer;
+}
+
+/* Answers the question of the last judging; UNKNOWN where it can't be answered. */
+static enum answer tell_asked(const judging *it, uint32_t key)
+{
+    fow_question asked;
+    fow_openssl *crypto = it->crypto;
+    if (!hold_room(crypto, it->token_len) || fow_asked(it->validator, crypto->room, crypto->size, &asked) != FOW_OK)
+        return UNKNOWN;
+    enum answer answer = told_by(crypto, key, &asked);
+    if (answer == UNKNOWN || fow_answer_asked(it->validator, answer == VALID) != FOW_OK)
+        return UNKNOWN;
+    return answer;
+}
+
 /* Answers the question about a pair; UNKNOWN where it can't be answered. */
 static enum answer tell(const judging *it, uint32_t signature, uint32_t key)
 {
     fow_question asked;
     fow_openssl *crypto = it->crypto;
-    if (!hold_room(crypto, it->token_len)
-        || fow_ask(it->validator, it->token, it->token_len, signature, key, crypto->room, crypto->size, &asked) != FOW_OK)
+    if (fow_ask(it->validator, it->token, it->token_len, signature, key, crypto->room, crypto->size, &asked) != FOW_OK)
         return UNKNOWN;
-    ERR_clear_error();
-    enum answer answer = answer_to(crypto, key, &asked, crypto->room);
-    ERR_clear_error();
+    enum answer answer = told_by(crypto, key, &asked);
     if (answer == UNKNOWN
         || fow_answer(it->validator, it->token, it->token_len, signature, key, answer == VALID) != FOW_OK)
         return UNKNOWN;
@@ -287,7 +332,7 @@ static enum answer tell(const judging *it, uint32_t signature, uint32_t key)
  * next judging says. 0 where a question can't be answered. */
 static int tell_in_turn(const judging *it, const fow_report *report)
 {
-    enum answer answer = tell(it, report->signature, report->key);
+    enum answer answer = tell_asked(it, report->key);
     int is_after = 0;
     fow_try tried;
     for (uint64_t n = 0; answer == INVALID && fow_try_of(it->validator, n, &tried) == FOW_OK; n++) {
@@ -310,9 +355,12 @@ uint32_t fow_openssl_judge(fow_openssl *crypto, fow_validator *validator, const 
 
 void fow_openssl_clear(fow_openssl *crypto)
 {
-    for (size_t i = 0; i < crypto->count; i++)
-        EVP_PKEY_free(crypto->keys[i]);
-    free(crypto->keys);
+    made *keys = crypto->keys;
+    for (size_t i = 0; i < crypto->count; i++) {
+        EVP_MD_CTX_free(keys[i].ready);
+        EVP_PKEY_free(keys[i].key);
+    }
+    free(keys);
     free(crypto->room);
     memset(crypto, 0, sizeof *crypto);
 }

@@ -1,5 +1,5 @@
 -- Questions, as they are written for the caller, and their answers.
-use Rattle.std.specs.Prelude.{◌≡◌, ◌≢◌, ◌<◌, ℕ, Bool, true, false, ◌&&◌, if◌then◌else◌, ◌++◌, List, [], ◌∷◌, length, Option, Some, None, Result, Ok, Err}
+use Rattle.std.specs.Prelude.{◌≡◌, ◌≢◌, ◌<◌, ℕ, Bool, true, false, ◌&&◌, if◌then◌else◌, ◌++◌, List, [], ◌∷◌, length, Option, Some, None}
 use Rattle.jwt_mac.specs.declared.algorithm.Alg.{Alg}
 use Rattle.jwt_mac.specs.declared.algorithm.Alg.TheVariants as alg
 use Rattle.jwt_mac.specs.declared.message.Curve.{Curve}
@@ -7,23 +7,15 @@ use Rattle.jwt_mac.specs.declared.message.Curve.TheVariants.{P256, P384, P521}
 use Rattle.jwt_mac.specs.declared.message.EdCurve.{EdCurve}
 use Rattle.jwt_mac.specs.declared.message.EdCurve.TheVariants.{Ed25519, Ed448}
 use Rattle.jwt_mac.specs.Verifying.{KeyOctets, OctKey, RsaKey, EcKey, OkpKey, signing_input}
-use Rattle.jwt_jws.specs.Token.{Token}
-use Rattle.jwt_keys.specs.Keys.{KeyParts}
 use Rattle.jwt_ed25519.specs.Meanings.{ed25519_meaning}
 use Rattle.jwt_rsa.specs.Meanings.{rsa_meaning}
-use Rattle.jwt_verify.specs.declared.report.Fault.{Fault}
 use Rattle.jwt_told.specs.Told.{ToldParts, told}
-use Rattle.jwt_told.specs.Questions.{QuestionParts, question_at}
+use Rattle.jwt_told.specs.Questions.{QuestionParts, told_of}
 use Rattle.jwt_c.specs.declared.asking.Proved.{Proved}
 use Rattle.jwt_c.specs.declared.asking.Proved.TheVariants.{Rsa, Ed25519 as OnEd25519}
 use Rattle.jwt_c.specs.declared.desk.Desk.{Desk}
 use Rattle.jwt_c.specs.declared.report.FowQuestion.{FowQuestion}
 use Rattle.jwt_c.specs.Written.{IsAbsent}
-
--- the question whether key j made signature i of the token; none where the octets are no token, or there is no such pair
-abbrev pub asked_at : Result Token Fault → List KeyParts → ℕ → ℕ → Option QuestionParts
-asked_at (Ok t) keys i j = question_at t keys i j
-asked_at (Err f) keys i j = None
 
 abbrev pub alg_number : Alg → ℕ
 alg_number alg.HS256 = 1
@@ -87,9 +79,6 @@ abbrev pub PutsQuestion : Option QuestionParts → ℕ → FowQuestion → List 
 PutsQuestion None status a old out = IsAbsent status
 PutsQuestion (Some q) status a old out = (status ≡ 0 → IsSized q a × ((more : List ℕ) × (out ≡ question_octets q ++ more)))
     × (status ≢ 0 → status ≢ 3 → (status ≡ 5) × (length old < length (question_octets q)))
-
-abbrev pub told_of : QuestionParts → Bool → ToldParts
-told_of q valid = record { alg = q.alg; key = q.key; message = q.message; signature = q.signature; valid = valid }
 
 -- exactly this answer is told besides, unless memory was refused
 abbrev pub TellsOne : QuestionParts → Bool → ℕ → List ToldParts → List ToldParts → Type 0

@@ -1,11 +1,14 @@
 -- What an exported function writes and answers.
-use Rattle.std.specs.Prelude.{◌≡◌, ◌≢◌, ℕ, ℤ, List, [], ◌∷◌, length, Option, Some, None, Result, Ok, Err}
+use Rattle.std.specs.Prelude.{◌≡◌, ◌≢◌, ℕ, ℤ, List, [], ◌∷◌, length, Option, Some, None, option_map, Result, Ok, Err}
 use Rattle.serde_json.specs.Data.{Members}
+use Rattle.jwt_jws.specs.Token.{Token}
+use Rattle.jwt_keys.specs.Keys.{KeyParts}
 use Rattle.jwt_keys.specs.KeySets.{KeyList, key_set, key_set_of}
 use Rattle.jwt_keys.specs.declared.fault.KeysFault.{KeysFault}
 use Rattle.jwt_policy.specs.Settings.{Settings}
 use Rattle.jwt_policy.specs.declared.policy_fault.PolicyFault.{PolicyFault}
 use Rattle.jwt_policy.specs.Document.{policy_of}
+use Rattle.jwt_verify.specs.declared.report.Fault.{Fault}
 use Rattle.jwt_verify.specs.declared.report.SigState.{SigState}
 use Rattle.jwt_verify.specs.declared.report.SigState.TheVariants as state
 use Rattle.jwt_verify.specs.declared.report.Try.{Try}
@@ -17,7 +20,7 @@ use Rattle.jwt_verify.specs.Table.{work}
 use Rattle.jwt_verify.specs.Verdict.{token_of}
 use Rattle.jwt_verify.specs.Reports.{FoundMemory, IsReport, terms}
 use Rattle.jwt_told.specs.Told.{Truth, AreRight, told, told_meaning, true_meaning}
-use Rattle.jwt_told.specs.Questions.{AreTries, IsFirstOpen, IsOpen}
+use Rattle.jwt_told.specs.Questions.{AreTries, IsFirstOpen, IsOpen, QuestionParts, kept_parts, question_at}
 use Rattle.jwt_c.specs.declared.desk.Desk.{Desk}
 use Rattle.jwt_c.specs.declared.desk.Last.{Last}
 use Rattle.jwt_c.specs.declared.report.FowReport.{FowReport}
@@ -62,7 +65,7 @@ try_parts t = record { cost = t.cost; signature = t.signature; key = t.key }
 
 -- nothing is kept of a judging
 abbrev pub IsNew : Last → Type 0
-IsNew l = (l.states.items ≡ []) × (l.tries.items ≡ []) × (l.claims ≡ None) × (l.missing.items ≡ [])
+IsNew l = (l.states.items ≡ []) × (l.tries.items ≡ []) × (l.claims ≡ None) × (l.missing.items ≡ []) × (l.asked ≡ None)
 
 -- what was read from these documents is held, and nothing is told
 abbrev pub IsOpened : List ℕ → List ℕ → Option Desk → Type 0
@@ -104,7 +107,7 @@ claims_in (Refused f) = None
 
 -- what is kept of a report
 abbrev pub Keeps : Report → Last → Type 0
-Keeps r l = (l.states.items ≡ r.states.items) × (l.tries.items ≡ r.tries.items) × (l.claims ≡ claims_in r.verdict) × (l.missing.items ≡ missing_in r.verdict)
+Keeps r l = (l.states.items ≡ r.states.items) × (l.tries.items ≡ r.tries.items) × (l.claims ≡ claims_in r.verdict) × (l.missing.items ≡ missing_in r.verdict) × (l.asked ≡ None)
 
 -- The verdict and the numbers are those of validate's contract on x, where the one verifier is what was told; and where what was told
 -- is true, the verdict is the one under what is true.
@@ -119,13 +122,19 @@ abbrev pub IsJudgedBy : Desk → ℤ → List ℕ → FowReport → Option Desk 
 IsJudgedBy d now x said None = ⊥
 IsJudgedBy d now x said (Some e) = IsJudged d now x said e.last
 
+-- the question whether key j made signature i of the token; none where the octets are no token, or there is no such pair
+abbrev pub asked_at : Result Token Fault → List KeyParts → ℕ → ℕ → Option QuestionParts
+asked_at (Ok t) keys i j = question_at t keys i j
+asked_at (Err f) keys i j = None
+
 -- The tries that are kept are those of a run that finds memory, where what wasn't told counts as invalid. The pair that is named is the
--- first of them of which nothing was told.
+-- first of them of which nothing was told, and the question about it is kept.
 abbrev pub IsAsked : Desk → ℤ → List ℕ → FowReport → Last → Type 0
 IsAsked d now x said l = AreTries (terms d.policy d.keys now (told_meaning (told d.answers) ∷ [])) x d.policy.run.work l.tries.items
     × IsFirstOpen (told d.answers) (token_of d.policy x) (key_set d.keys).keys l.tries.items said.signature said.key
     × IsOpen (told d.answers) (token_of d.policy x) (key_set d.keys).keys said.signature said.key
     × (said.tries ≡ length l.tries.items)
+    × (option_map kept_parts l.asked ≡ asked_at (token_of d.policy x) (key_set d.keys).keys said.signature said.key)
 
 -- what is asked is so, and its tries are what the desk that is held keeps
 abbrev pub IsAskedBy : Desk → ℤ → List ℕ → FowReport → Option Desk → Type 0

@@ -1,20 +1,22 @@
 //! Questions, as they are written for the caller, and their answers.
 
-ghost use Rattle.std.specs.Prelude.{◌≡◌, IfOk, length, option_map, Some};
+ghost use Rattle.std.specs.Prelude.{◌≡◌, IfOk, None, length, option_map, Some};
 ghost use Rattle.jwt_mac.specs.Verifying.{key_octets, signing_input};
 ghost use Rattle.jwt_keys.specs.KeySets.{key_set};
 ghost use Rattle.jwt_verify.specs.Verdict.{token_of};
-ghost use Rattle.jwt_told.specs.Questions.{question_parts};
+ghost use Rattle.jwt_told.specs.Questions.{kept_parts, question_parts};
 ghost use Rattle.jwt_told.specs.Told.{told};
-ghost use Rattle.jwt_c.specs.Asking.{asked_at, alg_number, kind_number, key_first, key_second, question_octets, PutsQuestion, TellsOne, TellsDesk, is_ed25519, rsa_says, ed25519_says, asked_of, said_by};
+ghost use Rattle.jwt_c.specs.Reports.{asked_at};
+ghost use Rattle.jwt_c.specs.Asking.{alg_number, kind_number, key_first, key_second, question_octets, PutsQuestion, TellsOne, TellsDesk, is_ed25519, rsa_says, ed25519_says, asked_of, said_by};
 
-use crate::desk::Desk;
+use crate::desk::{Desk, Last};
 use crate::report::FowQuestion;
 use jwt_ed25519::Ed25519;
 use jwt_mac::{Alg, Answer, Curve, EdCurve, KeyView, Verifier};
 use jwt_rsa::Rsa;
 use jwt_told::{Answers, Asked, Question, read_token};
 use std::alloc::{AllocError, Global};
+use std::mem::replace;
 
 /// The number of an algorithm.
 fn alg_number(alg: Alg) -> u32
@@ -80,6 +82,9 @@ fn second<'a>(key: &KeyView<'a>) -> &'a [u8]
     }
 }
 
+/// As many octets as most questions have.
+const MOST_NEED: usize = 1_024;
+
 /// A question's octets, and how many of them are the signing input.
 #[derive(Drop)]
 struct Spelled {
@@ -93,7 +98,8 @@ fn spell(alloc: Global, asked: &Asked<'_>) -> Result<Spelled, AllocError>
     ensures input { IfOk result (λ s.
         s.input ≡ length (signing_input (question_parts asked.now).message)) }
 {
-    let mut all = Vec::from_slice(alloc, asked.message.protected)?;
+    let mut all = Vec::with_capacity(alloc, MOST_NEED)?;
+    all.extend_from_slice(asked.message.protected)?;
     all.push(b'.')?;
     all.extend_from_slice(asked.message.payload)?;
     let input = all.len();
@@ -146,6 +152,31 @@ pub(crate) fn ask_about(
         },
         Ok(None) => 6,
         Err(_) => 3,
+    }
+}
+
+/// Writes the question of the last judging at the front of `out`. 0; 3: memory was refused; 5: `out` is too short; 6: there is none.
+pub(crate) fn ask_last(alloc: Global, last: &Last, out: &mut [u8], into: &mut FowQuestion) -> u32
+    ensures { PutsQuestion (option_map kept_parts last.now.asked) result into.new out.old out.new }
+{
+    match &last.asked {
+        Some(copy) => write_question(alloc, &copy.asked(), out, into),
+        None => 6,
+    }
+}
+
+/// Tells the answer to the question of the last judging, which asks it no more. 0; 3: memory was refused; 6: there is none.
+pub(crate) fn tell_last(alloc: Global, desk: &mut Desk, valid: bool) -> u32
+    ensures told { TellsDesk (option_map kept_parts desk.old.last.asked) valid result
+        desk.old desk.new }
+    ensures none { desk.new.last.asked ≡ None }
+{
+    match replace(&mut desk.last.asked, None) {
+        Some(asked) => match desk.answers.tell_copy(alloc, asked, valid) {
+            Ok(()) => 0,
+            Err(_) => 3,
+        },
+        None => 6,
     }
 }
 

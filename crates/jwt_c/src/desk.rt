@@ -2,7 +2,7 @@
 
 use jwt_keys::KeySet;
 use jwt_policy::{Claims, Policy};
-use jwt_told::Answers;
+use jwt_told::{Answers, AskedCopy};
 use jwt_verify::{SigState, Try};
 
 /// What is kept of the last judging.
@@ -12,6 +12,8 @@ pub struct Last {
     pub(crate) tries: Vec<Try>,
     pub(crate) claims: Option<Claims>,
     pub(crate) missing: Vec<u8>,
+    /// What it asks.
+    pub(crate) asked: Option<AskedCopy>,
 }
 
 /// What a validator holds: a policy, a key set, what was told, and what is kept of the last judging.

@@ -1,17 +1,18 @@
 //! What C calls.
 
-ghost use Rattle.std.specs.Prelude.{◌≡◌, ◌≢◌, ◌≤◌, IfSome, Some, None, slice_get, IfOk, IfErr, IsUtf8};
+ghost use Rattle.std.specs.Prelude.{◌≡◌, ◌≢◌, ◌≤◌, IfSome, Some, None, slice_get, option_map, IfOk, IfErr, IsUtf8};
 ghost use Rattle.jwt_keys.specs.KeySets.{key_set};
 ghost use Rattle.jwt_policy.specs.Document.{policy_of};
 ghost use Rattle.jwt_verify.specs.Verdict.{token_of};
-ghost use Rattle.jwt_c.specs.Reports.{IsOpened, IsRefused, IsAlike, IsForgotten, IsAskedBy, IsJudgedBy, report_numbers};
+ghost use Rattle.jwt_told.specs.Questions.{kept_parts};
+ghost use Rattle.jwt_c.specs.Reports.{asked_at, IsOpened, IsRefused, IsAlike, IsForgotten, IsAskedBy, IsJudgedBy, report_numbers};
 ghost use Rattle.jwt_c.specs.Faults.{bare};
 ghost use Rattle.jwt_c.specs.Written.{PutsPayload, PutsName, IsState, IsTry, PutsSome, PutsNumber, claim_at, header_at, number_at, refused_member};
-ghost use Rattle.jwt_c.specs.Asking.{asked_at, PutsQuestion, IsTold, rsa_asked, rsa_says, ed25519_asked, ed25519_says};
+ghost use Rattle.jwt_c.specs.Asking.{PutsQuestion, IsTold, rsa_asked, rsa_says, ed25519_asked, ed25519_says};
 ghost use Rattle.jwt_c.specs.Issuing.{hmac_at, form_at, typ_of, PutsIssued};
 ghost use Rattle.jwt_issue.specs.ClaimSets.{claim_set_of};
 
-use crate::asking::{Proved, ask_about, tell, tell_by};
+use crate::asking::{Proved, ask_about, ask_last, tell, tell_by, tell_last};
 use crate::desk::{Desk, Last};
 use crate::faults::{keys_number, policy_number};
 use crate::handle::{Handle, take};
@@ -216,6 +217,45 @@ pub extern "C" fn fow_ask(
         return 4;
     };
     let status = ask_about(alloc, &desk, token, signature, key, out, asked);
+    *validator = Handle::of(desk);
+    status
+}
+
+/// Writes the question of the last judging at the front of `out`: that about the pair that it names. 0; 3: memory was refused; 4: nothing
+/// is held; 5: `out` is too short; 6: it asked nothing, or that is answered.
+#[unsafe(no_mangle)]
+pub extern "C" fn fow_asked(
+    validator: &mut Handle,
+    alloc: Global,
+    out: &mut [u8],
+    asked: &mut FowQuestion,
+) -> u32
+    ensures same { validator.new.desk ≡ validator.old.desk }
+    ensures none { validator.old.desk ≡ None → result ≡ 4 }
+    ensures question { IfSome validator.old.desk (λ d. PutsQuestion
+        (option_map kept_parts d.last.asked) result asked.new out.old out.new) }
+{
+    let Some(desk) = take(validator, alloc) else {
+        return 4;
+    };
+    let status = ask_last(alloc, &desk.last, out, asked);
+    *validator = Handle::of(desk);
+    status
+}
+
+/// Tells the answer to the question of the last judging, which asks it no more. 0: that is told from now on; 3: memory was refused; 4:
+/// nothing is held; 6: the last judging asked nothing, or that is answered.
+#[unsafe(no_mangle)]
+pub extern "C" fn fow_answer_asked(validator: &mut Handle, alloc: Global, valid: bool) -> u32
+    ensures none { validator.old.desk ≡ None → (result ≡ 4) × (validator.new.desk ≡ None) }
+    ensures told { IfSome validator.old.desk (λ d. IsTold
+        (option_map kept_parts d.last.asked) valid result d validator.new.desk) }
+    ensures answered { IfSome validator.new.desk (λ e. e.last.asked ≡ None) }
+{
+    let Some(mut desk) = take(validator, alloc) else {
+        return 4;
+    };
+    let status = tell_last(alloc, &mut desk, valid);
     *validator = Handle::of(desk);
     status
 }

@@ -1,15 +1,20 @@
 //! Judges a token by what was told.
 
-ghost use Rattle.std.specs.Prelude.{◌≡◌, ◌≢◌, None, ◌∷◌, ◌≤◌, [], IfOk, length};
+ghost use Rattle.std.specs.Prelude.{◌≡◌, ◌≢◌, None, ◌∷◌, ◌≤◌, [], IfOk, length, option_map};
+ghost use Rattle.jwt_jws.specs.Views.{token};
+ghost use Rattle.jwt_keys.specs.KeySets.{key_set};
+ghost use Rattle.jwt_told.specs.Questions.{kept_parts, question_at};
 ghost use Rattle.jwt_told.specs.Told.{told};
 ghost use Rattle.jwt_c.specs.Faults.{missing_in, bare, verdict_numbers};
 ghost use Rattle.jwt_c.specs.Reports.{IsNew, IsAsked, IsJudged, Keeps, claims_in, report_numbers};
 
 use crate::desk::{Desk, Last};
 use crate::report::FowReport;
+use jwt_jws::Signed;
+use jwt_keys::KeySet;
 use jwt_mac::Budget;
 use jwt_policy::{ClaimFault, Claims};
-use jwt_told::{Asking, judge_told};
+use jwt_told::{AskedCopy, Asking, Question, judge_told};
 use jwt_verify::{Fault, Report, Verdict};
 use std::alloc::{AllocError, Global};
 
@@ -23,6 +28,7 @@ impl Last {
             tries: Vec::new(alloc),
             claims: None,
             missing: Vec::new(alloc),
+            asked: None,
         }
     }
 }
@@ -57,29 +63,54 @@ fn bare(alloc: Global, verdict: u32) -> Judging
     }
 }
 
-/// The judging that asks, of which the tries are kept.
-fn asking(alloc: Global, asks: Asking) -> Judging
-    ensures verdict { result.said.verdict ≡ 2 }
-    ensures signature { result.said.signature ≡ asks.question.signature }
-    ensures key { result.said.key ≡ asks.question.key }
-    ensures count { result.said.tries ≡ length asks.tries.items }
-    ensures tries { result.last.tries.items ≡ asks.tries.items }
-    ensures claims { result.last.claims ≡ None }
+/// A copy of what a question asks about a token; `None` where there is no such pair.
+fn copied(
+    alloc: Global,
+    question: Question,
+    signed: &Signed<'_>,
+    keys: &KeySet,
+) -> Result<Option<AskedCopy>, AllocError>
+    ensures { IfOk result (λ o. option_map kept_parts o
+        ≡ question_at (token signed.now) (key_set keys.now).keys question.signature question.key) }
 {
-    let Asking { question, tries } = asks;
+    match question.about(signed, keys) {
+        Some(asked) => Ok(Some(AskedCopy::of(alloc, &asked)?)),
+        None => Ok(None),
+    }
+}
+
+/// The judging that asks, of which the tries and the question are kept.
+fn asking(alloc: Global, asks: Asking<'_>, keys: &KeySet) -> Result<Judging, AllocError>
+    ensures verdict { IfOk result (λ j. j.said.verdict ≡ 2) }
+    ensures signature { IfOk result (λ j. j.said.signature ≡ asks.entry.question.signature) }
+    ensures key { IfOk result (λ j. j.said.key ≡ asks.entry.question.key) }
+    ensures count { IfOk result (λ j. j.said.tries ≡ length asks.entry.tries.items) }
+    ensures tries { IfOk result (λ j. j.last.tries.items ≡ asks.entry.tries.items) }
+    ensures claims { IfOk result (λ j. j.last.claims ≡ None) }
+    ensures asked { IfOk result (λ j. option_map kept_parts j.last.asked
+        ≡ question_at (token asks.entry.token) (key_set keys.now).keys
+        asks.entry.question.signature asks.entry.question.key) }
+{
+    let Asking {
+        token,
+        question,
+        tries,
+    } = asks;
+    let asked = copied(alloc, question, &token, keys)?;
     let mut said = FowReport::bare(2);
     said.signature = question.signature;
     said.key = question.key;
     said.tries = tries.len() as u64;
-    Judging {
+    Ok(Judging {
         said,
         last: Last {
             states: Vec::new(alloc),
             tries,
             claims: None,
             missing: Vec::new(alloc),
+            asked,
         },
-    }
+    })
 }
 
 /// The claims of an acceptance.
@@ -116,6 +147,7 @@ fn kept(report: Report<'_>, work: u64, missing: Vec<u8>) -> Judging
             tries,
             claims: claims_in(verdict),
             missing,
+            asked: None,
         },
     }
 }
@@ -142,7 +174,10 @@ pub(crate) fn report_on(alloc: Global, desk: &Desk, octets: &[u8], now: i64) -> 
             Ok(missing) => kept(report, budget.octets(), missing),
             Err(_) => bare(alloc, 3),
         },
-        Err(asks) => asking(alloc, asks),
+        Err(asks) => match asking(alloc, asks, &desk.keys) {
+            Ok(judging) => judging,
+            Err(_) => bare(alloc, 3),
+        },
     }
 }
 

@@ -12,6 +12,7 @@ pub mod ShowingJson
 pub mod Printing
 pub mod RunningLines
 pub mod Verifying
+pub mod AnsweredLines
 pub mod WalkedLines
 pub mod WordCases
 pub mod SpelledLemmas

@@ -1,14 +1,15 @@
 -- A line that was taken octet by octet, against the first line of the input.
-use Rattle.std.proofs.Common.{◌≡◌, ◌≤◌, ◌==◌, ◌||◌, ℕ, zero, suc, ◌+◌, Bool, true, false, List, [], ◌∷◌, ◌++◌, length, take, drop, get_or, Option, None, Some, IfSome, refl, sym, ap, subst, if◌then◌else◌, ◌∙◌, append_assoc, append-nil, length-append, drop_at, arith}
-use Rattle.std.specs.List.{list_any}
+use Rattle.std.proofs.Common.{◌≡◌, ◌≤◌, ◌<◌, ◌==◌, ◌||◌, ℕ, zero, suc, ◌+◌, ◌-◌, Bool, true, false, List, [], ◌∷◌, ◌++◌, length, take, drop, get_or, slice_index, MatchOption, Option, None, Some, IfSome, refl, sym, ap, subst, if◌then◌else◌, ◌∙◌, append_assoc, append-nil, length-append, drop_at, arith}
+use Rattle.memchr.specs.Find.{IsFirstByte, is_byte}
 use Rattle.std.specs.Io.KnownBytes.{Consumes, IsAtEnd, Keeps, prepend_known}
 use Rattle.std.proofs.Math.Nat.{le-min}
+use Rattle.std.proofs.lemmas.List.{drop-drop, drop-take}
 use Rattle.jwt_text.specs.Intake.{TakesAtMost}
-use Rattle.jwt_command.specs.TakenLines.{LineFails, TakesLine, after_line, first_line, line_most}
+use Rattle.jwt_command.specs.TakenLines.{LineFails, TakesLine, after_line, first_line, has_line_feed, line_most}
 use Rattle.jwt_command.specs.declared.take_line.LineFault.TheVariants.{TooLong}
 
-abbrev HasNoFeed : List ℕ → Type 0
-HasNoFeed octets = list_any (λ octet. octet == 10) octets ≡ false
+abbrev pub HasNoFeed : List ℕ → Type 0
+HasNoFeed octets = has_line_feed octets ≡ false
 
 -- ---- the first line of octets without a line feed, and what follows
 
@@ -19,13 +20,13 @@ no_feed_more false rest e = (refl, e)
 first_line_more : (octets m : List ℕ) → HasNoFeed octets → first_line (octets ++ m) ≡ octets ++ first_line m
 first_line_more [] m none = refl
 first_line_more (c ∷ cs) m none =
-    let parts = no_feed_more (c == 10) (list_any (λ octet. octet == 10) cs) none in
+    let parts = no_feed_more (c == 10) (has_line_feed cs) none in
     rw parts.0 (ap (λ l. c ∷ l) (first_line_more cs m parts.1))
 
 after_line_more : (octets m : List ℕ) → HasNoFeed octets → after_line (octets ++ m) ≡ after_line m
 after_line_more [] m none = refl
 after_line_more (c ∷ cs) m none =
-    let parts = no_feed_more (c == 10) (list_any (λ octet. octet == 10) cs) none in
+    let parts = no_feed_more (c == 10) (has_line_feed cs) none in
     rw parts.0 (after_line_more cs m parts.1)
 
 -- ---- one pull of one octet
@@ -106,3 +107,54 @@ line_taken limit x octets rest h =
 
 pub too_long_taken : (limit : ℕ) (failed : Bool) (x : List ℕ) (rest : Option (List ℕ)) → LineFails limit failed x rest TooLong → TakesAtMost (line_most limit x) x rest
 too_long_taken limit failed x rest h = (limit + 1, le-min (omega arith) (omega (arith, h.0)), h.1)
+
+-- ---- the first line feed, as a search finds it
+
+refused : (b : Bool) → ¬ (b ≡ true) → b ≡ false
+refused true h = absurd (h refl)
+refused false h = refl
+
+feed_nowhere : (z : List ℕ) → ((j : ℕ) → j < length z → ¬ ((slice_index z j == 10) ≡ true)) → has_line_feed z ≡ false
+feed_nowhere [] none = refl
+feed_nowhere (c ∷ cs) none =
+    ap (λ b. b || has_line_feed cs) (refused (c == 10) (none zero (omega arith))) ∙ feed_nowhere cs (λ j low. none (suc j) (omega arith))
+
+feed_at : (z : List ℕ) (k : ℕ) → k < length z → (slice_index z k == 10) ≡ true → ((j : ℕ) → j < k → ¬ ((slice_index z j == 10) ≡ true))
+    → (has_line_feed z ≡ true) × (first_line z ≡ take k z) × (after_line z ≡ drop (suc k) z)
+feed_at [] k low here before = absurd (omega arith)
+feed_at (c ∷ cs) zero low here before = rw here (refl, refl, refl)
+feed_at (c ∷ cs) (suc k) low here before =
+    let off : (c == 10) ≡ false = refused (c == 10) (before zero (omega arith)) in
+    let more = feed_at cs k (omega arith) here (λ j l. before (suc j) (omega arith)) in
+    rw off (more.0, ap (λ l. c ∷ l) more.1, more.2)
+
+-- octets without a line feed are one line
+pub one_line : (octets : List ℕ) → HasNoFeed octets → (first_line octets ≡ octets) × (after_line octets ≡ [])
+one_line octets none = (
+  ap first_line (sym (append-nil octets)) ∙ first_line_more octets [] none ∙ append-nil octets,
+  ap after_line (sym (append-nil octets)) ∙ after_line_more octets [] none,
+)
+
+pub first_feed : (z : List ℕ) (r : Option ℕ) → IsFirstByte (is_byte 10) z r
+    → MatchOption r ((has_line_feed z ≡ false) × (first_line z ≡ z) × (after_line z ≡ []))
+    (λ i. (has_line_feed z ≡ true) × (i < length z) × (first_line z ≡ take i z) × (after_line z ≡ drop (i + 1) z))
+first_feed z None h =
+    let none : has_line_feed z ≡ false = feed_nowhere z (λ j low. h j (omega arith) low) in
+    let one = one_line z none in
+    (none, one.0, one.1)
+first_feed z (Some k) h =
+    let at = feed_at z k h.0.high h.1 (λ j low. h.0.before j (omega arith) low) in
+    let next : suc k ≡ k + 1 = omega arith in
+    (at.0, h.0.high, at.1, at.2 ∙ ap (λ n. drop n z) next)
+
+-- what is behind the first octets of a part of a list
+pub behind_part : (octets : List ℕ) (start end i : ℕ) → start + (i + 1) ≤ end → drop (i + 1) (take (end - start) (drop start octets)) ≡ take (end - (start + (i + 1))) (drop (start + (i + 1)) octets)
+behind_part octets start end i within =
+    let sized : end - start ≡ i + 1 + (end - (start + (i + 1))) = omega (arith, within) in
+    ap (λ n. drop (i + 1) (take n (drop start octets))) sized ∙ drop-take (i + 1) (end - (start + (i + 1))) (drop start octets)
+    ∙ ap (take (end - (start + (i + 1)))) (drop-drop (i + 1) start octets)
+
+pub length-part : (octets : List ℕ) (n : ℕ) → length (take n octets) ≤ n
+length-part octets zero = omega arith
+length-part [] (suc n) = omega arith
+length-part (c ∷ cs) (suc n) = omega (arith, length-part cs n)

@@ -1,8 +1,8 @@
 -- From the answer before it goes out to how the run ends.
-use Rattle.std.proofs.Common.{◌≡◌, ◌∙◌, ◌⊎◌, inl, inr, sym, subst, ℕ, Bool, true, false, List, [], Option, None, Some, Result, Ok, Err, IfOk, IfErr, IfSome, arith}
+use Rattle.std.proofs.Common.{◌≡◌, ◌∙◌, ◌⊎◌, inl, inr, sym, subst, ℕ, Bool, true, List, Option, None, Some, Result, Ok, Err, IfOk, IfErr, IfSome, arith}
 use Rattle.jwt_mac.specs.Verifying.{Meaning}
 use Rattle.jwt_command.specs.Documents.{Held}
-use Rattle.jwt_command.specs.Printed.{Answer, Gives, Prints, out_of_memory}
+use Rattle.jwt_command.specs.Printed.{Answer, Gives, out_of_memory}
 use Rattle.jwt_command.specs.RunLines.{Outcome, Printed}
 use Rattle.jwt_command.specs.Runs.{Runs}
 use Rattle.jwt_command.specs.Words.{EachLine, Once, Request}

@@ -1,5 +1,5 @@
 -- The signatures of a token, written one by one.
-use Rattle.std.proofs.Common.{arith, ◌≡◌, ◌∙◌, ◌+◌, ◌≤◌, ◌<◌, ap, sym, ℕ, suc, List, [], ◌∷◌, ◌++◌, length, drop, Some, None, Option, Ok, Err, refl, add-one, append_assoc, append-nil}
+use Rattle.std.proofs.Common.{arith, ◌≡◌, ◌∙◌, ◌+◌, ◌≤◌, ◌<◌, ap, sym, ℕ, List, [], ◌∷◌, ◌++◌, length, drop, Some, None, Option, Ok, Err, refl, add-one, append_assoc, append-nil}
 use Rattle.std.specs.Prelude.{codes, slice_get, unwrap_or}
 use Rattle.std.proofs.lemmas.List.{drop_all}
 use Rattle.json.specs.Json.{Json}

@@ -28,7 +28,7 @@ use Rattle.jwt_command.specs.Printed.{Answer}
 use Rattle.jwt_command.specs.ListedJson.{list_answer, listed}
 use Rattle.jwt_command.specs.Stops.{behind_keys, behind_policy, keys_most, verify_most}
 use Rattle.jwt_command.specs.Told.{told}
-use Rattle.jwt_command.specs.TakenLines.{TakesLine, after_line, first_line, line_most}
+use Rattle.jwt_command.specs.TakenLines.{TakesLine}
 use Rattle.jwt_command.proofs.LineLemmas.{line_taken}
 
 -- ---- what is taken

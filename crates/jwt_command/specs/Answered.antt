@@ -1,5 +1,5 @@
 -- What the command answers to what its words ask for.
-use Rattle.std.specs.Prelude.{ℕ, Bool, false, List, [], ◌∷◌, codes}
+use Rattle.std.specs.Prelude.{ℕ, Bool, List, [], ◌∷◌, codes}
 use Rattle.jwt_mac.specs.Verifying.{Meaning}
 use Rattle.jwt_command.specs.Documents.{Held, unread}
 use Rattle.jwt_command.specs.Issue.{issue_answer}

@@ -1,5 +1,6 @@
 -- One line of an input.
 use Rattle.std.specs.Prelude.{◌≡◌, ◌<◌, ◌≤◌, ◌+◌, ◌==◌, ℕ, Bool, true, false, List, [], ◌∷◌, length, drop, min, Option, Some, if◌then◌else◌}
+use Rattle.std.specs.List.{list_any}
 use Rattle.jwt_text.specs.Intake.{TakesAtMost}
 use Rattle.jwt_command.specs.declared.take_line.LineFault.{LineFault}
 use Rattle.jwt_command.specs.declared.take_line.LineFault.TheVariants.{OutOfMemory, Read, TooLong}
@@ -13,6 +14,10 @@ first_line (c ∷ cs) = if c == 10 then [] else c ∷ first_line cs
 abbrev pub after_line : List ℕ → List ℕ
 after_line [] = []
 after_line (c ∷ cs) = if c == 10 then cs else after_line cs
+
+-- a line feed is among the octets
+abbrev pub has_line_feed : List ℕ → Bool
+has_line_feed octets = list_any (λ c. c == 10) octets
 
 -- the line is within the limit, and what follows it is still to come
 pub record TakesLine (limit : ℕ) (x octets : List ℕ) (rest : Option (List ℕ)) : Type 0 where

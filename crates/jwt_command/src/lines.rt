@@ -1,9 +1,9 @@
 //! The command `verify --lines`: a verdict for each line of an input.
-ghost use Rattle.std.specs.Prelude.{◌≡◌, ◌≤◌, ◌+◌, ◌<◌, ◌++◌, ◌∷◌, ◌⊎◌, ℕ, List, [], IfOk, OnOk, false, true, length, map, take, Err, IfErr, IfNone, IfSome, None, Ok, Some};
-ghost use Rattle.std.specs.Io.KnownBytes.{prepend_known};
+ghost use Rattle.std.specs.Prelude.{◌≡◌, ◌≤◌, ◌+◌, ◌<◌, ◌⊎◌, ℕ, List, [], OnErr, OnOk, false, true, length, map, take, Err, IfNone, IfSome, None, Ok, Some};
+ghost use Rattle.std.specs.Io.KnownBytes.{Appends, prepend_known};
 ghost use Rattle.jwt_keys.specs.KeySets.{key_set, key_set_of};
 ghost use Rattle.jwt_policy.specs.Document.{policy_of};
-ghost use Rattle.jwt_command.specs.Lines.{GivesLines, IsMoment, LineAnswered, LineEnds, with_held};
+ghost use Rattle.jwt_command.specs.Lines.{CutReady, GivesLines, IsMoment, LineAnswered, MayHaveSent, SendsReady, StopsBy, with_held};
 ghost use Rattle.jwt_command.specs.Printed.{out_of_memory};
 ghost use Rattle.jwt_command.specs.RunLines.{LinesByPolicy, Printed, RunsLines};
 ghost use Rattle.jwt_command.specs.Seen.{lines_view};
@@ -24,6 +24,9 @@ use jwt_mac::Verifier;
 use jwt_policy::{Policy, PolicyFault};
 use jwt_text::{Sink, Source, write_out};
 use std::alloc::Global;
+
+// From how many octets on the answers that are ready are sent, where more lines are in hand.
+const MOST_READY: usize = 65_536;
 
 /// Moments of lines, in seconds since 1970-01-01T00:00:00Z.
 pub trait Clock {
@@ -62,8 +65,8 @@ fn moment<C: Clock>(now: Option<u64>, clock: &mut C, number: u64, line: &[u8]) -
     }
 }
 
-// Answers the line of this number. None: its answer went out; else the status with which the run ends.
-fn answer_line<W: Sink, C: Clock>(
+// Puts the answer to the line of this number behind those that are ready. Refused with `Read` where the clock can't be read.
+fn answer_line<C: Clock>(
     alloc: Global,
     json: bool,
     verifiers: &[Box<dyn Verifier>],
@@ -73,43 +76,27 @@ fn answer_line<W: Sink, C: Clock>(
     keys: &KeySet,
     number: u64,
     line: &[u8],
-    w: &mut W,
-) -> Option<u8>
+    ready: &mut Vec<u8>,
+) -> Result<(), LineFault>
     requires { IfSome now (λ n. n ≤ 9223372036854775807) }
-    ensures answered { IfNone result (LineAnswered
+    ensures answered { OnOk result (LineAnswered
         (λ m l. (told json).token
         (terms_of_keys (map meaning verifiers.now) m policy.now (key_set keys.now)) l)
         (C.says number line.now) now line.now
-        (W.contents w.old) (W.contents w.new)) }
-    ensures ends { IfSome result (λ status. LineEnds
-        (λ m l. (told json).token
-        (terms_of_keys (map meaning verifiers.now) m policy.now (key_set keys.now)) l)
-        (told json).read_failed (C.says number line.now) now line.now
-        (W.contents w.old) (W.contents w.new) (W.failed w.new) status) }
+        (Some ready.old.items) (Some ready.new.items)) }
+    ensures kept { OnErr result (ready.new.items ≡ ready.old.items) }
+    ensures read { result ≡ Err LineFault.Read → now ≡ None }
 {
     let Some(moment) = moment(now, clock, number, line) else {
-        return Some(give(w, told_read(alloc, json)));
+        return Err(LineFault::Read);
     };
     let Ok(reply) = on_octets(alloc, json, verifiers, moment, policy, keys, line) else {
-        return Some(lack_memory(w));
+        return Err(LineFault::OutOfMemory);
     };
-    match write_out(w, reply.text.as_slice()) {
-        Ok(()) => None,
-        Err(_) => Some(3),
+    match ready.extend_from_slice(reply.text.as_slice()) {
+        Ok(()) => Ok(()),
+        Err(_) => Err(LineFault::OutOfMemory),
     }
-}
-
-// Holds one more octet of a line, unless one past the limit is held.
-fn hold(line: &mut Vec<u8>, limit: u32, octet: u8) -> Result<(), LineFault>
-    ensures within { length line.old.items ≤ limit
-        → OnOk result (line.new.items ≡ line.old.items ++ octet ∷ []) }
-    ensures past { limit < length line.old.items → line.new ≡ line.old }
-    ensures fault { IfErr result (λ e. e ≡ LineFault.OutOfMemory) }
-{
-    if line.len() <= limit as usize {
-        line.push(octet)?;
-    }
-    Ok(())
 }
 
 // Takes the next line, of which one octet past the limit is held at most. `Ok(false)`: the input was at its end.
@@ -127,22 +114,81 @@ fn take_line<R: Source>(
     ensures read { result ≡ Err LineFault.Read → R.failed r.new ≡ true }
 {
     line.clear();
+    let most = limit as usize + 1;
     let mut any = false;
-    'octets: for _ in 0..u64::MAX {
-        match ahead.next(r) {
+    'parts: for _ in 0..u64::MAX {
+        match ahead.fill(r) {
             None => return Err(LineFault::Read),
-            Some(None) => return Ok(any),
-            Some(Some(b'\n')) => return Ok(true),
-            Some(Some(octet)) => {
-                any = true;
-                hold(line, limit, octet)?;
-            }
+            Some(false) => return Ok(any),
+            Some(true) => match ahead.take_part(line, most) {
+                Ok(true) => return Ok(true),
+                Ok(false) => any = true,
+                Err(_) => return Err(LineFault::OutOfMemory),
+            },
         }
     }
     Err(LineFault::OutOfMemory)
 }
 
-// Answers each line of an input as `verify` answers it alone, with a budget of its own, before the next is waited for.
+// Sends the answers that are ready. Whether all of them went out.
+fn send_ready<W: Sink>(ready: &mut Vec<u8>, w: &mut W) -> bool
+    ensures none { ready.new.items ≡ [] }
+    ensures sent { result ≡ true
+        → Appends (W.contents w.old) (W.contents w.new) ready.old.items }
+    ensures cut { result ≡ false
+        → CutReady ready.old.items (W.contents w.old) (W.contents w.new) (W.failed w.new) }
+{
+    let sent = write_out(w, ready.as_slice()).is_ok();
+    ready.clear();
+    sent
+}
+
+// Sends the answers that are ready, where the next octets may have to be waited for, or where many are ready. Whether what was sent
+// went out.
+fn send_in_time<W: Sink>(ahead: &Ahead, ready: &mut Vec<u8>, w: &mut W) -> bool
+    ensures sent { result ≡ true → MayHaveSent ready.old.items ready.new.items
+        (W.contents w.old) (W.contents w.new) }
+    ensures cut { result ≡ false
+        → CutReady ready.old.items (W.contents w.old) (W.contents w.new) (W.failed w.new) }
+{
+    if ahead.holds_line_feed() && ready.len() < MOST_READY {
+        return true;
+    }
+    send_ready(ready, w)
+}
+
+// Sends the answers that are ready, at the end of the input. The status.
+fn end_lines<W: Sink>(ready: &mut Vec<u8>, w: &mut W) -> u8
+    ensures { SendsReady ready.old.items
+        (λ between. (between ≡ W.contents w.new) × (result ≡ 0))
+        (W.contents w.old) (W.contents w.new) (W.failed w.new) result }
+{
+    if send_ready(ready, w) { 0 } else { 3 }
+}
+
+// Sends the answers that are ready, and then what stopped the run. The status.
+fn stop_lines<W: Sink>(
+    alloc: Global,
+    json: bool,
+    fault: LineFault,
+    ready: &mut Vec<u8>,
+    w: &mut W,
+) -> u8
+    ensures { SendsReady ready.old.items
+        (StopsBy fault (told json).read_failed (W.contents w.new) (W.failed w.new) result)
+        (W.contents w.old) (W.contents w.new) (W.failed w.new) result }
+{
+    if !send_ready(ready, w) {
+        return 3;
+    }
+    match fault {
+        LineFault::Read => give(w, told_read(alloc, json)),
+        LineFault::OutOfMemory | LineFault::TooLong => lack_memory(w),
+    }
+}
+
+// Answers each line of an input as `verify` answers it alone, with a budget of its own. The answers that are ready are sent before
+// the next octets are waited for.
 fn answer_lines<R: Source, W: Sink, C: Clock>(
     alloc: Global,
     json: bool,
@@ -166,10 +212,14 @@ fn answer_lines<R: Source, W: Sink, C: Clock>(
         return lack_memory(w);
     };
     let mut line = Vec::new(alloc);
+    let mut ready = Vec::new(alloc);
     'lines: for number in 0..u64::MAX {
+        if !send_in_time(&ahead, &mut ready, w) {
+            return 3;
+        }
         match take_line(&mut ahead, r, limit, &mut line) {
             Ok(true) => {
-                if let Some(status) = answer_line(
+                if let Err(fault) = answer_line(
                     alloc,
                     json,
                     verifiers,
@@ -179,17 +229,16 @@ fn answer_lines<R: Source, W: Sink, C: Clock>(
                     keys,
                     number,
                     line.as_slice(),
-                    w,
+                    &mut ready,
                 ) {
-                    return status;
+                    return stop_lines(alloc, json, fault, &mut ready, w);
                 }
             }
-            Ok(false) => return 0,
-            Err(LineFault::Read) => return give(w, told_read(alloc, json)),
-            Err(_) => return lack_memory(w),
+            Ok(false) => return end_lines(&mut ready, w),
+            Err(fault) => return stop_lines(alloc, json, fault, &mut ready, w),
         }
     }
-    lack_memory(w)
+    stop_lines(alloc, json, LineFault::OutOfMemory, &mut ready, w)
 }
 
 // Answers each line under a policy and a key set in hand.

@@ -10,7 +10,7 @@ use jwt_command::run::{lack_memory, run, run_with};
 use jwt_command::take_line::{LineFault, line};
 use jwt_mac::Verifier;
 use jwt_rsa::Rsa;
-use jwt_text::{Reader, Writer};
+use jwt_text::{Reader, Sink, Source, Writer};
 use std::alloc::Global;
 use std::test::Fail;
 
@@ -1086,6 +1086,58 @@ fn each_line_is_answered(rt: HostRuntime) -> Result<(), Fail> {
     let lines: &[u8] =
         b"accepted sig=0 key=0 tries=1 work=295\nrefused Empty tries=0 work=0\nrefused Segments tries=0 work=0\nrefused Expired tries=1 work=295\n";
     assert_eq!(rt; out.as_slice(), lines);
+    Ok(())
+}
+
+// Runs `verify --lines` at the last second of the token, with documents in hand.
+fn run_lines<R: Source, W: Sink>(alloc: Global, r: &mut R, w: &mut W) -> Result<u8, Fail> {
+    let keys = filled(alloc, KEYS_A)?;
+    let held = Held {
+        policy: Some(HS256.as_bytes()),
+        keys: Some(keys.as_bytes()),
+        ..Held::none()
+    };
+    let words = [
+        "jwt",
+        "verify",
+        "--lines",
+        "--policy=p",
+        "--keys=k",
+        "--now",
+        MOMENT,
+    ];
+    Ok(run_with(alloc, &words, &[], Some(0), &mut NoClock, held, r, w))
+}
+
+// The answers are the same however the lines come. Where a stream fails, those to the lines before it are out.
+#[test]
+fn lines_are_answered_up_to_where_a_stream_fails(rt: HostRuntime) -> Result<(), Fail> {
+    let alloc = rt.alloc();
+    let input = format!(in alloc; "{TOKEN_A}\n\n{TOKEN_A}\n")?;
+    let two = "accepted sig=0 key=0 tries=1 work=295\nrefused Empty tries=0 work=0\n";
+    let lines = format!(in alloc; "{two}accepted sig=0 key=0 tries=1 work=295\n")?;
+    let failed = format!(in alloc; "{two}failed Read\n")?;
+
+    for (left, wanted, status) in [
+        (1000, lines.as_bytes(), 0),
+        (TOKEN_A.len() + 10, failed.as_bytes(), 3),
+    ] {
+        let mut out: Vec<u8> = Vec::new(alloc);
+        let mut source = Drip::new(input.as_bytes(), left);
+        assert_eq!(rt;
+            run_lines(alloc, &mut source, &mut Writer::new(&mut out))?,
+            status
+        );
+        assert_eq!(rt; out.as_slice(), wanted);
+    }
+    for left in 0..lines.len() {
+        let mut sink = Narrow::new(alloc, left);
+        assert_eq!(rt;
+            run_lines(alloc, &mut Reader::new(input.as_bytes()), &mut sink)?,
+            3
+        );
+        assert_eq!(rt; sink.held.as_slice(), &lines.as_bytes()[..left]);
+    }
     Ok(())
 }
 

@@ -18,7 +18,8 @@ use Rattle.jwt_verify.specs.Accepted.{IsVerdict}
 use Rattle.jwt_verify.specs.Reports.{FoundMemory, IsReport}
 use Rattle.jwt_verify.specs.Verdict.{Terms, token_of}
 use Rattle.jwt_told.specs.declared.questions.Asked.{Asked}
-use Rattle.jwt_told.specs.Told.{ToldParts, Truth, AreRight, told_meaning, true_meaning, answer_to}
+use Rattle.jwt_told.specs.declared.told.AskedCopy.{AskedCopy}
+use Rattle.jwt_told.specs.Told.{ToldParts, Truth, AreRight, told_meaning, true_meaning, answer_to, key_view}
 
 -- a question about a signature: whether the key made it over the message by the algorithm
 pub record QuestionParts : Type 0 where
@@ -29,6 +30,14 @@ pub record QuestionParts : Type 0 where
 
 abbrev pub question_parts : Asked → QuestionParts
 question_parts a = record { alg = a.alg; key = key_octets a.key; message = message_octets a.message; signature = a.signature.now }
+
+-- that of a copy
+unfoldable pub kept_parts : AskedCopy → QuestionParts
+kept_parts c = record { alg = c.alg; key = key_view c.key; message = record { protected = c.protected.items; payload = c.payload.items }; signature = c.signature.items }
+
+-- the question with an answer
+abbrev pub told_of : QuestionParts → Bool → ToldParts
+told_of q valid = record { alg = q.alg; key = q.key; message = q.message; signature = q.signature; valid = valid }
 
 abbrev pub question_of : Token → SignatureParts → KeyParts → Option QuestionParts
 question_of t s k = option_map (λ a. record { alg = a; key = k.octets; message = message_of t s; signature = s.octets }) (alg s)

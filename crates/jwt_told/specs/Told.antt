@@ -90,10 +90,10 @@ key_view (Okp curve x) = OkpKey curve x.items
 
 unfoldable pub told_view : Told → ToldParts
 told_view t = record {
-  alg = t.alg;
-  key = key_view t.key;
-  message = record { protected = t.protected.items; payload = t.payload.items };
-  signature = t.signature.items;
+  alg = t.asked.alg;
+  key = key_view t.asked.key;
+  message = record { protected = t.asked.protected.items; payload = t.asked.payload.items };
+  signature = t.asked.signature.items;
   valid = t.valid;
 }
 

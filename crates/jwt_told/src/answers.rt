@@ -3,8 +3,10 @@
 ghost use Rattle.std.specs.Prelude.{◌≡◌, ◌++◌, ◌∷◌, [], IfOk, IfErr};
 ghost use Rattle.jwt_mac.specs.Verifying.{key_octets, message_octets};
 ghost use Rattle.jwt_told.specs.Told.{told, answer_to};
+ghost use Rattle.jwt_told.specs.Questions.{kept_parts, told_of};
 
-use crate::told::Told;
+use crate::questions::Asked;
+use crate::told::{AskedCopy, Told};
 use jwt_mac::{Alg, Answer, KeyView, Message, Verifier};
 use std::alloc::{AllocError, Global};
 use std::sync::Arc;
@@ -69,8 +71,34 @@ impl Answers {
         } ∷ []) }
         ensures err { IfErr result (λ _. told self.new ≡ told self.old) }
     {
-        let answer = Told::of(alloc, alg, key, message, signature, valid)?;
-        let shared = Arc::new(alloc, answer)?;
+        let asked = AskedCopy::of(
+            alloc,
+            &Asked {
+                alg,
+                key: *key,
+                message,
+                signature,
+            },
+        )?;
+        self.tell_copy(alloc, asked, valid)
+    }
+
+    /// Tells whether the key made the signature that a question asks about. No octets are copied.
+    ///
+    /// # Errors
+    /// Where an allocation was refused. Nothing is told then.
+    #[tactic(auto, unfolding(crate::specs::Told::told_view, crate::specs::Questions::kept_parts))]
+    pub fn tell_copy(
+        &mut self,
+        alloc: Global,
+        asked: AskedCopy,
+        valid: bool,
+    ) -> Result<(), AllocError>
+        ensures ok { IfOk result (λ _. told self.new
+            ≡ told self.old ++ told_of (kept_parts asked) valid ∷ []) }
+        ensures err { IfErr result (λ _. told self.new ≡ told self.old) }
+    {
+        let shared = Arc::new(alloc, Told { asked, valid })?;
         Ok(self.told.push(shared)?)
     }
 

@@ -1,6 +1,7 @@
 //! Judges a token by what a caller told.
 
-ghost use Rattle.std.specs.Prelude.{◌≡◌, ◌≢◌, ◌↔◌, ◌∷◌, [], None, IfOk, IfErr, IsTrue, map, length};
+ghost use Rattle.std.specs.Prelude.{◌≡◌, ◌≢◌, ◌↔◌, ◌∷◌, [], None, Ok, IfOk, IfErr, IsTrue, map, length};
+ghost use Rattle.jwt_jws.specs.Views.{token};
 ghost use Rattle.jwt_keys.specs.KeySets.{key_set};
 ghost use Rattle.jwt_verify.specs.Table.{work};
 ghost use Rattle.jwt_verify.specs.Accepted.{IsVerdict};
@@ -15,6 +16,7 @@ ghost use Rattle.jwt_told.specs.Questions.{first_open, AreTries, IsFirstOpen, Is
 use crate::answers::Answers;
 use crate::laws::right_answers;
 use crate::questions::{Asking, Question, first_open};
+use jwt_jws::Signed;
 use jwt_keys::KeySet;
 use jwt_mac::{Budget, CountDown, Verifier};
 use jwt_policy::Policy;
@@ -57,7 +59,8 @@ fn found_memory(verdict: &Verdict<'_>) -> bool
 }
 
 /// What is to be asked, where this try is the first of the report's whose question is open.
-fn asking(first: Try, report: Report<'_>) -> Asking
+fn asking<'a>(first: Try, report: Report<'_>, token: Signed<'a>) -> Asking<'a>
+    ensures token { result.token ≡ token.entry }
     ensures signature { result.question.signature ≡ first.signature }
     ensures key { result.question.key ≡ first.key }
     ensures tries { result.tries.items ≡ report.entry.tries.items }
@@ -68,6 +71,7 @@ fn asking(first: Try, report: Report<'_>) -> Asking
         tries,
     } = report;
     Asking {
+        token,
         question: Question::of(first),
         tries,
     }
@@ -151,17 +155,17 @@ fn judge_by<'a, 'p>(
 /// As [`judge`] refuses.
 ///
 /// # Errors
-/// The tries of the run and the first of them of which nothing was told. Where memory was refused, that is the report, and nothing
+/// The token, the tries of the run, and the first of them of which nothing was told. Where memory was refused, that is the report, and nothing
 /// is asked.
-pub fn judge_told<'p>(
+pub fn judge_told<'a, 'p>(
     alloc: Global,
-    octets: &[u8],
+    octets: &'a [u8],
     keys: &KeySet,
     policy: &'p Policy,
     now: i64,
     answers: &Answers,
     budget: &mut CountDown,
-) -> Result<Report<'p>, Asking>
+) -> Result<Report<'p>, Asking<'a>>
     requires no_octets { ⟦<CountDown as Budget>⟧.octets budget.old ≡ 0 }
     requires no_calls { ⟦<CountDown as Budget>⟧.calls budget.old ≡ 0 }
 
@@ -192,6 +196,9 @@ pub fn judge_told<'p>(
         (token_of policy.now octets.now) (key_set keys.now).keys
         a.question.signature a.question.key) }
 
+    // It comes with the token.
+    ensures token { IfErr result (λ a. token_of policy.now octets.now ≡ Ok (token a.token)) }
+
     // What the budget counts.
     ensures octets { IfOk result (λ r.
         ⟦<CountDown as Budget>⟧.octets budget.new ≡ work r.tries.items) }
@@ -208,7 +215,7 @@ pub fn judge_told<'p>(
     }
     match token {
         Some(signed) => match first_open(answers, &signed, keys, &report.tries) {
-            Some(first) => Err(asking(first, report)),
+            Some(first) => Err(asking(first, report, signed)),
             None => Ok(report),
         },
         None => Ok(report),

@@ -2,15 +2,14 @@
 //! [`Verifier`](jwt_mac::Verifier), such as a library in another language.
 //!
 //! ```rust
-//! use jwt_told::{Answers, judge_told, read_token};
+//! use jwt_told::{Answers, judge_told};
 //!
 //! let mut answers = Answers::new(alloc);
 //! loop {
 //!     match judge_told(alloc, octets, &keys, &policy, now, &answers, &mut policy.budget()) {
 //!         Ok(report) => return Ok(report),
 //!         Err(asking) => {
-//!             let signed = read_token(alloc, octets, &policy)?.ok_or(NoToken)?;
-//!             let asked = asking.question.about(&signed, &keys).ok_or(NoToken)?;
+//!             let asked = asking.question.about(&asking.token, &keys).ok_or(NoToken)?;
 //!             // (by the caller's own cryptography)
 //!             let valid = verify(asked.alg, asked.key, asked.message, asked.signature)?;
 //!             answers.tell(alloc, asked.alg, &asked.key, asked.message, asked.signature, valid)?;
@@ -28,6 +27,7 @@
 pub use answers::Answers;
 pub use judging::judge_told;
 pub use questions::{Asked, Asking, Question, read_token};
+pub use told::AskedCopy;
 
 pub mod answers;
 mod judging;

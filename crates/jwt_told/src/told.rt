@@ -3,7 +3,9 @@
 ghost use Rattle.std.specs.Prelude.{◌≡◌, IfOk, false};
 ghost use Rattle.jwt_mac.specs.Verifying.{key_octets, message_octets};
 ghost use Rattle.jwt_told.specs.Told.{told_view, key_view, same_key, is_about, curve_bits, ed_curve_bits};
+ghost use Rattle.jwt_told.specs.Questions.{kept_parts, question_parts};
 
+use crate::questions::Asked;
 use jwt_mac::{Alg, Curve, EdCurve, KeyView, Message};
 use std::alloc::{AllocError, Global};
 
@@ -28,14 +30,20 @@ pub enum ToldKey {
     },
 }
 
-/// A question about a signature, with its answer.
+/// What a question asks, with its octets: a copy of an [`Asked`], which outlives the token and the key set.
 #[derive(Drop)]
-pub struct Told {
+pub struct AskedCopy {
     pub(crate) alg: Alg,
     pub(crate) key: ToldKey,
     pub(crate) protected: Vec<u8>,
     pub(crate) payload: Vec<u8>,
     pub(crate) signature: Vec<u8>,
+}
+
+/// A question about a signature, with its answer.
+#[derive(Drop)]
+pub struct Told {
+    pub(crate) asked: AskedCopy,
     pub(crate) valid: bool,
 }
 
@@ -132,35 +140,42 @@ fn is_same_key(a: &KeyView, b: &KeyView) -> bool
     }
 }
 
-impl Told {
-    /// A question with its answer, copied.
-    #[tactic(auto, unfolding(crate::specs::Told::told_view))]
-    pub(crate) fn of(
-        alloc: Global,
-        alg: Alg,
-        key: &KeyView,
-        message: Message,
-        signature: &[u8],
-        valid: bool,
-    ) -> Result<Told, AllocError>
-        ensures { IfOk result (λ t. told_view t ≡ record {
-          alg = alg;
-          key = key_octets key.now;
-          message = message_octets message.entry;
-          signature = signature.now;
-          valid = valid;
-        }) }
+impl AskedCopy {
+    /// Copies what a question asks.
+    ///
+    /// # Errors
+    /// Where an allocation was refused.
+    #[tactic(auto, unfolding(crate::specs::Questions::kept_parts))]
+    pub fn of(alloc: Global, asked: &Asked<'_>) -> Result<AskedCopy, AllocError>
+        ensures { IfOk result (λ c. kept_parts c ≡ question_parts asked.now) }
     {
-        Ok(Told {
-            alg,
-            key: ToldKey::of(alloc, key)?,
-            protected: Vec::from_slice(alloc, message.protected)?,
-            payload: Vec::from_slice(alloc, message.payload)?,
-            signature: Vec::from_slice(alloc, signature)?,
-            valid,
+        Ok(AskedCopy {
+            alg: asked.alg,
+            key: ToldKey::of(alloc, &asked.key)?,
+            protected: Vec::from_slice(alloc, asked.message.protected)?,
+            payload: Vec::from_slice(alloc, asked.message.payload)?,
+            signature: Vec::from_slice(alloc, asked.signature)?,
         })
     }
 
+    /// What the question asks, lent. It takes no memory.
+    #[tactic(auto, unfolding(crate::specs::Questions::kept_parts))]
+    pub fn asked(&self) -> Asked<'_>
+        ensures { question_parts result ≡ kept_parts self.now }
+    {
+        Asked {
+            alg: self.alg,
+            key: self.key.view(),
+            message: Message {
+                protected: &self.protected,
+                payload: &self.payload,
+            },
+            signature: &self.signature,
+        }
+    }
+}
+
+impl Told {
     /// Whether it is about this signature.
     #[tactic(auto, unfolding(crate::specs::Told::is_about, crate::specs::Told::told_view))]
     pub(crate) fn is_about(
@@ -173,10 +188,11 @@ impl Told {
         ensures { result ≡ is_about alg (key_octets key.now) (message_octets message.entry)
             signature.now (told_view self.now) }
     {
-        self.alg.text() == alg.text()
-            && is_same_key(&self.key.view(), key)
-            && self.protected.as_slice() == message.protected
-            && self.payload.as_slice() == message.payload
-            && self.signature.as_slice() == signature
+        let asked = &self.asked;
+        asked.alg.text() == alg.text()
+            && is_same_key(&asked.key.view(), key)
+            && asked.protected.as_slice() == message.protected
+            && asked.payload.as_slice() == message.payload
+            && asked.signature.as_slice() == signature
     }
 }

@@ -37,7 +37,7 @@ pub struct fow_report {
 #[repr(C)]
 #[derive(Debug)]
 pub struct fow_openssl {
-    pub keys: *mut *mut c_void,
+    pub keys: *mut c_void,
     pub count: usize,
     pub room: *mut u8,
     pub size: usize,

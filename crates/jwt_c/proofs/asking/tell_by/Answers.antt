@@ -4,7 +4,8 @@ use Rattle.jwt_jws.specs.Views.{token}
 use Rattle.jwt_verify.specs.Verdict.{token_of}
 use Rattle.jwt_told.specs.Questions.{question_parts}
 use Rattle.jwt_c.specs.declared.desk.Desk.{Desk}
-use Rattle.jwt_c.specs.Asking.{asked_at, TellsDesk, asked_of, said_by}
+use Rattle.jwt_c.specs.Reports.{asked_at}
+use Rattle.jwt_c.specs.Asking.{TellsDesk, asked_of, said_by}
 use Rattle.jwt_c.proofs.Telling.{tells, untold}
 use Rattle.jwt_c.proofs.asking.tell_by.Goals as goal
 

@@ -1,92 +1,95 @@
-use Rattle.std.proofs.Common.{◌∙◌, ap, subst, refl, ℕ, List, [], IfSome, Ok, Err, map}
+use Rattle.std.proofs.Common.{◌∙◌, sym, ap, subst, refl, inl, inr, ℕ, List, IfSome, Some, Ok, Err, map}
 use Rattle.std.proofs.lemmas.Option.{IfSome_then}
 use Rattle.std.specs.Io.KnownBytes.{prepend_known}
 use Rattle.jwt_keys.specs.KeySets.{key_set}
-use Rattle.jwt_command.specs.Lines.{LineAnswered, LineEnds, with_held}
+use Rattle.jwt_command.specs.Lines.{LineAnswered, with_held}
 use Rattle.jwt_command.specs.Printed.{Answer}
 use Rattle.jwt_command.specs.Told.{told}
+use Rattle.jwt_command.specs.declared.take_line.LineFault.TheVariants.{OutOfMemory}
 use Rattle.jwt_command.specs.Verify.{terms_of_keys}
-use Rattle.jwt_command.specs.Views.{reply_view}
-use Rattle.jwt_command.proofs.WalkedLines.{Bounded, Line, answering_more, answering_none, lines_done, lines_ended, lines_failed, lines_memory, told_bounded}
+use Rattle.jwt_command.proofs.AnsweredLines.{Answering, Bounded, answering_kept, answering_more, answering_none, lines_cut, lines_done, lines_memory, lines_stopped}
+use Rattle.jwt_command.proofs.WalkedLines.{Line, told_bounded}
 use Rattle.jwt_command.proofs.lines.answer_lines.Goals as goal
-
-pub lines-init : goal.lines-init
-lines-init g c =
-    let vs = map (λ b. (goal.Verifier-dyn g (b.vtable, b.value)).meaning b.value) c.args.verifiers.now in
-    let at : ℕ → List ℕ → Answer = λ m l. (told c.args.json).token (terms_of_keys vs m c.args.policy.now (key_set c.args.keys.now)) l in
-    let unanswered = (told c.args.json).read_failed in
-    let known = g.R.Source.remaining c.args.r.now in
-    record { answering = answering_none at (with_held c.args.policy.now.run.limit g.C.Clock.says) c.args.now known c.in-Ok.ahead (g.W.Sink.contents c.args.w.now) c.in-Ok.ensures }
 
 pub returns-in_default : goal.returns-in_default
 returns-in_default g c =
     let vs = map (λ b. (goal.Verifier-dyn g (b.vtable, b.value)).meaning b.value) c.args.verifiers.now in
     let at : ℕ → List ℕ → Answer = λ m l. (told c.args.json).token (terms_of_keys vs m c.args.policy.now (key_set c.args.keys.now)) l in
-    let unanswered = (told c.args.json).read_failed in
-    let known = g.R.Source.remaining c.args.r.now in
-    lines_memory at unanswered (with_held c.args.policy.now.run.limit g.C.Clock.says) c.args.now 0 known (prepend_known [] known) _ (g.W.Sink.contents c.args.w.now) (g.W.Sink.contents c.args.w.now) _ _ _ (answering_none at (with_held c.args.policy.now.run.limit g.C.Clock.says) c.args.now known [] (g.W.Sink.contents c.args.w.now) refl) c.lack_memory.ensures
+    lines_memory at (told c.args.json).read_failed (with_held c.args.policy.now.run.limit g.C.Clock.says) c.args.now (g.R.Source.remaining c.args.r.now) _ _ _ _ _ c.lack_memory.ensures
 
-pub returns-in-Some : goal.returns-in-Some
-returns-in-Some g c =
+pub lines-init : goal.lines-init
+lines-init g c =
     let vs = map (λ b. (goal.Verifier-dyn g (b.vtable, b.value)).meaning b.value) c.args.verifiers.now in
     let at : ℕ → List ℕ → Answer = λ m l. (told c.args.json).token (terms_of_keys vs m c.args.policy.now (key_set c.args.keys.now)) l in
-    let unanswered = (told c.args.json).read_failed in
+    record {
+      answering = answering_none at (with_held c.args.policy.now.run.limit g.C.Clock.says) c.args.now (g.R.Source.remaining c.args.r.now) c.in-Ok.ahead (g.W.Sink.contents c.args.w.now) c.new-ready.result.items c.in-Ok.ensures c.new-ready.ensures.items;
+    }
+
+pub returns-then-not-send_in_time : goal.returns-then-not-send_in_time
+returns-then-not-send_in_time g c =
+    let vs = map (λ b. (goal.Verifier-dyn g (b.vtable, b.value)).meaning b.value) c.args.verifiers.now in
+    let at : ℕ → List ℕ → Answer = λ m l. (told c.args.json).token (terms_of_keys vs m c.args.policy.now (key_set c.args.keys.now)) l in
+    let says = with_held c.args.policy.now.run.limit g.C.Clock.says in
     let known = g.R.Source.remaining c.args.r.now in
     let left = prepend_known c.lines.ahead (g.R.Source.remaining c.lines.r) in
-    let same : Bounded c.args.policy.now.run.limit at = (λ m l. told_bounded c.args.json (terms_of_keys vs m c.args.policy.now (key_set c.args.keys.now)) l) in
-    let taken = IfSome_then left c.take_line.ensures.line (λ y f. f (c.in-Ok-true.is ∙ ap Ok c.in-Ok-true.field-0-test)) in
-    let line = subst (λ n. IfSome left (λ y. Line n y c.take_line.new.line.items (prepend_known c.take_line.new.ahead (g.R.Source.remaining c.take_line.new.r)))) c.limit-limit.ensures.value taken in
-    lines_ended c.args.policy.now.run.limit at unanswered g.C.Clock.says c.args.now c.lines.number known left _ c.take_line.new.line.items _ (g.W.Sink.contents c.args.w.now) (g.W.Sink.contents c.lines.w) (g.W.Sink.contents c.answer_line.new.w) _ _ same c.lines.invariant.answering line
-    (subst (λ z. LineEnds at unanswered (g.C.Clock.says c.lines.number z) c.args.now z (g.W.Sink.contents c.lines.w) (g.W.Sink.contents c.answer_line.new.w) (g.W.Sink.failed c.answer_line.new.w) c.in-Some.status) c.as_slice.ensures.value c.in-Some.ensures.ends)
+    lines_cut at (told c.args.json).read_failed says c.args.now c.lines.number known left _ _ (g.W.Sink.contents c.lines.w) _ c.lines.ready.items _ _ c.lines.invariant.answering (c.send_in_time.ensures.cut (search (c.if-not-send_in_time.true))) refl
+
+pub returns-in-Err-answer_line : goal.returns-in-Err-answer_line
+returns-in-Err-answer_line g c =
+    let vs = map (λ b. (goal.Verifier-dyn g (b.vtable, b.value)).meaning b.value) c.args.verifiers.now in
+    let at : ℕ → List ℕ → Answer = λ m l. (told c.args.json).token (terms_of_keys vs m c.args.policy.now (key_set c.args.keys.now)) l in
+    let says = with_held c.args.policy.now.run.limit g.C.Clock.says in
+    let known = g.R.Source.remaining c.args.r.now in
+    let left = prepend_known c.lines.ahead (g.R.Source.remaining c.lines.r) in
+    let run = answering_kept at says c.args.now c.lines.number known left (g.W.Sink.contents c.args.w.now) (g.W.Sink.contents c.lines.w) (g.W.Sink.contents c.send_in_time.new.w) c.lines.ready.items c.send_in_time.new.ready.items c.lines.invariant.answering (c.send_in_time.ensures.sent (search (c.if-not-send_in_time.false))) in
+    let ready = subst (λ r. Answering at says c.args.now c.lines.number known left (g.W.Sink.contents c.args.w.now) (g.W.Sink.contents c.send_in_time.new.w) r) (sym c.in-Err-answer_line.ensures.kept) run in
+    lines_stopped at (told c.args.json).read_failed says c.args.now c.lines.number known left (g.R.Source.failed c.take_line.new.r) (g.W.Sink.contents c.args.w.now) (g.W.Sink.contents c.send_in_time.new.w) (g.W.Sink.contents c.stop_lines.new.w) c.answer_line.new.ready.items (g.W.Sink.failed c.stop_lines.new.w) c.stop_lines.result c.in-Err-answer_line.fault ready
+    (λ is. inr (c.answer_line.ensures.read (c.in-Err-answer_line.is ∙ ap Err is))) c.stop_lines.ensures
 
 pub returns-in-Ok-false : goal.returns-in-Ok-false
 returns-in-Ok-false g c =
     let vs = map (λ b. (goal.Verifier-dyn g (b.vtable, b.value)).meaning b.value) c.args.verifiers.now in
     let at : ℕ → List ℕ → Answer = λ m l. (told c.args.json).token (terms_of_keys vs m c.args.policy.now (key_set c.args.keys.now)) l in
-    let unanswered = (told c.args.json).read_failed in
+    let says = with_held c.args.policy.now.run.limit g.C.Clock.says in
     let known = g.R.Source.remaining c.args.r.now in
     let left = prepend_known c.lines.ahead (g.R.Source.remaining c.lines.r) in
-    lines_done at unanswered (with_held c.args.policy.now.run.limit g.C.Clock.says) c.args.now c.lines.number known left _ (g.W.Sink.contents c.args.w.now) (g.W.Sink.contents c.lines.w) _ c.lines.invariant.answering
-    (IfSome_then left c.take_line.ensures.end (λ y f. f (c.in-Ok-false.is ∙ ap Ok c.in-Ok-false.field-0-test)))
-
-pub returns-in-Err-Read : goal.returns-in-Err-Read
-returns-in-Err-Read g c =
-    let vs = map (λ b. (goal.Verifier-dyn g (b.vtable, b.value)).meaning b.value) c.args.verifiers.now in
-    let at : ℕ → List ℕ → Answer = λ m l. (told c.args.json).token (terms_of_keys vs m c.args.policy.now (key_set c.args.keys.now)) l in
-    let unanswered = (told c.args.json).read_failed in
-    let known = g.R.Source.remaining c.args.r.now in
-    let left = prepend_known c.lines.ahead (g.R.Source.remaining c.lines.r) in
-    lines_failed reply_view c.told_read.result at unanswered (with_held c.args.policy.now.run.limit g.C.Clock.says) c.args.now c.lines.number known left _ (g.W.Sink.contents c.args.w.now) (g.W.Sink.contents c.lines.w) _ _ _ c.lines.invariant.answering (c.take_line.ensures.read (c.in-Err-Read.is ∙ ap Err c.in-Err-Read.field-0-is)) c.told_read.ensures c.give.ensures.ok c.give.ensures.err
+    let run = answering_kept at says c.args.now c.lines.number known left _ (g.W.Sink.contents c.lines.w) (g.W.Sink.contents c.send_in_time.new.w) c.lines.ready.items c.send_in_time.new.ready.items c.lines.invariant.answering (c.send_in_time.ensures.sent (search (c.if-not-send_in_time.false))) in
+    lines_done at (told c.args.json).read_failed says c.args.now c.lines.number known left _ _ (g.W.Sink.contents c.send_in_time.new.w) _ c.send_in_time.new.ready.items _ _ run
+    (IfSome_then left c.take_line.ensures.end (λ y f. f (c.in-Ok-false.is ∙ ap Ok c.in-Ok-false.field-0-test))) c.end_lines.ensures
 
 pub returns-in-Err : goal.returns-in-Err
 returns-in-Err g c =
     let vs = map (λ b. (goal.Verifier-dyn g (b.vtable, b.value)).meaning b.value) c.args.verifiers.now in
     let at : ℕ → List ℕ → Answer = λ m l. (told c.args.json).token (terms_of_keys vs m c.args.policy.now (key_set c.args.keys.now)) l in
-    let unanswered = (told c.args.json).read_failed in
+    let says = with_held c.args.policy.now.run.limit g.C.Clock.says in
     let known = g.R.Source.remaining c.args.r.now in
     let left = prepend_known c.lines.ahead (g.R.Source.remaining c.lines.r) in
-    lines_memory at unanswered (with_held c.args.policy.now.run.limit g.C.Clock.says) c.args.now c.lines.number known left _ (g.W.Sink.contents c.args.w.now) (g.W.Sink.contents c.lines.w) _ _ _ c.lines.invariant.answering c.lack_memory-in-Err.ensures
+    let run = answering_kept at says c.args.now c.lines.number known left _ (g.W.Sink.contents c.lines.w) (g.W.Sink.contents c.send_in_time.new.w) c.lines.ready.items c.send_in_time.new.ready.items c.lines.invariant.answering (c.send_in_time.ensures.sent (search (c.if-not-send_in_time.false))) in
+    lines_stopped at (told c.args.json).read_failed says c.args.now c.lines.number known left _ _ (g.W.Sink.contents c.send_in_time.new.w) _ c.send_in_time.new.ready.items _ _ c.in-Err.fault run
+    (λ is. inl (c.take_line.ensures.read (c.in-Err.is ∙ ap Err is))) c.stop_lines-in-Err.ensures
 
 pub lines-preserved : goal.lines-preserved
 lines-preserved g c =
     let vs = map (λ b. (goal.Verifier-dyn g (b.vtable, b.value)).meaning b.value) c.args.verifiers.now in
     let at : ℕ → List ℕ → Answer = λ m l. (told c.args.json).token (terms_of_keys vs m c.args.policy.now (key_set c.args.keys.now)) l in
-    let unanswered = (told c.args.json).read_failed in
+    let says = with_held c.args.policy.now.run.limit g.C.Clock.says in
     let known = g.R.Source.remaining c.args.r.now in
     let left = prepend_known c.lines.ahead (g.R.Source.remaining c.lines.r) in
+    let run = answering_kept at says c.args.now c.lines.number known left _ (g.W.Sink.contents c.lines.w) (g.W.Sink.contents c.send_in_time.new.w) c.lines.ready.items c.send_in_time.new.ready.items c.lines.invariant.answering (c.send_in_time.ensures.sent (search (c.if-not-send_in_time.false))) in
     let same : Bounded c.args.policy.now.run.limit at = (λ m l. told_bounded c.args.json (terms_of_keys vs m c.args.policy.now (key_set c.args.keys.now)) l) in
     let taken = IfSome_then left c.take_line.ensures.line (λ y f. f (c.in-Ok-true.is ∙ ap Ok c.in-Ok-true.field-0-test)) in
     let line = subst (λ n. IfSome left (λ y. Line n y c.take_line.new.line.items (prepend_known c.take_line.new.ahead (g.R.Source.remaining c.take_line.new.r)))) c.limit-limit.ensures.value taken in
     record {
-      answering = answering_more c.args.policy.now.run.limit at g.C.Clock.says c.args.now c.lines.number known left _ c.take_line.new.line.items (g.W.Sink.contents c.args.w.now) (g.W.Sink.contents c.lines.w) (g.W.Sink.contents c.answer_line.new.w) same c.lines.invariant.answering line
-          (subst (λ z. LineAnswered at (g.C.Clock.says c.lines.number z) c.args.now z (g.W.Sink.contents c.lines.w) (g.W.Sink.contents c.answer_line.new.w)) c.as_slice.ensures.value c.in_default-answer_line.ensures.answered);
+      answering = answering_more c.args.policy.now.run.limit at g.C.Clock.says c.args.now c.lines.number known left _ c.take_line.new.line.items _ (g.W.Sink.contents c.send_in_time.new.w) c.send_in_time.new.ready.items c.answer_line.new.ready.items same run line
+          (subst (λ z. LineAnswered at (g.C.Clock.says c.lines.number z) c.args.now z (Some c.send_in_time.new.ready.items) (Some c.answer_line.new.ready.items)) c.as_slice.ensures.value c.in_default-answer_line.ensures.answered);
     }
 
 pub returns : goal.returns
 returns g c =
     let vs = map (λ b. (goal.Verifier-dyn g (b.vtable, b.value)).meaning b.value) c.args.verifiers.now in
     let at : ℕ → List ℕ → Answer = λ m l. (told c.args.json).token (terms_of_keys vs m c.args.policy.now (key_set c.args.keys.now)) l in
-    let unanswered = (told c.args.json).read_failed in
+    let says = with_held c.args.policy.now.run.limit g.C.Clock.says in
     let known = g.R.Source.remaining c.args.r.now in
     let left = prepend_known c.lines.ahead (g.R.Source.remaining c.lines.r) in
-    lines_memory at unanswered (with_held c.args.policy.now.run.limit g.C.Clock.says) c.args.now c.lines.number known left _ (g.W.Sink.contents c.args.w.now) (g.W.Sink.contents c.lines.w) _ _ _ c.lines.invariant.answering c.lack_memory-2.ensures
+    lines_stopped at (told c.args.json).read_failed says c.args.now c.lines.number known left _ _ (g.W.Sink.contents c.lines.w) _ c.lines.ready.items _ _ OutOfMemory c.lines.invariant.answering
+    (λ is. absurd (cc is)) c.stop_lines-2.ensures

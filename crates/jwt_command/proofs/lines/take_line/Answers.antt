@@ -1,41 +1,34 @@
-use Rattle.std.proofs.Common.{◌∙◌, ap, subst, Some, ◌∷◌, [], arith}
+use Rattle.std.proofs.Common.{◌∙◌, ◌+◌, ◌++◌, ap, sym, Some, length, arith}
 use Rattle.std.proofs.lemmas.Option.{IfSome_then}
-use Rattle.std.proofs.lemmas.Bool.Decides.{nat_tests}
-use Rattle.std.specs.Io.KnownBytes.{Consumes, prepend_known}
-use Rattle.jwt_command.proofs.WalkedLines.{some_octet, walked_end, walked_feed, walked_hold, walked_none, walked_nothing}
+use Rattle.std.specs.Io.KnownBytes.{prepend_known}
+use Rattle.jwt_command.specs.TakenLines.{first_line}
+use Rattle.jwt_command.proofs.LineLemmas.{length-part}
+use Rattle.jwt_command.proofs.WalkedLines.{walked_end, walked_feed, walked_part}
 use Rattle.jwt_command.proofs.lines.take_line.Goals as goal
 
-pub octets-init : goal.octets-init
-octets-init g c = record { walked = walked_none c.args.limit (prepend_known c.args.ahead.now (g.R.Source.remaining c.args.r.now)) c.clear.new.self.items c.clear.ensures.items }
-
-pub returns-in-Some-None-clause-line : goal.returns-in-Some-None-clause-line
-returns-in-Some-None-clause-line g c =
+pub returns-in-Ok-true-clause-line : goal.returns-in-Ok-true-clause-line
+returns-in-Ok-true-clause-line g c =
     let told = prepend_known c.args.ahead.now (g.R.Source.remaining c.args.r.now) in
-    let end = c.next.ensures.end (c.in-Some-None.is ∙ ap Some c.in-Some-None.field-0-is) in
-    IfSome_then told (walked_end c.args.limit told _ _ c.octets.line.items c.octets.any c.octets.invariant.walked end.0 end.1) (λ x line. λ is. line (cc is))
+    let left = prepend_known c.parts.ahead (g.R.Source.remaining c.parts.r) in
+    let feed = sym c.in-Ok-true.ensures.feed ∙ c.in-Ok-true.field-0-test in
+    IfSome_then told (walked_feed c.args.limit told left (g.R.Source.remaining c.fill.new.r) c.parts.line.items c.take_part.new.line.items c.fill.new.self c.take_part.new.self c.parts.any
+    c.parts.invariant.walked c.fill.ensures.kept feed c.in-Ok-true.ensures.rest c.in-Ok-true.ensures.line) (λ x line. λ is. line)
 
-pub returns-in-Some-None-clause-end : goal.returns-in-Some-None-clause-end
-returns-in-Some-None-clause-end g c =
+pub returns-in-Some-false-clause-line : goal.returns-in-Some-false-clause-line
+returns-in-Some-false-clause-line g c =
     let told = prepend_known c.args.ahead.now (g.R.Source.remaining c.args.r.now) in
-    let end = c.next.ensures.end (c.in-Some-None.is ∙ ap Some c.in-Some-None.field-0-is) in
-    IfSome_then told (walked_nothing c.args.limit told _ _ c.octets.line.items c.octets.any c.octets.invariant.walked end.0 end.1) (λ x empty. λ is. empty (cc is))
+    let left = prepend_known c.parts.ahead (g.R.Source.remaining c.parts.r) in
+    let end = c.fill.ensures.end (c.in-Some-false.is ∙ ap Some c.in-Some-false.field-0-test) in
+    IfSome_then told (walked_end c.args.limit told left _ c.parts.line.items c.parts.any c.parts.invariant.walked c.fill.ensures.kept end) (λ x line. λ is. line (cc is))
 
-pub returns-in-Some-Some-eq10-clause-line : goal.returns-in-Some-Some-eq10-clause-line
-returns-in-Some-Some-eq10-clause-line g c =
+pub parts-preserved : goal.parts-preserved
+parts-preserved g c =
     let told = prepend_known c.args.ahead.now (g.R.Source.remaining c.args.r.now) in
-    let left = prepend_known c.octets.ahead (g.R.Source.remaining c.octets.r) in
-    let rest = prepend_known c.next.new.self (g.R.Source.remaining c.next.new.r) in
-    let octet = some_octet left rest c.in-Some-Some-eq10.field-0 c.in-Some-Some-eq10.field-0-0 c.in-Some-Some-eq10.ensures.octet c.in-Some-Some-eq10.field-0-is in
-    let feed = subst (λ o. Consumes left rest (o ∷ [])) c.in-Some-Some-eq10.field-0-0-test octet in
-    IfSome_then told (walked_feed c.args.limit told left rest c.octets.line.items c.octets.any c.octets.invariant.walked feed) (λ x line. λ is. line)
-
-pub octets-preserved : goal.octets-preserved
-octets-preserved g c =
-    let told = prepend_known c.args.ahead.now (g.R.Source.remaining c.args.r.now) in
-    let left = prepend_known c.octets.ahead (g.R.Source.remaining c.octets.r) in
-    let rest = prepend_known c.next.new.self (g.R.Source.remaining c.next.new.r) in
-    let octet = some_octet left rest c.in-Some-Some.field-0 c.in-Some-Some.octet c.in-Some-Some.ensures.octet c.in-Some-Some.field-0-is in
+    let left = prepend_known c.parts.ahead (g.R.Source.remaining c.parts.r) in
+    let none = sym c.in-Ok-false.ensures.feed ∙ c.in-Ok-false.field-0-test in
+    let some = c.fill.ensures.more (c.in-Some-true.is ∙ ap Some c.in-Some-true.field-0-test) in
     record {
-      walked = walked_hold c.args.limit told left rest c.octets.line.items c.hold.new.line.items c.octets.any c.in-Some-Some.octet c.octets.invariant.walked octet
-          (grind (arith, nat_tests, c.in-Some-Some.octet-test)) (λ short. search (c.in_ok-hold-in-Some-Some.ensures.within short)) (λ long. search (c.in_ok-hold-in-Some-Some.ensures.past long));
+      walked = walked_part c.args.limit told left (g.R.Source.remaining c.fill.new.r) c.parts.line.items c.take_part.new.line.items c.fill.new.self c.take_part.new.self c.parts.any
+          c.parts.invariant.walked c.fill.ensures.kept none some c.in-Ok-false.ensures.rest c.in-Ok-false.ensures.line;
+      fits = omega (arith, ap length c.in-Ok-false.ensures.line, length-part (c.parts.line.items ++ first_line c.fill.new.self) (c.args.limit + 1));
     }

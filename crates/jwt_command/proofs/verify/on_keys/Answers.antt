@@ -1,4 +1,4 @@
-use Rattle.std.proofs.Common.{rules, ◌≡◌, ◌+◌, inr, arith, map, subst, IfOk, ◌∙◌, sym, ap}
+use Rattle.std.proofs.Common.{rules, ◌≡◌, ◌+◌, inr, map, subst, IfOk, ◌∙◌, sym, ap}
 use Rattle.std.proofs.lemmas.Option.{IfSome_then}
 use Rattle.jwt_command.specs.Printed.{Answer}
 use Rattle.jwt_keys.specs.KeySets.{key_set, key_set_of}

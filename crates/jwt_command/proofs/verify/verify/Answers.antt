@@ -1,4 +1,4 @@
-use Rattle.std.proofs.Common.{rules, ◌≡◌, ◌+◌, ◌∙◌, sym, ap, Ok, inr, arith, map, subst, IfOk}
+use Rattle.std.proofs.Common.{rules, ◌≡◌, ◌+◌, ◌∙◌, sym, ap, Ok, inr, map, subst, IfOk}
 use Rattle.std.proofs.lemmas.Option.{IfSome_then}
 use Rattle.jwt_command.specs.Printed.{Answer}
 use Rattle.jwt_policy.specs.Document.{policy_of}

@@ -1,4 +1,3 @@
-use Rattle.std.proofs.Common.{◌∷◌, [], ◌++◌, ◌≡◌}
 use Rattle.std.proofs.lemmas.Result.{on_ok_weaker}
 use Rattle.jwt_command.proofs.json_out.JsonOut.value.Goals as goal
 
