@@ -3,4 +3,5 @@ pub mod FaultNames
 pub mod Issued
 pub mod Paying
 pub mod Signed
+pub mod Single
 pub mod Views

@@ -21,20 +21,18 @@
 
 mod builder;
 mod claim_set;
-mod compact;
 mod fault;
 mod fitness;
-mod flattened;
 mod general;
 mod header;
 pub mod laws;
 mod signer;
+mod single;
 mod size;
 mod writing;
 
 pub use builder::Builder;
 pub use claim_set::ClaimSet;
-pub use compact::issue_compact;
 pub use fault::{BuildFault, IssueFault};
-pub use flattened::issue_flat;
 pub use general::issue_json;
+pub use single::{issue_compact, issue_flat};

@@ -190,23 +190,22 @@ fn walk<B: Budget>(
             number,
             signature,
         };
-        match try_signature(asked, &numbered, budget, tries)? {
+        let settled = match try_signature(asked, &numbered, budget, tries)? {
+            RowEnd::Through(settled) => settled,
             RowEnd::Stop(end) => {
                 states.push(SigState::Stopped)?;
                 return Ok(Outcome { end, signing });
             }
-            RowEnd::Through(settled) => {
-                states.push(settled.state())?;
-                if !runs_on(asked.policy.mode(), settled.is_verified()) {
-                    return Ok(Outcome {
-                        end: End::Done,
-                        signing: settled.decides(number),
-                    });
-                }
-                if number == 0 {
-                    signing = settled.decides(0);
-                }
-            }
+        };
+        states.push(settled.state())?;
+        if !runs_on(asked.policy.mode(), settled.is_verified()) {
+            return Ok(Outcome {
+                end: End::Done,
+                signing: settled.decides(number),
+            });
+        }
+        if number == 0 {
+            signing = settled.decides(0);
         }
         number += 1;
     }
