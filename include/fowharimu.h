@@ -25,7 +25,8 @@
  *  - malloc, realloc and free are those of one allocator, and no call is made from a signal handler.
  *
  * A validator that was never opened, or was closed, is no error: a call answers FOW_NOT_OPEN then. Nothing is leaked where
- * memory is refused. Each call ends. Nothing is promised of time, or of keys that are left in memory. */
+ * memory is refused. Each call ends. Nothing is promised of time, or of keys that are left in memory. An open validator keeps
+ * what reading a token needs from one fow_judge to the next: 16 KiB, and room that grows with the longest token that was judged. */
 #ifndef FOWHARIMU_H
 #define FOWHARIMU_H
 

@@ -13,7 +13,7 @@ import subprocess
 import tempfile
 import threading
 import time
-from typing import Callable
+from typing import Callable, NamedTuple
 
 import tokens
 from server import Nginx
@@ -245,17 +245,50 @@ def test_killed(check: Check) -> None:
 
 # ---- requests a second
 
-def measured(nginx: Nginx, path: str, token: str, seconds: int) -> tuple[float, str]:
-    """Requests a second, and the latency of the 99th percentile, by wrk."""
-    command = ["wrk", "-t2", "-c32", f"-d{seconds}s", "--latency", "-H", f"Authorization: Bearer {token}", f"http://127.0.0.1:{nginx.port}{path}"]
+# What a client does with its connections, and what it tells wrk.
+WAYS = {"connections kept open": [], "a connection for each request": ["-H", "Connection: close"]}
+
+
+class Rate(NamedTuple):
+    """Requests a second by the clock, the latency of the 99th percentile, and the share of a processor that the worker took."""
+
+    requests: float
+    latency: str
+    busy: float
+
+    @property
+    def by_worker(self) -> float:
+        """Requests in a second of the worker's processor time: what a worker can do that has a processor to itself."""
+        return self.requests / self.busy
+
+    def __str__(self) -> str:
+        return f"{self.requests:.0f} requests a second, 99 % within {self.latency}, the worker busy {self.busy:.0%}"
+
+
+def processor_time(pid: int) -> float:
+    """What a process has taken, in seconds."""
+    fields = pathlib.Path(f"/proc/{pid}/stat").read_text().rpartition(")")[2].split()
+    return (int(fields[11]) + int(fields[12])) / os.sysconf("SC_CLK_TCK")
+
+
+def measured(nginx: Nginx, path: str, token: str, seconds: int, words: list[str]) -> Rate:
+    """What wrk measures of one path."""
+    command = ["wrk", "-t2", "-c32", f"-d{seconds}s", "--latency", *words, "-H", f"Authorization: Bearer {token}", f"http://127.0.0.1:{nginx.port}{path}"]
+    pid = nginx.worker_pids()[0]
+    taken, begun = processor_time(pid), time.monotonic()
     said = subprocess.run(command, capture_output=True, text=True).stdout
+    busy = (processor_time(pid) - taken) / (time.monotonic() - begun)
     if "Non-2xx" in said or "Socket errors" in said:
         raise RuntimeError(said)
-    return float(re.search(r"Requests/sec:\s*([\d.]+)", said)[1]), re.search(r"99%\s*(\S+)", said)[1]
+    return Rate(float(re.search(r"Requests/sec:\s*([\d.]+)", said)[1]), re.search(r"99%\s*(\S+)", said)[1], busy)
 
 
 def rates(check: Check, factor: int) -> None:
-    """A page of 1 KiB with the module on and off, in turn, so that what else the machine does counts for both."""
+    """A page of 1 KiB with the module on and off, in turn, so that what else the machine does counts for both.
+
+    A worker that isn't busy all the time waits for its clients, or for a processor: then requests a second say little of the module,
+    and what its processor time says counts.
+    """
     if not shutil.which("wrk"):
         print("nginx: requests a second are left out, since wrk isn't installed")
         return
@@ -263,14 +296,14 @@ def rates(check: Check, factor: int) -> None:
         secret = tokens.Secret()
         nginx = prepared(pathlib.Path(name), [secret], workers=1)
         with nginx.running():
-            token, pairs = secret.token(), []
-            for _ in range(3 * factor):
-                pairs.append([measured(nginx, path, token, 2) for path in ("/off", "/on")])
+            token = secret.token()
+            pairs = {way: [[measured(nginx, path, token, 2, words) for path in ("/off", "/on")] for _ in range(3 * factor)] for way, words in WAYS.items()}
             check("no wrong answer under wrk", True)
-    for off, on in pairs:
-        print(f"nginx: off {off[0]:.0f} requests a second, 99 % within {off[1]}; on {on[0]:.0f}, {on[1]}; {on[0] / off[0]:.1%}")
-    best = max(on[0] for _, on in pairs) / max(off[0] for off, _ in pairs)
-    print(f"nginx: with the module on {best:.1%} of the requests a second with it off, of the best of {len(pairs)} runs each; one worker, HS256")
+    for way, measurements in pairs.items():
+        for off, on in measurements:
+            print(f"nginx, {way}: off {off}; on {on}; {on.requests / off.requests:.1%}")
+        shares = [max(of(on) for _, on in measurements) / max(of(off) for off, _ in measurements) for of in (lambda it: it.requests, lambda it: it.by_worker)]
+        print(f"nginx, {way}: with the module on {shares[0]:.1%} of the requests a second with it off, {shares[1]:.1%} by the worker's processor time, of the best of {len(measurements)} runs each; one worker, HS256")
 
 
 def run(check: Check, factor: int) -> None:

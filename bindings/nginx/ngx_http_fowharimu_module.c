@@ -478,10 +478,20 @@ ngx_http_fowharimu_accepted(ngx_http_request_t *r,
     ngx_http_fowharimu_loc_conf_t *lcf, ngx_http_fowharimu_ctx_t *ctx,
     size_t size)
 {
-    ngx_int_t                     rc;
-    ngx_str_t                     room, claim;
-    ngx_uint_t                    i;
-    ngx_http_fowharimu_demand_t  *demand;
+    ngx_int_t                        rc;
+    ngx_str_t                        room, claim;
+    ngx_uint_t                       i;
+    ngx_http_fowharimu_demand_t     *demand;
+    ngx_http_fowharimu_main_conf_t  *mcf;
+
+    mcf = ngx_http_get_module_main_conf(r, ngx_http_fowharimu_module);
+
+    /* without room where no claim is asked for */
+
+    if (lcf->demands == NULL && mcf->claims.nelts == 0) {
+        ngx_str_set(&ctx->verdict, "accepted");
+        return NGX_OK;
+    }
 
     /* a claim's compact text is no longer than the payload that it is in */
 

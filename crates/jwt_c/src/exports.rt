@@ -22,6 +22,7 @@ use crate::report::{FowQuestion, FowReport, FowState, FowTry};
 use crate::writing::{number_at, payload_of, put, put_claim, put_header};
 use jwt_keys::{KeySet, KeysFault};
 use jwt_policy::{Policy, PolicyFault};
+use jwt_text::Scratch;
 use jwt_told::Answers;
 use std::alloc::Global;
 use std::str::from_utf8;
@@ -46,6 +47,7 @@ fn desk_of(alloc: Global, policy: &[u8], keys: &[u8]) -> Result<Desk, (u32, u32)
         keys,
         answers: Answers::new(alloc),
         last: Last::new(alloc),
+        scratch: Scratch::new(alloc),
     })
 }
 

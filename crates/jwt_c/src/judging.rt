@@ -152,13 +152,16 @@ fn kept(report: Report<'_>, work: u64, missing: Vec<u8>) -> Judging
     }
 }
 
-/// The judging of a desk on a token.
-pub(crate) fn report_on(alloc: Global, desk: &Desk, octets: &[u8], now: i64) -> Judging
+/// The judging of a desk on a token. It changes nothing of the desk but the scratch, of which nothing depends on what it holds.
+pub(crate) fn report_on(alloc: Global, desk: &mut Desk, octets: &[u8], now: i64) -> Judging
     ensures judged { result.said.verdict ≤ 1
-        → IsJudged desk.now now octets.now result.said result.last }
+        → IsJudged desk.old now octets.now result.said result.last }
     ensures asks { result.said.verdict ≡ 2
-        → IsAsked desk.now now octets.now result.said result.last }
+        → IsAsked desk.old now octets.now result.said result.last }
     ensures claims { result.said.verdict ≢ 0 → result.last.claims ≡ None }
+    ensures policy { desk.new.policy ≡ desk.old.policy }
+    ensures keys { desk.new.keys ≡ desk.old.keys }
+    ensures told { told desk.new.answers ≡ told desk.old.answers }
 {
     let mut budget = desk.policy.budget();
     match judge_told(
@@ -169,6 +172,7 @@ pub(crate) fn report_on(alloc: Global, desk: &Desk, octets: &[u8], now: i64) -> 
         now,
         &desk.answers,
         &mut budget,
+        &mut desk.scratch,
     ) {
         Ok(report) => match missing(alloc, &report.verdict) {
             Ok(missing) => kept(report, budget.octets(), missing),

@@ -4,6 +4,7 @@ use super::support::{KEYS_A2, NOW, TOKEN_A2};
 use jwt_keys::KeySet;
 use jwt_mac::{Alg, KeyView};
 use jwt_policy::{Policy, SigFault};
+use jwt_text::Scratch;
 use jwt_told::{Answers, Asked, Asking, Question, judge_told, read_token};
 use jwt_verify::{Fault, Report, Verdict};
 use std::alloc::Global;
@@ -128,12 +129,22 @@ fn a_token_is_judged_by_what_was_told(rt: HostRuntime) -> Result<(), Fail> {
         .ok()
         .ok_or("no policy")?;
     let keys = KeySet::read(alloc, KEYS_A2.as_bytes())?;
+    let mut scratch = Scratch::new(alloc);
     for case in CASES {
         let mut answers = Answers::new(alloc);
         tell(alloc, case, &keys, &policy, &mut answers)?;
         let mut budget = policy.budget();
         let octets = TOKEN_A2.as_bytes();
-        let judged = judge_told(alloc, octets, &keys, &policy, NOW, &answers, &mut budget);
+        let judged = judge_told(
+            alloc,
+            octets,
+            &keys,
+            &policy,
+            NOW,
+            &answers,
+            &mut budget,
+            &mut scratch,
+        );
         assert_eq!(rt; word_of(&judged), case.word, "{}", case.shows);
     }
     Ok(())

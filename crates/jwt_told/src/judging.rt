@@ -20,6 +20,7 @@ use jwt_jws::Signed;
 use jwt_keys::KeySet;
 use jwt_mac::{Budget, CountDown, Verifier};
 use jwt_policy::Policy;
+use jwt_text::Scratch;
 use jwt_verify::{Fault, JudgedToken, Report, Try, Verdict, judge_signed};
 use std::alloc::{AllocError, Global};
 
@@ -87,6 +88,7 @@ fn judge_under<'a, 'p>(
     answers: &Answers,
     verifiers: &[Box<dyn Verifier>],
     budget: &mut CountDown,
+    scratch: &mut Scratch,
 ) -> JudgedToken<'a, 'p>
     requires one { map meaning verifiers.now ≡ told_meaning (told answers.now) ∷ [] }
     requires no_octets { ⟦<CountDown as Budget>⟧.octets budget.old ≡ 0 }
@@ -101,7 +103,9 @@ fn judge_under<'a, 'p>(
     ensures ceiling { ⟦<CountDown as Budget>⟧.ceiling budget.new
         ≡ ⟦<CountDown as Budget>⟧.ceiling budget.old }
 {
-    judge_signed(alloc, octets, keys, policy, now, verifiers, budget)
+    judge_signed(
+        alloc, octets, keys, policy, now, verifiers, budget, scratch,
+    )
 }
 
 /// The report on octets in hand, where these answers, shared, are the one verifier, with the token.
@@ -114,6 +118,7 @@ fn judge_by<'a, 'p>(
     now: i64,
     answers: &Answers,
     budget: &mut CountDown,
+    scratch: &mut Scratch,
 ) -> JudgedToken<'a, 'p>
     requires no_octets { ⟦<CountDown as Budget>⟧.octets budget.old ≡ 0 }
     requires no_calls { ⟦<CountDown as Budget>⟧.calls budget.old ≡ 0 }
@@ -132,7 +137,7 @@ fn judge_by<'a, 'p>(
     };
     let verifiers: [Box<dyn Verifier>; 1] = [shared];
     judge_under(
-        alloc, octets, keys, policy, now, answers, &verifiers, budget,
+        alloc, octets, keys, policy, now, answers, &verifiers, budget, scratch,
     )
 }
 
@@ -148,6 +153,9 @@ fn judge_by<'a, 'p>(
 ///
 /// Where each answer that was told is true, the verdict is the one that a verifier who knows the truth would have led to, be it an
 /// acceptance or a refusal.
+///
+/// A caller with many tokens keeps the scratch from one to the next: it is what reading needs beside its result, and nothing
+/// depends on what it holds.
 ///
 /// The condition: the budget is new. [`Policy::budget`] makes one with the policy's `work`.
 ///
@@ -165,6 +173,7 @@ pub fn judge_told<'a, 'p>(
     now: i64,
     answers: &Answers,
     budget: &mut CountDown,
+    scratch: &mut Scratch,
 ) -> Result<Report<'p>, Asking<'a>>
     requires no_octets { ⟦<CountDown as Budget>⟧.octets budget.old ≡ 0 }
     requires no_calls { ⟦<CountDown as Budget>⟧.calls budget.old ≡ 0 }
@@ -209,7 +218,9 @@ pub fn judge_told<'a, 'p>(
         ≡ ⟦<CountDown as Budget>⟧.ceiling budget.old }
 {
     right_answers();
-    let JudgedToken { report, token } = judge_by(alloc, octets, keys, policy, now, answers, budget);
+    let JudgedToken { report, token } = judge_by(
+        alloc, octets, keys, policy, now, answers, budget, scratch,
+    );
     if !found_memory(&report.verdict) {
         return Ok(report);
     }

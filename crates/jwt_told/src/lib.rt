@@ -2,11 +2,14 @@
 //! [`Verifier`](jwt_mac::Verifier), such as a library in another language.
 //!
 //! ```rust
+//! use jwt_text::Scratch;
 //! use jwt_told::{Answers, judge_told};
 //!
 //! let mut answers = Answers::new(alloc);
+//! let mut scratch = Scratch::new(alloc);
 //! loop {
-//!     match judge_told(alloc, octets, &keys, &policy, now, &answers, &mut policy.budget()) {
+//!     let budget = &mut policy.budget();
+//!     match judge_told(alloc, octets, &keys, &policy, now, &answers, budget, &mut scratch) {
 //!         Ok(report) => return Ok(report),
 //!         Err(asking) => {
 //!             let asked = asking.question.about(&asking.token, &keys).ok_or(NoToken)?;

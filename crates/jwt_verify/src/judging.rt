@@ -141,6 +141,7 @@ fn judge_octets<'a, 'p, B: Budget>(
     asked: &Asked<'_, 'p, '_>,
     octets: &'a [u8],
     budget: &mut B,
+    scratch: &mut Scratch,
 ) -> JudgedToken<'a, 'p>
     requires no_octets { B.octets budget.old ≡ 0 }
     requires no_calls { B.calls budget.old ≡ 0 }
@@ -153,10 +154,9 @@ fn judge_octets<'a, 'p, B: Budget>(
     ensures calls { B.calls budget.new ≡ length result.report.tries.items }
     ensures ceiling { B.ceiling budget.new ≡ B.ceiling budget.old }
 {
-    let mut scratch = Scratch::new(alloc);
-    match read_with(alloc, octets, asked.policy, &mut scratch) {
+    match read_with(alloc, octets, asked.policy, scratch) {
         Ok(signed) => JudgedToken {
-            report: judge_token(alloc, asked, &signed, budget, &mut scratch),
+            report: judge_token(alloc, asked, &signed, budget, scratch),
             token: Some(signed),
         },
         Err(fault) => JudgedToken {
@@ -224,12 +224,15 @@ pub fn judge<'p, B: Budget>(
         moment: now,
         verifiers,
     };
-    let JudgedToken { report, token: _ } = judge_octets(alloc, &asked, octets, budget);
+    let mut scratch = Scratch::new(alloc);
+    let JudgedToken { report, token: _ } =
+        judge_octets(alloc, &asked, octets, budget, &mut scratch);
     report
 }
 
 /// The report as [`judge`] gives it, with the token that was read for it: a caller who has more to ask
-/// of the token needn't read it again.
+/// of the token needn't read it again. A caller with many tokens keeps the scratch from one to the next: it is what reading
+/// needs beside its result, and nothing depends on what it holds.
 ///
 /// The condition: the budget is new.
 ///
@@ -243,6 +246,7 @@ pub fn judge_signed<'a, 'p, B: Budget>(
     now: i64,
     verifiers: &[Box<dyn Verifier>],
     budget: &mut B,
+    scratch: &mut Scratch,
 ) -> JudgedToken<'a, 'p>
     requires no_octets { B.octets budget.old ≡ 0 }
     requires no_calls { B.calls budget.old ≡ 0 }
@@ -268,7 +272,7 @@ pub fn judge_signed<'a, 'p, B: Budget>(
         moment: now,
         verifiers,
     };
-    judge_octets(alloc, &asked, octets, budget)
+    judge_octets(alloc, &asked, octets, budget, scratch)
 }
 
 /// The octets of the source, as far as they are looked at: all, or one more than the limit.

@@ -12,7 +12,7 @@ use Rattle.jwt_c.proofs.asking.tell_by.Goals as goal
 pub returns-in-Some-proved_answer : goal.returns-in-Some-proved_answer
 returns-in-Some-proved_answer c =
     let d = c.args.desk.now in let q = question_parts c.in-Some.asked in let keys = (key_set d.keys).keys in
-    let e : Desk = record { policy = d.policy; keys = d.keys; answers = c.tell_of.new.answers; last = d.last } in
+    let e : Desk = record { policy = d.policy; keys = d.keys; answers = c.tell_of.new.answers; last = d.last; scratch = d.scratch } in
     let read : token_of d.policy c.args.token.now ≡ Ok (token c.in-Ok-Some.signed) = rw c.in-Ok-Some.field-0-is at c.in-Ok-Some.ensures in
     let asked : asked_at (token_of d.policy c.args.token.now) keys c.args.signature c.args.key ≡ Some q =
     ap (λ r. asked_at r keys c.args.signature c.args.key) read ∙ sym c.in-Some.ensures in

@@ -24,8 +24,8 @@ returns-in-Ok-clause-listed g c =
 pub returns-in-Ok-clause-read : goal.returns-in-Ok-clause-read
 returns-in-Ok-clause-read g c = c.judge_token.ensures.read
 
-pub returns-clause-listed : goal.returns-clause-listed
-returns-clause-listed g c =
+pub returns-in-Err-clause-listed : goal.returns-in-Err-clause-listed
+returns-in-Err-clause-listed g c =
     let q = asked_terms (λ b. (goal.Verifier-dyn g (b.vtable, b.value)).meaning b.value) c.args.asked.now in
     let x = c.args.octets.now in
     let w = g.B.Budget.ceiling c.args.budget.now in
@@ -36,11 +36,11 @@ returns-clause-listed g c =
       front = front_none (paid (table q x) w c.args.asked.now.policy.now.max_calls) c.refused.result.tries.items c.refused.ensures.tries;
     }
 
-pub returns-clause-octets : goal.returns-clause-octets
-returns-clause-octets g c = octets_none _ _ c.requires.no_octets c.refused.ensures.tries
+pub returns-in-Err-clause-octets : goal.returns-in-Err-clause-octets
+returns-in-Err-clause-octets g c = octets_none _ _ c.requires.no_octets c.refused.ensures.tries
 
-pub returns-clause-read : goal.returns-clause-read
-returns-clause-read g c =
+pub returns-in-Err-clause-read : goal.returns-in-Err-clause-read
+returns-in-Err-clause-read g c =
     let q = asked_terms (λ b. (goal.Verifier-dyn g (b.vtable, b.value)).meaning b.value) c.args.asked.now in
     let e = rw c.in-Err.is at c.read_with.ensures in
     rw c.refused.ensures.verdict (refused_read q c.args.octets.now c.in-Err.fault e)
