@@ -21,7 +21,7 @@ use Rattle.jwt_issue.specs.Issued.{PairParts, compact_of, pair_cost, secret_in}
 use Rattle.jwt_bench.specs.Given.{GivenParts}
 use Rattle.jwt_bench.specs.declared.totals.Ran.{Ran}
 use Rattle.jwt_bench.specs.declared.workload.Workload.{Workload}
-use Rattle.jwt_bench.specs.declared.workload.Workload.TheVariants.{Judge, Public, Validate, Parse, Object, Keys, Policy, Issue, Hmac}
+use Rattle.jwt_bench.specs.declared.workload.Workload.TheVariants.{Judge, Public, Signed, Validate, Parse, Object, Keys, Policy, Issue, Hmac}
 
 -- what is read once: the last key, and of the first signature its algorithm, its header, its signing input and its octets
 pub record ReadyParts : Type 0 where
@@ -88,6 +88,7 @@ hashed b secret =
 abbrev pub ran_of : List Meaning → Workload → ReadyParts → Ran
 ran_of built_in Judge b = judged b
 ran_of built_in Public b = judged_by built_in b
+ran_of built_in Signed b = judged b
 ran_of built_in Validate b = judged b
 ran_of built_in Parse b = read_ran (form_of b.policy.run.max_signatures b.given.token)
 ran_of built_in Object b = ran (is_ok (object_of b.header) && is_ok (object_of b.claims)) 0 0

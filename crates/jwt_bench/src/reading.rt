@@ -21,7 +21,7 @@ use jwt_jws::{FormFault, Signed, parse};
 use jwt_keys::{KeySet, KeysFault};
 use jwt_mac::{Alg, Verifier};
 use jwt_policy::{ClaimFault, Policy, PolicyFault};
-use jwt_text::{GREATEST_LIMIT, Intake, Source, TextFault, decode};
+use jwt_text::{GREATEST_LIMIT, Intake, Scratch, Source, TextFault, decode};
 use std::alloc::Global;
 
 // All runs.
@@ -37,8 +37,9 @@ fn repeat(
         (ran_of (map meaning built_in.now) order.workload (ready_view ready.now))) }
 {
     let mut totals = Totals::none();
+    let mut scratch = Scratch::new(alloc);
     'runs: for _ in 0..order.count {
-        let ran = ready.once(alloc, order.workload, built_in)?;
+        let ran = ready.once(alloc, order.workload, built_in, &mut scratch)?;
         totals.add(ran);
     }
     Ok(totals)

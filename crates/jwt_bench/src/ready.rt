@@ -20,9 +20,9 @@ use jwt_jws::{FormFault, parse};
 use jwt_keys::{Key, KeySet, KeysFault};
 use jwt_mac::{Alg, Budget, CountDown, KeyView, Message, Verifier, hmac};
 use jwt_policy::{Policy, PolicyFault};
-use jwt_text::{Reader, TextFault, object};
+use jwt_text::{Reader, Scratch, TextFault, object};
 use jwt_verify::laws::tells_reports;
-use jwt_verify::{Fault, InputFault, Verdict, judge, validate};
+use jwt_verify::{Fault, InputFault, JudgedToken, Verdict, judge, judge_signed, validate};
 use std::alloc::Global;
 
 // The moment, in seconds since 1970-01-01T00:00:00Z: a second before the token of RFC 7515, appendix A.1, expires.
@@ -127,6 +127,27 @@ impl Ready<'_> {
         self.judge_by(alloc, &verifiers)
     }
 
+    fn signed(&self, alloc: Global, scratch: &mut Scratch) -> Result<Ran, RunFault>
+        ensures value { IfOk result (λ ran. ran ≡ judged (ready_view self.now)) }
+        ensures within { IfOk result (λ ran. ran.octets ≤ 1000000000000) }
+    {
+        let verifiers: [Box<dyn Verifier>; 0] = [];
+        let mut budget = CountDown::new(self.policy.work());
+        tells_reports();
+        let JudgedToken { report, token: _ } = judge_signed(
+            alloc,
+            self.given.token,
+            self.keys,
+            self.policy,
+            NOW,
+            &verifiers,
+            &mut budget,
+            scratch,
+        );
+        let accepted = is_accepted(&report.verdict)?;
+        Ok(ran(accepted, &budget))
+    }
+
     fn validate(&self, alloc: Global) -> Result<Ran, RunFault>
         ensures value { IfOk result (λ ran. ran ≡ judged (ready_view self.now)) }
         ensures within { IfOk result (λ ran. ran.octets ≤ 1000000000000) }
@@ -224,12 +245,13 @@ impl Ready<'_> {
         }
     }
 
-    /// Runs the workload once; `built_in` are the verifiers of [`Workload::Public`].
+    /// Runs the workload once; `built_in` are the verifiers of [`Workload::Public`], the scratch is that of [`Workload::Signed`].
     pub(crate) fn once(
         &self,
         alloc: Global,
         workload: Workload,
         built_in: &[Box<dyn Verifier>],
+        scratch: &mut Scratch,
     ) -> Result<Ran, RunFault>
         ensures value { IfOk result
             (λ ran. ran ≡ ran_of (map meaning built_in.now) workload (ready_view self.now)) }
@@ -238,6 +260,7 @@ impl Ready<'_> {
         match workload {
             Workload::Judge => self.judge(alloc),
             Workload::Public => self.judge_by(alloc, built_in),
+            Workload::Signed => self.signed(alloc, scratch),
             Workload::Validate => self.validate(alloc),
             Workload::Parse => self.parse(alloc),
             Workload::Object => self.object(alloc),

@@ -10,6 +10,9 @@ pub(crate) enum Workload {
     /// `judge` on the token with the verifiers that are built in, with a new budget.
     Public,
 
+    /// `judge_signed` on the token, with a new budget and the scratch of the runs before.
+    Signed,
+
     /// `validate` on the token as a source, with a new budget.
     Validate,
 
@@ -42,6 +45,7 @@ impl Workload {
         match name {
             "judge" => Some(Workload::Judge),
             "public" => Some(Workload::Public),
+            "signed" => Some(Workload::Signed),
             "validate" => Some(Workload::Validate),
             "parse" => Some(Workload::Parse),
             "object" => Some(Workload::Object),
