@@ -103,9 +103,7 @@ fn judge_under<'a, 'p>(
     ensures ceiling { ⟦<CountDown as Budget>⟧.ceiling budget.new
         ≡ ⟦<CountDown as Budget>⟧.ceiling budget.old }
 {
-    judge_signed(
-        alloc, octets, keys, policy, now, verifiers, budget, scratch,
-    )
+    judge_signed(alloc, octets, keys, policy, now, verifiers, budget, scratch)
 }
 
 /// The report on octets in hand, where these answers, shared, are the one verifier, with the token.

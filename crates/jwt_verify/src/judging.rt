@@ -225,8 +225,13 @@ pub fn judge<'p, B: Budget>(
         verifiers,
     };
     let mut scratch = Scratch::new(alloc);
-    let JudgedToken { report, token: _ } =
-        judge_octets(alloc, &asked, octets, budget, &mut scratch);
+    let JudgedToken { report, token: _ } = judge_octets(
+        alloc,
+        &asked,
+        octets,
+        budget,
+        &mut scratch,
+    );
     report
 }
 
