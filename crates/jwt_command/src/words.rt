@@ -80,7 +80,10 @@ fn option<'a>(alloc: Global, name: &'a str, value: &'a str, help: &'a str) -> Ar
     ensures shape { rule_of result ≡ option name.now }
     ensures local { result.global ≡ false }
 {
-    Arg::new(alloc, name).long(name).value_name(value).help(help)
+    Arg::new(alloc, name)
+        .long(name)
+        .value_name(value)
+        .help(help)
 }
 
 // A flag `--name`.
@@ -160,8 +163,13 @@ fn form_option<'a>(alloc: Global) -> Arg<'a>
     ensures shape { rule_of result ≡ form_rule }
     ensures local { result.global ≡ false }
 {
-    option(alloc, "form", "F", "The form of the token: compact, json or flattened")
-        .default_value("compact")
+    option(
+        alloc,
+        "form",
+        "F",
+        "The form of the token: compact, json or flattened",
+    )
+    .default_value("compact")
 }
 
 fn mac_command<'a>(alloc: Global) -> Result<Command<'a>, AllocError>
@@ -226,7 +234,8 @@ fn verify_command<'a>(alloc: Global, has_clock: bool) -> Result<Command<'a>, All
     ensures shape { IfOk result (λ c. app_of c ≡ verify_app has_clock) }
     ensures local { IfOk result (λ c. (fields_of c).has_globals ≡ false) }
 {
-    let lines = "Answers each line of standard input as a token, before the next is waited for; needs --policy and --keys";
+    let lines =
+        "Answers each line of standard input as a token, before the next is waited for; needs --policy and --keys";
     verify_on_files(alloc, has_clock)?
         .arg(flag(alloc, "lines", lines))?
         .arg(json_option(alloc))
