@@ -13,7 +13,7 @@ use Rattle.jwt_command.specs.Words.{Issue, Keys, Mac, MacFile, Order, Show, Veri
 
 -- the program, and the kit that proved it
 abbrev pub version_answer : Answer
-version_answer = line (codes "jwt 0.1.0, proved with rattle-kit-13b logic dac8208d650f15bf" ∷ []) 0
+version_answer = line (codes "jwt 0.1.0, proved with rattle-kit-13f logic dac8208d650f15bf" ∷ []) 0
 
 -- in JSON or in lines, with these verifiers at hand and these documents in hand, of an input, by a reader that has failed or not
 abbrev pub answer_in_hand : Bool → List Meaning → Held → Order → Bool → List ℕ → Answer

@@ -178,7 +178,7 @@ fn version_line(alloc: Global) -> Result<Reply, AllocError>
 {
     Reply::line(
         alloc,
-        "jwt 0.1.0, proved with rattle-kit-13b logic dac8208d650f15bf",
+        "jwt 0.1.0, proved with rattle-kit-13f logic dac8208d650f15bf",
         0,
     )
 }

@@ -1,9 +1,10 @@
 //! The words of the command, read by `clap`.
 ghost use Rattle.std.specs.Prelude.{◌≡◌, ◌≤◌, IfOk, IfErr, IfSome, None, Some, false, is_some, map, option_and_then, option_map};
-ghost use Rattle.clap.specs.Words.{app_of, found_of, one_of, rows_of, rule_of, subcommand_rows_of};
+ghost use Rattle.clap.specs.Words.{app_of, found_of, new_rule, one_of, rows_of, rule_of, subcommand_rows_of};
+ghost use Rattle.clap.specs.declared.builder.action.ArgAction.TheVariants.{SetTrue};
 ghost use Rattle.clap.specs.declared.builder.command.Command.TheViews.{out-Command as fields_of};
 ghost use Rattle.clap.specs.declared.builder.ValueParser.TheVariants.{Unsigned};
-ghost use Rattle.jwt_command.specs.Words.{HasLimits, alg_in, alg_rule, asks_version, clap_request, files_in, files_in_order, files_in_request, files_of, form_in, form_named, form_rule, is_named, is_set, issue_app, issue_order, json_rule, jwt_app, key_file_rule, key_rule, keyed, keys_app, keys_file_in, keys_rule, limit_rule, lines_order, lines_rule, mac_app, mac_order, moment_in, named_moment, no_files, now_rule, number_in, order_in, policy_rule, public_keys_rule, request_in, request_of, show_app, show_order, token_rule, typ_rule, verify_app, verify_on_files, verify_on_input, verify_order};
+ghost use Rattle.jwt_command.specs.Words.{HasLimits, alg_in, alg_rule, asks_version, clap_request, files_in, files_in_order, files_in_request, files_of, form_in, form_named, form_rule, is_named, is_set, issue_app, issue_order, json_rule, jwt_app, keyed, keys_app, keys_file_in, keys_rule, limit_rule, lines_order, mac_app, mac_order, moment_in, named_moment, no_files, now_rule, number_in, option, order_in, public_keys_rule, request_in, request_of, show_app, show_order, verify_app, verify_on_files, verify_on_input, verify_order};
 ghost use Rattle.jwt_command.specs.Examples.{Examples};
 ghost use Rattle.jwt_command.specs.Seen.{IsWrong, files_view, HasRange, lines_view, requested, seen};
 
@@ -74,35 +75,36 @@ pub enum Order<'a> {
     Version,
 }
 
-fn key_option<'a>(alloc: Global) -> Arg<'a>
-    ensures shape { rule_of result ≡ key_rule }
+// An option `--name VALUE`, which may be left out.
+fn option<'a>(alloc: Global, name: &'a str, value: &'a str, help: &'a str) -> Arg<'a>
+    ensures shape { rule_of result ≡ option name.now }
     ensures local { result.global ≡ false }
 {
-    Arg::new(alloc, "k").long("k").value_name("TEXT").help(
-        "The key, octets in base64url; other users can see it, so it is for test keys",
-    )
+    Arg::new(alloc, name)
+        .long(name)
+        .value_name(value)
+        .help(help)
 }
 
-fn key_file_option<'a>(alloc: Global) -> Arg<'a>
-    ensures shape { rule_of result ≡ key_file_rule }
+// A flag `--name`.
+fn flag<'a>(alloc: Global, name: &'a str, help: &'a str) -> Arg<'a>
+    ensures shape { rule_of result
+        ≡ record (new_rule name.now) { long = Some name.now; action = Some SetTrue } }
     ensures local { result.global ≡ false }
 {
-    Arg::new(alloc, "key-file")
-        .long("key-file")
-        .value_name("FILE")
-        .help("The file of the key, octets in base64url, in the place of --k")
+    Arg::new(alloc, name)
+        .long(name)
+        .action(ArgAction::SetTrue)
+        .help(help)
 }
 
 fn limit_option<'a>(alloc: Global) -> Arg<'a>
     ensures shape { rule_of result ≡ limit_rule }
     ensures local { result.global ≡ false }
 {
-    Arg::new(alloc, "limit")
-        .long("limit")
-        .value_name("N")
+    option(alloc, "limit", "N", "The most octets of a token")
         .value_parser(ValueParser::unsigned(1, 1_048_576))
         .default_value("8192")
-        .help("The most octets of a token")
 }
 
 // `--now` may be left out where there is a clock.
@@ -110,120 +112,76 @@ fn now_option<'a>(alloc: Global, has_clock: bool) -> Arg<'a>
     ensures shape { rule_of result ≡ now_rule has_clock }
     ensures local { result.global ≡ false }
 {
-    Arg::new(alloc, "now")
-        .long("now")
-        .value_name("N")
-        .value_parser(ValueParser::unsigned(0, 9_223_372_036_854_775_807))
-        .required(!has_clock)
-        .help(
-            "The moment, in seconds since 1970-01-01T00:00:00Z; where it is left out, the clock's",
-        )
+    option(
+        alloc,
+        "now",
+        "N",
+        "The moment, in seconds since 1970-01-01T00:00:00Z; where it is left out, the clock's",
+    )
+    .value_parser(ValueParser::unsigned(0, 9_223_372_036_854_775_807))
+    .required(!has_clock)
 }
 
 fn public_keys_option<'a>(alloc: Global) -> Arg<'a>
     ensures shape { rule_of result ≡ public_keys_rule }
     ensures local { result.global ≡ false }
 {
-    Arg::new(alloc, "public-keys")
-        .long("public-keys")
-        .action(ArgAction::SetTrue)
-        .help(
-            "Verifies signatures by public keys too: RS256, RS384, RS512, PS256, PS384, PS512, EdDSA (Ed25519)",
-        )
-}
-
-fn lines_option<'a>(alloc: Global) -> Arg<'a>
-    ensures shape { rule_of result ≡ lines_rule }
-    ensures local { result.global ≡ false }
-{
-    Arg::new(alloc, "lines")
-        .long("lines")
-        .action(ArgAction::SetTrue)
-        .help(
-            "Answers each line of standard input as a token, before the next is waited for; needs --policy and --keys",
-        )
+    flag(
+        alloc,
+        "public-keys",
+        "Verifies signatures by public keys too: RS256, RS384, RS512, PS256, PS384, PS512, EdDSA (Ed25519)",
+    )
 }
 
 fn json_option<'a>(alloc: Global) -> Arg<'a>
     ensures shape { rule_of result ≡ json_rule }
     ensures local { result.global ≡ false }
 {
-    Arg::new(alloc, "json")
-        .long("json")
-        .action(ArgAction::SetTrue)
-        .help("Prints one JSON object on one line")
-}
-
-fn policy_option<'a>(alloc: Global) -> Arg<'a>
-    ensures shape { rule_of result ≡ policy_rule }
-    ensures local { result.global ≡ false }
-{
-    Arg::new(alloc, "policy")
-        .long("policy")
-        .value_name("FILE")
-        .help("The file of the policy, which standard input then lacks")
+    flag(alloc, "json", "Prints one JSON object on one line")
 }
 
 fn keys_option<'a>(alloc: Global) -> Arg<'a>
     ensures shape { rule_of result ≡ keys_rule }
     ensures local { result.global ≡ false }
 {
-    Arg::new(alloc, "keys")
-        .long("keys")
-        .value_name("FILE")
-        .help("The file of the key set, which standard input then lacks")
-}
-
-fn token_option<'a>(alloc: Global) -> Arg<'a>
-    ensures shape { rule_of result ≡ token_rule }
-    ensures local { result.global ≡ false }
-{
-    Arg::new(alloc, "token")
-        .long("token")
-        .value_name("FILE")
-        .help("The file of the token, which standard input then lacks")
+    option(
+        alloc,
+        "keys",
+        "FILE",
+        "The file of the key set, which standard input then lacks",
+    )
 }
 
 fn alg_option<'a>(alloc: Global) -> Arg<'a>
     ensures shape { rule_of result ≡ alg_rule }
     ensures local { result.global ≡ false }
 {
-    Arg::new(alloc, "alg")
-        .long("alg")
-        .value_name("A")
-        .required(true)
-        .help("The algorithm: HS256, HS384 or HS512")
-}
-
-fn typ_option<'a>(alloc: Global) -> Arg<'a>
-    ensures shape { rule_of result ≡ typ_rule }
-    ensures local { result.global ≡ false }
-{
-    Arg::new(alloc, "typ")
-        .long("typ")
-        .value_name("T")
-        .help("The media type of the token, as its header names it")
+    option(alloc, "alg", "A", "The algorithm: HS256, HS384 or HS512").required(true)
 }
 
 fn form_option<'a>(alloc: Global) -> Arg<'a>
     ensures shape { rule_of result ≡ form_rule }
     ensures local { result.global ≡ false }
 {
-    Arg::new(alloc, "form")
-        .long("form")
-        .value_name("F")
-        .default_value("compact")
-        .help("The form of the token: compact, json or flattened")
+    option(
+        alloc,
+        "form",
+        "F",
+        "The form of the token: compact, json or flattened",
+    )
+    .default_value("compact")
 }
 
 fn mac_command<'a>(alloc: Global) -> Result<Command<'a>, AllocError>
     ensures shape { IfOk result (λ c. app_of c ≡ mac_app) }
     ensures local { IfOk result (λ c. (fields_of c).has_globals ≡ false) }
 {
+    let key = "The key, octets in base64url; other users can see it, so it is for test keys";
+    let key_file = "The file of the key, octets in base64url, in the place of --k";
     Command::new(alloc, "mac")
         .about("Computes the tag of a compact token, which standard input holds")
-        .arg(key_option(alloc))?
-        .arg(key_file_option(alloc))?
+        .arg(option(alloc, "k", "TEXT", key))?
+        .arg(option(alloc, "key-file", "FILE", key_file))?
         .arg(limit_option(alloc))
 }
 
@@ -264,18 +222,22 @@ fn verify_on_files<'a>(alloc: Global, has_clock: bool) -> Result<Command<'a>, Al
     ensures shape { IfOk result (λ c. app_of c ≡ verify_on_files has_clock) }
     ensures local { IfOk result (λ c. (fields_of c).has_globals ≡ false) }
 {
+    let policy = "The file of the policy, which standard input then lacks";
+    let token = "The file of the token, which standard input then lacks";
     verify_on_input(alloc, has_clock)?
-        .arg(policy_option(alloc))?
+        .arg(option(alloc, "policy", "FILE", policy))?
         .arg(keys_option(alloc))?
-        .arg(token_option(alloc))
+        .arg(option(alloc, "token", "FILE", token))
 }
 
 fn verify_command<'a>(alloc: Global, has_clock: bool) -> Result<Command<'a>, AllocError>
     ensures shape { IfOk result (λ c. app_of c ≡ verify_app has_clock) }
     ensures local { IfOk result (λ c. (fields_of c).has_globals ≡ false) }
 {
+    let lines =
+        "Answers each line of standard input as a token, before the next is waited for; needs --policy and --keys";
     verify_on_files(alloc, has_clock)?
-        .arg(lines_option(alloc))?
+        .arg(flag(alloc, "lines", lines))?
         .arg(json_option(alloc))
 }
 
@@ -283,10 +245,11 @@ fn issue_command<'a>(alloc: Global) -> Result<Command<'a>, AllocError>
     ensures shape { IfOk result (λ c. app_of c ≡ issue_app) }
     ensures local { IfOk result (λ c. (fields_of c).has_globals ≡ false) }
 {
+    let typ = "The media type of the token, as its header names it";
     Command::new(alloc, "issue")
         .about("Issues a token; standard input is a line with the key set, then the claims")
         .arg(alg_option(alloc))?
-        .arg(typ_option(alloc))?
+        .arg(option(alloc, "typ", "T", typ))?
         .arg(form_option(alloc))?
         .arg(keys_option(alloc))
 }
