@@ -74,7 +74,7 @@ def corpus() -> list[bytes]:
     example = (TOP / "examples/rfc7515-a1.jwt").read_text().strip()
     names = dict(zip(("<HEADER_A>", "<PAYLOAD_A>", "<SIGNATURE_A>"), example.split(".")), **{"<TOKEN_A>": example})
     found = set()
-    for path in (TOP / "crates/jwt_tests/src").glob("*.rt"):
+    for path in (TOP / "crates/jwt_support/src").glob("*.rt"):
         for raw, plain in re.findall(r'token: (?:r#"(.*?)"#|"([^"\\]*)")', path.read_text()):
             found.add(re.sub(r"<[A-Z_]+>", lambda it: names.get(it[0], it[0]), raw or plain))
     return [it.encode() for it in sorted(found) if it.strip() == it and it and "\n" not in it]

@@ -1,7 +1,7 @@
 //! The validator that is kept for many tokens.
-use super::cases::KEYS_A;
-use super::support::{HS256, KEYS_A2, NOW, TOKEN_A, TOKEN_A2, filled};
 use fowharimu::{KeySet, Policy, Reader, Report, Rsa, Validator, Verdict, Verifier};
+use jwt_support::cases::KEYS_A;
+use jwt_support::examples::{HS256, KEYS_A2, NOW, TOKEN_A, TOKEN_A2, filled};
 use std::alloc::{AllocError, Global};
 use std::test::Fail;
 

@@ -1,11 +1,11 @@
 //! The verifier of Ed25519 signatures.
 
-use super::support::NOW;
 use hex::decode;
 use jwt_ed25519::{Ed25519, verifies};
 use jwt_keys::KeySet;
 use jwt_mac::{Alg, Answer, CountDown, EdCurve, KeyView, Message, Verifier};
 use jwt_policy::Policy;
+use jwt_support::examples::NOW;
 use jwt_text::Reader;
 use jwt_verify::{SigState, Verdict, validate};
 use std::alloc::{AllocError, Global};

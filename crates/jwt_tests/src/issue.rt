@@ -1,10 +1,10 @@
 //! Issuing.
 ghost use Rattle.std.specs.Prelude.{◌≤◌};
 
-use super::support::key_set;
 use jwt_issue::{BuildFault, Builder, ClaimSet, IssueFault, issue_compact, issue_flat, issue_json};
 use jwt_mac::{Alg, Budget, CountUp};
 use jwt_policy::{Claim, ClaimFault};
+use jwt_support::examples::key_set;
 use std::alloc::Global;
 use std::test::Fail;
 

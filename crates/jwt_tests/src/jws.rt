@@ -1,8 +1,9 @@
 //! The three forms of a signed token.
 ghost use Rattle.std.specs.Prelude.{◌≤◌, ◌<◌};
 
-use super::support::{TOKEN_A, filled, nested, repeated};
 use jwt_jws::{Form, FormFault, Place, Signed, parse};
+use jwt_support::examples::{TOKEN_A, filled};
+use jwt_support::texts::{nested, repeated};
 use jwt_text::encode;
 use std::alloc::{AllocError, Global};
 use std::test::Fail;

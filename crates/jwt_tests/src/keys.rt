@@ -1,7 +1,8 @@
 //! Key sets.
-use super::support::{RSA_THUMBPRINT, key_set, repeated};
 use jwt_keys::{Key, KeySet, KeysFault, SkipReason};
 use jwt_mac::{Curve, EdCurve, KeyView};
+use jwt_support::examples::{RSA_THUMBPRINT, key_set};
+use jwt_support::texts::repeated;
 use std::alloc::Global;
 use std::test::Fail;
 

@@ -1,11 +1,6 @@
-//! The tests of the libraries' public calls: what no clause says. Each library has its file; what they share is in `support`,
-//! the cases of `judge`, `validate` and the program in `cases`, and how those are run and told in `reports`.
+//! The tests of the libraries' public calls: what no clause says. Each library has its file, and what they share is in `jwt_support`.
 #![tactic(auto)]
 
-#[cfg(test)]
-mod cases;
-#[cfg(test)]
-mod command;
 #[cfg(test)]
 mod door;
 #[cfg(test)]
@@ -21,11 +16,7 @@ mod mac;
 #[cfg(test)]
 mod policy;
 #[cfg(test)]
-mod reports;
-#[cfg(test)]
 mod rsa;
-#[cfg(test)]
-mod support;
 #[cfg(test)]
 mod text;
 #[cfg(test)]

@@ -1,11 +1,11 @@
 //! Algorithms, budgets, HMAC and verifiers.
 ghost use Rattle.std.specs.Prelude.{◌≡◌};
 
-use super::support::{Asked, SAME};
 use jwt_mac::{
     Alg, Answer, Budget, CountDown, CountUp, EdCurve, KeyView, Message, Spent, Verifier, ask, cost,
     first_for, hmac, sha256,
 };
+use jwt_support::verifiers::{Asked, SAME};
 use std::cell::Cell;
 use std::test::Fail;
 

@@ -1,5 +1,4 @@
 //! Policies, bars, eligible pairs and claims.
-use super::support::{Asked, HS256, SAME, key_set, nested};
 use jwt_jws::parse;
 use jwt_keys::Key;
 use jwt_mac::{Alg, Verifier};
@@ -7,6 +6,9 @@ use jwt_policy::{
     Audience, ClaimFault, Claims, Mode, Policy, PolicyFault, SigFault, bar, check, eligible, fits,
     known_alg,
 };
+use jwt_support::examples::{HS256, key_set};
+use jwt_support::texts::nested;
+use jwt_support::verifiers::{Asked, SAME};
 use jwt_text::encode_text;
 use std::alloc::Global;
 use std::test::Fail;

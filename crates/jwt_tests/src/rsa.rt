@@ -1,10 +1,10 @@
 //! Verifiers of RSA signatures.
 
-use super::support::{KEYS_A2, NOW, TOKEN_A2};
 use jwt_keys::KeySet;
 use jwt_mac::{Alg, Answer, CountDown, KeyView, Message, Verifier};
 use jwt_policy::Policy;
 use jwt_rsa::{Pkcs1, Pss, Rsa};
+use jwt_support::examples::{KEYS_A2, NOW, TOKEN_A2};
 use jwt_text::{Reader, decode};
 use jwt_verify::{SigState, Verdict, validate};
 use std::alloc::Global;

@@ -1,7 +1,9 @@
 //! Octets in and out, base64url and object texts.
 ghost use Rattle.std.specs.Prelude.{◌≡◌, IfOk};
 
-use super::support::{Drip, Endless, Narrow, TOKEN_A, nested};
+use jwt_support::examples::TOKEN_A;
+use jwt_support::streams::{Drip, Endless, Narrow};
+use jwt_support::texts::nested;
 use jwt_text::{
     Intake, Object, ObjectOut, ObjectRef, Part, Reader, Sink, Source, TextFault, Writer, Written,
     decode, encode, object, quoted, write_out,

@@ -1,9 +1,9 @@
 //! Tokens judged by what is told of their signatures.
 
-use super::support::{KEYS_A2, NOW, TOKEN_A2};
 use jwt_keys::KeySet;
 use jwt_mac::{Alg, KeyView};
 use jwt_policy::{Policy, SigFault};
+use jwt_support::examples::{KEYS_A2, NOW, TOKEN_A2};
 use jwt_text::Scratch;
 use jwt_told::{Answers, Asked, Asking, Question, judge_told, read_token};
 use jwt_verify::{Fault, Report, Verdict};

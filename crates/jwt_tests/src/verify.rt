@@ -1,15 +1,18 @@
 //! `judge` and `validate`.
-use super::cases::{
-    ACCEPTED, ASKED, BARRED_IN_MODE_ALL, BARRED_THEN_VERIFIED, CLAIM_MISSING, FOUR_KEYS, KEYS_A,
-    STEPS, THUMBPRINT, THUMBPRINT_AS_KID, TWO_KEYS, tables,
-};
-use super::reports::{
-    AMPLE, Case, difference, first_difference, judged, judged_octets, judged_under, validated,
-};
-use super::support::{Drip, Endless, HS256, NOW, TOKEN_A, filled, key_set, repeated, verifiers};
-use jwt_mac::{Alg, Answer, CountDown, CountUp, KeyView, Message, Verifier};
+use jwt_keys::KeySet;
+use jwt_mac::{Alg, Answer, KeyView, Message, Verifier};
 use jwt_policy::Policy;
-use jwt_text::Reader;
+use jwt_support::cases::{
+    ACCEPTED, ASKED, BARRED_IN_MODE_ALL, BARRED_THEN_VERIFIED, CLAIM_MISSING, FOUR_KEYS, STEPS,
+    THUMBPRINT, THUMBPRINT_AS_KID, TWO_KEYS, tables,
+};
+use jwt_support::examples::{HS256, NOW, TOKEN_A, filled, key_set};
+use jwt_support::reports::{
+    AMPLE, Case, Counts, Way, difference, first_difference, judged, judged_case, said, said_with,
+    validated_case,
+};
+use jwt_support::streams::{Drip, Endless};
+use jwt_support::texts::repeated;
 use std::alloc::{AllocError, Global};
 use std::cell::Cell;
 use std::test::Fail;
@@ -53,33 +56,27 @@ fn weight(said: Option<&str>, want: &str) -> usize {
 
 /// What a run of `judge` and one of `validate` on the case count for.
 fn two_runs(alloc: Global, case: &Case) -> usize {
-    let Ok(all) = verifiers(alloc, case.verifiers) else {
-        return 1;
-    };
-    let Ok(token) = filled(alloc, case.token) else {
-        return 1;
-    };
-    let mut up = CountUp::new(case.ceiling);
-    let said = judged(alloc, case, &all, &mut up);
-    let mut down = CountDown::new(case.ceiling);
-    let mut source = Reader::new(token.as_bytes());
-    let read = validated(alloc, &mut source, case, &all, &mut down);
-    weight(said.as_deref(), case.gives).saturating_add(weight(read.as_deref(), case.gives))
+    let judged = said(alloc, case, Way::Whole, Counts::Up);
+    let read = said(alloc, case, Way::Read, Counts::Down);
+    weight(judged.as_deref(), case.gives).saturating_add(weight(read.as_deref(), case.gives))
 }
+
+/// Cases in each of which a run allocates in its own way.
+static GROWING: [Case; 7] = [
+    ACCEPTED,
+    TWO_KEYS,
+    BARRED_THEN_VERIFIED,
+    BARRED_IN_MODE_ALL,
+    CLAIM_MISSING,
+    THUMBPRINT,
+    THUMBPRINT_AS_KID,
+];
 
 // `refused-growths` refuses each allocation of this test in turn.
 #[test]
 fn a_refused_growth_changes_no_report(rt: HostRuntime) -> Result<(), Fail> {
     let mut refused = 0usize;
-    for case in &[
-        ACCEPTED,
-        TWO_KEYS,
-        BARRED_THEN_VERIFIED,
-        BARRED_IN_MODE_ALL,
-        CLAIM_MISSING,
-        THUMBPRINT,
-        THUMBPRINT_AS_KID,
-    ] {
+    for case in &GROWING {
         refused = two_runs(rt.alloc(), case).saturating_add(refused);
     }
     assert!(rt; refused <= 1);
@@ -101,9 +98,8 @@ fn drip_in(
     left: usize,
 ) -> Result<Dripped, Fail> {
     let case = Case { policy, ..ACCEPTED };
-    let mut b = CountUp::new(AMPLE);
     let mut source = Drip::new(token, left);
-    let said = validated(alloc, &mut source, &case, &[], &mut b).ok_or("no report")?;
+    let said = validated_case(alloc, &mut source, &case, &[], Counts::Up).ok_or("no report")?;
     Ok(Dripped {
         said,
         unread: source.rest.len(),
@@ -113,59 +109,50 @@ fn drip_in(
 
 #[test]
 fn a_source_that_fails_is_a_read_fault(rt: HostRuntime) -> Result<(), Fail> {
-    let alloc = rt.alloc();
     let policy = r#"{"algs":["HS256"],"limit":179}"#;
-    for left in 0..=180 {
-        let run = drip_in(alloc, policy, TOKEN_A.as_bytes(), left)?;
-        if left < 180 {
-            assert_eq!(rt;
-                run.said.as_str(),
-                "Read; tries work 0 calls 0;",
-                "at {left}"
-            );
-            assert_eq!(rt; run.unread, TOKEN_A.len() - left, "at {left}");
-        } else {
-            assert_eq!(rt; run.said.as_str(), ACCEPTED.gives);
-            assert_eq!(rt; run.pulls, 180);
-        }
+    for left in 0..180 {
+        let run = drip_in(rt.alloc(), policy, TOKEN_A.as_bytes(), left)?;
+        assert_eq!(rt;
+            run.said.as_str(),
+            "Read; tries work 0 calls 0;",
+            "at {left}"
+        );
+        assert_eq!(rt; run.unread, TOKEN_A.len().saturating_sub(left), "at {left}");
     }
+    let run = drip_in(rt.alloc(), policy, TOKEN_A.as_bytes(), 180)?;
+    assert_eq!(rt; run.said.as_str(), ACCEPTED.gives);
+    assert_eq!(rt; run.pulls, 180);
     Ok(())
 }
 
 #[test]
 fn what_follows_one_octet_past_the_limit_is_unread(rt: HostRuntime) -> Result<(), Fail> {
-    let alloc = rt.alloc();
-    let mut token = String::new(alloc);
-    token.push_str(TOKEN_A)?;
-    for _ in 0..1000 {
-        token.push_str("A")?;
-    }
+    let more = repeated(rt.alloc(), "A", "", 1000)?;
+    let token = format!(in rt.alloc(); "{TOKEN_A}{more}")?;
     let policy = r#"{"algs":["HS256"],"limit":178}"#;
-    let run = drip_in(alloc, policy, token.as_bytes(), 2000)?;
+    let run = drip_in(rt.alloc(), policy, token.as_bytes(), 2000)?;
     assert_eq!(rt; run.said.as_str(), "TooLong; tries work 0 calls 0;");
     assert_eq!(rt; (run.unread, run.pulls), (1000, 179));
     Ok(())
 }
 
-/// What `judge` says of a token with the keys of this document.
-fn said_with(alloc: Global, token: &[u8], document: &str) -> Option<String> {
-    let mut b = CountUp::new(AMPLE);
-    judged_octets(alloc, token, HS256, document, NOW, &[], &mut b)
+/// What is said of the first octets of the token, so many.
+fn wanted_of(count: usize) -> &'static str {
+    match count {
+        0 => "Empty; tries work 0 calls 0;",
+        1..=135 => "Segments; tries work 0 calls 0;",
+        171 => "BadSignature 0; tries 0.0:295 work 295 calls 1; BadSignature",
+        _ if count % 4 == 0 => "BadSignature 0; tries 0.0:295 work 295 calls 1; BadSignature",
+        _ => "Base64(Signature(0)); tries work 0 calls 0;",
+    }
 }
 
 #[test]
 fn a_token_that_is_cut_is_not_accepted(rt: HostRuntime) -> Result<(), Fail> {
-    let keys = filled(rt.alloc(), KEYS_A)?;
     for n in 0..TOKEN_A.len() {
-        let said = said_with(rt.alloc(), &TOKEN_A.as_bytes()[..n], &keys);
-        let want = match n {
-            0 => "Empty; tries work 0 calls 0;",
-            1..=135 => "Segments; tries work 0 calls 0;",
-            171 => "BadSignature 0; tries 0.0:295 work 295 calls 1; BadSignature",
-            _ if n % 4 == 0 => "BadSignature 0; tries 0.0:295 work 295 calls 1; BadSignature",
-            _ => "Base64(Signature(0)); tries work 0 calls 0;",
-        };
-        assert_eq!(rt; said.as_deref(), Some(want), "at {n}");
+        let token = &TOKEN_A.as_bytes()[..n];
+        let said = judged_case(rt.alloc(), token, &ACCEPTED, &[], Counts::Up);
+        assert_eq!(rt; said.as_deref(), Some(wanted_of(n)), "at {n}");
     }
     Ok(())
 }
@@ -181,20 +168,30 @@ fn is_refusal(said: Option<&str>) -> bool {
     }
 }
 
+/// What is said of the token with one octet changed.
+fn said_of_changed(
+    alloc: Global,
+    keys: &KeySet,
+    policy: &Policy,
+    place: usize,
+    change: u8,
+) -> Option<String> {
+    let mut token = Vec::from_slice(alloc, TOKEN_A.as_bytes()).ok()?;
+    let octet = token.get_mut(place)?;
+    *octet ^= change;
+    judged(alloc, &token, keys, policy, NOW, &[], AMPLE, Counts::Up)
+}
+
 /// A token with one octet changed is never accepted, and at most one key is tried on it.
 #[test]
 fn a_token_with_one_octet_changed_is_not_accepted(rt: HostRuntime) -> Result<(), Fail> {
-    let alloc = rt.alloc();
-    let keys = key_set(alloc, r#"{"kty":"oct","k":"<KEY_A>"}"#)?;
-    let policy = Policy::read(alloc, HS256.as_bytes())
+    let keys = key_set(rt.alloc(), r#"{"kty":"oct","k":"<KEY_A>"}"#)?;
+    let policy = Policy::read(rt.alloc(), HS256.as_bytes())
         .ok()
         .ok_or("no policy")?;
     for place in 0..TOKEN_A.len() {
         for change in 1..=255u8 {
-            let mut token = Vec::from_slice(alloc, TOKEN_A.as_bytes())?;
-            token[place] ^= change;
-            let mut b = CountUp::new(AMPLE);
-            let said = judged_under(alloc, &token, &keys, &policy, NOW, &[], &mut b);
+            let said = said_of_changed(rt.alloc(), &keys, &policy, place, change);
             assert!(rt;
                 is_refusal(said.as_deref()),
                 "octet {place}, changed by {change}"
@@ -218,38 +215,61 @@ fn equal_signatures(alloc: Global, count: usize) -> Result<String, AllocError> {
     format!(in alloc; r#"{{"payload":"e30","signatures":[{list}]}}"#)
 }
 
+/// What `judge` says of a token with the keys of this document, under this policy.
+fn judged_with(
+    alloc: Global,
+    token: &[u8],
+    document: &str,
+    policy: &str,
+    ceiling: u64,
+    counts: Counts,
+) -> Option<String> {
+    let keys = KeySet::read(alloc, document.as_bytes()).ok()?;
+    let policy = Policy::read(alloc, policy.as_bytes()).ok()?;
+    judged(alloc, token, &keys, &policy, NOW, &[], ceiling, counts)
+}
+
 /// What `judge` says of such a token with 1,024 keys of 32 zero octets.
 fn judged_all_pairs(alloc: Global, count: usize, ceiling: u64) -> Option<String> {
     let policy = r#"{"algs":["HS256"],"max_signatures":32,"limit":1048576}"#;
     let key = r#"{"kty":"oct","k":"<ZEROS>"}"#;
     let keys = key_set_of(alloc, key, key).ok()?;
     let token = equal_signatures(alloc, count).ok()?;
-    let mut b = CountDown::new(ceiling);
-    judged_octets(alloc, token.as_bytes(), policy, &keys, NOW, &[], &mut b)
+    judged_with(
+        alloc,
+        token.as_bytes(),
+        &keys,
+        policy,
+        ceiling,
+        Counts::Down,
+    )
 }
+
+/// How many equal signatures, the ceiling, how the report begins, and what it has.
+static PAIRS: [(usize, u64, &str, &str); 3] = [
+    (
+        32,
+        6_029_312,
+        "BadSignature 0; tries 0.0:184 0.1:184 ",
+        " 31.1023:184 work 6029312 calls 32768; BadSignature ",
+    ),
+    (
+        32,
+        6_029_311,
+        "WorkExceeded 31 1023; tries 0.0:184 0.1:184 ",
+        " 31.1022:184 work 6029128 calls 32767; BadSignature ",
+    ),
+    (
+        33,
+        6_029_312,
+        "TooManySignatures; tries ",
+        " work 0 calls 0;",
+    ),
+];
 
 #[test]
 fn as_many_pairs_as_there_can_be(rt: HostRuntime) -> Result<(), Fail> {
-    for (count, ceiling, begins, budget) in [
-        (
-            32,
-            6_029_312,
-            "BadSignature 0; tries 0.0:184 0.1:184 ",
-            " 31.1023:184 work 6029312 calls 32768; BadSignature ",
-        ),
-        (
-            32,
-            6_029_311,
-            "WorkExceeded 31 1023; tries 0.0:184 0.1:184 ",
-            " 31.1022:184 work 6029128 calls 32767; BadSignature ",
-        ),
-        (
-            33,
-            6_029_312,
-            "TooManySignatures; tries ",
-            " work 0 calls 0;",
-        ),
-    ] {
+    for &(count, ceiling, begins, budget) in &PAIRS {
         let said = judged_all_pairs(rt.alloc(), count, ceiling).ok_or("no report")?;
         assert!(rt;
             said.starts_with(begins) && said.contains(budget),
@@ -260,26 +280,31 @@ fn as_many_pairs_as_there_can_be(rt: HostRuntime) -> Result<(), Fail> {
     Ok(())
 }
 
+/// A key of the token's `kid` or of another, how the report begins, and how it ends.
+static KIDS: [(&str, &str, &str); 2] = [
+    (
+        r#"{"kty":"oct","k":"<ZEROS>","kid":"x"}"#,
+        "BadSignature 0; tries 0.0:198 0.1:198 ",
+        " 0.1023:198 work 202752 calls 1024; BadSignature",
+    ),
+    (
+        r#"{"kty":"oct","k":"<ZEROS>","kid":"y"}"#,
+        "BadSignature 0; tries 0.1023:198 ",
+        " work 198 calls 1; BadSignature",
+    ),
+];
+
+/// What `judge` says of a token with 1,023 times this key, and one of its own `kid`.
+fn judged_kids(alloc: Global, first: &str) -> Option<String> {
+    let token = b"eyJhbGciOiJIUzI1NiIsImtpZCI6IngifQ.e30.";
+    let keys = key_set_of(alloc, first, r#"{"kty":"oct","k":"<ZEROS>","kid":"x"}"#).ok()?;
+    judged_with(alloc, token, &keys, HS256, AMPLE, Counts::Up)
+}
+
 #[test]
 fn keys_of_another_kid_are_not_tried(rt: HostRuntime) -> Result<(), Fail> {
-    let alloc = rt.alloc();
-    let token = b"eyJhbGciOiJIUzI1NiIsImtpZCI6IngifQ.e30.";
-    let same = r#"{"kty":"oct","k":"<ZEROS>","kid":"x"}"#;
-    let other = r#"{"kty":"oct","k":"<ZEROS>","kid":"y"}"#;
-    for (first, begins, ends) in [
-        (
-            same,
-            "BadSignature 0; tries 0.0:198 0.1:198 ",
-            " 0.1023:198 work 202752 calls 1024; BadSignature",
-        ),
-        (
-            other,
-            "BadSignature 0; tries 0.1023:198 ",
-            " work 198 calls 1; BadSignature",
-        ),
-    ] {
-        let document = key_set_of(alloc, first, same)?;
-        let said = said_with(alloc, token, &document).ok_or("no report")?;
+    for &(first, begins, ends) in &KIDS {
+        let said = judged_kids(rt.alloc(), first).ok_or("no report")?;
         assert!(rt;
             said.starts_with(begins) && said.ends_with(ends),
             "{begins}"
@@ -295,9 +320,8 @@ fn a_source_that_never_ends_is_too_long(rt: HostRuntime) -> Result<(), Fail> {
         policy: r#"{"algs":["HS256"],"limit":1048576}"#,
         ..ACCEPTED
     };
-    let mut b = CountUp::new(AMPLE);
     let mut source = Endless::new();
-    let said = validated(alloc, &mut source, &case, &[], &mut b).ok_or("no report")?;
+    let said = validated_case(alloc, &mut source, &case, &[], Counts::Up).ok_or("no report")?;
     assert_eq!(rt; said.as_str(), "TooLong; tries work 0 calls 0;");
     assert_eq!(rt; source.given, 1_048_577);
     Ok(())
@@ -311,7 +335,7 @@ struct Counting {
 
 impl Verifier for Counting {
     ghost use Rattle.std.specs.Prelude.{true, false};
-    ghost use Rattle.jwt_tests.specs.Verifiers.{test_meaning};
+    ghost use Rattle.jwt_support.specs.Verifiers.{test_meaning};
     ghost use Rattle.jwt_mac.specs.declared.algorithm.Alg.TheVariants.{RS256};
 
     ghost meaning = { λ _. test_meaning RS256 false true };
@@ -345,8 +369,7 @@ fn a_verifier_is_asked_once_for_each_call(rt: HostRuntime) -> Result<(), Fail> {
         "BadSignature 0; tries 0.0:0 0.1:0 work 0 calls 2; BadSignature",
         "VerifierMemory; tries 0.0:0 work 0 calls 1; Stopped",
     ] {
-        let mut b = CountUp::new(AMPLE);
-        let said = judged(alloc, &case, &all, &mut b).ok_or("no report")?;
+        let said = said_with(alloc, &case, &all, Way::Whole, Counts::Up).ok_or("no report")?;
         assert_eq!(rt; said.as_str(), gives);
     }
     Ok(())

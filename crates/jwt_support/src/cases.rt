@@ -1,7 +1,8 @@
 //! Tokens with the reports that they get.
 
-use super::reports::{AMPLE, Case};
-use super::support::{HS256, Kind, NOW, SAME};
+use crate::examples::{HS256, NOW};
+use crate::reports::{AMPLE, Case};
+use crate::verifiers::{Kind, SAME};
 use jwt_mac::Alg;
 
 const ABLE: Kind = Kind {
@@ -26,17 +27,16 @@ const EDWARDS: Kind = Kind {
 };
 
 /// The key of RFC 7515, appendix A.1.
-pub(crate) const KEYS_A: &str = r#"{"keys":[{"kty":"oct","k":"<KEY_A>"}]}"#;
+pub const KEYS_A: &str = r#"{"keys":[{"kty":"oct","k":"<KEY_A>"}]}"#;
 
 /// 32 zero octets.
-pub(crate) const KEYS_Z: &str = r#"{"keys":[{"kty":"oct","k":"<ZEROS>"}]}"#;
+pub const KEYS_Z: &str = r#"{"keys":[{"kty":"oct","k":"<ZEROS>"}]}"#;
 
 /// 32 zero octets, and the key of RFC 7515, appendix A.1.
-pub(crate) const KEYS_ZA: &str =
-    r#"{"keys":[{"kty":"oct","k":"<ZEROS>"},{"kty":"oct","k":"<KEY_A>"}]}"#;
+pub const KEYS_ZA: &str = r#"{"keys":[{"kty":"oct","k":"<ZEROS>"},{"kty":"oct","k":"<KEY_A>"}]}"#;
 
 /// Three times 32 zero octets, and the key of RFC 7515, appendix A.1.
-pub(crate) const FOUR_KEYS: &str =
+pub const FOUR_KEYS: &str =
     r#"{"keys":[{"kty":"oct","k":"<ZEROS>"},{"kty":"oct","k":"<ZEROS>"},{"kty":"oct","k":"<ZEROS>"},{"kty":"oct","k":"<KEY_A>"}]}"#;
 
 /// The token of RFC 7515, appendix A.1, is accepted: by `judge` and `validate`.
@@ -53,13 +53,13 @@ const JUDGED: Case = Case {
 };
 
 /// The same, and by the program.
-pub(crate) const ACCEPTED: Case = Case {
+pub const ACCEPTED: Case = Case {
     line: Some("accepted sig=0 key=0 tries=1 work=295"),
     ..JUDGED
 };
 
 /// The token under two keys, the second its own.
-pub(crate) const TWO_KEYS: Case = Case {
+pub const TWO_KEYS: Case = Case {
     shows: "two keys, and a ceiling of just two tries",
     keys: KEYS_ZA,
     ceiling: 590,
@@ -68,7 +68,7 @@ pub(crate) const TWO_KEYS: Case = Case {
 };
 
 /// A signature by `none` before one that is verified, where one is enough.
-pub(crate) const BARRED_THEN_VERIFIED: Case = Case {
+pub const BARRED_THEN_VERIFIED: Case = Case {
     shows: "a barred signature and a verified one, mode any",
     token: r#"{"payload":"<PAYLOAD_A>","signatures":[{"protected":"eyJhbGciOiJub25lIn0","signature":""},{"protected":"<HEADER_A>","signature":"<SIGNATURE_A>"}]}"#,
     gives: "accepted 1 0; tries 1.0:295 work 295 calls 1; Barred(AlgNone) Verified(0)",
@@ -77,7 +77,7 @@ pub(crate) const BARRED_THEN_VERIFIED: Case = Case {
 };
 
 /// The same where each has to be verified.
-pub(crate) const BARRED_IN_MODE_ALL: Case = Case {
+pub const BARRED_IN_MODE_ALL: Case = Case {
     shows: "a barred signature and a verified one, mode all",
     policy: r#"{"algs":["HS256"],"mode":"all"}"#,
     gives: "AlgNone 0; tries work 0 calls 0; Barred(AlgNone) NotReached",
@@ -86,7 +86,7 @@ pub(crate) const BARRED_IN_MODE_ALL: Case = Case {
 };
 
 /// A claim that the policy asks for is missing.
-pub(crate) const CLAIM_MISSING: Case = Case {
+pub const CLAIM_MISSING: Case = Case {
     shows: "a required claim",
     policy: r#"{"algs":["HS256"],"required":["sub"]}"#,
     gives: "ClaimMissing(sub); tries 0.0:295 work 295 calls 1; Verified(0)",
@@ -95,7 +95,7 @@ pub(crate) const CLAIM_MISSING: Case = Case {
 };
 
 /// The `kid` is the thumbprint of a key, and thumbprints don't count.
-pub(crate) const THUMBPRINT: Case = Case {
+pub const THUMBPRINT: Case = Case {
     shows: "a thumbprint as kid",
     policy: r#"{"algs":["RS256"]}"#,
     keys: r#"{"keys":[{"kty":"RSA","n":"<RSA_N>","e":"AQAB","alg":"RS256"}]}"#,
@@ -106,7 +106,7 @@ pub(crate) const THUMBPRINT: Case = Case {
 };
 
 /// The same where they do.
-pub(crate) const THUMBPRINT_AS_KID: Case = Case {
+pub const THUMBPRINT_AS_KID: Case = Case {
     shows: "a thumbprint as kid where thumbprints count",
     policy: r#"{"algs":["RS256"],"thumb_kid":true}"#,
     gives: "BadSignature 0; tries 0.0:0 work 0 calls 1; BadSignature",
@@ -114,7 +114,7 @@ pub(crate) const THUMBPRINT_AS_KID: Case = Case {
 };
 
 /// A signature that a verifier accepts.
-pub(crate) const ASKED: Case = Case {
+pub const ASKED: Case = Case {
     shows: "a verifier accepts",
     policy: r#"{"algs":["RS256"]}"#,
     keys: r#"{"keys":[{"kty":"RSA","n":"AQAB","e":"AQAB"}]}"#,
@@ -439,7 +439,7 @@ static CEILINGS: [Case; 7] = [
 ];
 
 /// The ceilings from the first to the last of each, with the report that they give with four keys.
-pub(crate) static STEPS: [(u64, u64, &str); 5] = [
+pub static STEPS: [(u64, u64, &str); 5] = [
     (0, 294, "WorkExceeded 0 0; tries work 0 calls 0; Stopped"),
     (
         295,
@@ -587,7 +587,7 @@ static ASKING: [Case; 11] = [
 ];
 
 /// All the cases.
-pub(crate) fn tables() -> [&'static [Case]; 6] {
+pub fn tables() -> [&'static [Case]; 6] {
     [
         &FORMS,
         &HEADERS,

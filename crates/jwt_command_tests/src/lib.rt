@@ -1,0 +1,24 @@
+//! The tests of the command `jwt`, over sources and sinks in memory: what no clause says. Each command has its file, and what they
+//! share is in `runs`.
+#![tactic(auto)]
+
+#[cfg(test)]
+mod examples;
+#[cfg(test)]
+mod issue;
+#[cfg(test)]
+mod keys;
+#[cfg(test)]
+mod lines;
+#[cfg(test)]
+mod mac;
+#[cfg(test)]
+mod runs;
+#[cfg(test)]
+mod show;
+#[cfg(test)]
+mod streams;
+#[cfg(test)]
+mod verify;
+#[cfg(test)]
+mod words;

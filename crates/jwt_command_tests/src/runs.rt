@@ -1,0 +1,139 @@
+//! Runs of the command over sources and sinks in memory, and tables of them. No function here has a clause, so that a test which
+//! calls one doesn't carry the contract of the command through its own proof.
+use jwt_command::documents::Held;
+use jwt_command::lines::{Clock, NoClock};
+use jwt_command::run::{run, run_with};
+use jwt_mac::Verifier;
+use jwt_support::examples::filled;
+use jwt_text::{Reader, Sink, Source, Writer};
+use std::alloc::{AllocError, Global};
+use std::process::Abort;
+use std::test::Fail;
+
+/// What a run printed, and its status.
+#[derive(Drop)]
+pub(crate) struct Printed {
+    pub(crate) out: String,
+    pub(crate) status: u8,
+}
+
+/// A run: its words, the lines of its input, with a line feed between two, the lines that it prints, with one behind each, and its
+/// status. Names in angle brackets in the input are those of [`filled`].
+#[derive(Clone, Copy)]
+pub(crate) struct Row {
+    pub(crate) words: &'static [&'static str],
+    pub(crate) input: &'static [&'static str],
+    pub(crate) prints: &'static [&'static str],
+    pub(crate) status: u8,
+}
+
+/// The status of a run with nothing at hand.
+pub(crate) fn status_of<R: Source, W: Sink>(
+    alloc: Global,
+    words: &[&str],
+    r: &mut R,
+    w: &mut W,
+) -> u8 {
+    run(alloc, words, r, w)
+}
+
+/// The status of a run with documents, a clock of lines and a clock at hand, and with these verifiers.
+pub(crate) fn status_with<R: Source, W: Sink, C: Clock>(
+    alloc: Global,
+    words: &[&str],
+    verifiers: &[Box<dyn Verifier>],
+    clock: Option<u32>,
+    moments: &mut C,
+    held: Held<'_>,
+    r: &mut R,
+    w: &mut W,
+) -> u8 {
+    let clock = match clock {
+        Some(moment) => Some(moment as u64),
+        None => None,
+    };
+    run_with(alloc, words, verifiers, clock, moments, held, r, w)
+}
+
+/// The text that was written, with the status.
+fn text_of(out: Vec<u8>, status: u8) -> Result<Printed, Fail> {
+    let out = String::from_utf8(out).ok().ok_or("no text")?;
+    Ok(Printed { out, status })
+}
+
+/// A run on a source, with nothing at hand.
+pub(crate) fn ran_on<R: Source>(alloc: Global, words: &[&str], r: &mut R) -> Result<Printed, Fail> {
+    let mut out: Vec<u8> = Vec::new(alloc);
+    let status = status_of(alloc, words, r, &mut Writer::new(&mut out));
+    text_of(out, status)
+}
+
+/// A run on this input, with nothing at hand.
+pub(crate) fn ran(alloc: Global, words: &[&str], input: &str) -> Result<Printed, Fail> {
+    ran_on(alloc, words, &mut Reader::new(input.as_bytes()))
+}
+
+/// A run on a source, with documents, a clock of lines and a clock at hand, and with these verifiers.
+pub(crate) fn ran_with<R: Source, C: Clock>(
+    alloc: Global,
+    words: &[&str],
+    verifiers: &[Box<dyn Verifier>],
+    clock: Option<u32>,
+    moments: &mut C,
+    held: Held<'_>,
+    r: &mut R,
+) -> Result<Printed, Fail> {
+    let mut out: Vec<u8> = Vec::new(alloc);
+    let mut w = Writer::new(&mut out);
+    let status = status_with(alloc, words, verifiers, clock, moments, held, r, &mut w);
+    text_of(out, status)
+}
+
+/// A run on a source, with documents in hand and nothing else.
+pub(crate) fn ran_holding<R: Source>(
+    alloc: Global,
+    words: &[&str],
+    held: Held<'_>,
+    r: &mut R,
+) -> Result<Printed, Fail> {
+    ran_with(alloc, words, &[], None, &mut NoClock, held, r)
+}
+
+/// These lines with a line feed between two, and the names in angle brackets filled in.
+pub(crate) fn joined(alloc: Global, lines: &[&str]) -> Result<String, AllocError> {
+    let all = lines.join(alloc, "\n")?;
+    filled(alloc, &all)
+}
+
+/// These lines with a line feed behind each.
+pub(crate) fn ended(alloc: Global, lines: &[&str]) -> Result<String, AllocError> {
+    let mut all = lines.join(alloc, "\n")?;
+    if !lines.is_empty() {
+        all.push_str("\n")?;
+    }
+    Ok(all)
+}
+
+/// Asserts that a run printed just these lines, and ended with this status.
+pub(crate) fn assert_ran(
+    rt: &impl Abort,
+    alloc: Global,
+    ran: &Printed,
+    lines: &[&str],
+    status: u8,
+) -> Result<(), Fail> {
+    let wanted = ended(alloc, lines)?;
+    assert_eq!(rt; ran.out.as_str(), wanted.as_str());
+    assert_eq!(rt; ran.status, status, "{wanted}");
+    Ok(())
+}
+
+/// Asserts that each row's run prints just its lines, and ends with its status.
+pub(crate) fn assert_rows(rt: &impl Abort, alloc: Global, rows: &[Row]) -> Result<(), Fail> {
+    for row in rows {
+        let input = joined(alloc, row.input)?;
+        let found = ran(alloc, row.words, &input)?;
+        assert_ran(rt, alloc, &found, row.prints, row.status)?;
+    }
+    Ok(())
+}

@@ -1,0 +1,83 @@
+//! Wrong words, and those that ask for the version.
+use crate::runs::{Row, assert_ran, assert_rows, ran_on};
+use jwt_support::examples::TOKEN_A;
+use jwt_support::streams::Drip;
+use std::test::Fail;
+
+/// What clap says of wrong words.
+static SAID: [Row; 3] = [
+    Row {
+        words: &["jwt"],
+        input: &[],
+        prints: &[
+            "error: 'jwt' requires a subcommand but one was not provided",
+            "  [subcommands: mac, keys, show, verify, issue, help]",
+            "",
+            "Usage: jwt <COMMAND>",
+            "",
+            "For more information, try '--help'.",
+        ],
+        status: 2,
+    },
+    Row {
+        words: &["jwt", "mac", "--k", "AA==", "--limit", "0"],
+        input: &[],
+        prints: &[
+            "error: invalid value '0' for '--limit <N>': 0 is not in 1..=1048576",
+            "",
+            "For more information, try '--help'.",
+        ],
+        status: 2,
+    },
+    Row {
+        words: &["jwt", "mac"],
+        input: &[],
+        prints: &[
+            "error: one of the following arguments has to be provided:",
+            "  --k <TEXT>",
+            "  --key-file <FILE>",
+            "",
+            "For more information, try '--help'.",
+        ],
+        status: 2,
+    },
+];
+
+/// Words that are looked at before anything is read.
+static WRONG: [&[&str]; 11] = [
+    &["jwt", "verify"],
+    &["jwt", "mac", "--k", "AA", "--key-file", "k"],
+    &["jwt", "mac", "--k", "AA==", "--limit", "0"],
+    &["jwt"],
+    &["jwt", "--help"],
+    &["jwt", "help", "mac"],
+    &["jwt", "mac"],
+    &["jwt", "mac", "--k", "AA", "--k", "AA"],
+    &["jwt", "mac", "--k", "AA", "--limit", "1048577"],
+    &["jwt", "mac", "--k", "AA", "more"],
+    &["jwt", "decrypt"],
+];
+
+#[test]
+fn wrong_words_print_what_clap_says(rt: HostRuntime) -> Result<(), Fail> {
+    assert_rows(&rt, rt.alloc(), &SAID)?;
+    // The words are looked at before the key.
+    for words in &WRONG {
+        let mut source = Drip::new(TOKEN_A.as_bytes(), 0);
+        let found = ran_on(rt.alloc(), words, &mut source)?;
+        assert_eq!(rt; found.status, 2);
+        assert!(rt; !found.out.is_empty());
+        assert!(rt; !source.failed);
+    }
+    Ok(())
+}
+
+#[test]
+fn the_version_is_printed_and_nothing_read(rt: HostRuntime) -> Result<(), Fail> {
+    let mut source = Drip::new(TOKEN_A.as_bytes(), 0);
+    let found = ran_on(rt.alloc(), &["jwt", "--version"], &mut source)?;
+    let line = "jwt 0.1.0, proved with rattle-kit-13f logic dac8208d650f15bf";
+    assert_ran(&rt, rt.alloc(), &found, &[line], 0)?;
+    assert!(rt; !source.failed);
+    Ok(())
+}
