@@ -28,20 +28,21 @@ server {
     jwt_keys hs.keys;
     location /on { jwt on; try_files /page =404; }
     location /off { try_files /page =404; }
-    location /named { jwt on; proxy_set_header X-User $jwt_claim_sub; try_files /page =404; }
+    {more}
 }
 """
+NAMED = "location /named { jwt on; proxy_set_header X-User $jwt_claim_sub; try_files /page =404; }"
 # The growth of a worker, in KiB, that is less than eight octets a request.
 MOST_GROWTH = 1024
 STATUS = re.compile(rb"HTTP/1\.1 (\d{3}) ")
 
 
-def prepared(room: pathlib.Path, secrets: list[tokens.Secret], **options) -> Nginx:
-    nginx = Nginx(room, log="off", level="warn", **options)
+def prepared(room: pathlib.Path, secrets: list[tokens.Secret], more: str = "", **options) -> Nginx:
+    nginx = Nginx(room, logs=False, level="warn", **options)
     nginx.write("hs.policy", POLICY)
     nginx.write("hs.keys", tokens.key_set(*[it.jwk() for it in secrets]))
     nginx.write("html/page", PAGE)
-    nginx.configure(SERVER)
+    nginx.configure(SERVER.replace("{more}", more))
     return nginx
 
 
@@ -110,7 +111,7 @@ def test_hostile(check: Check, factor: int) -> None:
     """200,000 requests, half of them hostile: each is answered rightly, and no worker grows."""
     with tempfile.TemporaryDirectory() as name:
         secret = tokens.Secret()
-        nginx = prepared(pathlib.Path(name), [secret])
+        nginx = prepared(pathlib.Path(name), [secret], NAMED)
         with nginx.running():
             send_hostile(nginx, secret, 20_000, 1)
             before, pids = nginx.memory(), nginx.worker_pids()
@@ -250,37 +251,34 @@ WAYS = {"connections kept open": [], "a connection for each request": ["-H", "Co
 
 
 class Rate(NamedTuple):
-    """Requests a second by the clock, the latency of the 99th percentile, and the share of a processor that the worker took."""
+    """Requests a second by the clock, the latency of the 99th percentile, the share of a processor that the worker took, and what it
+    took of one for a request, in microseconds."""
 
     requests: float
     latency: str
     busy: float
-
-    @property
-    def by_worker(self) -> float:
-        """Requests in a second of the worker's processor time: what a worker can do that has a processor to itself."""
-        return self.requests / self.busy
+    cost: float
 
     def __str__(self) -> str:
-        return f"{self.requests:.0f} requests a second, 99 % within {self.latency}, the worker busy {self.busy:.0%}"
+        return f"{self.requests:.0f} requests a second, 99 % within {self.latency}, {self.cost:.1f} us of the worker each, which was busy {self.busy:.0%}"
 
 
 def processor_time(pid: int) -> float:
     """What a process has taken, in seconds."""
-    fields = pathlib.Path(f"/proc/{pid}/stat").read_text().rpartition(")")[2].split()
-    return (int(fields[11]) + int(fields[12])) / os.sysconf("SC_CLK_TCK")
+    return int(pathlib.Path(f"/proc/{pid}/schedstat").read_text().split()[0]) / 1e9
 
 
 def measured(nginx: Nginx, path: str, token: str, seconds: int, words: list[str]) -> Rate:
     """What wrk measures of one path."""
     command = ["wrk", "-t2", "-c32", f"-d{seconds}s", "--latency", *words, "-H", f"Authorization: Bearer {token}", f"http://127.0.0.1:{nginx.port}{path}"]
     pid = nginx.worker_pids()[0]
-    taken, begun = processor_time(pid), time.monotonic()
+    before, begun = processor_time(pid), time.monotonic()
     said = subprocess.run(command, capture_output=True, text=True).stdout
-    busy = (processor_time(pid) - taken) / (time.monotonic() - begun)
+    taken, lasted = processor_time(pid) - before, time.monotonic() - begun
     if "Non-2xx" in said or "Socket errors" in said:
         raise RuntimeError(said)
-    return Rate(float(re.search(r"Requests/sec:\s*([\d.]+)", said)[1]), re.search(r"99%\s*(\S+)", said)[1], busy)
+    count = int(re.search(r"(\d+) requests in", said)[1])
+    return Rate(float(re.search(r"Requests/sec:\s*([\d.]+)", said)[1]), re.search(r"99%\s*(\S+)", said)[1], taken / lasted, taken / count * 1e6)
 
 
 def rates(check: Check, factor: int) -> None:
@@ -302,8 +300,10 @@ def rates(check: Check, factor: int) -> None:
     for way, measurements in pairs.items():
         for off, on in measurements:
             print(f"nginx, {way}: off {off}; on {on}; {on.requests / off.requests:.1%}")
-        shares = [max(of(on) for _, on in measurements) / max(of(off) for off, _ in measurements) for of in (lambda it: it.requests, lambda it: it.by_worker)]
-        print(f"nginx, {way}: with the module on {shares[0]:.1%} of the requests a second with it off, {shares[1]:.1%} by the worker's processor time, of the best of {len(measurements)} runs each; one worker, HS256")
+        by_clock = max(on.requests for _, on in measurements) / max(off.requests for off, _ in measurements)
+        by_worker = min(off.cost for off, _ in measurements) / min(on.cost for _, on in measurements)
+        print(f"nginx, {way}: with the module on {by_clock:.1%} of the requests a second with it off, {by_worker:.1%} by the worker's processor time,"
+              f" of the best of {len(measurements)} runs each; one worker, HS256")
 
 
 def run(check: Check, factor: int) -> None:

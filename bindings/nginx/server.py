@@ -21,8 +21,7 @@ pid {room}/nginx.pid;
 error_log {room}/error.log {level};
 events {{ worker_connections 1024; }}
 http {{
-    log_format jwt '$uri $status $jwt_verdict $jwt_fault $jwt_claim_sub $jwt_tries $jwt_work';
-    access_log {log};
+    {log}
     keepalive_requests 1000000;
     large_client_header_buffers 8 128k;
     types {{ text/html html; }}
@@ -31,6 +30,8 @@ http {{
     {http}
 }}
 """
+
+LOG = "log_format jwt '$uri $status $jwt_verdict $jwt_fault $jwt_claim_sub $jwt_tries $jwt_work'; access_log {room}/access.log jwt;"
 
 
 class Answer(NamedTuple):
@@ -44,11 +45,11 @@ class Answer(NamedTuple):
 class Nginx:
     """nginx with this text in the block http, where {port} and {room} are its own."""
 
-    def __init__(self, room: pathlib.Path, workers: int = 2, log: str = "", level: str = "info", **environment: str) -> None:
+    def __init__(self, room: pathlib.Path, workers: int = 2, logs: bool = True, level: str = "info", **environment: str) -> None:
         self.room = room
         self.port = free_port()
         self.workers = workers
-        self.log = log or f"{room}/access.log jwt"
+        self.log = LOG.replace("{room}", str(room)) if logs else "access_log off;"
         self.level = level
         self.environment = {**os.environ, **environment}
         self.process: subprocess.Popen | None = None
