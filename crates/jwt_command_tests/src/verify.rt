@@ -26,12 +26,18 @@ fn assert_case(rt: &impl Abort, alloc: Global, case: &Case) -> Result<(), Fail> 
     assert_ran(rt, alloc, &found, &[line], status)
 }
 
+/// Asserts the same of each of these cases.
+fn assert_cases(rt: &impl Abort, alloc: Global, cases: &[Case]) -> Result<(), Fail> {
+    for case in cases {
+        assert_case(rt, alloc, case)?;
+    }
+    Ok(())
+}
+
 #[test]
 fn verify_prints_each_verdict(rt: HostRuntime) -> Result<(), Fail> {
     for cases in tables() {
-        for case in cases {
-            assert_case(&rt, rt.alloc(), case)?;
-        }
+        assert_cases(&rt, rt.alloc(), cases)?;
     }
     Ok(())
 }
