@@ -8,6 +8,7 @@ use crate::TextFault;
 use crate::lent::{List, ObjectRef};
 use crate::node::Entries;
 use crate::store::Store;
+use smallvec::SmallVec;
 use std::alloc::Global;
 use std::marker::Model;
 
@@ -42,7 +43,7 @@ impl Object {
     {
         Object {
             store: Store::new(alloc),
-            entries: Vec::new(alloc),
+            entries: SmallVec::new(alloc),
         }
     }
 
