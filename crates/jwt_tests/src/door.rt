@@ -45,7 +45,7 @@ fn said(
 const RS256: &str = r#"{"algs":["RS256"],"issuers":["joe"],"required":["exp"]}"#;
 
 /// A policy, a key set, a token, the moment, and what is said.
-const CASES: [(&str, &str, &str, i64, &str); 8] = [
+static CASES: [(&str, &str, &str, i64, &str); 8] = [
     (HS256, KEYS_A, TOKEN_A, NOW, "accepted"),
     (RS256, KEYS_A2, TOKEN_A2, NOW, "accepted"),
     (
@@ -95,11 +95,11 @@ const CASES: [(&str, &str, &str, i64, &str); 8] = [
 #[test]
 fn each_case_is_said_by_both_calls(rt: HostRuntime) -> Result<(), Fail> {
     let alloc = rt.alloc();
-    for (policy, keys, token, now, gives) in &CASES {
+    for &(policy, keys, token, now, gives) in &CASES {
         let keys = filled(alloc, keys)?;
-        let (read, judged) = said(alloc, policy, keys.as_str(), token, *now)?;
-        assert_eq!(rt; read.as_str(), *gives);
-        assert_eq!(rt; judged.as_str(), *gives);
+        let (read, judged) = said(alloc, policy, &keys, token, now)?;
+        assert_eq!(rt; read.as_str(), gives);
+        assert_eq!(rt; judged.as_str(), gives);
     }
     Ok(())
 }

@@ -9,6 +9,7 @@ use jwt_support::examples::NOW;
 use jwt_text::Reader;
 use jwt_verify::{SigState, Verdict, validate};
 use std::alloc::{AllocError, Global};
+use std::process::Abort;
 use std::test::Fail;
 
 /// A key, a message and a signature, in hex.
@@ -20,19 +21,29 @@ struct Row {
     signature: &'static str,
 }
 
+/// The key of RFC 8032, section 7.1, test 1, and of RFC 8037, appendix A.2.
+const KEY_1: &str = "d75a980182b10ab7d54bfed3c964073a0ee172f3daa62325af021a68f707511a";
+
+/// The key of RFC 8032, section 7.1, test 2.
+const KEY_2: &str = "3d4017c3e843895a92b70aa74d1b7ebc9c982ccf2ec4968cc0cd55f12af4660c";
+
+/// The signature of that test, of the octet 0x72.
+const SIGNATURE_2: &str =
+    "92a009a9f0d4cab8720e820b5f642540a2b27b5416503f8fb3762223ebdb69da085ac1e43e15996e458f3613d0f11d8c387b2eaeb4302aeeb00d291612bb0c00";
+
 /// The vectors of RFC 8032, and what OpenSSL takes too: an R of small order, and a key of mixed order whose k is a multiple of 8.
-const SIGNATURES: [Row; 7] = [
+static SIGNATURES: [Row; 7] = [
     Row {
         shows: "RFC 8032, section 7.1, test 1",
-        key: "d75a980182b10ab7d54bfed3c964073a0ee172f3daa62325af021a68f707511a",
+        key: KEY_1,
         message: "",
         signature: "e5564300c360ac729086e2cc806e828a84877f1eb8e5d974d873e065224901555fb8821590a33bacc61e39701cf9b46bd25bf5f0595bbe24655141438e7a100b",
     },
     Row {
         shows: "RFC 8032, section 7.1, test 2",
-        key: "3d4017c3e843895a92b70aa74d1b7ebc9c982ccf2ec4968cc0cd55f12af4660c",
+        key: KEY_2,
         message: "72",
-        signature: "92a009a9f0d4cab8720e820b5f642540a2b27b5416503f8fb3762223ebdb69da085ac1e43e15996e458f3613d0f11d8c387b2eaeb4302aeeb00d291612bb0c00",
+        signature: SIGNATURE_2,
     },
     Row {
         shows: "RFC 8032, section 7.1, test 3",
@@ -54,7 +65,7 @@ const SIGNATURES: [Row; 7] = [
     },
     Row {
         shows: "R the neutral point",
-        key: "d75a980182b10ab7d54bfed3c964073a0ee172f3daa62325af021a68f707511a",
+        key: KEY_1,
         message: "72",
         signature: "010000000000000000000000000000000000000000000000000000000000000058c417b3a2665269f2291931ff74de319dd45e06323cb6c4dac010d5cd521501",
     },
@@ -68,106 +79,106 @@ const SIGNATURES: [Row; 7] = [
 
 /// What is refused. OpenSSL takes those by keys of small order; an equation with the cofactor holds of these, of the key of mixed
 /// order and of the last one.
-const OTHERS: [Row; 28] = [
+static OTHERS: [Row; 28] = [
     Row {
         shows: "S + L",
-        key: "3d4017c3e843895a92b70aa74d1b7ebc9c982ccf2ec4968cc0cd55f12af4660c",
+        key: KEY_2,
         message: "72",
         signature: "92a009a9f0d4cab8720e820b5f642540a2b27b5416503f8fb3762223ebdb69daf52db7415978abc61b2c2eb6aeebfca0387b2eaeb4302aeeb00d291612bb0c10",
     },
     Row {
         shows: "S + 2^255",
-        key: "3d4017c3e843895a92b70aa74d1b7ebc9c982ccf2ec4968cc0cd55f12af4660c",
+        key: KEY_2,
         message: "72",
         signature: "92a009a9f0d4cab8720e820b5f642540a2b27b5416503f8fb3762223ebdb69da085ac1e43e15996e458f3613d0f11d8c387b2eaeb4302aeeb00d291612bb0c80",
     },
     Row {
         shows: "S + 2^253",
-        key: "3d4017c3e843895a92b70aa74d1b7ebc9c982ccf2ec4968cc0cd55f12af4660c",
+        key: KEY_2,
         message: "72",
         signature: "92a009a9f0d4cab8720e820b5f642540a2b27b5416503f8fb3762223ebdb69da085ac1e43e15996e458f3613d0f11d8c387b2eaeb4302aeeb00d291612bb0c20",
     },
     Row {
         shows: "-S",
-        key: "3d4017c3e843895a92b70aa74d1b7ebc9c982ccf2ec4968cc0cd55f12af4660c",
+        key: KEY_2,
         message: "72",
         signature: "92a009a9f0d4cab8720e820b5f642540a2b27b5416503f8fb3762223ebdb69dae5793478db4d79e9900dc18f0e08c188c784d1514bcfd5114ff2d6e9ed44f30f",
     },
     Row {
         shows: "R with the other sign",
-        key: "3d4017c3e843895a92b70aa74d1b7ebc9c982ccf2ec4968cc0cd55f12af4660c",
+        key: KEY_2,
         message: "72",
         signature: "92a009a9f0d4cab8720e820b5f642540a2b27b5416503f8fb3762223ebdb695a085ac1e43e15996e458f3613d0f11d8c387b2eaeb4302aeeb00d291612bb0c00",
     },
     Row {
         shows: "63 octets",
-        key: "3d4017c3e843895a92b70aa74d1b7ebc9c982ccf2ec4968cc0cd55f12af4660c",
+        key: KEY_2,
         message: "72",
         signature: "92a009a9f0d4cab8720e820b5f642540a2b27b5416503f8fb3762223ebdb69da085ac1e43e15996e458f3613d0f11d8c387b2eaeb4302aeeb00d291612bb0c",
     },
     Row {
         shows: "65 octets",
-        key: "3d4017c3e843895a92b70aa74d1b7ebc9c982ccf2ec4968cc0cd55f12af4660c",
+        key: KEY_2,
         message: "72",
         signature: "92a009a9f0d4cab8720e820b5f642540a2b27b5416503f8fb3762223ebdb69da085ac1e43e15996e458f3613d0f11d8c387b2eaeb4302aeeb00d291612bb0c0000",
     },
     Row {
         shows: "32 octets",
-        key: "3d4017c3e843895a92b70aa74d1b7ebc9c982ccf2ec4968cc0cd55f12af4660c",
+        key: KEY_2,
         message: "72",
         signature: "92a009a9f0d4cab8720e820b5f642540a2b27b5416503f8fb3762223ebdb69da",
     },
     Row {
         shows: "no octets",
-        key: "3d4017c3e843895a92b70aa74d1b7ebc9c982ccf2ec4968cc0cd55f12af4660c",
+        key: KEY_2,
         message: "72",
         signature: "",
     },
     Row {
         shows: "another message",
-        key: "3d4017c3e843895a92b70aa74d1b7ebc9c982ccf2ec4968cc0cd55f12af4660c",
+        key: KEY_2,
         message: "73",
-        signature: "92a009a9f0d4cab8720e820b5f642540a2b27b5416503f8fb3762223ebdb69da085ac1e43e15996e458f3613d0f11d8c387b2eaeb4302aeeb00d291612bb0c00",
+        signature: SIGNATURE_2,
     },
     Row {
         shows: "a message with one octet more",
-        key: "3d4017c3e843895a92b70aa74d1b7ebc9c982ccf2ec4968cc0cd55f12af4660c",
+        key: KEY_2,
         message: "7200",
-        signature: "92a009a9f0d4cab8720e820b5f642540a2b27b5416503f8fb3762223ebdb69da085ac1e43e15996e458f3613d0f11d8c387b2eaeb4302aeeb00d291612bb0c00",
+        signature: SIGNATURE_2,
     },
     Row {
         shows: "another key",
-        key: "d75a980182b10ab7d54bfed3c964073a0ee172f3daa62325af021a68f707511a",
+        key: KEY_1,
         message: "72",
-        signature: "92a009a9f0d4cab8720e820b5f642540a2b27b5416503f8fb3762223ebdb69da085ac1e43e15996e458f3613d0f11d8c387b2eaeb4302aeeb00d291612bb0c00",
+        signature: SIGNATURE_2,
     },
     Row {
         shows: "a key of 31 octets",
         key: "3d4017c3e843895a92b70aa74d1b7ebc9c982ccf2ec4968cc0cd55f12af466",
         message: "72",
-        signature: "92a009a9f0d4cab8720e820b5f642540a2b27b5416503f8fb3762223ebdb69da085ac1e43e15996e458f3613d0f11d8c387b2eaeb4302aeeb00d291612bb0c00",
+        signature: SIGNATURE_2,
     },
     Row {
         shows: "a key of 33 octets",
         key: "3d4017c3e843895a92b70aa74d1b7ebc9c982ccf2ec4968cc0cd55f12af4660c00",
         message: "72",
-        signature: "92a009a9f0d4cab8720e820b5f642540a2b27b5416503f8fb3762223ebdb69da085ac1e43e15996e458f3613d0f11d8c387b2eaeb4302aeeb00d291612bb0c00",
+        signature: SIGNATURE_2,
     },
     Row {
         shows: "the key with the other sign",
         key: "3d4017c3e843895a92b70aa74d1b7ebc9c982ccf2ec4968cc0cd55f12af4668c",
         message: "72",
-        signature: "92a009a9f0d4cab8720e820b5f642540a2b27b5416503f8fb3762223ebdb69da085ac1e43e15996e458f3613d0f11d8c387b2eaeb4302aeeb00d291612bb0c00",
+        signature: SIGNATURE_2,
     },
     Row {
         shows: "R the neutral point, its y with p added",
-        key: "d75a980182b10ab7d54bfed3c964073a0ee172f3daa62325af021a68f707511a",
+        key: KEY_1,
         message: "72",
         signature: "eeffffffffffffffffffffffffffffffffffffffffffffffffffffffffffff7f00957010ab00bf4edbe5e59942ba7dae570c88ad5e7aa070cb498dd027f9740d",
     },
     Row {
         shows: "R the neutral point, with x = 0 and sign 1",
-        key: "d75a980182b10ab7d54bfed3c964073a0ee172f3daa62325af021a68f707511a",
+        key: KEY_1,
         message: "72",
         signature: "01000000000000000000000000000000000000000000000000000000000000803c41fb8d298843bed1024085db1ab66f68c576c765a320decf1589024fa07d08",
     },
@@ -223,7 +234,7 @@ const OTHERS: [Row; 28] = [
         shows: "a key whose y has no x",
         key: "0200000000000000000000000000000000000000000000000000000000000000",
         message: "72",
-        signature: "92a009a9f0d4cab8720e820b5f642540a2b27b5416503f8fb3762223ebdb69da085ac1e43e15996e458f3613d0f11d8c387b2eaeb4302aeeb00d291612bb0c00",
+        signature: SIGNATURE_2,
     },
     Row {
         shows: "a key of mixed order, k no multiple of 8",
@@ -233,7 +244,7 @@ const OTHERS: [Row; 28] = [
     },
     Row {
         shows: "R with a point of order 8 added",
-        key: "d75a980182b10ab7d54bfed3c964073a0ee172f3daa62325af021a68f707511a",
+        key: KEY_1,
         message: "71",
         signature: "37156422280c0dcab41e93fdf9b1a740fc984b3cd62c56a44bf59943120d20fb72c66270ce2225d285ad1c50cb744154eafbb5796709bbb93ec503416728920b",
     },
@@ -248,20 +259,23 @@ fn is_signed(alloc: Global, row: &Row) -> Result<bool, Fail> {
     Ok(verifies(&key, [first, &[], last], &signature))
 }
 
-#[test]
-fn signatures_are_accepted(rt: HostRuntime) -> Result<(), Fail> {
-    for row in SIGNATURES.iter() {
-        assert!(rt; is_signed(rt.alloc(), row)?, "{}", row.shows);
+/// Asserts that each row is a signature, or that none is.
+fn assert_signed(rt: &impl Abort, alloc: Global, rows: &[Row], signed: bool) -> Result<(), Fail> {
+    for row in rows {
+        let found = is_signed(alloc, row)?;
+        assert_eq!(rt; found, signed, "{}", row.shows);
     }
     Ok(())
 }
 
 #[test]
+fn signatures_are_accepted(rt: HostRuntime) -> Result<(), Fail> {
+    assert_signed(&rt, rt.alloc(), &SIGNATURES, true)
+}
+
+#[test]
 fn other_octets_are_refused(rt: HostRuntime) -> Result<(), Fail> {
-    for row in OTHERS.iter() {
-        assert!(rt; !is_signed(rt.alloc(), row)?, "{}", row.shows);
-    }
-    Ok(())
+    assert_signed(&rt, rt.alloc(), &OTHERS, false)
 }
 
 /// These octets with the lowest bit of one of them changed.
@@ -273,82 +287,73 @@ fn changed(alloc: Global, octets: &[u8], at: usize) -> Result<Vec<u8>, AllocErro
         .collect(alloc)
 }
 
+/// Whether it is a signature of the octet 0x72.
+fn is_of_72(key: &[u8], signature: &[u8]) -> bool {
+    verifies(key, [&[0x72], &[], &[]], signature)
+}
+
 #[test]
-fn each_octet_counts(rt: HostRuntime) -> Result<(), Fail> {
+fn each_octet_of_a_signature_counts(rt: HostRuntime) -> Result<(), Fail> {
     let alloc = rt.alloc();
-    let key = decode(alloc, SIGNATURES[1].key.as_bytes())?;
-    let signature = decode(alloc, SIGNATURES[1].signature.as_bytes())?;
-    let parts: [&[u8]; 3] = [&[0x72], &[], &[]];
+    let key = decode(alloc, KEY_2.as_bytes())?;
+    let signature = decode(alloc, SIGNATURE_2.as_bytes())?;
+    assert!(rt; is_of_72(&key, &signature));
     for i in 0..signature.len() {
         let other = changed(alloc, &signature, i)?;
-        assert!(rt;
-            !verifies(&key, parts, &other),
-            "octet {i} of the signature"
-        );
+        assert!(rt; !is_of_72(&key, &other), "octet {i}");
     }
-    for i in 0..key.len() {
-        let other = changed(alloc, &key, i)?;
-        assert!(rt;
-            !verifies(&other, parts, &signature),
-            "octet {i} of the key"
-        );
-    }
-    assert!(rt; verifies(&key, parts, &signature));
     Ok(())
 }
 
 #[test]
-fn it_names_eddsa_and_takes_its_curve(rt: HostRuntime) -> Result<(), Fail> {
-    for (alg, named) in [
-        (Alg::EdDSA, true),
-        (Alg::ES256, false),
-        (Alg::RS256, false),
-        (Alg::HS512, false),
-    ] {
-        assert_eq!(rt; Ed25519.names(alg), named, "{alg:?}");
+fn each_octet_of_a_key_counts(rt: HostRuntime) -> Result<(), Fail> {
+    let alloc = rt.alloc();
+    let key = decode(alloc, KEY_2.as_bytes())?;
+    let signature = decode(alloc, SIGNATURE_2.as_bytes())?;
+    for i in 0..key.len() {
+        let other = changed(alloc, &key, i)?;
+        assert!(rt; !is_of_72(&other, &signature), "octet {i}");
     }
-    let x = decode(rt.alloc(), KEY_A4.as_bytes())?;
-    let signature = decode(rt.alloc(), SIGNATURE_A4.as_bytes())?;
+    Ok(())
+}
+
+#[test]
+fn it_names_eddsa(rt: HostRuntime) {
+    assert!(rt; Ed25519.names(Alg::EdDSA));
+    assert!(rt;
+        !Ed25519.names(Alg::ES256) && !Ed25519.names(Alg::RS256) && !Ed25519.names(Alg::HS512)
+    );
+}
+
+/// What [`Ed25519`] answers about this key and the signature of RFC 8037, appendix A.4.
+fn answer_by(alg: Alg, key: &KeyView, signature: &[u8]) -> Answer {
     let message = Message {
         protected: b"eyJhbGciOiJFZERTQSJ9",
         payload: b"RXhhbXBsZSBvZiBFZDI1NTE5IHNpZ25pbmc",
     };
-    for (alg, key, answer) in [
-        (
-            Alg::EdDSA,
-            KeyView::Okp {
-                curve: EdCurve::Ed25519,
-                x: &x,
-            },
-            Answer::Valid,
-        ),
-        (
-            Alg::ES256,
-            KeyView::Okp {
-                curve: EdCurve::Ed25519,
-                x: &x,
-            },
-            Answer::Invalid,
-        ),
-        (
-            Alg::EdDSA,
-            KeyView::Okp {
-                curve: EdCurve::Ed448,
-                x: &x,
-            },
-            Answer::Invalid,
-        ),
-        (Alg::EdDSA, KeyView::Oct { k: &x }, Answer::Invalid),
-    ] {
-        assert_eq!(rt; Ed25519.verify(alg, &key, message, &signature), answer);
-    }
+    Ed25519.verify(alg, key, message, signature)
+}
+
+/// That key on a curve.
+fn on_curve(x: &[u8], curve: EdCurve) -> KeyView<'_> {
+    KeyView::Okp { curve, x }
+}
+
+#[test]
+fn it_takes_its_curve(rt: HostRuntime) -> Result<(), Fail> {
+    let x = decode(rt.alloc(), KEY_1.as_bytes())?;
+    let signature = decode(rt.alloc(), SIGNATURE_A4.as_bytes())?;
+    let key = on_curve(&x, EdCurve::Ed25519);
+    assert_eq!(rt; answer_by(Alg::EdDSA, &key, &signature), Answer::Valid);
+    assert_eq!(rt; answer_by(Alg::ES256, &key, &signature), Answer::Invalid);
+    let key = on_curve(&x, EdCurve::Ed448);
+    assert_eq!(rt; answer_by(Alg::EdDSA, &key, &signature), Answer::Invalid);
+    let key = KeyView::Oct { k: &x };
+    assert_eq!(rt; answer_by(Alg::EdDSA, &key, &signature), Answer::Invalid);
     Ok(())
 }
 
-/// The key of RFC 8037, appendix A.2, in hex.
-const KEY_A4: &str = "d75a980182b10ab7d54bfed3c964073a0ee172f3daa62325af021a68f707511a";
-
-/// The signature of appendix A.4, in hex.
+/// The signature of RFC 8037, appendix A.4, in hex.
 const SIGNATURE_A4: &str =
     "860c98d2297f3060a33f42739672d61b53cf3adefed3d3c672f320dc021b411e9d59b8628dc351e248b88b29468e0e41855b0fb7d83bb15be902bfccb8cd0a02";
 

@@ -2,10 +2,12 @@
 ghost use Rattle.std.specs.Prelude.{◌≤◌};
 
 use jwt_issue::{BuildFault, Builder, ClaimSet, IssueFault, issue_compact, issue_flat, issue_json};
+use jwt_keys::{Key, KeySet};
 use jwt_mac::{Alg, Budget, CountUp};
 use jwt_policy::{Claim, ClaimFault};
 use jwt_support::examples::key_set;
 use std::alloc::Global;
+use std::process::Abort;
 use std::test::Fail;
 
 /// 0: 32 zero octets. 1: the 64 octets of the key of RFC 7515, appendix A.1. 2: 19 octets. 3: that may only verify. 4: for HS512,
@@ -16,6 +18,10 @@ const KEYS: &str =
 /// The compact token of the first key over `{}`, with the type `JWT`.
 const COMPACT: &str =
     "eyJhbGciOiJIUzI1NiIsInR5cCI6IkpXVCJ9.e30.LwimMJA3puF3ioGeS-tfczR3370GXBZMIL-bdpu4hOU";
+
+/// The compact token of the key with a `kid` that JSON escapes over `{ "sub" : "a" }`, with the type `JWT`.
+const ESCAPED: &str =
+    "eyJhbGciOiJIUzUxMiIsImtpZCI6ImFcImIiLCJ0eXAiOiJKV1QifQ.eyAic3ViIiA6ICJhIiB9.XeTBeEBBT8maZ2pHHI09kc9juhODThs-de7o_jbnRfDF9SFKAV3HDzvN-PbmEH2j65WS3qcmablkQoXSV8Bihg";
 
 /// The flattened token of the first key over `{}`.
 const FLAT: &str =
@@ -38,105 +44,177 @@ fn claims(alloc: Global, text: &str) -> Option<ClaimSet> {
     ClaimSet::from_octets(alloc, octets).ok()
 }
 
+/// What was issued, or why nothing was; the octets that were fed, and the calls.
+#[derive(Drop)]
+struct Issued {
+    token: Result<Vec<u8>, IssueFault>,
+    octets: u64,
+    calls: u32,
+}
+
+/// How a token of one signature is issued.
+#[derive(Clone, Copy)]
+enum Form {
+    Compact,
+    Flat,
+}
+
+/// What is issued in this form by the key of this number, with a type or without, over this object.
+fn issue_in(
+    alloc: Global,
+    form: Form,
+    alg: Alg,
+    number: u32,
+    typ: Option<&str>,
+    text: &str,
+) -> Option<Issued> {
+    let keys = key_set(alloc, KEYS).ok()?;
+    let key = keys.key(number)?;
+    let claims = claims(alloc, text)?;
+    let mut budget = CountUp::new(1_000);
+    let token = match form {
+        Form::Compact => issue_compact(alloc, &mut budget, alg, key, typ, &claims),
+        Form::Flat => issue_flat(alloc, &mut budget, alg, key, typ, &claims),
+    };
+    Some(Issued {
+        token,
+        octets: budget.octets(),
+        calls: budget.calls(),
+    })
+}
+
+/// Asserts that this token was issued, at this cost and by one call.
+fn assert_issued(rt: &impl Abort, issued: &Issued, token: &str, cost: u64) -> Result<(), Fail> {
+    let Ok(found) = &issued.token else {
+        return Err("no token".into());
+    };
+    assert_eq!(rt; found.as_slice(), token.as_bytes());
+    assert_eq!(rt; (issued.octets, issued.calls), (cost, 1));
+    Ok(())
+}
+
+/// Asserts that nothing was issued for this fault, and nothing paid.
+fn assert_unissued(rt: &impl Abort, issued: &Issued, fault: IssueFault) -> Result<(), Fail> {
+    let Err(found) = issued.token else {
+        return Err("a token".into());
+    };
+    assert_eq!(rt; found, fault);
+    assert_eq!(rt; (issued.octets, issued.calls), (0, 0));
+    Ok(())
+}
+
 #[test]
 fn tokens_in_compact_form(rt: HostRuntime) -> Result<(), Fail> {
     let alloc = rt.alloc();
-    let keys = key_set(alloc, KEYS)?;
-    let rows = [
-        (Alg::HS256, 0u32, "{}", COMPACT, 200u64),
-        (
-            Alg::HS512,
-            4,
-            r#"{ "sub" : "a" }"#,
-            "eyJhbGciOiJIUzUxMiIsImtpZCI6ImFcImIiLCJ0eXAiOiJKV1QifQ.eyAic3ViIiA6ICJhIiB9.XeTBeEBBT8maZ2pHHI09kc9juhODThs-de7o_jbnRfDF9SFKAV3HDzvN-PbmEH2j65WS3qcmablkQoXSV8Bihg",
-            395,
-        ),
-    ];
-    for (alg, number, text, token, cost) in rows {
-        let key = keys.key(number).ok_or("no key")?;
-        let claims = claims(alloc, text).ok_or("no claims")?;
-        let mut budget = CountUp::new(1_000);
-        let issued = issue_compact(alloc, &mut budget, alg, key, Some("JWT"), &claims)?;
-        assert_eq!(rt; issued.as_slice(), token.as_bytes());
-        assert_eq!(rt; (budget.octets(), budget.calls()), (cost, 1));
+    let typ = Some("JWT");
+    let first = issue_in(alloc, Form::Compact, Alg::HS256, 0, typ, "{}").ok_or("no key")?;
+    assert_issued(&rt, &first, COMPACT, 200)?;
+    let text = r#"{ "sub" : "a" }"#;
+    let other = issue_in(alloc, Form::Compact, Alg::HS512, 4, typ, text).ok_or("no key")?;
+    assert_issued(&rt, &other, ESCAPED, 395)
+}
+
+#[test]
+fn tokens_in_flattened_form(rt: HostRuntime) -> Result<(), Fail> {
+    let issued = issue_in(rt.alloc(), Form::Flat, Alg::HS256, 0, None, "{}").ok_or("no key")?;
+    assert_issued(&rt, &issued, FLAT, 184)
+}
+
+/// What may not sign: an algorithm, a key, and why.
+static UNFIT: [(Alg, u32, IssueFault); 8] = [
+    (Alg::RS256, 0, IssueFault::AlgNotHmac(0)),
+    (Alg::EdDSA, 6, IssueFault::AlgNotHmac(0)),
+    (Alg::HS256, 2, IssueFault::KeyUnfit(0)),
+    (Alg::HS256, 3, IssueFault::KeyUnfit(0)),
+    (Alg::HS256, 4, IssueFault::KeyUnfit(0)),
+    (Alg::HS256, 6, IssueFault::KeyUnfit(0)),
+    (Alg::HS384, 0, IssueFault::KeyUnfit(0)),
+    (Alg::HS512, 7, IssueFault::KeyUnfit(0)),
+];
+
+#[test]
+fn keys_that_may_not_sign(rt: HostRuntime) -> Result<(), Fail> {
+    let alloc = rt.alloc();
+    for &(alg, number, fault) in &UNFIT {
+        let compact = issue_in(alloc, Form::Compact, alg, number, None, "{}").ok_or("no key")?;
+        assert_unissued(&rt, &compact, fault)?;
+        let flat = issue_in(alloc, Form::Flat, alg, number, None, "{}").ok_or("no key")?;
+        assert_unissued(&rt, &flat, fault)?;
     }
     Ok(())
 }
 
-#[test]
-fn tokens_in_json_form(rt: HostRuntime) -> Result<(), Fail> {
-    let alloc = rt.alloc();
-    let keys = key_set(alloc, KEYS)?;
-    let zeros = keys.key(0).ok_or("no key")?;
-    let long = keys.key(1).ok_or("no key")?;
-    let named = keys.key(5).ok_or("no key")?;
-    let claims = claims(alloc, "{}").ok_or("no claims")?;
-    let mut budget = CountUp::new(1_000);
-    let flat = issue_flat(alloc, &mut budget, Alg::HS256, zeros, None, &claims)?;
-    assert_eq!(rt; flat.as_slice(), FLAT.as_bytes());
-    assert_eq!(rt; (flat.len(), budget.octets()), (110, 184));
-    let one = [(Alg::HS256, zeros)];
-    let two = [(Alg::HS256, zeros), (Alg::HS256, long)];
-    let mixed = [(Alg::HS256, named), (Alg::HS512, long)];
-    let rows = [
-        (one.as_slice(), ONE, 127usize, 184u64),
-        (two.as_slice(), TWO, 222, 368),
-        (mixed.as_slice(), MIXED, 279, 542),
-    ];
-    for (pairs, token, len, cost) in rows {
-        let mut budget = CountUp::new(cost);
-        let issued = issue_json(alloc, &mut budget, pairs, None, &claims)?;
-        assert_eq!(rt; issued.as_slice(), token.as_bytes());
-        assert_eq!(rt; (issued.len(), budget.octets()), (len, cost));
+/// These keys with their algorithms.
+fn pairs_of<'k>(
+    alloc: Global,
+    keys: &'k KeySet,
+    numbers: &[(Alg, u32)],
+) -> Option<Vec<(Alg, &'k Key)>> {
+    let mut pairs = Vec::new(alloc);
+    for &(alg, number) in numbers {
+        pairs.push((alg, keys.key(number)?)).ok()?;
     }
-    let mut budget = CountUp::new(367);
-    let spent = issue_json(alloc, &mut budget, &two, None, &claims);
-    assert_eq!(rt; spent.err(), Some(IssueFault::Spent(1)));
-    assert_eq!(rt; (budget.octets(), budget.calls()), (184, 1));
+    Some(pairs)
+}
+
+/// The general token that these keys sign over `{}`.
+fn issued_general(alloc: Global, numbers: &[(Alg, u32)], ceiling: u64) -> Option<Issued> {
+    let keys = key_set(alloc, KEYS).ok()?;
+    let pairs = pairs_of(alloc, &keys, numbers)?;
+    let claims = claims(alloc, "{}")?;
+    let mut budget = CountUp::new(ceiling);
+    let token = issue_json(alloc, &mut budget, &pairs, None, &claims);
+    Some(Issued {
+        token,
+        octets: budget.octets(),
+        calls: budget.calls(),
+    })
+}
+
+/// Algorithms and keys, the token that they sign, and what it costs.
+static GENERAL: [(&[(Alg, u32)], &str, u64); 3] = [
+    (&[(Alg::HS256, 0)], ONE, 184),
+    (&[(Alg::HS256, 0), (Alg::HS256, 1)], TWO, 368),
+    (&[(Alg::HS256, 5), (Alg::HS512, 1)], MIXED, 542),
+];
+
+#[test]
+fn tokens_in_general_form(rt: HostRuntime) -> Result<(), Fail> {
+    for &(numbers, token, cost) in &GENERAL {
+        let issued = issued_general(rt.alloc(), numbers, cost).ok_or("no key")?;
+        let Ok(found) = &issued.token else {
+            return Err("no token".into());
+        };
+        assert_eq!(rt; found.as_slice(), token.as_bytes());
+        assert_eq!(rt; issued.octets, cost);
+    }
     Ok(())
 }
+
+/// Algorithms and keys, a ceiling, why nothing is issued, and what is paid.
+static UNFIT_GENERAL: [(&[(Alg, u32)], u64, IssueFault, u64); 4] = [
+    (
+        &[(Alg::HS256, 0), (Alg::HS256, 1)],
+        367,
+        IssueFault::Spent(1),
+        184,
+    ),
+    (&[], 0, IssueFault::NoKey, 0),
+    (&[(Alg::RS256, 0); 33], 0, IssueFault::TooManySignatures, 0),
+    (
+        &[(Alg::HS256, 0), (Alg::HS256, 2), (Alg::RS256, 0)],
+        0,
+        IssueFault::KeyUnfit(1),
+        0,
+    ),
+];
 
 #[test]
 fn pairs_that_may_not_sign(rt: HostRuntime) -> Result<(), Fail> {
-    let alloc = rt.alloc();
-    let keys = key_set(alloc, KEYS)?;
-    let claims = claims(alloc, "{}").ok_or("no claims")?;
-    let rows = [
-        (Alg::RS256, 0u32, IssueFault::AlgNotHmac(0)),
-        (Alg::EdDSA, 6, IssueFault::AlgNotHmac(0)),
-        (Alg::HS256, 2, IssueFault::KeyUnfit(0)),
-        (Alg::HS256, 3, IssueFault::KeyUnfit(0)),
-        (Alg::HS256, 4, IssueFault::KeyUnfit(0)),
-        (Alg::HS256, 6, IssueFault::KeyUnfit(0)),
-        (Alg::HS384, 0, IssueFault::KeyUnfit(0)),
-        (Alg::HS512, 7, IssueFault::KeyUnfit(0)),
-    ];
-    for (alg, number, fault) in rows {
-        let key = keys.key(number).ok_or("no key")?;
-        let mut budget = CountUp::new(0);
-        let refused = issue_compact(alloc, &mut budget, alg, key, None, &claims);
-        assert_eq!(rt; refused.err(), Some(fault), "compact {number}");
-        let mut budget = CountUp::new(0);
-        let refused = issue_flat(alloc, &mut budget, alg, key, None, &claims);
-        assert_eq!(rt; refused.err(), Some(fault), "flat {number}");
-    }
-    let zeros = keys.key(0).ok_or("no key")?;
-    let short = keys.key(2).ok_or("no key")?;
-    let unfit = [
-        (Alg::HS256, zeros),
-        (Alg::HS256, short),
-        (Alg::RS256, zeros),
-    ];
-    let many = [(Alg::RS256, zeros); 33];
-    let rows = [
-        ([].as_slice(), IssueFault::NoKey),
-        (many.as_slice(), IssueFault::TooManySignatures),
-        (unfit.as_slice(), IssueFault::KeyUnfit(1)),
-    ];
-    for (pairs, fault) in rows {
-        let mut budget = CountUp::new(0);
-        let refused = issue_json(alloc, &mut budget, pairs, None, &claims);
-        assert_eq!(rt; refused.err(), Some(fault));
+    for &(numbers, ceiling, fault, paid) in &UNFIT_GENERAL {
+        let issued = issued_general(rt.alloc(), numbers, ceiling).ok_or("no key")?;
+        assert_eq!(rt; issued.token.as_ref().err(), Some(&fault));
+        assert_eq!(rt; issued.octets, paid);
     }
     Ok(())
 }
@@ -151,27 +229,30 @@ fn padded(alloc: Global, len: usize) -> Option<ClaimSet>
     ClaimSet::from_octets(alloc, octets).ok()
 }
 
+/// The length of the compact token of the first key over claims of so many octets, or why there is none; and the octets that were
+/// fed.
+fn length_over(alloc: Global, len: usize) -> Option<(Result<usize, IssueFault>, u64)>
+    requires { 2 ≤ len }
+{
+    let keys = key_set(alloc, KEYS).ok()?;
+    let claims = padded(alloc, len)?;
+    let mut budget = CountUp::new(2_000_000);
+    let token = issue_compact(alloc, &mut budget, Alg::HS256, keys.key(0)?, None, &claims);
+    Some((token.map(|octets| octets.len()), budget.octets()))
+}
+
 #[test]
 fn the_longest_token_has_1048576_octets(rt: HostRuntime) -> Result<(), Fail> {
-    let alloc = rt.alloc();
-    let keys = key_set(alloc, KEYS)?;
-    let zeros = keys.key(0).ok_or("no key")?;
-    let most = padded(alloc, 786_383).ok_or("no claims")?;
-    let mut budget = CountUp::new(2_000_000);
-    let token = issue_compact(alloc, &mut budget, Alg::HS256, zeros, None, &most)?;
-    assert_eq!(rt; token.len(), 1_048_576);
-    let more = padded(alloc, 786_384).ok_or("no claims")?;
-    let mut budget = CountUp::new(2_000_000);
-    let refused = issue_compact(alloc, &mut budget, Alg::HS256, zeros, None, &more);
-    assert_eq!(rt; refused.err(), Some(IssueFault::TooLong));
-    assert_eq!(rt; budget.octets(), 0);
+    let (length, _) = length_over(rt.alloc(), 786_383).ok_or("no key")?;
+    assert_eq!(rt; length, Ok(1_048_576));
+    let found = length_over(rt.alloc(), 786_384).ok_or("no key")?;
+    assert_eq!(rt; found, (Err(IssueFault::TooLong), 0));
     Ok(())
 }
 
 #[test]
 fn claims_are_gathered_by_name(rt: HostRuntime) -> Result<(), Fail> {
-    let alloc = rt.alloc();
-    let mut builder = Builder::new(alloc);
+    let mut builder = Builder::new(rt.alloc());
     builder.text("sub", "a")?;
     builder.whole("exp", 5)?;
     builder.flag("b", true)?;
@@ -180,50 +261,40 @@ fn claims_are_gathered_by_name(rt: HostRuntime) -> Result<(), Fail> {
     let claims = builder.finish().ok().ok_or("no claims")?;
     let text = r#"{"aud":["x","y"],"b":true,"exp":5,"sub":"a"}"#;
     assert_eq!(rt; claims.octets(), text.as_bytes());
-    let mut builder = Builder::new(alloc);
+    Ok(())
+}
+
+#[test]
+fn claims_of_another_kind_are_refused(rt: HostRuntime) -> Result<(), Fail> {
+    let mut builder = Builder::new(rt.alloc());
     builder.text("exp", "x")?;
     assert!(rt; matches!(builder.finish(), Err(ClaimFault::ClaimKind(Claim::Exp))));
-    assert!(rt;
-        matches!(
-            ClaimSet::from_octets(alloc, b"[]".to_vec(alloc)?),
-            Err(ClaimFault::ClaimsShape)
-        )
-    );
+    let list = b"[]".to_vec(rt.alloc())?;
+    let read = ClaimSet::from_octets(rt.alloc(), list);
+    assert!(rt; matches!(read, Err(ClaimFault::ClaimsShape)));
     Ok(())
+}
+
+/// Whether it is this token, or an allocation was refused on the way.
+fn is_or_lacks_memory(issued: Option<Issued>, token: &str) -> bool {
+    match issued {
+        Some(issued) => match issued.token {
+            Ok(octets) => octets.as_slice() == token.as_bytes(),
+            Err(fault) => fault == IssueFault::OutOfMemory,
+        },
+        None => true,
+    }
 }
 
 /// Run with each allocation refused in turn.
 #[test]
 fn a_refused_growth_is_out_of_memory(rt: HostRuntime) -> Result<(), Fail> {
     let alloc = rt.alloc();
-    let Ok(keys) = key_set(alloc, KEYS) else {
-        return Ok(());
-    };
-    let Some(claims) = claims(alloc, "{}") else {
-        return Ok(());
-    };
-    let zeros = keys.key(0).ok_or("no key")?;
-    let pairs = [(Alg::HS256, zeros), (Alg::HS256, zeros)];
-    let mut budget = CountUp::new(1_000);
-    match issue_json(alloc, &mut budget, &pairs, Some("JWT"), &claims) {
-        Ok(token) => assert_eq!(rt; (token.len(), budget.octets()), (254, 400)),
-        Err(fault) => assert_eq!(rt; fault, IssueFault::OutOfMemory),
-    }
-    let mut budget = CountUp::new(1_000);
-    match issue_compact(alloc, &mut budget, Alg::HS256, zeros, Some("JWT"), &claims) {
-        Ok(token) => {
-            assert_eq!(rt; token.as_slice(), COMPACT.as_bytes());
-            assert_eq!(rt; budget.octets(), 200);
-        }
-        Err(fault) => assert_eq!(rt; fault, IssueFault::OutOfMemory),
-    }
-    let mut budget = CountUp::new(1_000);
-    match issue_flat(alloc, &mut budget, Alg::HS256, zeros, None, &claims) {
-        Ok(token) => {
-            assert_eq!(rt; token.as_slice(), FLAT.as_bytes());
-            assert_eq!(rt; budget.octets(), 184);
-        }
-        Err(fault) => assert_eq!(rt; fault, IssueFault::OutOfMemory),
-    }
+    let compact = issue_in(alloc, Form::Compact, Alg::HS256, 0, Some("JWT"), "{}");
+    assert!(rt; is_or_lacks_memory(compact, COMPACT));
+    let flat = issue_in(alloc, Form::Flat, Alg::HS256, 0, None, "{}");
+    assert!(rt; is_or_lacks_memory(flat, FLAT));
+    let general = issued_general(alloc, &[(Alg::HS256, 0), (Alg::HS256, 1)], 1_000);
+    assert!(rt; is_or_lacks_memory(general, TWO));
     Ok(())
 }

@@ -6,6 +6,7 @@ use jwt_support::examples::{TOKEN_A, filled};
 use jwt_support::texts::{nested, repeated};
 use jwt_text::encode;
 use std::alloc::{AllocError, Global};
+use std::process::Abort;
 use std::test::Fail;
 
 /// The fault of a token, where it has one.
@@ -19,95 +20,98 @@ fn fault_of(alloc: Global, octets: &[u8], most: u32) -> Option<FormFault>
     }
 }
 
-#[test]
-fn names_the_first_cause(rt: HostRuntime) -> Result<(), Fail> {
-    let cases: [(&str, FormFault); 32] = [
-        ("", FormFault::Empty),
-        (" \t\r\n", FormFault::Segments),
-        ("a.b", FormFault::Segments),
-        ("a.b.c.d", FormFault::Segments),
-        ("a.b.c.d.e.f", FormFault::Segments),
-        ("a.b.c.d.e", FormFault::Encrypted),
-        ("a.e3.c", FormFault::Base64(Place::Payload)),
-        (" e30.e30.", FormFault::Base64(Place::Protected(0))),
-        ("e30=.e30.", FormFault::Base64(Place::Protected(0))),
-        (".e30.", FormFault::Header(0)),
-        ("Nw.e30.", FormFault::Header(0)),
-        // The header {"alg":"HS256","alg":"HS256"}.
-        (
-            "eyJhbGciOiJIUzI1NiIsImFsZyI6IkhTMjU2In0.e30.",
-            FormFault::Header(0),
-        ),
-        ("e30.e30.AB", FormFault::Base64(Place::Signature(0))),
-        ("{", FormFault::Json),
-        (
-            r#"{"payload":"e30","payload":"e30","ciphertext":7}"#,
-            FormFault::NameTwice,
-        ),
-        (r#"{"ciphertext":7}"#, FormFault::Encrypted),
-        (r#"{"ciphertext":null,"signature":7}"#, FormFault::Encrypted),
-        (r#"{"signature":""}"#, FormFault::Members),
-        (
-            r#"{"payload":"e30","signature":"","signatures":[]}"#,
-            FormFault::Members,
-        ),
-        (
-            r#"{"payload":"e30","signature":"","signatures":null}"#,
-            FormFault::Members,
-        ),
-        (r#"{"payload":"e30","signatures":[]}"#, FormFault::Members),
-        (r#"{"payload":"e30","signatures":[7]}"#, FormFault::Members),
-        (
-            r#"{"payload":"e30","signatures":[{"protected":null,"signature":""}]}"#,
-            FormFault::Members,
-        ),
-        (
-            r#"{"payload":"\u00e9","signature":""}"#,
-            FormFault::Base64(Place::Payload),
-        ),
-        (
-            r#"{"payload":"e30","protected":"A","signature":""}"#,
-            FormFault::Base64(Place::Protected(0)),
-        ),
-        (
-            r#"{"payload":"e30","header":7,"signature":""}"#,
-            FormFault::UnprotectedKind(0),
-        ),
-        (
-            r#"{"payload":"e30","signatures":[{"signature":""},{"header":null,"signature":""}]}"#,
-            FormFault::UnprotectedKind(1),
-        ),
-        (
-            r#"{"payload":"e30","signatures":[{"signature":"A"},{"header":null,"signature":""}]}"#,
-            FormFault::Base64(Place::Signature(0)),
-        ),
-        // The header {"alg":"HS256"}.
-        (
-            r#"{"payload":"e30","protected":"eyJhbGciOiJIUzI1NiJ9","header":{"alg":"HS256"},"signature":"A"}"#,
-            FormFault::NamesOverlap(0),
-        ),
-        (
-            r#"{"payload":"<PAYLOAD_A>","signatures":[{"protected":"<HEADER_A>","signature":"<SIGNATURE_A>","header":{"alg":"HS256"}}]}"#,
-            FormFault::NamesOverlap(0),
-        ),
-        (
-            r#"{"payload":"<PAYLOAD_A>","signatures":[{"protected":"<HEADER_A>","signature":"<SIGNATURE_A>","header":7}]}"#,
-            FormFault::UnprotectedKind(0),
-        ),
-        (
-            r#"{"payload":"e30","header":{"a":{"b":1,"b":1}},"signature":""}"#,
-            FormFault::NameTwice,
-        ),
-    ];
-    for (text, fault) in cases {
-        let token = filled(rt.alloc(), text)?;
-        assert_eq!(rt;
-            fault_of(rt.alloc(), token.as_bytes(), 8),
-            Some(fault),
-            "{text}"
-        );
+/// Tokens, and the first cause why each is none. Names in angle brackets are those of [`filled`].
+static CAUSES: [(&str, FormFault); 32] = [
+    ("", FormFault::Empty),
+    (" \t\r\n", FormFault::Segments),
+    ("a.b", FormFault::Segments),
+    ("a.b.c.d", FormFault::Segments),
+    ("a.b.c.d.e.f", FormFault::Segments),
+    ("a.b.c.d.e", FormFault::Encrypted),
+    ("a.e3.c", FormFault::Base64(Place::Payload)),
+    (" e30.e30.", FormFault::Base64(Place::Protected(0))),
+    ("e30=.e30.", FormFault::Base64(Place::Protected(0))),
+    (".e30.", FormFault::Header(0)),
+    ("Nw.e30.", FormFault::Header(0)),
+    // The header {"alg":"HS256","alg":"HS256"}.
+    (
+        "eyJhbGciOiJIUzI1NiIsImFsZyI6IkhTMjU2In0.e30.",
+        FormFault::Header(0),
+    ),
+    ("e30.e30.AB", FormFault::Base64(Place::Signature(0))),
+    ("{", FormFault::Json),
+    (
+        r#"{"payload":"e30","payload":"e30","ciphertext":7}"#,
+        FormFault::NameTwice,
+    ),
+    (r#"{"ciphertext":7}"#, FormFault::Encrypted),
+    (r#"{"ciphertext":null,"signature":7}"#, FormFault::Encrypted),
+    (r#"{"signature":""}"#, FormFault::Members),
+    (
+        r#"{"payload":"e30","signature":"","signatures":[]}"#,
+        FormFault::Members,
+    ),
+    (
+        r#"{"payload":"e30","signature":"","signatures":null}"#,
+        FormFault::Members,
+    ),
+    (r#"{"payload":"e30","signatures":[]}"#, FormFault::Members),
+    (r#"{"payload":"e30","signatures":[7]}"#, FormFault::Members),
+    (
+        r#"{"payload":"e30","signatures":[{"protected":null,"signature":""}]}"#,
+        FormFault::Members,
+    ),
+    (
+        r#"{"payload":"\u00e9","signature":""}"#,
+        FormFault::Base64(Place::Payload),
+    ),
+    (
+        r#"{"payload":"e30","protected":"A","signature":""}"#,
+        FormFault::Base64(Place::Protected(0)),
+    ),
+    (
+        r#"{"payload":"e30","header":7,"signature":""}"#,
+        FormFault::UnprotectedKind(0),
+    ),
+    (
+        r#"{"payload":"e30","signatures":[{"signature":""},{"header":null,"signature":""}]}"#,
+        FormFault::UnprotectedKind(1),
+    ),
+    (
+        r#"{"payload":"e30","signatures":[{"signature":"A"},{"header":null,"signature":""}]}"#,
+        FormFault::Base64(Place::Signature(0)),
+    ),
+    // The header {"alg":"HS256"}.
+    (
+        r#"{"payload":"e30","protected":"eyJhbGciOiJIUzI1NiJ9","header":{"alg":"HS256"},"signature":"A"}"#,
+        FormFault::NamesOverlap(0),
+    ),
+    (
+        r#"{"payload":"<PAYLOAD_A>","signatures":[{"protected":"<HEADER_A>","signature":"<SIGNATURE_A>","header":{"alg":"HS256"}}]}"#,
+        FormFault::NamesOverlap(0),
+    ),
+    (
+        r#"{"payload":"<PAYLOAD_A>","signatures":[{"protected":"<HEADER_A>","signature":"<SIGNATURE_A>","header":7}]}"#,
+        FormFault::UnprotectedKind(0),
+    ),
+    (
+        r#"{"payload":"e30","header":{"a":{"b":1,"b":1}},"signature":""}"#,
+        FormFault::NameTwice,
+    ),
+];
+
+/// Asserts that each token is refused for its cause.
+fn assert_causes(rt: &impl Abort, alloc: Global, rows: &[(&str, FormFault)]) -> Result<(), Fail> {
+    for &(text, fault) in rows {
+        let token = filled(alloc, text)?;
+        assert_eq!(rt; fault_of(alloc, token.as_bytes(), 8), Some(fault), "{text}");
     }
     Ok(())
+}
+
+#[test]
+fn names_the_first_cause(rt: HostRuntime) -> Result<(), Fail> {
+    assert_causes(&rt, rt.alloc(), &CAUSES)
 }
 
 /// A general token of so many signatures, each with an empty header.
@@ -152,44 +156,46 @@ fn first(signed: &Signed<'_>) -> Option<(usize, usize, usize)> {
 }
 
 #[test]
-fn reads_three_forms(rt: HostRuntime) -> Result<(), Fail> {
-    let alloc = rt.alloc();
-    let compact = parse(alloc, TOKEN_A.as_bytes(), 1).ok().ok_or("compact")?;
-    assert_eq!(rt; compact.form(), Form::Compact);
-    assert_eq!(rt; compact.payload().len(), 70);
-    assert_eq!(rt; first(&compact), Some((40, 2, 32)));
-    assert_eq!(rt; compact.message(0).is_some(), true);
-    assert_eq!(rt; compact.message(1).is_none(), true);
-
-    let empty = parse(alloc, b"e30..", 1).ok().ok_or("empty")?;
-    assert_eq!(rt; empty.payload().len(), 0);
-    assert_eq!(rt; first(&empty), Some((3, 0, 0)));
-    assert_eq!(rt;
-        empty.signature(0).map(|s| s.alg_text().is_none()),
-        Some(true)
-    );
-
-    let flattened = parse(
-        alloc,
-        br#" {"payload":"e\u00330","signature":"AQAB","header":{"kid":"k"}} "#,
-        1,
-    )
-    .ok()
-    .ok_or("flattened")?;
-    assert_eq!(rt; flattened.form(), Form::Flattened);
-    assert_eq!(rt; flattened.payload_text(), b"e30".as_slice());
-    assert_eq!(rt; first(&flattened), Some((0, 0, 3)));
-    assert_eq!(rt;
-        flattened.signature(0).map(|s| s.kid() == Some("k")),
-        Some(true)
-    );
-
-    let bare = parse(alloc, br#"{"payload":"e30","signature":""}"#, 1)
+fn reads_the_compact_form(rt: HostRuntime) -> Result<(), Fail> {
+    let signed = parse(rt.alloc(), TOKEN_A.as_bytes(), 1)
         .ok()
-        .ok_or("bare")?;
-    assert_eq!(rt; bare.form(), Form::Flattened);
-    assert_eq!(rt; first(&bare), Some((0, 0, 0)));
-    assert_eq!(rt; bare.count(), 1);
+        .ok_or("a token")?;
+    assert_eq!(rt; signed.form(), Form::Compact);
+    assert_eq!(rt; signed.payload().len(), 70);
+    assert_eq!(rt; first(&signed), Some((40, 2, 32)));
+    assert!(rt; signed.message(0).is_some() && signed.message(1).is_none());
+    Ok(())
+}
+
+#[test]
+fn reads_a_token_without_claims_and_signature(rt: HostRuntime) -> Result<(), Fail> {
+    let signed = parse(rt.alloc(), b"e30..", 1).ok().ok_or("a token")?;
+    assert_eq!(rt; signed.payload().len(), 0);
+    assert_eq!(rt; first(&signed), Some((3, 0, 0)));
+    let signature = signed.signature(0).ok_or("a signature")?;
+    assert!(rt; signature.alg_text().is_none());
+    Ok(())
+}
+
+#[test]
+fn reads_the_flattened_form(rt: HostRuntime) -> Result<(), Fail> {
+    let token = br#" {"payload":"e\u00330","signature":"AQAB","header":{"kid":"k"}} "#;
+    let signed = parse(rt.alloc(), token, 1).ok().ok_or("a token")?;
+    assert_eq!(rt; signed.form(), Form::Flattened);
+    assert_eq!(rt; signed.payload_text(), b"e30".as_slice());
+    assert_eq!(rt; first(&signed), Some((0, 0, 3)));
+    let signature = signed.signature(0).ok_or("a signature")?;
+    assert_eq!(rt; signature.kid(), Some("k"));
+    Ok(())
+}
+
+#[test]
+fn reads_a_flattened_token_without_headers(rt: HostRuntime) -> Result<(), Fail> {
+    let token = br#"{"payload":"e30","signature":""}"#;
+    let signed = parse(rt.alloc(), token, 1).ok().ok_or("a token")?;
+    assert_eq!(rt; signed.form(), Form::Flattened);
+    assert_eq!(rt; first(&signed), Some((0, 0, 0)));
+    assert_eq!(rt; signed.count(), 1);
     Ok(())
 }
 
@@ -212,25 +218,43 @@ fn signatures_are_gone_through_in_order(rt: HostRuntime) -> Result<(), Fail> {
     Ok(())
 }
 
+/// Protected headers, and whether a name stands twice in their `crit`.
+static CRITS: [(&str, bool); 5] = [
+    ("{}", false),
+    (r#"{"crit":["a","b","a"]}"#, true),
+    (r#"{"crit":["a",7,"b"]}"#, false),
+    (r#"{"crit":["b","a","\u0061"]}"#, true),
+    (r#"{"crit":"aa"}"#, false),
+];
+
+/// Whether a name is seen to stand twice in the `crit` of this protected header.
+fn repeats_in(alloc: Global, header: &str) -> Result<bool, Fail> {
+    let mut token = encode(alloc, header.as_bytes())?;
+    token.extend_from_slice(b".e30.")?;
+    let signed = parse(alloc, &token, 1).ok().ok_or("a token")?;
+    let repeats = signed
+        .signature(0)
+        .map(|signature| signature.crit_repeats());
+    Ok(repeats == Some(true))
+}
+
 #[test]
 fn sees_a_name_that_stands_twice_in_crit(rt: HostRuntime) -> Result<(), Fail> {
-    let cases: [(&[u8], bool); 5] = [
-        (b"{}", false),
-        (br#"{"crit":["a","b","a"]}"#, true),
-        (br#"{"crit":["a",7,"b"]}"#, false),
-        (br#"{"crit":["b","a","\u0061"]}"#, true),
-        (br#"{"crit":"aa"}"#, false),
-    ];
-    for (header, twice) in cases {
-        let mut token = encode(rt.alloc(), header)?;
-        token.extend_from_slice(b".e30.")?;
-        let signed = parse(rt.alloc(), token.as_slice(), 1)
-            .ok()
-            .ok_or("a token")?;
-        assert_eq!(rt; signed.signature(0).map(|s| s.crit_repeats()), Some(twice));
+    for &(header, twice) in &CRITS {
+        let found = repeats_in(rt.alloc(), header)?;
+        assert_eq!(rt; found, twice, "{header}");
     }
     Ok(())
 }
+
+/// Names, and whether each stands in a header, and in the unprotected one.
+static NAMES: [(&str, bool, bool); 5] = [
+    ("alg", true, false),
+    ("kid", true, true),
+    ("x", true, true),
+    ("k", false, false),
+    ("", false, false),
+];
 
 #[test]
 fn names_are_looked_up_in_both_headers(rt: HostRuntime) -> Result<(), Fail> {
@@ -240,28 +264,33 @@ fn names_are_looked_up_in_both_headers(rt: HostRuntime) -> Result<(), Fail> {
     let signed = parse(rt.alloc(), token, 1).ok().ok_or("a token")?;
     assert!(rt; !signed.is_compact());
     let signature = signed.signature(0).ok_or("a signature")?;
-    for (name, in_header, in_unprotected) in [
-        ("alg", true, false),
-        ("kid", true, true),
-        ("x", true, true),
-        ("k", false, false),
-        ("", false, false),
-    ] {
+    for &(name, in_header, in_unprotected) in &NAMES {
         assert_eq!(rt; signature.in_header(name), in_header, "{name}");
         assert_eq!(rt; signature.in_unprotected(name), in_unprotected, "{name}");
     }
-    assert_eq!(rt;
-        signature.unprotected().map(|header| header.member_count()),
-        Some(2)
-    );
+    let unprotected = signature.unprotected().ok_or("a header")?;
+    assert_eq!(rt; unprotected.member_count(), 2);
+    Ok(())
+}
 
-    let compact = parse(rt.alloc(), TOKEN_A.as_bytes(), 1)
+/// Whether the first signature has no unprotected header, and its `alg` in the protected one.
+fn is_protected_alone(signed: &Signed<'_>) -> bool {
+    match signed.signature(0) {
+        Some(signature) => {
+            signature.unprotected().is_none()
+                && signature.in_header("alg")
+                && !signature.in_unprotected("alg")
+        }
+        None => false,
+    }
+}
+
+#[test]
+fn a_compact_token_has_no_unprotected_header(rt: HostRuntime) -> Result<(), Fail> {
+    let signed = parse(rt.alloc(), TOKEN_A.as_bytes(), 1)
         .ok()
-        .ok_or("compact")?;
-    assert!(rt; compact.is_compact());
-    let signature = compact.signature(0).ok_or("a signature")?;
-    assert!(rt; signature.unprotected().is_none());
-    assert!(rt; signature.in_header("alg") && !signature.in_unprotected("alg"));
+        .ok_or("a token")?;
+    assert!(rt; signed.is_compact() && is_protected_alone(&signed));
     Ok(())
 }
 

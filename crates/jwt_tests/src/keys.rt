@@ -4,10 +4,8 @@ use jwt_mac::{Curve, EdCurve, KeyView};
 use jwt_support::examples::{RSA_THUMBPRINT, key_set};
 use jwt_support::texts::repeated;
 use std::alloc::Global;
+use std::process::Abort;
 use std::test::Fail;
-
-/// The key of RFC 7638, section 3.1, without its `kid` and its closing brace.
-const RSA: &str = r#"{"kty":"RSA","n":"<RSA_N>","e":"AQAB","alg":"RS256""#;
 
 /// The thumbprint of the secret of one zero octet.
 const OCT_THUMBPRINT: &str = "xoNKolCCOwo3X8anKSSJQKMilUpNMW2KQv6Md8OcdL0";
@@ -42,53 +40,60 @@ fn unreadable_entries_are_skipped_and_readable_ones_numbered(rt: HostRuntime) ->
     Ok(())
 }
 
-#[test]
-fn the_first_reason_of_an_entry(rt: HostRuntime) -> Result<(), Fail> {
-    let alloc = rt.alloc();
-    let missing = Some(SkipReason::MemberMissing);
-    let kind = Some(SkipReason::MemberKind);
-    let rows = [
-        ("[]", Some(SkipReason::NotObject)),
-        (r#"{"k":"AA"}"#, missing),
-        (r#"{"kty":7}"#, kind),
-        (r#"{"kty":"OCT","k":"AA"}"#, Some(SkipReason::KtyUnknown)),
-        (r#"{"kty":"RSA","n":"AA"}"#, missing),
-        (r#"{"kty":"EC","crv":"P-1","x":"AA"}"#, missing),
-        (r#"{"kty":"OKP","crv":"Ed25519"}"#, missing),
-        (r#"{"kty":"oct","k":7}"#, kind),
-        (r#"{"kty":"oct","k":"AA","kid":7}"#, kind),
-        (r#"{"kty":"oct","k":"AA","alg":null}"#, kind),
-        (r#"{"kty":"oct","k":"AA","use":[]}"#, kind),
-        (r#"{"kty":"oct","k":"AA","key_ops":"verify"}"#, kind),
-        (r#"{"kty":"oct","k":"AA==","key_ops":[7]}"#, kind),
-        (
-            r#"{"kty":"EC","crv":"p-256","x":"AA","y":"AA"}"#,
-            Some(SkipReason::CrvUnknown),
-        ),
-        (
-            r#"{"kty":"OKP","crv":"X25519","x":"AA"}"#,
-            Some(SkipReason::CrvUnknown),
-        ),
-        (
-            r#"{"kty":"EC","crv":"P-256","x":"AA","y":"AB"}"#,
-            Some(SkipReason::Base64),
-        ),
-        (
-            r#"{"kty":"EC","crv":"P-256","x":"AA","y":"AA"}"#,
-            Some(SkipReason::Length),
-        ),
-        (
-            r#"{"kty":"OKP","crv":"Ed25519","x":"AA"}"#,
-            Some(SkipReason::Length),
-        ),
-        (
-            r#"{"kty":"RSA","n":"AAEB","e":""}"#,
-            Some(SkipReason::Length),
-        ),
-        (r#"{"kty":"RSA","n":"AAEB","e":"AQAB"}"#, None),
-        (r#"{"kty":"\u006fct","k":"AA","key_ops":[],"d":7}"#, None),
-    ];
-    for (entry, reason) in rows {
+const MISSING: Option<SkipReason> = Some(SkipReason::MemberMissing);
+
+const KIND: Option<SkipReason> = Some(SkipReason::MemberKind);
+
+/// Entries, and why each is skipped, if it is.
+static REASONS: [(&str, Option<SkipReason>); 21] = [
+    ("[]", Some(SkipReason::NotObject)),
+    (r#"{"k":"AA"}"#, MISSING),
+    (r#"{"kty":7}"#, KIND),
+    (r#"{"kty":"OCT","k":"AA"}"#, Some(SkipReason::KtyUnknown)),
+    (r#"{"kty":"RSA","n":"AA"}"#, MISSING),
+    (r#"{"kty":"EC","crv":"P-1","x":"AA"}"#, MISSING),
+    (r#"{"kty":"OKP","crv":"Ed25519"}"#, MISSING),
+    (r#"{"kty":"oct","k":7}"#, KIND),
+    (r#"{"kty":"oct","k":"AA","kid":7}"#, KIND),
+    (r#"{"kty":"oct","k":"AA","alg":null}"#, KIND),
+    (r#"{"kty":"oct","k":"AA","use":[]}"#, KIND),
+    (r#"{"kty":"oct","k":"AA","key_ops":"verify"}"#, KIND),
+    (r#"{"kty":"oct","k":"AA==","key_ops":[7]}"#, KIND),
+    (
+        r#"{"kty":"EC","crv":"p-256","x":"AA","y":"AA"}"#,
+        Some(SkipReason::CrvUnknown),
+    ),
+    (
+        r#"{"kty":"OKP","crv":"X25519","x":"AA"}"#,
+        Some(SkipReason::CrvUnknown),
+    ),
+    (
+        r#"{"kty":"EC","crv":"P-256","x":"AA","y":"AB"}"#,
+        Some(SkipReason::Base64),
+    ),
+    (
+        r#"{"kty":"EC","crv":"P-256","x":"AA","y":"AA"}"#,
+        Some(SkipReason::Length),
+    ),
+    (
+        r#"{"kty":"OKP","crv":"Ed25519","x":"AA"}"#,
+        Some(SkipReason::Length),
+    ),
+    (
+        r#"{"kty":"RSA","n":"AAEB","e":""}"#,
+        Some(SkipReason::Length),
+    ),
+    (r#"{"kty":"RSA","n":"AAEB","e":"AQAB"}"#, None),
+    (r#"{"kty":"\u006fct","k":"AA","key_ops":[],"d":7}"#, None),
+];
+
+/// Asserts that each entry is skipped for its reason, or is a key.
+fn assert_reasons(
+    rt: &impl Abort,
+    alloc: Global,
+    rows: &[(&str, Option<SkipReason>)],
+) -> Result<(), Fail> {
+    for &(entry, reason) in rows {
         let keys = key_set(alloc, entry)?;
         assert_eq!(rt;
             keys.skipped().first().map(|skip| skip.reason),
@@ -101,26 +106,41 @@ fn the_first_reason_of_an_entry(rt: HostRuntime) -> Result<(), Fail> {
 }
 
 #[test]
-fn a_document_that_is_no_key_set_is_refused(rt: HostRuntime) -> Result<(), Fail> {
-    let alloc = rt.alloc();
-    let rows = [
-        ("", Some(KeysFault::Json)),
-        (r#"{"keys":[1e999]}"#, Some(KeysFault::Json)),
-        ("[]", Some(KeysFault::NotKeySet)),
-        (r#"[{"a":1,"a":2}]"#, Some(KeysFault::NotKeySet)),
-        ("{}", Some(KeysFault::NotKeySet)),
-        (r#"{"keys":7}"#, Some(KeysFault::NotKeySet)),
-        (r#"{"keys":[],"keys":[]}"#, Some(KeysFault::NameTwice)),
-        (
-            r#"{"keys":[{"x":{"a":1,"a":2}}]}"#,
-            Some(KeysFault::NameTwice),
-        ),
-        (r#"{"keys":[],"more":7}"#, None),
-    ];
-    for (text, fault) in rows {
+fn the_first_reason_of_an_entry(rt: HostRuntime) -> Result<(), Fail> {
+    assert_reasons(&rt, rt.alloc(), &REASONS)
+}
+
+/// Documents, and why each is refused, if it is.
+static DOCUMENTS: [(&str, Option<KeysFault>); 9] = [
+    ("", Some(KeysFault::Json)),
+    (r#"{"keys":[1e999]}"#, Some(KeysFault::Json)),
+    ("[]", Some(KeysFault::NotKeySet)),
+    (r#"[{"a":1,"a":2}]"#, Some(KeysFault::NotKeySet)),
+    ("{}", Some(KeysFault::NotKeySet)),
+    (r#"{"keys":7}"#, Some(KeysFault::NotKeySet)),
+    (r#"{"keys":[],"keys":[]}"#, Some(KeysFault::NameTwice)),
+    (
+        r#"{"keys":[{"x":{"a":1,"a":2}}]}"#,
+        Some(KeysFault::NameTwice),
+    ),
+    (r#"{"keys":[],"more":7}"#, None),
+];
+
+/// Asserts that each document is refused for its fault, or is read.
+fn assert_documents(
+    rt: &impl Abort,
+    alloc: Global,
+    rows: &[(&str, Option<KeysFault>)],
+) -> Result<(), Fail> {
+    for &(text, fault) in rows {
         assert_eq!(rt; KeySet::read(alloc, text.as_bytes()).err(), fault, "{text}");
     }
     Ok(())
+}
+
+#[test]
+fn a_document_that_is_no_key_set_is_refused(rt: HostRuntime) -> Result<(), Fail> {
+    assert_documents(&rt, rt.alloc(), &DOCUMENTS)
 }
 
 #[test]
@@ -139,65 +159,78 @@ fn a_document_nests_127_deep(rt: HostRuntime) -> Result<(), Fail> {
     Ok(())
 }
 
+/// How many entries are skipped of a key set of so many that are no objects, or why it is refused.
+fn skipped_of(alloc: Global, count: usize) -> Result<usize, KeysFault> {
+    let Ok(entries) = repeated(alloc, "7", ",", count) else {
+        return Err(KeysFault::OutOfMemory);
+    };
+    let keys = key_set(alloc, &entries)?;
+    Ok(keys.skipped().len())
+}
+
 #[test]
-fn the_greatest_sizes_are_read_and_greater_ones_refused(rt: HostRuntime) -> Result<(), Fail> {
-    let alloc = rt.alloc();
-    let most = repeated(alloc, "7,", "", 1023)?;
-    let entries = format!(in alloc; "{most}7")?;
-    assert_eq!(rt; key_set(alloc, entries.as_str())?.skipped().len(), 1024);
-    let more = format!(in alloc; "{most}7,7")?;
-    assert_eq!(rt;
-        key_set(alloc, more.as_str()).err(),
-        Some(KeysFault::TooManyKeys)
-    );
+fn a_key_set_has_at_most_1024_entries(rt: HostRuntime) -> Result<(), Fail> {
+    assert_eq!(rt; skipped_of(rt.alloc(), 1024), Ok(1024));
+    assert_eq!(rt; skipped_of(rt.alloc(), 1025), Err(KeysFault::TooManyKeys));
+    Ok(())
+}
 
-    for (characters, reason) in [(5462, None), (5463, Some(SkipReason::Length))] {
-        let k = repeated(alloc, "A", "", characters)?;
-        let entry = format!(in alloc; r#"{{"kty":"oct","k":"{k}"}}"#)?;
-        let keys = key_set(alloc, entry.as_str())?;
-        assert_eq!(rt; keys.skipped().first().map(|skip| skip.reason), reason);
-    }
+/// Why a secret of so many characters in base64url is skipped, if it is.
+fn secret_fault(alloc: Global, characters: usize) -> Result<Option<SkipReason>, Fail> {
+    let k = repeated(alloc, "A", "", characters)?;
+    let entry = format!(in alloc; r#"{{"kty":"oct","k":"{k}"}}"#)?;
+    let keys = key_set(alloc, &entry)?;
+    Ok(keys.skipped().first().map(|skip| skip.reason))
+}
 
-    let spaces = repeated(alloc, " ", "", 4_194_240)?;
-    let room = format!(in alloc;
-        r#"{spaces}                                                    {{"keys":[]}}"#
-    )?;
-    assert_eq!(rt; room.len(), 4_194_303);
-    assert_eq!(rt; set_fault(alloc, room.as_str(), " "), None);
+#[test]
+fn a_secret_has_at_most_4096_octets(rt: HostRuntime) -> Result<(), Fail> {
+    assert_eq!(rt; secret_fault(rt.alloc(), 5462)?, None);
+    assert_eq!(rt; secret_fault(rt.alloc(), 5463)?, Some(SkipReason::Length));
+    Ok(())
+}
+
+/// Why an empty key set behind so many spaces is refused, if it is.
+fn spaces_fault(alloc: Global, spaces: usize) -> Result<Option<KeysFault>, Fail> {
+    let mut document = repeated(alloc, " ", "", spaces)?;
+    document.push_str(r#"{"keys":[]}"#)?;
+    Ok(KeySet::read(alloc, document.as_bytes()).err())
+}
+
+#[test]
+fn a_document_has_at_most_4194304_octets(rt: HostRuntime) -> Result<(), Fail> {
+    assert_eq!(rt; spaces_fault(rt.alloc(), 4_194_293)?, None);
     assert_eq!(rt;
-        set_fault(alloc, room.as_str(), "  "),
+        spaces_fault(rt.alloc(), 4_194_294)?,
         Some(KeysFault::TooLong)
     );
     Ok(())
 }
 
-/// Why this document is refused, if it is.
-fn set_fault(alloc: Global, text: &str, end: &str) -> Option<KeysFault> {
-    let Ok(whole) = format!(in alloc; "{text}{end}") else {
-        return Some(KeysFault::OutOfMemory);
-    };
-    KeySet::read(alloc, whole.as_bytes()).err()
-}
+/// Keys, and the thumbprint of each (RFC 7638).
+static THUMBPRINTS: [(&str, &str); 4] = [
+    // RFC 7638, section 3.1
+    (
+        r#"{"kty":"RSA","n":"<RSA_N>","e":"AQAB","alg":"RS256","kid":"2011-04-29"}"#,
+        RSA_THUMBPRINT,
+    ),
+    // RFC 8037, appendix A.3
+    (
+        r#"{"x":"<ED25519_X>","kty":"OKP","crv":"Ed25519"}"#,
+        "kPrK_qmxVWaYVA9wwBF6Iuo3vVzz7TxHCTwXBygrS4k",
+    ),
+    // RFC 9449, section 6.1
+    (
+        r#"{"kty":"EC","x":"l8tFrhx-34tV3hRICRDY9zCkDlpBhF42UQUfWVAWBFs","y":"9VE4jf_Ok_o64zbTTlcuNJajHmt6v9TDVrU0CdvGRDA","crv":"P-256"}"#,
+        "0ZcOCORZNYy-DWpqq30jZyJGHTN0d2HglBV3uiguA4I",
+    ),
+    // the digest by another implementation of SHA-256
+    (r#"{"k":"AA","kty":"oct"}"#, OCT_THUMBPRINT),
+];
 
-#[test]
-fn thumbprints_of_the_standards(rt: HostRuntime) -> Result<(), Fail> {
-    let alloc = rt.alloc();
-    let rsa = format!(in alloc; r#"{RSA},"kid":"2011-04-29"}}"#)?;
-    let okp = format!(in alloc; r#"{{"x":"<ED25519_X>","kty":"OKP","crv":"Ed25519"}}"#)?;
-    let rows = [
-        // RFC 7638, section 3.1
-        (rsa.as_str(), RSA_THUMBPRINT),
-        // RFC 8037, appendix A.3
-        (okp.as_str(), "kPrK_qmxVWaYVA9wwBF6Iuo3vVzz7TxHCTwXBygrS4k"),
-        // RFC 9449, section 6.1
-        (
-            r#"{"kty":"EC","x":"l8tFrhx-34tV3hRICRDY9zCkDlpBhF42UQUfWVAWBFs","y":"9VE4jf_Ok_o64zbTTlcuNJajHmt6v9TDVrU0CdvGRDA","crv":"P-256"}"#,
-            "0ZcOCORZNYy-DWpqq30jZyJGHTN0d2HglBV3uiguA4I",
-        ),
-        // the digest by another implementation of SHA-256
-        (r#"{"k":"AA","kty":"oct"}"#, OCT_THUMBPRINT),
-    ];
-    for (entry, thumbprint) in rows {
+/// Asserts that each key has its thumbprint.
+fn assert_thumbprints(rt: &impl Abort, alloc: Global, rows: &[(&str, &str)]) -> Result<(), Fail> {
+    for &(entry, thumbprint) in rows {
         let keys = key_set(alloc, entry)?;
         let key = keys.key(0).ok_or("no key")?;
         assert_eq!(rt; key.thumbprint(), thumbprint.as_bytes(), "{entry}");
@@ -206,80 +239,96 @@ fn thumbprints_of_the_standards(rt: HostRuntime) -> Result<(), Fail> {
 }
 
 #[test]
-fn the_index_and_the_plain_search_find_the_same_keys(rt: HostRuntime) -> Result<(), Fail> {
-    let alloc = rt.alloc();
-    let secret = r#"{"kty":"oct","k":"AA","kid":"#;
-    let entries = format!(in alloc; r#"{secret}"a"}},{secret}"b"}},7,{secret}"a"}},{RSA}}}"#)?;
-    let keys = key_set(alloc, entries.as_str())?;
-    let rows = [
-        ("a", false, 0, Some(0)),
-        ("a", false, 1, Some(2)),
-        ("a", true, 2, Some(2)),
-        ("a", false, 3, None),
-        ("a", false, u32::MAX, None),
-        ("b", true, 0, Some(1)),
-        ("", true, 0, None),
-        (RSA_THUMBPRINT, true, 0, Some(3)),
-        (RSA_THUMBPRINT, false, 0, None),
-        (RSA_THUMBPRINT, true, 4, None),
-        (OCT_THUMBPRINT, true, 0, None),
-    ];
-    for (kid, thumb, from, number) in rows {
-        assert_eq!(rt;
-            keys.with_kid(kid, thumb, from),
-            number,
-            "{kid} from {from}"
-        );
-        assert_eq!(rt;
-            keys.search_kid(kid, thumb, from),
-            number,
-            "{kid} from {from}"
-        );
+fn thumbprints_of_the_standards(rt: HostRuntime) -> Result<(), Fail> {
+    assert_thumbprints(&rt, rt.alloc(), &THUMBPRINTS)
+}
+
+/// Two secrets of one `kid` with another between them, an entry that is skipped, and the public key of RFC 7638, section 3.1, without
+/// its `kid`.
+const SEARCHED: &str =
+    r#"{"kty":"oct","k":"AA","kid":"a"},{"kty":"oct","k":"AA","kid":"b"},7,{"kty":"oct","k":"AA","kid":"a"},{"kty":"RSA","n":"<RSA_N>","e":"AQAB","alg":"RS256"}"#;
+
+/// A `kid`, whether a thumbprint is one too, where the search begins, and the key that is found.
+static SEARCHES: [(&str, bool, u32, Option<u32>); 11] = [
+    ("a", false, 0, Some(0)),
+    ("a", false, 1, Some(2)),
+    ("a", true, 2, Some(2)),
+    ("a", false, 3, None),
+    ("a", false, u32::MAX, None),
+    ("b", true, 0, Some(1)),
+    ("", true, 0, None),
+    (RSA_THUMBPRINT, true, 0, Some(3)),
+    (RSA_THUMBPRINT, false, 0, None),
+    (RSA_THUMBPRINT, true, 4, None),
+    (OCT_THUMBPRINT, true, 0, None),
+];
+
+/// Asserts that either search in the keys finds what each row says.
+fn assert_searches(rt: &impl Abort, keys: &KeySet, rows: &[(&str, bool, u32, Option<u32>)]) {
+    for &(kid, thumb, from, number) in rows {
+        let found = keys.with_kid(kid, thumb, from);
+        assert_eq!(rt; found, number, "{kid} from {from}");
+        let found = keys.search_kid(kid, thumb, from);
+        assert_eq!(rt; found, number, "{kid} from {from}");
     }
-    Ok(())
 }
 
 #[test]
+fn the_index_and_the_plain_search_find_the_same_keys(rt: HostRuntime) -> Result<(), Fail> {
+    let keys = key_set(rt.alloc(), SEARCHED)?;
+    assert_searches(&rt, &keys, &SEARCHES);
+    Ok(())
+}
+
+/// Secrets with a `kid`, with an empty one, and without.
+const NAMED: &str =
+    r#"{"kty":"oct","k":"AA","kid":"a"},{"kty":"oct","k":"AA","kid":""},{"kty":"oct","k":"AA"}"#;
+
+/// A key, a name, whether a thumbprint is one, and whether the key has that name.
+static NAMES: [(u32, &str, bool, bool); 9] = [
+    (0, "a", false, true),
+    (0, "a", true, true),
+    (0, "A", true, false),
+    (0, OCT_THUMBPRINT, true, false),
+    (1, "", false, true),
+    (1, OCT_THUMBPRINT, true, false),
+    (2, OCT_THUMBPRINT, true, true),
+    (2, OCT_THUMBPRINT, false, false),
+    (2, "", true, false),
+];
+
+#[test]
 fn a_key_answers_to_its_kid_or_else_to_its_thumbprint(rt: HostRuntime) -> Result<(), Fail> {
-    let alloc = rt.alloc();
-    let secret = r#"{"kty":"oct","k":"AA""#;
-    let entries = format!(in alloc; r#"{secret},"kid":"a"}},{secret},"kid":""}},{secret}}}"#)?;
-    let keys = key_set(alloc, entries.as_str())?;
-    let rows = [
-        (0, "a", false, true),
-        (0, "a", true, true),
-        (0, "A", true, false),
-        (0, OCT_THUMBPRINT, true, false),
-        (1, "", false, true),
-        (1, OCT_THUMBPRINT, true, false),
-        (2, OCT_THUMBPRINT, true, true),
-        (2, OCT_THUMBPRINT, false, false),
-        (2, "", true, false),
-    ];
-    for (j, name, thumb, answer) in rows {
+    let keys = key_set(rt.alloc(), NAMED)?;
+    for &(j, name, thumb, answer) in &NAMES {
         let key = keys.key(j).ok_or("no key")?;
         assert_eq!(rt; key.is_named(name, thumb), answer, "key {j}, {name}");
     }
     Ok(())
 }
 
-#[test]
-fn permitted_operations(rt: HostRuntime) -> Result<(), Fail> {
-    let alloc = rt.alloc();
-    let rows = [
-        ("", true, true),
-        (r#","use":"sig""#, true, true),
-        (r#","use":"SIG""#, false, false),
-        (r#","use":"enc","key_ops":["verify","sign"]"#, false, false),
-        (r#","key_ops":[]"#, false, false),
-        (
-            r#","use":"sig","key_ops":["encrypt","verify"]"#,
-            true,
-            false,
-        ),
-        (r#","key_ops":["sign"]"#, false, true),
-    ];
-    for (members, verify, sign) in rows {
+/// Members of a key, and whether it may verify and sign.
+static OPERATIONS: [(&str, bool, bool); 7] = [
+    ("", true, true),
+    (r#","use":"sig""#, true, true),
+    (r#","use":"SIG""#, false, false),
+    (r#","use":"enc","key_ops":["verify","sign"]"#, false, false),
+    (r#","key_ops":[]"#, false, false),
+    (
+        r#","use":"sig","key_ops":["encrypt","verify"]"#,
+        true,
+        false,
+    ),
+    (r#","key_ops":["sign"]"#, false, true),
+];
+
+/// Asserts that each key permits these operations and no others.
+fn assert_operations(
+    rt: &impl Abort,
+    alloc: Global,
+    rows: &[(&str, bool, bool)],
+) -> Result<(), Fail> {
+    for &(members, verify, sign) in rows {
         let entry = format!(in alloc; r#"{{"kty":"oct","k":"AA"{members}}}"#)?;
         let keys = key_set(alloc, entry.as_str())?;
         let key = keys.key(0).ok_or("no key")?;
@@ -287,6 +336,11 @@ fn permitted_operations(rt: HostRuntime) -> Result<(), Fail> {
         assert_eq!(rt; key.permits("sign"), sign, "{members}");
     }
     Ok(())
+}
+
+#[test]
+fn permitted_operations(rt: HostRuntime) -> Result<(), Fail> {
+    assert_operations(&rt, rt.alloc(), &OPERATIONS)
 }
 
 /// The curve or the key type that a view shows.
@@ -307,24 +361,26 @@ fn view_name(key: &Key) -> &'static str {
     }
 }
 
+/// A key of each kind but `oct`.
+const KINDS: &str =
+    r#"{"kty":"RSA","n":"<RSA_N>","e":"AQAB","alg":"RS256","kid":""},{"kty":"EC","crv":"P-256","x":"<ED25519_X>","y":"<ED25519_X>"},{"kty":"OKP","crv":"Ed25519","x":"<ED25519_X>","alg":""}"#;
+
+/// What a view of each of them shows, its `kid` and its `alg`.
+static VIEWS: [(u32, &str, Option<&str>, Option<&str>); 3] = [
+    (0, "RSA", Some(""), Some("RS256")),
+    (1, "P-256", None, None),
+    (2, "Ed25519", None, Some("")),
+];
+
 #[test]
 fn members_of_a_key(rt: HostRuntime) -> Result<(), Fail> {
-    let alloc = rt.alloc();
-    let entries = format!(in alloc;
-        r#"{RSA},"kid":""}},{{"kty":"EC","crv":"P-256","x":"<ED25519_X>","y":"<ED25519_X>"}},{{"kty":"OKP","crv":"Ed25519","x":"<ED25519_X>","alg":""}}"#
-    )?;
-    let keys = key_set(alloc, entries.as_str())?;
-    let rows = [
-        ("RSA", Some(""), Some("RS256")),
-        ("P-256", None, None),
-        ("Ed25519", None, Some("")),
-    ];
+    let keys = key_set(rt.alloc(), KINDS)?;
     assert_eq!(rt; keys.len(), 3);
-    for (j, (name, kid, alg)) in rows.iter().enumerate() {
-        let key = keys.key(j as u32).ok_or("no key")?;
-        assert_eq!(rt; view_name(key), *name);
-        assert_eq!(rt; key.kid(), *kid);
-        assert_eq!(rt; key.alg_text(), *alg);
+    for &(j, name, kid, alg) in &VIEWS {
+        let key = keys.key(j).ok_or("no key")?;
+        assert_eq!(rt; view_name(key), name);
+        assert_eq!(rt; key.kid(), kid);
+        assert_eq!(rt; key.alg_text(), alg);
     }
     Ok(())
 }

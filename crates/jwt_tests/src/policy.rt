@@ -11,6 +11,7 @@ use jwt_support::texts::nested;
 use jwt_support::verifiers::{Asked, SAME};
 use jwt_text::encode_text;
 use std::alloc::Global;
+use std::process::Abort;
 use std::test::Fail;
 
 /// A policy that says something about everything.
@@ -50,78 +51,86 @@ fn refusal(alloc: Global, document: &[u8]) -> Result<String, Fail> {
     }
 }
 
-#[test]
-fn a_document_is_read_or_refused_for_its_first_fault(rt: HostRuntime) -> Result<(), Fail> {
-    for (document, want) in [
-        ("", "Json"),
-        ("[]", "Json"),
-        (r#"[{"a":1,"a":2}]"#, "Json"),
-        (r#"{"zz":1,"zz":2}"#, "NameTwice"),
-        ("{}", "NoAlgorithm"),
-        (r#"{"algs":[]}"#, "NoAlgorithm"),
-        (r#"{"mode":7}"#, "NoAlgorithm"),
-        (r#"{"zz":1}"#, "Member zz"),
-        (r#"{"algs":["HS256"],"exp":1}"#, "Member exp"),
-        // Byte order isn't the order of UTF-16: U+FFEE comes before U+1F511.
-        (r#"{"\ud83d\udd11":1,"\uffee":1}"#, "Member \u{ffee}"),
-        (r#"{"algs":null}"#, "Member algs"),
-        (r#"{"algs":"HS256"}"#, "Member algs"),
-        (r#"{"algs":[1,"none"]}"#, "Member algs"),
-        (r#"{"algs":["none"]}"#, "Range algs"),
-        (r#"{"algs":["HS256","hs256"]}"#, "Range algs"),
-        (r#"{"version":3}"#, "Range version"),
-        (r#"{"version":1.0,"algs":[]}"#, "Member version"),
-        (r#"{"algs":["HS256"],"mode":"Any"}"#, "Range mode"),
-        (r#"{"algs":["HS256"],"limit":0,"mode":7}"#, "Member mode"),
-        (r#"{"algs":["HS256"],"limit":0}"#, "Range limit"),
-        (r#"{"algs":["HS256"],"limit":1048577}"#, "Range limit"),
-        (
-            r#"{"algs":["HS256"],"work":9223372036854775807}"#,
-            "Range work",
-        ),
-        (
-            r#"{"algs":["HS256"],"work":9223372036854775808}"#,
-            "Member work",
-        ),
-        (
-            r#"{"algs":["HS256"],"max_signatures":33}"#,
-            "Range max_signatures",
-        ),
-        (r#"{"algs":["HS256"],"line_feed":1}"#, "Member line_feed"),
-        (r#"{"algs":["HS256"],"typ":""}"#, "Range typ"),
-        (
-            r#"{"algs":["HS256"],"understood":["b64"]}"#,
-            "Range understood",
-        ),
-        (
-            r#"{"algs":["HS256"],"understood":["x","crit"]}"#,
-            "Range understood",
-        ),
-        (
-            r#"{"algs":["HS256"],"understood":["crit",7]}"#,
-            "Member understood",
-        ),
-        (r#"{"algs":["HS256"],"leeway":86401}"#, "Range leeway"),
-        (r#"{"algs":["HS256"],"leeway":-1}"#, "Range leeway"),
-        (r#"{"algs":["HS256"],"leeway":1.5}"#, "Member leeway"),
-        (r#"{"algs":["HS256"],"max_age":0}"#, "Range max_age"),
-        (r#"{"version":3,"algs":["HS256"]}"#, "Range version"),
-        (r#"{"algs":["HS256"],"max_calls":1}"#, "Member max_calls"),
-        (r#"{"version":"2","max_calls":1}"#, "Member max_calls"),
-        (
-            r#"{"version":2,"algs":["HS256"],"max_calls":32769}"#,
-            "Range max_calls",
-        ),
-        (
-            r#"{"version":2,"algs":["HS256","HS256","EdDSA"],"max_calls":0}"#,
-            "read",
-        ),
-        (FULL, "read"),
-    ] {
-        let found = refusal(rt.alloc(), document.as_bytes())?;
+/// Documents, and what is said of each: `read`, or the fault with the member that it names.
+static DOCUMENTS: [(&str, &str); 39] = [
+    ("", "Json"),
+    ("[]", "Json"),
+    (r#"[{"a":1,"a":2}]"#, "Json"),
+    (r#"{"zz":1,"zz":2}"#, "NameTwice"),
+    ("{}", "NoAlgorithm"),
+    (r#"{"algs":[]}"#, "NoAlgorithm"),
+    (r#"{"mode":7}"#, "NoAlgorithm"),
+    (r#"{"zz":1}"#, "Member zz"),
+    (r#"{"algs":["HS256"],"exp":1}"#, "Member exp"),
+    // Byte order isn't the order of UTF-16: U+FFEE comes before U+1F511.
+    (r#"{"\ud83d\udd11":1,"\uffee":1}"#, "Member \u{ffee}"),
+    (r#"{"algs":null}"#, "Member algs"),
+    (r#"{"algs":"HS256"}"#, "Member algs"),
+    (r#"{"algs":[1,"none"]}"#, "Member algs"),
+    (r#"{"algs":["none"]}"#, "Range algs"),
+    (r#"{"algs":["HS256","hs256"]}"#, "Range algs"),
+    (r#"{"version":3}"#, "Range version"),
+    (r#"{"version":1.0,"algs":[]}"#, "Member version"),
+    (r#"{"algs":["HS256"],"mode":"Any"}"#, "Range mode"),
+    (r#"{"algs":["HS256"],"limit":0,"mode":7}"#, "Member mode"),
+    (r#"{"algs":["HS256"],"limit":0}"#, "Range limit"),
+    (r#"{"algs":["HS256"],"limit":1048577}"#, "Range limit"),
+    (
+        r#"{"algs":["HS256"],"work":9223372036854775807}"#,
+        "Range work",
+    ),
+    (
+        r#"{"algs":["HS256"],"work":9223372036854775808}"#,
+        "Member work",
+    ),
+    (
+        r#"{"algs":["HS256"],"max_signatures":33}"#,
+        "Range max_signatures",
+    ),
+    (r#"{"algs":["HS256"],"line_feed":1}"#, "Member line_feed"),
+    (r#"{"algs":["HS256"],"typ":""}"#, "Range typ"),
+    (
+        r#"{"algs":["HS256"],"understood":["b64"]}"#,
+        "Range understood",
+    ),
+    (
+        r#"{"algs":["HS256"],"understood":["x","crit"]}"#,
+        "Range understood",
+    ),
+    (
+        r#"{"algs":["HS256"],"understood":["crit",7]}"#,
+        "Member understood",
+    ),
+    (r#"{"algs":["HS256"],"leeway":86401}"#, "Range leeway"),
+    (r#"{"algs":["HS256"],"leeway":-1}"#, "Range leeway"),
+    (r#"{"algs":["HS256"],"leeway":1.5}"#, "Member leeway"),
+    (r#"{"algs":["HS256"],"max_age":0}"#, "Range max_age"),
+    (r#"{"version":3,"algs":["HS256"]}"#, "Range version"),
+    (r#"{"algs":["HS256"],"max_calls":1}"#, "Member max_calls"),
+    (r#"{"version":"2","max_calls":1}"#, "Member max_calls"),
+    (
+        r#"{"version":2,"algs":["HS256"],"max_calls":32769}"#,
+        "Range max_calls",
+    ),
+    (
+        r#"{"version":2,"algs":["HS256","HS256","EdDSA"],"max_calls":0}"#,
+        "read",
+    ),
+    (FULL, "read"),
+];
+
+/// Asserts that each document is read, or refused as it says.
+fn assert_documents(rt: &impl Abort, alloc: Global, rows: &[(&str, &str)]) -> Result<(), Fail> {
+    for &(document, want) in rows {
+        let found = refusal(alloc, document.as_bytes())?;
         assert_eq!(rt; found.as_str(), want, "at {document}");
     }
     Ok(())
+}
+
+#[test]
+fn a_document_is_read_or_refused_for_its_first_fault(rt: HostRuntime) -> Result<(), Fail> {
+    assert_documents(&rt, rt.alloc(), &DOCUMENTS)
 }
 
 #[test]
@@ -215,182 +224,202 @@ fn bar_of(
     bar_in(alloc, &policy, &token)
 }
 
-#[test]
-fn the_first_bar_is_answered(rt: HostRuntime) -> Result<(), Fail> {
-    let rs256 = r#"{"algs":["RS256"]}"#;
-    let typed = r#"{"algs":["HS256"],"typ":"at+jwt"}"#;
-    let understands = r#"{"algs":["HS256"],"understood":["x"]}"#;
-    let with_kid = r#"{"algs":["HS256"],"need_kid":true}"#;
-    for (policy, protected, unprotected, want) in [
-        (HS256, r#"{"alg":"HS256"}"#, "", None),
-        (
-            HS256,
-            "{}",
-            r#"{"alg":"HS256"}"#,
-            Some(SigFault::AlgMissing),
-        ),
-        (HS256, r#"{"alg":7}"#, "", Some(SigFault::AlgMissing)),
-        (HS256, r#"{"alg":"none"}"#, "", Some(SigFault::AlgNone)),
-        (HS256, r#"{"alg":"hs256"}"#, "", Some(SigFault::AlgUnknown)),
-        (
-            HS256,
-            r#"{"alg":"HS384"}"#,
-            "",
-            Some(SigFault::AlgNotAllowed),
-        ),
-        (
-            HS256,
-            r#"{"alg":"RS256"}"#,
-            "",
-            Some(SigFault::AlgNotAllowed),
-        ),
-        (rs256, r#"{"alg":"RS256"}"#, "", Some(SigFault::NoVerifier)),
-        (
-            HS256,
-            r#"{"alg":"HS256"}"#,
-            r#"{"jku":null}"#,
-            Some(SigFault::KeyUrl),
-        ),
-        (
-            HS256,
-            r#"{"alg":"HS256","crit":["x"],"x":1,"x5u":""}"#,
-            "",
-            Some(SigFault::KeyUrl),
-        ),
-        (
-            HS256,
-            r#"{"alg":"HS256","enc":1,"b64":true}"#,
-            "",
-            Some(SigFault::EncHeader),
-        ),
-        (
-            HS256,
-            r#"{"alg":"HS256","crit":["b64"],"b64":false}"#,
-            "",
-            Some(SigFault::Unencoded),
-        ),
-        (
-            HS256,
-            r#"{"alg":"HS256","crit":["b64"]}"#,
-            "",
-            Some(SigFault::CritShape),
-        ),
-        (
-            HS256,
-            r#"{"alg":"HS256","crit":[]}"#,
-            "",
-            Some(SigFault::CritShape),
-        ),
-        (
-            HS256,
-            r#"{"alg":"HS256","crit":null}"#,
-            "",
-            Some(SigFault::CritShape),
-        ),
-        (
-            HS256,
-            r#"{"alg":"HS256","crit":["x"]}"#,
-            "",
-            Some(SigFault::CritShape),
-        ),
-        (
-            HS256,
-            r#"{"alg":"HS256","crit":["alg"]}"#,
-            "",
-            Some(SigFault::CritShape),
-        ),
-        (
-            understands,
-            r#"{"alg":"HS256","crit":["x","x"],"x":1}"#,
-            "",
-            Some(SigFault::CritShape),
-        ),
-        (
-            understands,
-            r#"{"alg":"HS256"}"#,
-            r#"{"crit":["x"],"x":1}"#,
-            Some(SigFault::CritShape),
-        ),
-        (
-            understands,
-            r#"{"alg":"HS256","crit":["x"]}"#,
-            r#"{"x":1}"#,
-            None,
-        ),
-        (
-            HS256,
-            r#"{"alg":"HS256","crit":["x"],"x":1}"#,
-            "",
-            Some(SigFault::CritUnknown),
-        ),
-        (
-            HS256,
-            r#"{"alg":"HS256","typ":null}"#,
-            "",
-            Some(SigFault::TypShape),
-        ),
-        (
-            HS256,
-            r#"{"alg":"HS256","cty":7}"#,
-            r#"{"typ":7}"#,
-            Some(SigFault::TypShape),
-        ),
-        (HS256, r#"{"alg":"HS256"}"#, r#"{"typ":7}"#, None),
-        (
-            typed,
-            r#"{"alg":"HS256"}"#,
-            r#"{"typ":"at+jwt"}"#,
-            Some(SigFault::TypMismatch),
-        ),
-        (
-            typed,
-            r#"{"alg":"HS256","typ":"JWT"}"#,
-            "",
-            Some(SigFault::TypMismatch),
-        ),
-        (
-            typed,
-            r#"{"alg":"HS256","typ":"at+jwt; x=1"}"#,
-            "",
-            Some(SigFault::TypMismatch),
-        ),
-        (
-            typed,
-            r#"{"alg":"HS256","typ":"application/AT+JWT"}"#,
-            "",
-            None,
-        ),
-        (
-            HS256,
-            r#"{"alg":"HS256","cty":"jwt"}"#,
-            "",
-            Some(SigFault::Nested),
-        ),
-        (
-            HS256,
-            r#"{"alg":"HS256","cty":"APPLICATION/JWT"}"#,
-            "",
-            Some(SigFault::Nested),
-        ),
-        (HS256, r#"{"alg":"HS256","cty":"jwt/"}"#, "", None),
-        (
-            HS256,
-            r#"{"alg":"HS256"}"#,
-            r#"{"kid":null}"#,
-            Some(SigFault::KidShape),
-        ),
-        (
-            with_kid,
-            r#"{"alg":"HS256"}"#,
-            "",
-            Some(SigFault::KidMissing),
-        ),
-        (with_kid, r#"{"alg":"HS256"}"#, r#"{"kid":""}"#, None),
-    ] {
-        let found = bar_of(rt.alloc(), policy, protected, unprotected)?;
+/// A policy of RS256 alone.
+const RS256: &str = r#"{"algs":["RS256"]}"#;
+
+/// A policy that asks for a type.
+const TYPED: &str = r#"{"algs":["HS256"],"typ":"at+jwt"}"#;
+
+/// A policy that understands one extension.
+const UNDERSTANDS: &str = r#"{"algs":["HS256"],"understood":["x"]}"#;
+
+/// A policy that asks for a `kid`.
+const WITH_KID: &str = r#"{"algs":["HS256"],"need_kid":true}"#;
+
+/// A policy, the protected and the unprotected header of a signature, and its bar.
+static BARS: [(&str, &str, &str, Option<SigFault>); 34] = [
+    (HS256, r#"{"alg":"HS256"}"#, "", None),
+    (
+        HS256,
+        "{}",
+        r#"{"alg":"HS256"}"#,
+        Some(SigFault::AlgMissing),
+    ),
+    (HS256, r#"{"alg":7}"#, "", Some(SigFault::AlgMissing)),
+    (HS256, r#"{"alg":"none"}"#, "", Some(SigFault::AlgNone)),
+    (HS256, r#"{"alg":"hs256"}"#, "", Some(SigFault::AlgUnknown)),
+    (
+        HS256,
+        r#"{"alg":"HS384"}"#,
+        "",
+        Some(SigFault::AlgNotAllowed),
+    ),
+    (
+        HS256,
+        r#"{"alg":"RS256"}"#,
+        "",
+        Some(SigFault::AlgNotAllowed),
+    ),
+    (RS256, r#"{"alg":"RS256"}"#, "", Some(SigFault::NoVerifier)),
+    (
+        HS256,
+        r#"{"alg":"HS256"}"#,
+        r#"{"jku":null}"#,
+        Some(SigFault::KeyUrl),
+    ),
+    (
+        HS256,
+        r#"{"alg":"HS256","crit":["x"],"x":1,"x5u":""}"#,
+        "",
+        Some(SigFault::KeyUrl),
+    ),
+    (
+        HS256,
+        r#"{"alg":"HS256","enc":1,"b64":true}"#,
+        "",
+        Some(SigFault::EncHeader),
+    ),
+    (
+        HS256,
+        r#"{"alg":"HS256","crit":["b64"],"b64":false}"#,
+        "",
+        Some(SigFault::Unencoded),
+    ),
+    (
+        HS256,
+        r#"{"alg":"HS256","crit":["b64"]}"#,
+        "",
+        Some(SigFault::CritShape),
+    ),
+    (
+        HS256,
+        r#"{"alg":"HS256","crit":[]}"#,
+        "",
+        Some(SigFault::CritShape),
+    ),
+    (
+        HS256,
+        r#"{"alg":"HS256","crit":null}"#,
+        "",
+        Some(SigFault::CritShape),
+    ),
+    (
+        HS256,
+        r#"{"alg":"HS256","crit":["x"]}"#,
+        "",
+        Some(SigFault::CritShape),
+    ),
+    (
+        HS256,
+        r#"{"alg":"HS256","crit":["alg"]}"#,
+        "",
+        Some(SigFault::CritShape),
+    ),
+    (
+        UNDERSTANDS,
+        r#"{"alg":"HS256","crit":["x","x"],"x":1}"#,
+        "",
+        Some(SigFault::CritShape),
+    ),
+    (
+        UNDERSTANDS,
+        r#"{"alg":"HS256"}"#,
+        r#"{"crit":["x"],"x":1}"#,
+        Some(SigFault::CritShape),
+    ),
+    (
+        UNDERSTANDS,
+        r#"{"alg":"HS256","crit":["x"]}"#,
+        r#"{"x":1}"#,
+        None,
+    ),
+    (
+        HS256,
+        r#"{"alg":"HS256","crit":["x"],"x":1}"#,
+        "",
+        Some(SigFault::CritUnknown),
+    ),
+    (
+        HS256,
+        r#"{"alg":"HS256","typ":null}"#,
+        "",
+        Some(SigFault::TypShape),
+    ),
+    (
+        HS256,
+        r#"{"alg":"HS256","cty":7}"#,
+        r#"{"typ":7}"#,
+        Some(SigFault::TypShape),
+    ),
+    (HS256, r#"{"alg":"HS256"}"#, r#"{"typ":7}"#, None),
+    (
+        TYPED,
+        r#"{"alg":"HS256"}"#,
+        r#"{"typ":"at+jwt"}"#,
+        Some(SigFault::TypMismatch),
+    ),
+    (
+        TYPED,
+        r#"{"alg":"HS256","typ":"JWT"}"#,
+        "",
+        Some(SigFault::TypMismatch),
+    ),
+    (
+        TYPED,
+        r#"{"alg":"HS256","typ":"at+jwt; x=1"}"#,
+        "",
+        Some(SigFault::TypMismatch),
+    ),
+    (
+        TYPED,
+        r#"{"alg":"HS256","typ":"application/AT+JWT"}"#,
+        "",
+        None,
+    ),
+    (
+        HS256,
+        r#"{"alg":"HS256","cty":"jwt"}"#,
+        "",
+        Some(SigFault::Nested),
+    ),
+    (
+        HS256,
+        r#"{"alg":"HS256","cty":"APPLICATION/JWT"}"#,
+        "",
+        Some(SigFault::Nested),
+    ),
+    (HS256, r#"{"alg":"HS256","cty":"jwt/"}"#, "", None),
+    (
+        HS256,
+        r#"{"alg":"HS256"}"#,
+        r#"{"kid":null}"#,
+        Some(SigFault::KidShape),
+    ),
+    (
+        WITH_KID,
+        r#"{"alg":"HS256"}"#,
+        "",
+        Some(SigFault::KidMissing),
+    ),
+    (WITH_KID, r#"{"alg":"HS256"}"#, r#"{"kid":""}"#, None),
+];
+
+/// Asserts that each signature has its bar.
+fn assert_bars(
+    rt: &impl Abort,
+    alloc: Global,
+    rows: &[(&str, &str, &str, Option<SigFault>)],
+) -> Result<(), Fail> {
+    for &(policy, protected, unprotected, want) in rows {
+        let found = bar_of(alloc, policy, protected, unprotected)?;
         assert_eq!(rt; found, want, "at {protected} {unprotected}");
     }
     Ok(())
+}
+
+#[test]
+fn the_first_bar_is_answered(rt: HostRuntime) -> Result<(), Fail> {
+    assert_bars(&rt, rt.alloc(), &BARS)
 }
 
 // ---- keys
@@ -432,61 +461,84 @@ fn is_eligible(
     is_eligible_in(alloc, &policy, &token, key)
 }
 
-#[test]
-fn a_key_is_eligible_by_kind_members_and_kid(rt: HostRuntime) -> Result<(), Fail> {
-    let alloc = rt.alloc();
-    let hs256 = r#"{"alg":"HS256"}"#;
-    let rs256 = r#"{"alg":"RS256"}"#;
-    let two = r#"{"algs":["HS256","RS256"]}"#;
-    let by_thumbprint = r#"{"algs":["RS256"],"thumb_kid":true}"#;
-    let of_rsa = r#"{"kid":"NzbLsXh8uDCcd-6MNwXF4W_7noWXFZAfHkxZsRGC9Xs"}"#;
-    let short = r#"{"kty":"oct","k":"eW91ci0yNTYtYml0LXNlY3JldA""#;
-    for (policy, protected, unprotected, key, more, want) in [
-        (HS256, hs256, "", SECRET, "", true),
-        (HS256, hs256, "", short, "", false),
-        (two, hs256, "", RSA, "", false),
-        (two, rs256, "", SECRET, "", false),
-        (two, rs256, "", RSA, "", true),
-        (HS256, rs256, "", RSA, "", false),
-        (HS256, hs256, "", SECRET, r#","alg":"HS384""#, false),
-        (
-            HS256,
-            hs256,
-            "",
-            SECRET,
-            r#","alg":"HS256","use":"sig","key_ops":["sign","verify"]"#,
-            true,
-        ),
-        (HS256, hs256, "", SECRET, r#","use":"enc""#, false),
-        (HS256, hs256, "", SECRET, r#","key_ops":["sign"]"#, false),
-        (
-            HS256,
-            hs256,
-            r#"{"kid":"x"}"#,
-            SECRET,
-            r#","kid":"x""#,
-            true,
-        ),
-        (
-            HS256,
-            hs256,
-            r#"{"kid":"x"}"#,
-            SECRET,
-            r#","kid":"y""#,
-            false,
-        ),
-        (HS256, hs256, r#"{"kid":"x"}"#, SECRET, "", false),
-        (HS256, hs256, "", SECRET, r#","kid":"y""#, true),
-        (two, rs256, of_rsa, RSA, "", false),
-        (by_thumbprint, rs256, of_rsa, RSA, "", true),
-        (by_thumbprint, rs256, of_rsa, RSA, r#","kid":"x""#, false),
-        (by_thumbprint, rs256, r#"{"kid":"x"}"#, RSA, "", false),
-    ] {
+/// The header of a signature by HS256.
+const BY_HS256: &str = r#"{"alg":"HS256"}"#;
+
+/// The header of a signature by RS256.
+const BY_RS256: &str = r#"{"alg":"RS256"}"#;
+
+/// A policy of two algorithms.
+const TWO: &str = r#"{"algs":["HS256","RS256"]}"#;
+
+/// A policy that takes a thumbprint for a `kid`.
+const BY_THUMBPRINT: &str = r#"{"algs":["RS256"],"thumb_kid":true}"#;
+
+/// An unprotected header with the thumbprint of the public key.
+const OF_RSA: &str = r#"{"kid":"NzbLsXh8uDCcd-6MNwXF4W_7noWXFZAfHkxZsRGC9Xs"}"#;
+
+/// A secret of 19 octets, without its closing brace.
+const SHORT: &str = r#"{"kty":"oct","k":"eW91ci0yNTYtYml0LXNlY3JldA""#;
+
+/// A policy, the two headers of a signature, a key and more members of it, and whether the key is eligible.
+static PAIRS: [(&str, &str, &str, &str, &str, bool); 18] = [
+    (HS256, BY_HS256, "", SECRET, "", true),
+    (HS256, BY_HS256, "", SHORT, "", false),
+    (TWO, BY_HS256, "", RSA, "", false),
+    (TWO, BY_RS256, "", SECRET, "", false),
+    (TWO, BY_RS256, "", RSA, "", true),
+    (HS256, BY_RS256, "", RSA, "", false),
+    (HS256, BY_HS256, "", SECRET, r#","alg":"HS384""#, false),
+    (
+        HS256,
+        BY_HS256,
+        "",
+        SECRET,
+        r#","alg":"HS256","use":"sig","key_ops":["sign","verify"]"#,
+        true,
+    ),
+    (HS256, BY_HS256, "", SECRET, r#","use":"enc""#, false),
+    (HS256, BY_HS256, "", SECRET, r#","key_ops":["sign"]"#, false),
+    (
+        HS256,
+        BY_HS256,
+        r#"{"kid":"x"}"#,
+        SECRET,
+        r#","kid":"x""#,
+        true,
+    ),
+    (
+        HS256,
+        BY_HS256,
+        r#"{"kid":"x"}"#,
+        SECRET,
+        r#","kid":"y""#,
+        false,
+    ),
+    (HS256, BY_HS256, r#"{"kid":"x"}"#, SECRET, "", false),
+    (HS256, BY_HS256, "", SECRET, r#","kid":"y""#, true),
+    (TWO, BY_RS256, OF_RSA, RSA, "", false),
+    (BY_THUMBPRINT, BY_RS256, OF_RSA, RSA, "", true),
+    (BY_THUMBPRINT, BY_RS256, OF_RSA, RSA, r#","kid":"x""#, false),
+    (BY_THUMBPRINT, BY_RS256, r#"{"kid":"x"}"#, RSA, "", false),
+];
+
+/// Asserts that each key is eligible, or isn't.
+fn assert_pairs(
+    rt: &impl Abort,
+    alloc: Global,
+    rows: &[(&str, &str, &str, &str, &str, bool)],
+) -> Result<(), Fail> {
+    for &(policy, protected, unprotected, key, more, want) in rows {
         let key = format!(in alloc; "{key}{more}}}")?;
         let found = is_eligible(alloc, policy, protected, unprotected, key.as_str())?;
         assert_eq!(rt; found, want, "at {protected} {unprotected} {more}");
     }
     Ok(())
+}
+
+#[test]
+fn a_key_is_eligible_by_kind_members_and_kid(rt: HostRuntime) -> Result<(), Fail> {
+    assert_pairs(&rt, rt.alloc(), &PAIRS)
 }
 
 // ---- claims
@@ -525,69 +577,93 @@ fn fault_of(alloc: Global, policy: &Policy, payload: &str, now: i64) -> Result<S
     }
 }
 
-#[test]
-fn claims_hold_or_are_refused_for_their_first_fault(rt: HostRuntime) -> Result<(), Fail> {
-    let lenient = r#"{"algs":["HS256"],"leeway":1}"#;
-    let most = r#"{"algs":["HS256"],"leeway":86400}"#;
-    let aged = r#"{"algs":["HS256"],"max_age":10}"#;
-    let asks = r#"{"algs":["HS256"],"required":["sub","iat","jti"],"max_age":10}"#;
-    let issued = r#"{"algs":["HS256"],"issuers":["ann"]}"#;
-    let api = r#"{"algs":["HS256"],"audiences":["b","api"]}"#;
-    for (policy, payload, now, want) in [
-        (HS256, "{}", 0, "none"),
-        (HS256, "[]", 0, "ClaimsShape"),
-        (HS256, r#"{"a":1,"a":1}"#, 0, "ClaimsShape"),
-        (HS256, r#"{"iss":7,"sub":7}"#, 0, "ClaimKind iss"),
-        (
-            HS256,
-            r#"{"iss":"a","exp":1.0,"nbf":"x"}"#,
-            0,
-            "ClaimDate exp",
-        ),
-        (HS256, r#"{"exp":"1"}"#, 0, "ClaimKind exp"),
-        (HS256, r#"{"exp":1e3}"#, 0, "ClaimDate exp"),
-        (HS256, r#"{"exp":9223372036854775808}"#, 0, "ClaimDate exp"),
-        (HS256, r#"{"nbf":null}"#, 0, "ClaimKind nbf"),
-        (HS256, r#"{"iat":-0}"#, 0, "ClaimDate iat"),
-        (HS256, r#"{"jti":[]}"#, 0, "ClaimKind jti"),
-        (HS256, r#"{"aud":["a",7]}"#, 0, "ClaimKind aud"),
-        (HS256, r#"{"exp":100}"#, 99, "none"),
-        (HS256, r#"{"exp":100}"#, 100, "Expired"),
-        (lenient, r#"{"exp":100}"#, 100, "none"),
-        (HS256, r#"{"nbf":100}"#, 99, "NotYet"),
-        (lenient, r#"{"nbf":100}"#, 99, "none"),
-        (aged, r#"{"iat":100}"#, 99, "IssuedLater"),
-        (aged, r#"{"iat":100}"#, 110, "none"),
-        (aged, r#"{"iat":100}"#, 111, "TooOld"),
-        (aged, "{}", 0, "ClaimMissing iat"),
-        (asks, "{}", 0, "ClaimMissing sub"),
-        (asks, r#"{"sub":"a"}"#, 0, "ClaimMissing iat"),
-        (
-            asks,
-            r#"{"sub":"a","iat":1,"exp":0}"#,
-            0,
-            "ClaimMissing jti",
-        ),
-        (issued, "{}", 0, "Issuer"),
-        (issued, r#"{"iss":"Ann","aud":"a"}"#, 0, "Issuer"),
-        (issued, r#"{"iss":"ann"}"#, 0, "none"),
-        (HS256, r#"{"aud":"a"}"#, 0, "Audience"),
-        (api, r#"{"aud":[]}"#, 0, "Audience"),
-        (api, r#"{"aud":["a","api"]}"#, 0, "none"),
-        (api, r#"{"aud":"api"}"#, 0, "none"),
-        (most, r#"{"exp":9223372036854775807}"#, i64::MAX, "none"),
-        (
-            HS256,
-            r#"{"exp":-9223372036854775808}"#,
-            i64::MIN,
-            "Expired",
-        ),
-    ] {
-        let policy = policy_of(rt.alloc(), policy)?;
-        let found = fault_of(rt.alloc(), &policy, payload, now)?;
+/// A policy with a leeway of one second.
+const LENIENT: &str = r#"{"algs":["HS256"],"leeway":1}"#;
+
+/// A policy with the greatest leeway.
+const MOST: &str = r#"{"algs":["HS256"],"leeway":86400}"#;
+
+/// A policy that asks for an age.
+const AGED: &str = r#"{"algs":["HS256"],"max_age":10}"#;
+
+/// A policy that asks for three claims and for an age.
+const ASKS: &str = r#"{"algs":["HS256"],"required":["sub","iat","jti"],"max_age":10}"#;
+
+/// A policy that names an issuer.
+const ISSUED: &str = r#"{"algs":["HS256"],"issuers":["ann"]}"#;
+
+/// A policy that names two audiences.
+const API: &str = r#"{"algs":["HS256"],"audiences":["b","api"]}"#;
+
+/// A policy, claims, the moment, and what is said of the claims: `none`, or the fault with the claim that it names.
+static CLAIMS: [(&str, &str, i64, &str); 33] = [
+    (HS256, "{}", 0, "none"),
+    (HS256, "[]", 0, "ClaimsShape"),
+    (HS256, r#"{"a":1,"a":1}"#, 0, "ClaimsShape"),
+    (HS256, r#"{"iss":7,"sub":7}"#, 0, "ClaimKind iss"),
+    (
+        HS256,
+        r#"{"iss":"a","exp":1.0,"nbf":"x"}"#,
+        0,
+        "ClaimDate exp",
+    ),
+    (HS256, r#"{"exp":"1"}"#, 0, "ClaimKind exp"),
+    (HS256, r#"{"exp":1e3}"#, 0, "ClaimDate exp"),
+    (HS256, r#"{"exp":9223372036854775808}"#, 0, "ClaimDate exp"),
+    (HS256, r#"{"nbf":null}"#, 0, "ClaimKind nbf"),
+    (HS256, r#"{"iat":-0}"#, 0, "ClaimDate iat"),
+    (HS256, r#"{"jti":[]}"#, 0, "ClaimKind jti"),
+    (HS256, r#"{"aud":["a",7]}"#, 0, "ClaimKind aud"),
+    (HS256, r#"{"exp":100}"#, 99, "none"),
+    (HS256, r#"{"exp":100}"#, 100, "Expired"),
+    (LENIENT, r#"{"exp":100}"#, 100, "none"),
+    (HS256, r#"{"nbf":100}"#, 99, "NotYet"),
+    (LENIENT, r#"{"nbf":100}"#, 99, "none"),
+    (AGED, r#"{"iat":100}"#, 99, "IssuedLater"),
+    (AGED, r#"{"iat":100}"#, 110, "none"),
+    (AGED, r#"{"iat":100}"#, 111, "TooOld"),
+    (AGED, "{}", 0, "ClaimMissing iat"),
+    (ASKS, "{}", 0, "ClaimMissing sub"),
+    (ASKS, r#"{"sub":"a"}"#, 0, "ClaimMissing iat"),
+    (
+        ASKS,
+        r#"{"sub":"a","iat":1,"exp":0}"#,
+        0,
+        "ClaimMissing jti",
+    ),
+    (ISSUED, "{}", 0, "Issuer"),
+    (ISSUED, r#"{"iss":"Ann","aud":"a"}"#, 0, "Issuer"),
+    (ISSUED, r#"{"iss":"ann"}"#, 0, "none"),
+    (HS256, r#"{"aud":"a"}"#, 0, "Audience"),
+    (API, r#"{"aud":[]}"#, 0, "Audience"),
+    (API, r#"{"aud":["a","api"]}"#, 0, "none"),
+    (API, r#"{"aud":"api"}"#, 0, "none"),
+    (MOST, r#"{"exp":9223372036854775807}"#, i64::MAX, "none"),
+    (
+        HS256,
+        r#"{"exp":-9223372036854775808}"#,
+        i64::MIN,
+        "Expired",
+    ),
+];
+
+/// Asserts that claims hold, or are refused as they say.
+fn assert_claims(
+    rt: &impl Abort,
+    alloc: Global,
+    rows: &[(&str, &str, i64, &str)],
+) -> Result<(), Fail> {
+    for &(policy, payload, now, want) in rows {
+        let policy = policy_of(alloc, policy)?;
+        let found = fault_of(alloc, &policy, payload, now)?;
         assert_eq!(rt; found.as_str(), want, "at {payload} {now}");
     }
     Ok(())
+}
+
+#[test]
+fn claims_hold_or_are_refused_for_their_first_fault(rt: HostRuntime) -> Result<(), Fail> {
+    assert_claims(&rt, rt.alloc(), &CLAIMS)
 }
 
 #[test]

@@ -8,6 +8,7 @@ use jwt_support::examples::{KEYS_A2, NOW, TOKEN_A2};
 use jwt_text::{Reader, decode};
 use jwt_verify::{SigState, Verdict, validate};
 use std::alloc::Global;
+use std::process::Abort;
 use std::test::Fail;
 
 /// A public key: modulus and exponent, in base64url.
@@ -120,7 +121,7 @@ const EXPONENT_OF_65_BITS: Numbers = Numbers {
 };
 
 /// Signatures made by OpenSSL, and by the equations of RFC 8017 where OpenSSL takes no such key.
-const SIGNATURES: [Row; 28] = [
+static SIGNATURES: [Row; 28] = [
     Row {
         shows: "RS256, 2,048 bits, by OpenSSL",
         alg: Alg::RS256,
@@ -348,7 +349,7 @@ const SIGNATURES: [Row; 28] = [
 ];
 
 /// What RS256 and RS384 refuse: encodings that are none (RFC 8017, section 9.2), and numbers and lengths that serve no signature.
-const NO_PKCS1: [Row; 31] = [
+static NO_PKCS1: [Row; 31] = [
     Row {
         shows: "a padding of eight octets, and octets behind the digest (Bleichenbacher)",
         alg: Alg::RS256,
@@ -600,7 +601,7 @@ const NO_PKCS1: [Row; 31] = [
 ];
 
 /// What PS256 and PS384 refuse: encodings that are none (RFC 8017, section 9.1.2).
-const NO_PSS: [Row; 15] = [
+static NO_PSS: [Row; 15] = [
     Row {
         shows: "RS256's signature as PS256's",
         alg: Alg::PS256,
@@ -724,7 +725,7 @@ const NO_PSS: [Row; 15] = [
 ];
 
 /// Keys that are not taken, with what their equation holds of.
-const NO_KEYS: [Row; 8] = [
+static NO_KEYS: [Row; 8] = [
     Row {
         shows: "an exponent of 1, whose signature is the encoding",
         alg: Alg::RS256,
@@ -815,30 +816,29 @@ fn answers(alloc: Global, row: &Row) -> Result<bool, Fail> {
     )
 }
 
-#[test]
-fn signatures_are_accepted(rt: HostRuntime) -> Result<(), Fail> {
-    for row in SIGNATURES.iter() {
-        assert!(rt; answers(rt.alloc(), row)?, "{}", row.shows);
+/// Asserts that each verifier answers as each row says.
+fn assert_answers(rt: &impl Abort, alloc: Global, rows: &[Row]) -> Result<(), Fail> {
+    for row in rows {
+        let right = answers(alloc, row)?;
+        assert!(rt; right, "{}", row.shows);
     }
     Ok(())
+}
+
+#[test]
+fn signatures_are_accepted(rt: HostRuntime) -> Result<(), Fail> {
+    assert_answers(&rt, rt.alloc(), &SIGNATURES)
 }
 
 #[test]
 fn other_octets_are_refused(rt: HostRuntime) -> Result<(), Fail> {
-    for row in NO_PKCS1.iter() {
-        assert!(rt; answers(rt.alloc(), row)?, "{}", row.shows);
-    }
-    for row in NO_PSS.iter() {
-        assert!(rt; answers(rt.alloc(), row)?, "{}", row.shows);
-    }
-    Ok(())
+    assert_answers(&rt, rt.alloc(), &NO_PKCS1)?;
+    assert_answers(&rt, rt.alloc(), &NO_PSS)
 }
 
 #[test]
 fn other_keys_are_refused(rt: HostRuntime) -> Result<(), Fail> {
-    for row in NO_KEYS.iter() {
-        assert!(rt; answers(rt.alloc(), row)?, "{}", row.shows);
-    }
+    assert_answers(&rt, rt.alloc(), &NO_KEYS)?;
     let message = Message {
         protected: PROTECTED,
         payload: b"e30",
@@ -849,19 +849,22 @@ fn other_keys_are_refused(rt: HostRuntime) -> Result<(), Fail> {
     Ok(())
 }
 
+/// Algorithms, and whether [`Pkcs1`] and [`Pss`] name each.
+static NAMED: [(Alg, bool, bool); 9] = [
+    (Alg::RS256, true, false),
+    (Alg::RS384, true, false),
+    (Alg::RS512, true, false),
+    (Alg::PS256, false, true),
+    (Alg::PS384, false, true),
+    (Alg::PS512, false, true),
+    (Alg::HS256, false, false),
+    (Alg::ES256, false, false),
+    (Alg::EdDSA, false, false),
+];
+
 #[test]
 fn each_verifier_names_its_algorithms(rt: HostRuntime) -> Result<(), Fail> {
-    for (alg, pkcs1, pss) in [
-        (Alg::RS256, true, false),
-        (Alg::RS384, true, false),
-        (Alg::RS512, true, false),
-        (Alg::PS256, false, true),
-        (Alg::PS384, false, true),
-        (Alg::PS512, false, true),
-        (Alg::HS256, false, false),
-        (Alg::ES256, false, false),
-        (Alg::EdDSA, false, false),
-    ] {
+    for &(alg, pkcs1, pss) in &NAMED {
         assert_eq!(rt; Pkcs1.names(alg), pkcs1, "{alg:?}");
         assert_eq!(rt; Pss.names(alg), pss, "{alg:?}");
         assert_eq!(rt; Rsa.names(alg), pkcs1 || pss, "{alg:?}");

@@ -176,38 +176,47 @@ fn a_part_lends_its_octets(rt: HostRuntime) -> Result<(), Fail> {
     Ok(())
 }
 
+/// Octets and their text (RFC 4648, section 10, without padding).
+static SPELLINGS: [(&str, &str); 8] = [
+    ("", ""),
+    ("f", "Zg"),
+    ("fo", "Zm8"),
+    ("foo", "Zm9v"),
+    ("foob", "Zm9vYg"),
+    ("fooba", "Zm9vYmE"),
+    ("foobar", "Zm9vYmFy"),
+    ("\0", "AA"),
+];
+
+/// Asserts that the octets of each row have its text, and the text those octets.
+fn assert_spellings(rt: &impl Abort, alloc: Global, rows: &[(&str, &str)]) -> Result<(), Fail> {
+    for &(octets, text) in rows {
+        let encoded = encode(alloc, octets.as_bytes())?;
+        assert_eq!(rt; encoded.as_slice(), text.as_bytes());
+        let decoded = decode(alloc, text.as_bytes())?;
+        assert_eq!(rt; decoded.as_slice(), octets.as_bytes());
+    }
+    Ok(())
+}
+
 #[test]
 fn spells_octets_in_one_way(rt: HostRuntime) -> Result<(), Fail> {
-    let alloc = rt.alloc();
-    // RFC 4648, section 10, without padding.
-    for (octets, text) in [
-        ("", ""),
-        ("f", "Zg"),
-        ("fo", "Zm8"),
-        ("foo", "Zm9v"),
-        ("foob", "Zm9vYg"),
-        ("fooba", "Zm9vYmE"),
-        ("foobar", "Zm9vYmFy"),
-        ("\0", "AA"),
-    ] {
-        assert_eq!(rt;
-            encode(alloc, octets.as_bytes())?.as_slice(),
-            text.as_bytes()
-        );
-        assert_eq!(rt;
-            decode(alloc, text.as_bytes())?.as_slice(),
-            octets.as_bytes()
-        );
-    }
-    assert_eq!(rt; encode(alloc, &[0xfb, 0xff])?.as_slice(), b"-_8".as_slice());
-    for text in [
-        "A", "AB", "AA=", "AA==", "A A", "A+AA", "A/AA", "AAAA\n", "AAAAA",
-    ] {
-        assert_eq!(rt;
-            decode(alloc, text.as_bytes()).err(),
-            Some(TextFault::Base64),
-            "at {text}"
-        );
+    assert_spellings(&rt, rt.alloc(), &SPELLINGS)?;
+    let encoded = encode(rt.alloc(), &[0xfb, 0xff])?;
+    assert_eq!(rt; encoded.as_slice(), b"-_8".as_slice());
+    Ok(())
+}
+
+/// Texts that are no base64url without padding.
+static NO_BASE64: [&str; 9] = [
+    "A", "AB", "AA=", "AA==", "A A", "A+AA", "A/AA", "AAAA\n", "AAAAA",
+];
+
+#[test]
+fn what_is_no_base64url_is_refused(rt: HostRuntime) -> Result<(), Fail> {
+    for text in &NO_BASE64 {
+        let fault = decode(rt.alloc(), text.as_bytes()).err();
+        assert_eq!(rt; fault, Some(TextFault::Base64), "at {text}");
     }
     Ok(())
 }
@@ -266,24 +275,33 @@ fn fault(alloc: Global, octets: &[u8]) -> Option<TextFault> {
     object(alloc, octets).err()
 }
 
+/// Asserts that each text is no object text for its fault, or is one.
+fn assert_faults(rt: &impl Abort, alloc: Global, rows: &[(&str, Option<TextFault>)]) {
+    for &(text, want) in rows {
+        assert_eq!(rt; fault(alloc, text.as_bytes()), want, "at {text}");
+    }
+}
+
+const TWICE: Option<TextFault> = Some(TextFault::NameTwice);
+
+/// Texts, and why each is no object text, where it is none.
+static NAMES: [(&str, Option<TextFault>); 10] = [
+    ("{}", None),
+    (" {\r\n\t\"a\" : [ {\"a\":1} , 2 ] } ", None),
+    (r#"[{"a":1,"a":2}]"#, Some(TextFault::NotObject)),
+    ("7", Some(TextFault::NotObject)),
+    (r#"{"a\":":1}"#, None),
+    (r#"{"a\\":1,"b:":":"}"#, None),
+    (r#"{"a":1,"\u0061":2}"#, TWICE),
+    (r#"{"a":1,"b":2,"a":1}"#, TWICE),
+    (r#"{"b":[{"a":{"c":1},"a":2}]}"#, TWICE),
+    (r#"{"a":{"x":1},"b":{"x":1}}"#, None),
+];
+
 #[test]
 fn an_object_text_has_each_name_once(rt: HostRuntime) -> Result<(), Fail> {
     let alloc = rt.alloc();
-    let twice = Some(TextFault::NameTwice);
-    for (text, want) in [
-        ("{}", None),
-        (" {\r\n\t\"a\" : [ {\"a\":1} , 2 ] } ", None),
-        (r#"[{"a":1,"a":2}]"#, Some(TextFault::NotObject)),
-        ("7", Some(TextFault::NotObject)),
-        (r#"{"a\":":1}"#, None),
-        (r#"{"a\\":1,"b:":":"}"#, None),
-        (r#"{"a":1,"\u0061":2}"#, twice),
-        (r#"{"a":1,"b":2,"a":1}"#, twice),
-        (r#"{"b":[{"a":{"c":1},"a":2}]}"#, twice),
-        (r#"{"a":{"x":1},"b":{"x":1}}"#, None),
-    ] {
-        assert_eq!(rt; fault(alloc, text.as_bytes()), want, "at {text}");
-    }
+    assert_faults(&rt, alloc, &NAMES);
     let one = object(alloc, br#"{"a\":":1}"#)?;
     assert_eq!(rt; one.member_count(), 1);
     assert_eq!(rt; one.name(0), Some(r#"a":"#));
@@ -291,39 +309,42 @@ fn an_object_text_has_each_name_once(rt: HostRuntime) -> Result<(), Fail> {
     Ok(())
 }
 
+/// What is no JSON.
+static NO_JSON: [&str; 16] = [
+    "",
+    " ",
+    "{",
+    r#"{"a"}"#,
+    r#"{"a":1,}"#,
+    "{'a':1}",
+    r#"{"a":1} x"#,
+    r#"{"a":1}{}"#,
+    "\u{feff}{\"a\":1}",
+    r#"{"a":"\ud800"}"#,
+    "{\"a\":\"\u{1}\"}",
+    "{\"a\":\"\n\"}",
+    r#"{"a":1e400}"#,
+    r#"{"a":01}"#,
+    r#"{"a":+1}"#,
+    r#"{"a":NaN}"#,
+];
+
+/// What is no UTF-8: an octet that never stands in it, a letter in two octets, a surrogate.
+static NO_UTF8: [&[u8]; 3] = [
+    b"{\"a\":\"\xff\"}",
+    b"{\"\xc0\xaf\":1}",
+    b"{\"\xed\xa0\x80\":1}",
+];
+
 #[test]
 fn what_is_no_json_is_refused(rt: HostRuntime) -> Result<(), Fail> {
-    let alloc = rt.alloc();
-    for text in [
-        "",
-        " ",
-        "{",
-        r#"{"a"}"#,
-        r#"{"a":1,}"#,
-        "{'a':1}",
-        r#"{"a":1} x"#,
-        r#"{"a":1}{}"#,
-        "\u{feff}{\"a\":1}",
-        r#"{"a":"\ud800"}"#,
-        "{\"a\":\"\u{1}\"}",
-        "{\"a\":\"\n\"}",
-        r#"{"a":1e400}"#,
-        r#"{"a":01}"#,
-        r#"{"a":+1}"#,
-        r#"{"a":NaN}"#,
-    ] {
-        assert_eq!(rt;
-            fault(alloc, text.as_bytes()),
-            Some(TextFault::Json),
-            "at {text}"
-        );
+    for text in &NO_JSON {
+        let found = fault(rt.alloc(), text.as_bytes());
+        assert_eq!(rt; found, Some(TextFault::Json), "at {text}");
     }
-    for octets in [
-        b"{\"a\":\"\xff\"}".as_slice(),
-        b"{\"\xc0\xaf\":1}".as_slice(),
-        b"{\"\xed\xa0\x80\":1}".as_slice(),
-    ] {
-        assert_eq!(rt; fault(alloc, octets), Some(TextFault::Json));
+    for octets in &NO_UTF8 {
+        let found = fault(rt.alloc(), octets);
+        assert_eq!(rt; found, Some(TextFault::Json));
     }
     Ok(())
 }
@@ -343,25 +364,28 @@ fn a_text_nests_127_deep(rt: HostRuntime) -> Result<(), Fail> {
     Ok(())
 }
 
+/// Numbers, and a text.
+const NUMBERS: &[u8] =
+    br#"{"a":7,"b":-9223372036854775808,"c":9223372036854775807,"d":9223372036854775808,"e":-0,"f":1e3,"g":1.0,"h":1e-999,"i":"7"}"#;
+
+/// Members of [`NUMBERS`], the whole number that each is, and whether it is a number.
+static WHOLES: [(&str, Option<i64>, bool); 10] = [
+    ("a", Some(7), true),
+    ("b", Some(i64::MIN), true),
+    ("c", Some(i64::MAX), true),
+    ("d", None, true),
+    ("e", None, true),
+    ("f", None, true),
+    ("g", None, true),
+    ("h", None, true),
+    ("i", None, false),
+    ("j", None, false),
+];
+
 #[test]
 fn numbers_are_whole_within_64_bits(rt: HostRuntime) -> Result<(), Fail> {
-    let alloc = rt.alloc();
-    let numbers = object(
-        alloc,
-        br#"{"a":7,"b":-9223372036854775808,"c":9223372036854775807,"d":9223372036854775808,"e":-0,"f":1e3,"g":1.0,"h":1e-999,"i":"7"}"#,
-    )?;
-    for (name, want, is_number) in [
-        ("a", Some(7), true),
-        ("b", Some(i64::MIN), true),
-        ("c", Some(i64::MAX), true),
-        ("d", None, true),
-        ("e", None, true),
-        ("f", None, true),
-        ("g", None, true),
-        ("h", None, true),
-        ("i", None, false),
-        ("j", None, false),
-    ] {
+    let numbers = object(rt.alloc(), NUMBERS)?;
+    for &(name, want, is_number) in &WHOLES {
         assert_eq!(rt; numbers.whole(name), want, "at {name}");
         assert_eq!(rt; numbers.number(name), is_number, "at {name}");
     }
@@ -425,36 +449,41 @@ fn an_object_in_an_object_is_copied(rt: HostRuntime) -> Result<(), Fail> {
     copies_are_read(&rt, &copy, inner, all.lend())
 }
 
+/// Members of [`MEMBERS`], and the compact text of each that has one.
+static COMPACTS: [(&str, Option<&str>); 6] = [
+    ("aud", Some(r#"["a"]"#)),
+    ("t", Some(r#""ab""#)),
+    ("none", Some("[]")),
+    ("l", None),
+    ("f", None),
+    ("absent", None),
+];
+
 #[test]
 fn texts_and_lists_of_texts_have_a_compact_text(rt: HostRuntime) -> Result<(), Fail> {
     let all = object(rt.alloc(), MEMBERS)?;
-    for (name, want) in [
-        ("aud", Some(r#"["a"]"#)),
-        ("t", Some(r#""ab""#)),
-        ("none", Some("[]")),
-        ("l", None),
-        ("f", None),
-        ("absent", None),
-    ] {
+    for &(name, want) in &COMPACTS {
         let text = all.compact(rt.alloc(), name)?;
         assert_eq!(rt; text.as_deref(), want.map(str::as_bytes), "at {name}");
     }
     Ok(())
 }
 
+/// Texts, and how JSON writes them.
+static QUOTES: [(&str, &str); 4] = [
+    ("", r#""""#),
+    (r#"a""#, r#""a\"""#),
+    ("\\\u{8}\u{c}\n\r\t", r#""\\\b\f\n\r\t""#),
+    (
+        "\u{1}\u{1f}\u{7f}/\u{2028}",
+        "\"\\u0001\\u001f\u{7f}/\u{2028}\"",
+    ),
+];
+
 #[test]
 fn texts_are_quoted_as_json_writes_them(rt: HostRuntime) -> Result<(), Fail> {
-    let alloc = rt.alloc();
-    for (text, want) in [
-        ("", r#""""#),
-        (r#"a""#, r#""a\"""#),
-        ("\\\u{8}\u{c}\n\r\t", r#""\\\b\f\n\r\t""#),
-        (
-            "\u{1}\u{1f}\u{7f}/\u{2028}",
-            "\"\\u0001\\u001f\u{7f}/\u{2028}\"",
-        ),
-    ] {
-        let octets = quoted(alloc, text)?;
+    for &(text, want) in &QUOTES {
+        let octets = quoted(rt.alloc(), text)?;
         assert_eq!(rt; octets.as_slice(), want.as_bytes(), "at {want}");
     }
     Ok(())

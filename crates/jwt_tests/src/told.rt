@@ -33,7 +33,7 @@ const TOLD: Case = Case {
     word: "accepted",
 };
 
-const CASES: [Case; 6] = [
+static CASES: [Case; 6] = [
     TOLD,
     Case {
         shows: "told invalid",
@@ -130,7 +130,7 @@ fn a_token_is_judged_by_what_was_told(rt: HostRuntime) -> Result<(), Fail> {
         .ok_or("no policy")?;
     let keys = KeySet::read(alloc, KEYS_A2.as_bytes())?;
     let mut scratch = Scratch::new(alloc);
-    for case in CASES {
+    for &case in &CASES {
         let mut answers = Answers::new(alloc);
         tell(alloc, case, &keys, &policy, &mut answers)?;
         let mut budget = policy.budget();

@@ -182,6 +182,17 @@ fn said_of_changed(
     judged(alloc, &token, keys, policy, NOW, &[], AMPLE, Counts::Up)
 }
 
+/// Whether the token is refused with any other octet at this place, after at most one try.
+fn is_refused_at(alloc: Global, keys: &KeySet, policy: &Policy, place: usize) -> bool {
+    for change in 1..=255u8 {
+        let said = said_of_changed(alloc, keys, policy, place, change);
+        if !is_refusal(said.as_deref()) {
+            return false;
+        }
+    }
+    true
+}
+
 /// A token with one octet changed is never accepted, and at most one key is tried on it.
 #[test]
 fn a_token_with_one_octet_changed_is_not_accepted(rt: HostRuntime) -> Result<(), Fail> {
@@ -190,13 +201,8 @@ fn a_token_with_one_octet_changed_is_not_accepted(rt: HostRuntime) -> Result<(),
         .ok()
         .ok_or("no policy")?;
     for place in 0..TOKEN_A.len() {
-        for change in 1..=255u8 {
-            let said = said_of_changed(rt.alloc(), &keys, &policy, place, change);
-            assert!(rt;
-                is_refusal(said.as_deref()),
-                "octet {place}, changed by {change}"
-            );
-        }
+        let refused = is_refused_at(rt.alloc(), &keys, &policy, place);
+        assert!(rt; refused, "octet {place}");
     }
     Ok(())
 }

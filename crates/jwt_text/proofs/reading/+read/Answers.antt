@@ -70,10 +70,11 @@ read_items-returns-else-len-le-SHORT t c =
 pub read_object-returns : goal.read_object-returns
 read_object-returns t c =
     if_some {Q = ReadsObject c.args.depth c.args.reader.now c.read_members.new.reader c.args.store.now c.add_entries.new.self} c.add_entries.result (λ p adds. record {
-    between = c.read_members.new.store;
-    es = c.in_ok-entries.entries.items;
-    members = c.in_ok-entries.ensures;
-    adds = subst (λ l. AddsEntries c.read_members.new.store c.add_entries.new.self l p) c.as_slice.ensures adds }) c.add_entries.ensures
+      between = c.read_members.new.store;
+      es = c.in_ok-entries.entries.items;
+      members = c.in_ok-entries.ensures;
+      adds = subst (λ l. AddsEntries c.read_members.new.store c.add_entries.new.self l p) c.as_slice.ensures adds;
+    }) c.add_entries.ensures
 
 pub read_members-members-init : goal.read_members-members-init
 read_members-members-init t c = subst (MembersSoFar c.args.depth c.args.reader.now c.args.reader.now c.args.store.now c.args.store.now) (sym c.new-built.ensures.items) (members_begin c.args.depth c.args.reader.now c.args.store.now)
