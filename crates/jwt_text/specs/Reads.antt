@@ -9,7 +9,7 @@ use Rattle.serde_json.specs.View.{items_of}
 use Rattle.jwt_text.specs.NamesWritten.{names_written, items_names_written, members_names_written}
 use Rattle.jwt_text.specs.ObjectText.{entries, items_entries, members_entries}
 use Rattle.jwt_text.specs.Flat.{text_of, node_data, members_data, IsText, Each, AreEntries, IsNode, run_of, IsRun}
-use Rattle.jwt_text.specs.Growth.{Extends, AddsEntries}
+use Rattle.jwt_text.specs.Growth.{Extends}
 use Rattle.jwt_text.specs.declared.node.Entry.{Entry}
 use Rattle.jwt_text.specs.declared.node.Node.{Node}
 use Rattle.jwt_text.specs.declared.node.Span.{Span}
@@ -46,13 +46,6 @@ pub record ReadsMembers (depth : ℕ) (old new : List Token) (before after : Sto
   pub holds : AreEntries (IsNode depth after) after es
   pub grows : Extends before after
   pub shorter : length new ≤ length old
-
--- the same, and the members stand in the store, as the run p
-pub record ReadsObject (depth : ℕ) (old new : List Token) (before after : Store) (p : Span) : Type 0 where
-  pub between : Store
-  pub es : List Entry
-  pub members : ReadsMembers depth old new before between es
-  pub adds : AddsEntries between after es p
 
 -- ---- within a list or an object
 

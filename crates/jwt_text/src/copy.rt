@@ -84,7 +84,7 @@ fn copy_entries(
     ensures { IfSome result
         (λ es. CopiesEntries depth from.now entries.now to.old to.new es.items) }
 {
-    let mut copies: Entries = SmallVec::new(alloc);
+    let mut copies: Entries = Vec::new(alloc);
     'entries: for place in 0..entries.len() {
         let entry = entries[place];
         let name = to.add_text(from.text(entry.name))?;

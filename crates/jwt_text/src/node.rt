@@ -41,8 +41,8 @@ pub(crate) struct Entry {
 /// The elements of a list. A few stand in place, and more in an allocation.
 pub(crate) type Nodes = SmallVec<Node, 4>;
 
-/// The members of an object. A few stand in place, and more in an allocation.
-pub(crate) type Entries = SmallVec<Entry, 4>;
+/// The members of an object.
+pub(crate) type Entries = Vec<Entry>;
 
 pub(crate) fn as_flag(node: Node) -> Option<bool>
     ensures { result ≡ as_flag node }

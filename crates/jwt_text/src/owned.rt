@@ -8,7 +8,6 @@ use crate::TextFault;
 use crate::lent::{List, ObjectRef};
 use crate::node::Entries;
 use crate::store::Store;
-use smallvec::SmallVec;
 use std::alloc::Global;
 use std::marker::Model;
 
@@ -43,7 +42,7 @@ impl Object {
     {
         Object {
             store: Store::new(alloc),
-            entries: SmallVec::new(alloc),
+            entries: Vec::new(alloc),
         }
     }
 

@@ -1,6 +1,6 @@
 //! Reading a JSON text into a store.
 ghost use Rattle.std.specs.Prelude.{◌≡◌, IfSome, OnSome};
-ghost use Rattle.jwt_text.specs.Reads.{ReadsNode, ReadsItems, ReadsMembers, ReadsObject};
+ghost use Rattle.jwt_text.specs.Reads.{ReadsNode, ReadsItems, ReadsMembers};
 
 use crate::arrange::arrange;
 use crate::node::{Entries, Entry, Node, Nodes, SHORT, Span};
@@ -31,7 +31,8 @@ fn read(alloc: Global, reader: &mut Reader<'_>, depth: usize, store: &mut Store)
             if depth == 0 {
                 return None;
             }
-            Some(Node::Object(read_object(alloc, reader, depth - 1, store)?))
+            let entries = read_members(alloc, reader, depth - 1, store)?;
+            Some(Node::Object(store.add_entries(entries.as_slice())?))
         }
         Token::EndObject | Token::EndArray | Token::Key(_) | Token::Bad => None,
     }
@@ -63,21 +64,6 @@ fn read_items(
     }
 }
 
-/// The members of an object that stands in another value, and the brace that closes it.
-#[cycle(read)]
-#[inline(never)]
-fn read_object(
-    alloc: Global,
-    reader: &mut Reader<'_>,
-    depth: usize,
-    store: &mut Store,
-) -> Option<Span>
-    ensures { IfSome result (ReadsObject depth reader.old reader.new store.old store.new) }
-{
-    let entries = read_members(alloc, reader, depth, store)?;
-    store.add_entries(entries.as_slice())
-}
-
 /// The members of an object in order, and the brace that closes it.
 #[cycle(read)]
 #[inline(never)]
@@ -90,7 +76,7 @@ pub(crate) fn read_members(
     ensures { IfSome result
         (λ es. ReadsMembers depth reader.old reader.new store.old store.new es.items) }
 {
-    let mut built: Entries = SmallVec::new(alloc);
+    let mut built: Entries = Vec::new(alloc);
     'members: while let Some(key) = reader.next_key().ok()? {
         let name = store.add_text(key)?;
         let node = read(alloc, reader, depth, store)?;

@@ -74,7 +74,7 @@ copy_node-returns-in_ok-add_entries-in-Object t c =
     let mid = c.copy_entries.new.to in
     let copies : CopiesEntries (c.args.depth - 1) c.args.from.now (piece c.args.from.now.entries.items c.in-Object.span) c.args.to.now mid es =
     subst (λ l. CopiesEntries (c.args.depth - 1) c.args.from.now l c.args.to.now mid es) c.entries.ensures c.in_ok-entries-in-Object.ensures in
-    let adds : AddsEntries mid c.add_entries.new.self es q = subst (λ l. AddsEntries mid c.add_entries.new.self l q) c.as_slice.ensures c.in_ok-add_entries-in-Object.ensures in
+    let adds : AddsEntries mid c.add_entries.new.self es q = subst (λ l. AddsEntries mid c.add_entries.new.self l q) c.as_slice.ensures.value c.in_ok-add_entries-in-Object.ensures in
     subst (λ n. CopiesNode c.args.depth c.args.from.now n c.args.to.now c.add_entries.new.self (Node.Object q)) (sym c.in-Object.is)
     (object_copied c.args.depth c.args.from.now c.in-Object.span c.args.to.now mid c.add_entries.new.self es q (omega (arith, c.if-depth-eq0-2.false)) copies adds)
 

@@ -1,9 +1,9 @@
-use Rattle.std.proofs.Common.{◌≡◌, [], ◌∷◌, ◌++◌, Some, None, sym, ap, ◌∙◌, subst, arith}
+use Rattle.std.proofs.Common.{◌≡◌, [], ◌∷◌, ◌++◌, take, drop, length, Some, None, sym, ap, ◌∙◌, subst, arith}
 use Rattle.std.specs.List.Sorted.{IsPermutation}
 use Rattle.std.proofs.lemmas.List.Sorted.{length_permutation}
 use Rattle.json.specs.Json.{after_end_array, read_key}
 use Rattle.json.specs.Reads.{token_of}
-use Rattle.jwt_text.specs.Reads.{ReadsNode, ReadsMembers, ReadsObject, ItemsSoFar, MembersSoFar}
+use Rattle.jwt_text.specs.Reads.{ReadsNode, ReadsMembers, ItemsSoFar, MembersSoFar}
 use Rattle.jwt_text.specs.declared.node.Entry.{Entry}
 use Rattle.jwt_text.specs.Growth.{AddsNodes, AddsEntries}
 use Rattle.jwt_text.proofs.ReadValues.{text_read, null_read, flag_read, number_read, list_read, object_read, members_are_read}
@@ -35,11 +35,14 @@ read-returns-in_ok-read_items-in-BeginArray t c =
     let first : c.args.reader.now ≡ token_of c.in_ok-text.field-0 ∷ c.next.new.self = grind arith in
     list_read c.args.depth _ c.next.new.self _ _ _ _ (omega (arith, c.if-depth-eq0.false)) (first ∙ ap (λ k. token_of k ∷ c.next.new.self) c.in-BeginArray.is) c.in_ok-read_items-in-BeginArray.ensures
 
-pub read-returns-in_ok-read_object-in-BeginObject : goal.read-returns-in_ok-read_object-in-BeginObject
-read-returns-in_ok-read_object-in-BeginObject t c =
+pub read-returns-in_ok-add_entries-in-BeginObject :
+    goal.read-returns-in_ok-add_entries-in-BeginObject
+read-returns-in_ok-add_entries-in-BeginObject t c =
     let first : c.args.reader.now ≡ token_of c.in_ok-text.field-0 ∷ c.next.new.self = grind arith in
-    let r = c.in_ok-read_object-in-BeginObject.ensures in
-    object_read c.args.depth _ c.next.new.self _ _ r.between _ r.es _ (omega (arith, c.if-depth-eq0-2.false)) (first ∙ ap (λ k. token_of k ∷ c.next.new.self) c.in-BeginObject.is) r.members r.adds
+    let es = c.in_ok-entries-in-BeginObject.entries.items in
+    let adds : AddsEntries c.read_members.new.store c.add_entries.new.self es c.in_ok-add_entries-in-BeginObject.field-0 =
+    subst (λ l. AddsEntries c.read_members.new.store c.add_entries.new.self l c.in_ok-add_entries-in-BeginObject.field-0) c.as_slice.ensures.value c.in_ok-add_entries-in-BeginObject.ensures in
+    object_read c.args.depth _ c.next.new.self _ _ c.read_members.new.store _ es _ (omega (arith, c.if-depth-eq0-2.false)) (first ∙ ap (λ k. token_of k ∷ c.next.new.self) c.in-BeginObject.is) c.in_ok-entries-in-BeginObject.ensures adds
 
 pub read_items-items-init : goal.read_items-items-init
 read_items-items-init t c = subst (ItemsSoFar c.args.depth c.args.reader.now c.args.reader.now c.args.store.now c.args.store.now) (sym c.new-built.ensures.items) (items_begin c.args.depth c.args.reader.now c.args.store.now)
@@ -67,15 +70,6 @@ read_items-returns-else-len-le-SHORT t c =
     if_some c.add_long.result (λ p adds.
     items_are_read c.args.depth c.args.reader.now l.reader c.args.store.now l.store l.built.items l.invariant c.take_end_array.new.self c.add_long.new.self p c.items-test.ensures adds) c.add_long.ensures
 
-pub read_object-returns : goal.read_object-returns
-read_object-returns t c =
-    if_some {Q = ReadsObject c.args.depth c.args.reader.now c.read_members.new.reader c.args.store.now c.add_entries.new.self} c.add_entries.result (λ p adds. record {
-      between = c.read_members.new.store;
-      es = c.in_ok-entries.entries.items;
-      members = c.in_ok-entries.ensures;
-      adds = subst (λ l. AddsEntries c.read_members.new.store c.add_entries.new.self l p) c.as_slice.ensures adds;
-    }) c.add_entries.ensures
-
 pub read_members-members-init : goal.read_members-members-init
 read_members-members-init t c = subst (MembersSoFar c.args.depth c.args.reader.now c.args.reader.now c.args.store.now c.args.store.now) (sym c.new-built.ensures.items) (members_begin c.args.depth c.args.reader.now c.args.store.now)
 
@@ -92,7 +86,10 @@ pub read_members-returns-then-arrange : goal.read_members-returns-then-arrange
 read_members-returns-then-arrange t c =
     let l = c.members in
     let over : read_key l.reader ≡ Some (None, c.next_key.new.self) = grind arith in
-    let moved : IsPermutation l.built.items c.arrange.new.entries = subst (λ es. IsPermutation es c.arrange.new.entries) c.as_mut_slice.ensures.value c.arrange.ensures.permutation in
+    let lent : c.as_mut_slice.result.now ≡ l.built.items = c.as_mut_slice.ensures.value in
+    let moved : IsPermutation l.built.items c.arrange.new.entries = subst (λ es. IsPermutation es c.arrange.new.entries) lent c.arrange.ensures.permutation in
     let back = refilled l.built.items c.arrange.new.entries (length_permutation l.built.items c.arrange.new.entries moved) in
-    subst (ReadsMembers c.args.depth c.args.reader.now c.next_key.new.self c.args.store.now l.store) (sym back)
-    (members_are_read c.args.depth c.args.reader.now l.reader c.args.store.now l.store l.built.items l.invariant c.next_key.new.self c.arrange.new.entries over moved (c.arrange.ensures.order c.if-arrange.true))
+    let sized : length l.built.items ≡ l.built.len = ap length (sym lent) ∙ c.as_mut_slice.ensures.len in
+    subst (λ n. ReadsMembers c.args.depth c.args.reader.now c.next_key.new.self c.args.store.now l.store (take n (c.arrange.new.entries ++ drop (length c.arrange.new.entries) l.built.items))) sized
+    (subst (ReadsMembers c.args.depth c.args.reader.now c.next_key.new.self c.args.store.now l.store) (sym back)
+    (members_are_read c.args.depth c.args.reader.now l.reader c.args.store.now l.store l.built.items l.invariant c.next_key.new.self c.arrange.new.entries over moved (c.arrange.ensures.order c.if-arrange.true)))

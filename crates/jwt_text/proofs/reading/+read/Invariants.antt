@@ -3,16 +3,13 @@ use Rattle.jwt_text.specs.Reads.{ItemsSoFar, MembersSoFar}
 use Rattle.jwt_text.proofs.reading.+read.Given as goal
 
 abbrev pub decreases-read : goal.decreases-read
-decreases-read l = 3 * l.depth
+decreases-read l = 2 * l.depth
 
 abbrev pub decreases-read_items : goal.decreases-read_items
-decreases-read_items l = 3 * l.depth + 1
-
-abbrev pub decreases-read_object : goal.decreases-read_object
-decreases-read_object l = 3 * l.depth + 2
+decreases-read_items l = 2 * l.depth + 1
 
 abbrev pub decreases-read_members : goal.decreases-read_members
-decreases-read_members l = 3 * l.depth + 1
+decreases-read_members l = 2 * l.depth + 1
 
 abbrev pub invariant-read_items-items : goal.invariant-read_items-items
 invariant-read_items-items l = ItemsSoFar l.depth l.initial.reader l.reader l.initial.store l.store l.built.items
