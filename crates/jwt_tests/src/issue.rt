@@ -59,22 +59,37 @@ enum Form {
     Flat,
 }
 
-/// What is issued in this form by the key of this number, with a type or without, over this object.
-fn issue_in(
-    alloc: Global,
+/// What a token is issued from.
+#[derive(Clone, Copy)]
+struct Order {
     form: Form,
     alg: Alg,
-    number: u32,
-    typ: Option<&str>,
-    text: &str,
-) -> Option<Issued> {
+    /// The number of the key.
+    key: u32,
+    typ: Option<&'static str>,
+    claims: &'static str,
+    ceiling: u64,
+}
+
+/// That of [`COMPACT`].
+const FIRST: Order = Order {
+    form: Form::Compact,
+    alg: Alg::HS256,
+    key: 0,
+    typ: Some("JWT"),
+    claims: "{}",
+    ceiling: 1_000,
+};
+
+/// What is issued from it.
+fn issue_from(alloc: Global, order: Order) -> Option<Issued> {
     let keys = key_set(alloc, KEYS).ok()?;
-    let key = keys.key(number)?;
-    let claims = claims(alloc, text)?;
-    let mut budget = CountUp::new(1_000);
-    let token = match form {
-        Form::Compact => issue_compact(alloc, &mut budget, alg, key, typ, &claims),
-        Form::Flat => issue_flat(alloc, &mut budget, alg, key, typ, &claims),
+    let key = keys.key(order.key)?;
+    let claims = claims(alloc, order.claims)?;
+    let mut budget = CountUp::new(order.ceiling);
+    let token = match order.form {
+        Form::Compact => issue_compact(alloc, &mut budget, order.alg, key, order.typ, &claims),
+        Form::Flat => issue_flat(alloc, &mut budget, order.alg, key, order.typ, &claims),
     };
     Some(Issued {
         token,
@@ -105,18 +120,28 @@ fn assert_unissued(rt: &impl Abort, issued: &Issued, fault: IssueFault) -> Resul
 
 #[test]
 fn tokens_in_compact_form(rt: HostRuntime) -> Result<(), Fail> {
-    let alloc = rt.alloc();
-    let typ = Some("JWT");
-    let first = issue_in(alloc, Form::Compact, Alg::HS256, 0, typ, "{}").ok_or("no key")?;
+    let first = issue_from(rt.alloc(), FIRST).ok_or("no key")?;
     assert_issued(&rt, &first, COMPACT, 200)?;
-    let text = r#"{ "sub" : "a" }"#;
-    let other = issue_in(alloc, Form::Compact, Alg::HS512, 4, typ, text).ok_or("no key")?;
+    let order = Order {
+        alg: Alg::HS512,
+        key: 4,
+        claims: r#"{ "sub" : "a" }"#,
+        ..FIRST
+    };
+    let other = issue_from(rt.alloc(), order).ok_or("no key")?;
     assert_issued(&rt, &other, ESCAPED, 395)
 }
 
+/// That of [`FLAT`].
+const FLATTENED: Order = Order {
+    form: Form::Flat,
+    typ: None,
+    ..FIRST
+};
+
 #[test]
 fn tokens_in_flattened_form(rt: HostRuntime) -> Result<(), Fail> {
-    let issued = issue_in(rt.alloc(), Form::Flat, Alg::HS256, 0, None, "{}").ok_or("no key")?;
+    let issued = issue_from(rt.alloc(), FLATTENED).ok_or("no key")?;
     assert_issued(&rt, &issued, FLAT, 184)
 }
 
@@ -134,12 +159,19 @@ static UNFIT: [(Alg, u32, IssueFault); 8] = [
 
 #[test]
 fn keys_that_may_not_sign(rt: HostRuntime) -> Result<(), Fail> {
-    let alloc = rt.alloc();
-    for &(alg, number, fault) in &UNFIT {
-        let compact = issue_in(alloc, Form::Compact, alg, number, None, "{}").ok_or("no key")?;
-        assert_unissued(&rt, &compact, fault)?;
-        let flat = issue_in(alloc, Form::Flat, alg, number, None, "{}").ok_or("no key")?;
-        assert_unissued(&rt, &flat, fault)?;
+    for &(alg, key, fault) in &UNFIT {
+        for form in [Form::Compact, Form::Flat] {
+            let order = Order {
+                form,
+                alg,
+                key,
+                typ: None,
+                ceiling: 0,
+                ..FIRST
+            };
+            let issued = issue_from(rt.alloc(), order).ok_or("no key")?;
+            assert_unissued(&rt, &issued, fault)?;
+        }
     }
     Ok(())
 }
@@ -157,13 +189,18 @@ fn pairs_of<'k>(
     Some(pairs)
 }
 
-/// The general token that these keys sign over `{}`.
-fn issued_general(alloc: Global, numbers: &[(Alg, u32)], ceiling: u64) -> Option<Issued> {
+/// The general token that these keys sign over `{}`, with a type or without.
+fn issue_general(
+    alloc: Global,
+    numbers: &[(Alg, u32)],
+    typ: Option<&str>,
+    ceiling: u64,
+) -> Option<Issued> {
     let keys = key_set(alloc, KEYS).ok()?;
     let pairs = pairs_of(alloc, &keys, numbers)?;
     let claims = claims(alloc, "{}")?;
     let mut budget = CountUp::new(ceiling);
-    let token = issue_json(alloc, &mut budget, &pairs, None, &claims);
+    let token = issue_json(alloc, &mut budget, &pairs, typ, &claims);
     Some(Issued {
         token,
         octets: budget.octets(),
@@ -181,7 +218,7 @@ static GENERAL: [(&[(Alg, u32)], &str, u64); 3] = [
 #[test]
 fn tokens_in_general_form(rt: HostRuntime) -> Result<(), Fail> {
     for &(numbers, token, cost) in &GENERAL {
-        let issued = issued_general(rt.alloc(), numbers, cost).ok_or("no key")?;
+        let issued = issue_general(rt.alloc(), numbers, None, cost).ok_or("no key")?;
         let Ok(found) = &issued.token else {
             return Err("no token".into());
         };
@@ -191,30 +228,35 @@ fn tokens_in_general_form(rt: HostRuntime) -> Result<(), Fail> {
     Ok(())
 }
 
-/// Algorithms and keys, a ceiling, why nothing is issued, and what is paid.
-static UNFIT_GENERAL: [(&[(Alg, u32)], u64, IssueFault, u64); 4] = [
+/// Algorithms and keys, a ceiling, why nothing is issued, and the octets and calls that are paid.
+static UNFIT_GENERAL: [(&[(Alg, u32)], u64, IssueFault, (u64, u32)); 4] = [
     (
         &[(Alg::HS256, 0), (Alg::HS256, 1)],
         367,
         IssueFault::Spent(1),
-        184,
+        (184, 1),
     ),
-    (&[], 0, IssueFault::NoKey, 0),
-    (&[(Alg::RS256, 0); 33], 0, IssueFault::TooManySignatures, 0),
+    (&[], 0, IssueFault::NoKey, (0, 0)),
+    (
+        &[(Alg::RS256, 0); 33],
+        0,
+        IssueFault::TooManySignatures,
+        (0, 0),
+    ),
     (
         &[(Alg::HS256, 0), (Alg::HS256, 2), (Alg::RS256, 0)],
         0,
         IssueFault::KeyUnfit(1),
-        0,
+        (0, 0),
     ),
 ];
 
 #[test]
 fn pairs_that_may_not_sign(rt: HostRuntime) -> Result<(), Fail> {
     for &(numbers, ceiling, fault, paid) in &UNFIT_GENERAL {
-        let issued = issued_general(rt.alloc(), numbers, ceiling).ok_or("no key")?;
+        let issued = issue_general(rt.alloc(), numbers, None, ceiling).ok_or("no key")?;
         assert_eq!(rt; issued.token.as_ref().err(), Some(&fault));
-        assert_eq!(rt; issued.octets, paid);
+        assert_eq!(rt; (issued.octets, issued.calls), paid);
     }
     Ok(())
 }
@@ -275,14 +317,18 @@ fn claims_of_another_kind_are_refused(rt: HostRuntime) -> Result<(), Fail> {
     Ok(())
 }
 
-/// Whether it is this token, or an allocation was refused on the way.
-fn is_or_lacks_memory(issued: Option<Issued>, token: &str) -> bool {
-    match issued {
-        Some(issued) => match issued.token {
-            Ok(octets) => octets.as_slice() == token.as_bytes(),
-            Err(fault) => fault == IssueFault::OutOfMemory,
-        },
-        None => true,
+/// The general token of the first key twice over `{}`, with the type `JWT`.
+const TYPED: &str =
+    r#"{"payload":"e30","signatures":[{"protected":"eyJhbGciOiJIUzI1NiIsInR5cCI6IkpXVCJ9","signature":"LwimMJA3puF3ioGeS-tfczR3370GXBZMIL-bdpu4hOU"},{"protected":"eyJhbGciOiJIUzI1NiIsInR5cCI6IkpXVCJ9","signature":"LwimMJA3puF3ioGeS-tfczR3370GXBZMIL-bdpu4hOU"}]}"#;
+
+/// Whether it is this token at this cost, or an allocation was refused on the way.
+fn is_or_lacks_memory(issued: Option<Issued>, token: &str, cost: u64) -> bool {
+    let Some(issued) = issued else {
+        return true;
+    };
+    match &issued.token {
+        Ok(octets) => octets.as_slice() == token.as_bytes() && issued.octets == cost,
+        Err(fault) => *fault == IssueFault::OutOfMemory,
     }
 }
 
@@ -290,11 +336,12 @@ fn is_or_lacks_memory(issued: Option<Issued>, token: &str) -> bool {
 #[test]
 fn a_refused_growth_is_out_of_memory(rt: HostRuntime) -> Result<(), Fail> {
     let alloc = rt.alloc();
-    let compact = issue_in(alloc, Form::Compact, Alg::HS256, 0, Some("JWT"), "{}");
-    assert!(rt; is_or_lacks_memory(compact, COMPACT));
-    let flat = issue_in(alloc, Form::Flat, Alg::HS256, 0, None, "{}");
-    assert!(rt; is_or_lacks_memory(flat, FLAT));
-    let general = issued_general(alloc, &[(Alg::HS256, 0), (Alg::HS256, 1)], 1_000);
-    assert!(rt; is_or_lacks_memory(general, TWO));
+    let compact = issue_from(alloc, FIRST);
+    assert!(rt; is_or_lacks_memory(compact, COMPACT, 200));
+    let flat = issue_from(alloc, FLATTENED);
+    assert!(rt; is_or_lacks_memory(flat, FLAT, 184));
+    let pairs = [(Alg::HS256, 0), (Alg::HS256, 0)];
+    let general = issue_general(alloc, &pairs, Some("JWT"), 1_000);
+    assert!(rt; is_or_lacks_memory(general, TYPED, 400));
     Ok(())
 }

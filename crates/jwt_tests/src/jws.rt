@@ -232,10 +232,8 @@ fn repeats_in(alloc: Global, header: &str) -> Result<bool, Fail> {
     let mut token = encode(alloc, header.as_bytes())?;
     token.extend_from_slice(b".e30.")?;
     let signed = parse(alloc, &token, 1).ok().ok_or("a token")?;
-    let repeats = signed
-        .signature(0)
-        .map(|signature| signature.crit_repeats());
-    Ok(repeats == Some(true))
+    let signature = signed.signature(0).ok_or("a signature")?;
+    Ok(signature.crit_repeats())
 }
 
 #[test]

@@ -6,7 +6,9 @@ use jwt_mac::{
     first_for, hmac, sha256,
 };
 use jwt_support::verifiers::{Asked, SAME};
+use std::alloc::Global;
 use std::cell::Cell;
+use std::process::Abort;
 use std::test::Fail;
 
 /// A message in three parts, its tag under a key, and what that costs.
@@ -333,50 +335,57 @@ fn answer<B: Budget>(
     }
 }
 
-#[test]
-fn the_first_verifier_that_names_the_algorithm_answers(rt: HostRuntime) -> Result<(), Fail> {
-    let alloc = rt.alloc();
-    let asked = Cell::new(0);
+/// An RSA key, and one of Ed25519 with the same octets.
+const RSA: KeyView<'static> = KeyView::Rsa {
+    n: &[1, 0, 1],
+    e: &[3],
+};
+
+const OKP: KeyView<'static> = KeyView::Okp {
+    curve: EdCurve::Ed25519,
+    x: &[1, 0, 1],
+};
+
+/// Questions about a key and a signature, and the answers of [`Lacking`], [`Asked`] and [`Counting`], in this order.
+static QUESTIONS: [(Alg, KeyView<'static>, &[u8], Option<Answer>); 5] = [
+    (Alg::RS256, RSA, &[1, 0, 1], Some(Answer::Valid)),
+    (Alg::RS256, RSA, &[1, 0], Some(Answer::Invalid)),
+    (Alg::RS256, OKP, &[3], Some(Answer::Invalid)),
+    (Alg::EdDSA, OKP, &[1, 0, 1], Some(Answer::NoMemory)),
+    (Alg::ES256, RSA, &[1, 0, 1], None),
+];
+
+/// Asserts that the verifiers answer so under a budget.
+fn assert_answers<B: Budget>(rt: &impl Abort, b: &mut B, verifiers: &[Box<dyn Verifier>]) {
+    for (alg, key, signature, want) in &QUESTIONS {
+        let found = answer(b, verifiers, *alg, key, signature);
+        assert_eq!(rt; found, *want, "{alg:?}");
+    }
+}
+
+/// The three verifiers.
+fn verifiers(alloc: Global) -> Result<Vec<Box<dyn Verifier>>, Fail> {
     let mut verifiers: Vec<Box<dyn Verifier>> = Vec::new(alloc);
     verifiers.push(Box::new(alloc, Lacking)?)?;
     verifiers.push(Box::new(alloc, Asked { kind: SAME })?)?;
+    let asked = Cell::new(0);
     verifiers.push(Box::new(alloc, Counting { asked })?)?;
-    let rsa = KeyView::Rsa {
-        n: &[1, 0, 1],
-        e: &[3],
-    };
-    let okp = KeyView::Okp {
-        curve: EdCurve::Ed25519,
-        x: &[1, 0, 1],
-    };
+    Ok(verifiers)
+}
+
+#[test]
+fn the_first_verifier_that_names_the_algorithm_answers(rt: HostRuntime) -> Result<(), Fail> {
+    let verifiers = verifiers(rt.alloc())?;
     let mut up = CountUp::new(0);
-    let mut down = CountDown::new(7);
-    for (alg, key, signature, want) in [
-        (Alg::RS256, rsa, &[1u8, 0, 1][..], Some(Answer::Valid)),
-        (Alg::RS256, rsa, &[1, 0], Some(Answer::Invalid)),
-        (Alg::RS256, okp, &[3], Some(Answer::Invalid)),
-        (Alg::EdDSA, okp, &[1, 0, 1], Some(Answer::NoMemory)),
-        (Alg::ES256, rsa, &[1, 0, 1], None),
-    ] {
-        assert_eq!(rt;
-            answer(&mut up, &verifiers, alg, &key, signature),
-            want,
-            "{alg:?}"
-        );
-        assert_eq!(rt;
-            answer(&mut down, &verifiers, alg, &key, signature),
-            want,
-            "{alg:?}"
-        );
-    }
+    assert_answers(&rt, &mut up, &verifiers);
     assert_eq!(rt; (up.octets(), up.left(), up.calls()), (0, 0, 4));
+    let mut down = CountDown::new(7);
+    assert_answers(&rt, &mut down, &verifiers);
     assert_eq!(rt; (down.octets(), down.left(), down.calls()), (0, 7, 4));
     // One question each: the third is the first that finds no memory.
     for want in [Answer::Invalid, Answer::Invalid, Answer::NoMemory] {
-        assert_eq!(rt;
-            answer(&mut down, &verifiers, Alg::PS256, &rsa, &[1]),
-            Some(want)
-        );
+        let found = answer(&mut down, &verifiers, Alg::PS256, &RSA, &[1]);
+        assert_eq!(rt; found, Some(want));
     }
     assert_eq!(rt; down.calls(), 7);
     Ok(())

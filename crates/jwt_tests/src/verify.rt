@@ -182,15 +182,15 @@ fn said_of_changed(
     judged(alloc, &token, keys, policy, NOW, &[], AMPLE, Counts::Up)
 }
 
-/// Whether the token is refused with any other octet at this place, after at most one try.
-fn is_refused_at(alloc: Global, keys: &KeySet, policy: &Policy, place: usize) -> bool {
+/// The first change of the octet at this place with which the token isn't refused after at most one try, where there is one.
+fn unrefused_at(alloc: Global, keys: &KeySet, policy: &Policy, place: usize) -> Option<u8> {
     for change in 1..=255u8 {
         let said = said_of_changed(alloc, keys, policy, place, change);
         if !is_refusal(said.as_deref()) {
-            return false;
+            return Some(change);
         }
     }
-    true
+    None
 }
 
 /// A token with one octet changed is never accepted, and at most one key is tried on it.
@@ -201,8 +201,8 @@ fn a_token_with_one_octet_changed_is_not_accepted(rt: HostRuntime) -> Result<(),
         .ok()
         .ok_or("no policy")?;
     for place in 0..TOKEN_A.len() {
-        let refused = is_refused_at(rt.alloc(), &keys, &policy, place);
-        assert!(rt; refused, "octet {place}");
+        let change = unrefused_at(rt.alloc(), &keys, &policy, place);
+        assert_eq!(rt; change, None, "octet {place}");
     }
     Ok(())
 }
