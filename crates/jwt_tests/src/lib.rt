@@ -1,12 +1,6 @@
-//! The tests of the libraries' public calls: what no clause says. Each library has its file, and what they share is in `jwt_support`.
+//! The tests of what a token is made of: texts, MACs, keys, signatures and policies.
 #![tactic(auto)]
 
-#[cfg(test)]
-mod door;
-#[cfg(test)]
-mod ed25519;
-#[cfg(test)]
-mod issue;
 #[cfg(test)]
 mod jws;
 #[cfg(test)]
@@ -16,10 +10,4 @@ mod mac;
 #[cfg(test)]
 mod policy;
 #[cfg(test)]
-mod rsa;
-#[cfg(test)]
 mod text;
-#[cfg(test)]
-mod told;
-#[cfg(test)]
-mod verify;

@@ -1,0 +1,7 @@
+//! The tests of the verifiers of signatures by public keys.
+#![tactic(auto)]
+
+#[cfg(test)]
+mod ed25519;
+#[cfg(test)]
+mod rsa;

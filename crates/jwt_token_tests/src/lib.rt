@@ -1,0 +1,11 @@
+//! The tests of what works on whole tokens: validating, judging by what is told, issuing, and the one crate that a service lists.
+#![tactic(auto)]
+
+#[cfg(test)]
+mod door;
+#[cfg(test)]
+mod issue;
+#[cfg(test)]
+mod told;
+#[cfg(test)]
+mod verify;
