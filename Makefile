@@ -38,7 +38,7 @@ $(BUILD)/libfowharimu.a: $(ARCHIVE) $(BUILD)/fault_name.o
 $(BUILD)/libfowharimu.so.0: $(BUILD)/libfowharimu.a bindings/c/fowharimu.map
 	$(CC) -shared -o $@ -Wl,-soname,libfowharimu.so.0 -Wl,--version-script,bindings/c/fowharimu.map -Wl,-z,relro,-z,now \
 	    -Wl,--whole-archive $(BUILD)/libfowharimu.a -Wl,--no-whole-archive
-	ln -f $(BUILD)/libfowharimu.so.0 $(BUILD)/libfowharimu.so
+	ln -sf libfowharimu.so.0 $(BUILD)/libfowharimu.so
 
 $(BUILD)/fowharimu_openssl.o: bindings/openssl/fowharimu_openssl.c include/fowharimu.h include/fowharimu_openssl.h
 	mkdir -p $(BUILD)
@@ -50,7 +50,7 @@ $(BUILD)/libfowharimu_openssl.a: $(BUILD)/fowharimu_openssl.o
 $(BUILD)/libfowharimu_openssl.so.0: $(BUILD)/fowharimu_openssl.o $(BUILD)/libfowharimu.so.0 bindings/c/fowharimu.map
 	$(CC) -shared -o $@ -Wl,-soname,libfowharimu_openssl.so.0 -Wl,--version-script,bindings/c/fowharimu.map -Wl,-z,relro,-z,now \
 	    $(BUILD)/fowharimu_openssl.o -L$(BUILD) -lfowharimu -lcrypto
-	ln -f $(BUILD)/libfowharimu_openssl.so.0 $(BUILD)/libfowharimu_openssl.so
+	ln -sf libfowharimu_openssl.so.0 $(BUILD)/libfowharimu_openssl.so
 
 # The prefix may be another than that of the last call.
 $(BUILD)/%.pc: bindings/c/%.pc.in FORCE
