@@ -66,10 +66,10 @@ unfolding signature_of
 signature_cause spells objects form i w (fault.Base64 (place.Protected k)) h = rw (h.0, protected_unspelled spells form i w.protected h.1) refl
 signature_cause spells objects form i w (fault.Header k) h = rw (h.0, protected_no_object spells objects form i w.protected h.1.0 h.1.1 h.2) refl
 signature_cause spells objects form i w (fault.UnprotectedKind k) h = rw (h.0, protected_made spells objects form i w.protected h.1.0 h.1.1, h.2) refl
-signature_cause spells objects form i w (fault.NamesOverlap k) (k_is, (p, u, header, unprotected, twice)) =
-    rw (k_is, protected_made spells objects form i w.protected p header, unprotected_made i w.header u unprotected, twice) refl
-signature_cause spells objects form i w (fault.Base64 (place.Signature k)) (k_is, (p, u, header, unprotected, once), none) =
-    rw (k_is, protected_made spells objects form i w.protected p header, unprotected_made i w.header u unprotected, once, unspelled spells (fault.Base64 (place.Signature i)) w.signature none) refl
+signature_cause spells objects form i w (fault.NamesOverlap k) (k_is, (p, u, headers, twice)) =
+    rw (k_is, protected_made spells objects form i w.protected p headers.protected, unprotected_made i w.header u headers.unprotected, twice) refl
+signature_cause spells objects form i w (fault.Base64 (place.Signature k)) (k_is, (p, u, headers, once), none) =
+    rw (k_is, protected_made spells objects form i w.protected p headers.protected, unprotected_made i w.header u headers.unprotected, once, unspelled spells (fault.Base64 (place.Signature i)) w.signature none) refl
 signature_cause spells objects form i w (fault.Base64 place.Payload) h = absurd h
 signature_cause spells objects form i w fault.OutOfMemory h = absurd h
 signature_cause spells objects form i w fault.Empty h = absurd h

@@ -112,8 +112,8 @@ signature_fault spells objects form i w e is =
     told : (p : Members) (u : Option Members) → IsProtected form w.protected p → w.header ≡ option_map Some u
         → ((fault.NamesOverlap i ≡ e) × (overlap p u ≡ true)) ⊎ ((fault.Base64 (place.Signature i) ≡ e) × (overlap p u ≡ false) × SpellsNothing w.signature)
         → IsSignatureFault form i w e
-    told p u header unprotected (inl f) = subst (IsSignatureFault form i w) f.0 (refl, (p, u, header, unprotected, f.1))
-    told p u header unprotected (inr f) = subst (IsSignatureFault form i w) f.0 (refl, (p, u, header, unprotected, f.1), f.2)
+    told p u header unprotected (inl f) = subst (IsSignatureFault form i w) f.0 (refl, (p, u, record { protected = header; unprotected = unprotected }, f.1))
+    told p u header unprotected (inr f) = subst (IsSignatureFault form i w) f.0 (refl, (p, u, record { protected = header; unprotected = unprotected }, f.1), f.2)
 
 -- ---- the first signature with a fault
 

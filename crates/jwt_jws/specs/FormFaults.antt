@@ -13,6 +13,11 @@ use Rattle.jwt_jws.specs.declared.fault.FormFault.{FormFault}
 use Rattle.jwt_jws.specs.declared.fault.FormFault.TheVariants.{Empty, Encrypted, Segments, Json, NameTwice, Members as WrongMembers, TooManySignatures, Base64, Header, UnprotectedKind, NamesOverlap}
 use Rattle.jwt_jws.specs.declared.fault.Place.TheVariants.{Payload, Protected, Signature}
 
+-- the texts have these headers: the protected text spells p, and `header` is absent or the object u
+pub record HasHeaders (form : Form) (w : Spelled) (p : Members) (u : Option Members) : Type 0 where
+  pub protected : IsProtected form w.protected p
+  pub unprotected : w.header ≡ option_map Some u
+
 -- Why the texts of signature i are those of no signature, each cause where none before it holds: the protected text isn't
 -- base64url; its octets are no object text; `header` is no object; a name is in both headers; the signature text isn't
 -- base64url.
@@ -20,10 +25,9 @@ abbrev pub IsSignatureFault : Form → ℕ → Spelled → FormFault → Type 0
 IsSignatureFault form i w (Base64 (Protected k)) = (k ≡ i) × ((octets : List ℕ) → ¬ Spells w.protected octets)
 IsSignatureFault form i w (Header k) = (k ≡ i) × ((octets : List ℕ) × Spells w.protected octets) × ((p : Members) → ¬ IsProtected form w.protected p)
 IsSignatureFault form i w (UnprotectedKind k) = (k ≡ i) × ((p : Members) × IsProtected form w.protected p) × (w.header ≡ Some None)
-IsSignatureFault form i w (NamesOverlap k) = (k ≡ i) × ((p : Members) × (u : Option Members) × IsProtected form w.protected p × (w.header ≡ option_map Some u) × (overlap p u ≡ true))
+IsSignatureFault form i w (NamesOverlap k) = (k ≡ i) × ((p : Members) × (u : Option Members) × HasHeaders form w p u × (overlap p u ≡ true))
 IsSignatureFault form i w (Base64 (Signature k)) = (k ≡ i)
-    × ((p : Members) × (u : Option Members) × IsProtected form w.protected p × (w.header ≡ option_map Some u) × (overlap p u ≡ false))
-    × ((octets : List ℕ) → ¬ Spells w.signature octets)
+    × ((p : Members) × (u : Option Members) × HasHeaders form w p u × (overlap p u ≡ false)) × ((octets : List ℕ) → ¬ Spells w.signature octets)
 IsSignatureFault form i w _ = ⊥
 
 -- signature i has this fault, and no signature before it has one

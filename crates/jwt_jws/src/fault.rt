@@ -34,9 +34,9 @@ pub enum Place {
     Signature(u32),
 }
 
-/// Why octets are no signed token. The first cause that holds is answered, in the order of these variants but for
-/// `NameTwice`, which comes before `Encrypted` in JSON form, and for the causes of one signature, which come signature by
-/// signature, numbered from 0.
+/// Why octets are no signed token. The first cause that holds is answered, in the order of these variants, with two exceptions: in
+/// JSON form `Json` and `NameTwice` come before `Encrypted`, and the causes of one signature come signature by signature, numbered
+/// from 0.
 #[derive(Clone, Copy, Debug, PartialEq, Eq, Error)]
 pub enum FormFault {
     /// An allocation of memory was refused. It may stand in place of any other answer.

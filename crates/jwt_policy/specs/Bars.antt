@@ -1,18 +1,17 @@
 -- The bars of a signature, under a policy and the verifiers that were handed in.
-use Rattle.std.specs.Prelude.{ℕ, List, [], ◌∷◌, ◌==◌, Bool, true, not, ◌||◌, ◌&&◌, codes, length, Option, is_some, is_none, option_and_then}
-use Rattle.std.specs.Option.{option_map_or}
+use Rattle.std.specs.Prelude.{ℕ, List, [], ◌∷◌, Bool, not, ◌||◌, ◌&&◌, codes, length, nat_lt, Option, is_some, is_none, option_and_then}
 use Rattle.std.specs.List.{list_any}
 use Rattle.std.specs.Str.{bytes_eq}
 use Rattle.serde_json.specs.Data.{Data}
 use Rattle.jwt_mac.specs.declared.algorithm.Alg.{Alg}
 use Rattle.jwt_mac.specs.Algorithm.{is_hmac_alg, name_of, alg_named}
 use Rattle.jwt_mac.specs.Verifying.{Meaning, first_naming}
-use Rattle.jwt_text.specs.Members.{has, text_at, list_at, are_texts, is_no_text}
+use Rattle.jwt_text.specs.Members.{has, text_at, list_at, is_no_text}
 use Rattle.jwt_text.specs.Rows.{Row, ◌⇒◌, first_row}
 use Rattle.jwt_jws.specs.Token.{SignatureParts, in_unprotected, in_header, alg_text, kid}
 use Rattle.jwt_jws.specs.Crit.{crit_repeats}
 use Rattle.jwt_policy.specs.Settings.{Settings}
-use Rattle.jwt_policy.specs.Texts.{some_passes, is_among, any_text, same_media_type}
+use Rattle.jwt_policy.specs.Texts.{some_passes, is_among, any_text, each_text, same_media_type}
 use Rattle.jwt_policy.specs.declared.sig_fault.SigFault.{SigFault}
 use Rattle.jwt_policy.specs.declared.sig_fault.SigFault.TheVariants.{AlgMissing, AlgNone, AlgUnknown, AlgNotAllowed, NoVerifier, KeyUrl, EncHeader, Unencoded, CritShape, CritUnknown, TypShape, TypMismatch, Nested, KidShape, KidMissing}
 
@@ -34,18 +33,16 @@ registered_names =
     codes "alg" ∷ codes "jku" ∷ codes "jwk" ∷ codes "kid" ∷ codes "x5u" ∷ codes "x5c" ∷ codes "x5t" ∷ codes "x5t#S256"
     ∷ codes "typ" ∷ codes "cty" ∷ codes "crit" ∷ []
 
--- the list `crit` of the protected header is empty, or holds something that is no text, a name twice, a registered name,
--- or a name that the header lacks
-abbrev pub is_no_name_list : SignatureParts → List Data → Bool
-is_no_name_list s ds =
-    length ds == 0 || not (are_texts ds) || crit_repeats s.protected
-    || any_text (is_among registered_names) ds || any_text (λ t. not (in_header t s)) ds
+-- the list may be `crit`: it isn't empty, each element is the name of a header of the signature and none of those, and no name
+-- stands twice
+abbrev pub is_name_list : SignatureParts → List Data → Bool
+is_name_list s ds = nat_lt 0 (length ds) && each_text (λ t. in_header t s && not (is_among registered_names t)) ds && not (crit_repeats s.protected)
 
 -- ---- the table
 
 -- The algorithm (RFC 7515, section 4.1.1; RFC 8725, sections 3.1 and 3.2); keys by URL (RFC 7515, sections 4.1.2 and 4.1.5;
 -- RFC 8725, section 3.10); encryption (RFC 7516, section 4.1.2); a payload that isn't base64url (RFC 7797, section 3); `crit` in
--- the unprotected header, or no list of names that it may hold;
+-- the unprotected header, or there and no list that it may be;
 -- `typ` and `cty`, where `typ` is absent or another media type than the policy's, or the payload is a token again (RFC 7515,
 -- sections 4.1.9 and 4.1.10; RFC 7519, sections 5.1 and 5.2; RFC 8725, section 3.11); `kid` (RFC 7515, section 4.1.4).
 abbrev pub bar_rows : Settings → SignatureParts → List Meaning → List (Row SigFault)
@@ -59,7 +56,7 @@ bar_rows p s verifiers =
     ∷ (in_header (codes "enc") s ⇒ EncHeader)
     ∷ (in_header (codes "b64") s ⇒ Unencoded)
     ∷ ((in_unprotected (codes "crit") s
-    || (has (codes "crit") s.protected && option_map_or (is_no_name_list s) (list_at (codes "crit") s.protected) true))
+    || (has (codes "crit") s.protected && not (some_passes (is_name_list s) (list_at (codes "crit") s.protected))))
     ⇒ CritShape)
     ∷ (some_passes (any_text (λ t. not (is_among p.header.understood t))) (list_at (codes "crit") s.protected) ⇒ CritUnknown)
     ∷ ((is_no_text (codes "typ") s.protected || is_no_text (codes "cty") s.protected) ⇒ TypShape)

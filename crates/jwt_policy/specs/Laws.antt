@@ -20,7 +20,7 @@ pub record IsEligible (p : Settings) (s : SignatureParts) (key : KeyParts) (veri
   pub unbarred : NoRow (bar_rows p s verifiers)
   pub algorithm : Alg
   pub named : alg s ≡ Some algorithm
-  pub verified : can_verify verifiers algorithm ≡ true
+  pub has_verifier : can_verify verifiers algorithm ≡ true
   pub suited : suits algorithm key.octets ≡ true
   pub key_alg : (name : List ℕ) → key.alg ≡ Some name → name ≡ name_of algorithm
   pub key_use : (name : List ℕ) → key.key_use ≡ Some name → name ≡ codes "sig"

@@ -1,12 +1,11 @@
 //! The header `crit` (RFC 7515, section 4.1.11).
 
-ghost use Rattle.std.specs.Prelude.{◌≡◌, ◌||◌, ◌&&◌, true, not, codes, map, string_bytes};
+ghost use Rattle.std.specs.Prelude.{◌≡◌, ◌||◌, ◌&&◌, not, codes, map, string_bytes};
 ghost use Rattle.jwt_jws.specs.Views.{parts};
-ghost use Rattle.std.specs.Option.{option_map_or};
 ghost use Rattle.jwt_text.specs.Members.{has, list_at};
 ghost use Rattle.jwt_jws.specs.Token.{in_header, in_unprotected};
-ghost use Rattle.jwt_policy.specs.Texts.{any_text, is_among, some_passes};
-ghost use Rattle.jwt_policy.specs.Bars.{registered_names, is_no_name_list};
+ghost use Rattle.jwt_policy.specs.Texts.{any_text, each_text, is_among, some_passes};
+ghost use Rattle.jwt_policy.specs.Bars.{registered_names, is_name_list};
 
 use crate::policy::Policy;
 use crate::texts::is_among;
@@ -33,34 +32,21 @@ pub(crate) fn is_registered(name: &str) -> bool
     }
 }
 
-/// Whether the list holds a header name of RFC 7515, section 4.1.
-#[tactic(auto, using(crate::proofs::ItemsLemmas::any_more, std::proofs::lemmas::List::at_drop_all))]
-fn names_registered(list: &List<'_>) -> bool
-    ensures { result ≡ any_text (is_among registered_names) list.now }
+/// Whether each element is the name of a header of the signature, and none of RFC 7515, section 4.1.
+#[tactic(auto, using(crate::proofs::ItemsLemmas::each_more, std::proofs::lemmas::List::at_drop_all))]
+fn are_other_headers(signature: &Signature<'_>, list: &List<'_>) -> bool
+    ensures { result ≡ each_text
+        (λ t. in_header t (parts signature.now) && not (is_among registered_names t)) list.now }
 {
     for place in 0..list.len() {
-        if let Some(name) = list.text(place) {
-            if is_registered(name) {
-                return true;
-            }
+        let Some(name) = list.text(place) else {
+            return false;
+        };
+        if !signature.in_header(name) || is_registered(name) {
+            return false;
         }
     }
-    false
-}
-
-/// Whether the list holds a name that the header lacks.
-#[tactic(auto, using(crate::proofs::ItemsLemmas::any_more, std::proofs::lemmas::List::at_drop_all))]
-fn names_absent(signature: &Signature<'_>, list: &List<'_>) -> bool
-    ensures { result ≡ any_text (λ t. not (in_header t (parts signature.now))) list.now }
-{
-    for place in 0..list.len() {
-        if let Some(name) = list.text(place) {
-            if !signature.in_header(name) {
-                return true;
-            }
-        }
-    }
-    false
+    true
 }
 
 /// Whether the list holds a text that isn't among these.
@@ -78,23 +64,19 @@ fn names_other(texts: &[String], list: &List<'_>) -> bool
     false
 }
 
-/// Whether the list, which is `crit` of the protected header, isn't one of names that it may hold.
-fn is_no_name_list(signature: &Signature<'_>, list: &List<'_>) -> bool
-    ensures { result ≡ is_no_name_list (parts signature.now) list.now }
+/// Whether the list, which is `crit` of the protected header, is one that it may be.
+fn is_name_list(signature: &Signature<'_>, list: &List<'_>) -> bool
+    ensures { result ≡ is_name_list (parts signature.now) list.now }
 {
-    list.len() == 0
-        || !list.are_texts()
-        || signature.crit_repeats()
-        || names_registered(list)
-        || names_absent(signature, list)
+    list.len() > 0 && are_other_headers(signature, list) && !signature.crit_repeats()
 }
 
 /// Whether `crit` has another shape than it may have.
 pub(crate) fn is_crit_misshapen(signature: &Signature<'_>) -> bool
     ensures { result ≡ (in_unprotected (codes "crit") (parts signature.now)
         || (has (codes "crit") (parts signature.now).protected
-        && option_map_or (is_no_name_list (parts signature.now))
-        (list_at (codes "crit") (parts signature.now).protected) true)) }
+        && not (some_passes (is_name_list (parts signature.now))
+        (list_at (codes "crit") (parts signature.now).protected)))) }
 {
     if signature.in_unprotected("crit") {
         return true;
@@ -104,7 +86,7 @@ pub(crate) fn is_crit_misshapen(signature: &Signature<'_>) -> bool
         return false;
     }
     match protected.list("crit") {
-        Some(list) => is_no_name_list(signature, &list),
+        Some(list) => !is_name_list(signature, &list),
         None => true,
     }
 }

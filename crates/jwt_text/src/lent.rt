@@ -1,7 +1,7 @@
 //! Objects and lists that another value lends.
 ghost use Rattle.std.specs.Prelude.{◌≡◌, ◌↔◌, [], length, slice_get, option_map, option_and_then, IfOk, IsOkUnless, IsTrue};
 ghost use Rattle.std.specs.List.{list_any};
-ghost use Rattle.serde_json.specs.Find.{as_str, as_object};
+ghost use Rattle.serde_json.specs.Find.{as_str, as_number, as_i64, as_bool, as_object};
 ghost use Rattle.serde_json.specs.Events.{members_len};
 ghost use Rattle.jwt_text.specs.Members.{has, text_at, is_number_at, whole_at, flag_at, list_at, object_at, member_names, AreInOrder, are_texts, compact_at};
 
@@ -207,6 +207,30 @@ impl<'a> List<'a> {
     {
         if place < self.nodes.len() {
             self.store.text_at(self.nodes[place])
+        } else {
+            None
+        }
+    }
+
+    /// The whole number at this place, from 0, as [`ObjectRef::whole`] reads it; `None` past the last, or where the element is
+    /// of another kind.
+    pub fn whole(&self, place: usize) -> Option<i64>
+        ensures { result
+            ≡ option_and_then as_i64 (option_and_then as_number (slice_get self.now place)) }
+    {
+        if place < self.nodes.len() {
+            as_whole(self.nodes[place])
+        } else {
+            None
+        }
+    }
+
+    /// The truth value at this place, from 0; `None` past the last, or where the element is of another kind.
+    pub fn flag(&self, place: usize) -> Option<bool>
+        ensures { result ≡ option_and_then as_bool (slice_get self.now place) }
+    {
+        if place < self.nodes.len() {
+            as_flag(self.nodes[place])
         } else {
             None
         }

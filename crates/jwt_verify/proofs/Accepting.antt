@@ -48,7 +48,7 @@ any_at p n k h l = elim (cases_Bool (p k)) [
 pub find_least : (p : ℕ → Bool) (n j : ℕ) → j < n → p j ≡ true → ((k : ℕ) → k < j → p k ≡ false) → find p (below n) ≡ Some j
 find_least p n j l y h = let e : (j + 1) + (n - (j + 1)) ≡ n = omega (arith, l) in ap (λ m. find p (below m)) (sym e) ∙ find-below p j (n - (j + 1)) (none_below p j h) y
 
-least_find : (p : ℕ → Bool) (n j : ℕ) → find p (below n) ≡ Some j → (j < n) × (p j ≡ true) × ((k : ℕ) → k < j → p k ≡ false)
+pub least_find : (p : ℕ → Bool) (n j : ℕ) → find p (below n) ≡ Some j → (j < n) × (p j ≡ true) × ((k : ℕ) → k < j → p k ≡ false)
 least_find p n j h =
     let q = least_found p n (found_any p (below n) j h) in
     let before = any_at p q.0 in

@@ -35,8 +35,9 @@ use Rattle.jwt_verify.specs.declared.tries.End.{End}
 use Rattle.jwt_verify.specs.declared.report.InputFault.TheVariants.{TooLong}
 use Rattle.jwt_verify.specs.Table.{Table, tries, work, is_within, affords, paid, stop, ending, states_at, states}
 use Rattle.jwt_verify.specs.Trying.{cost_under, cost_by, at_pair, table_of}
-use Rattle.jwt_verify.specs.Verdict.{Terms, Signing, VerifiedBy, Unverified, signing_of, checked, claims_verdict, conclusion, unless_stopped, token_verdict, formed, token_of, token_or_none, table, decided, verdict_of, without_line_feed}
-use Rattle.jwt_verify.specs.Laws.{greatest, common_cost, long_secret, long_key, work_bound, CeilingSuffices}
+use Rattle.jwt_verify.specs.Verdict.{Terms, Signing, VerifiedBy, Unverified, signing_of, checked, claims_verdict, conclusion, unless_stopped, token_verdict, formed, token_of, table, decided, verdict_of, without_line_feed}
+use Rattle.jwt_verify.specs.Laws.{greatest, common_cost, long_secret, long_key}
+use Rattle.jwt_verify.specs.Verdicts.{work_bound}
 use Rattle.jwt_verify.proofs.Bounds.{work_bounded}
 use Rattle.jwt_verify.proofs.Judged.{table_of_token}
 use Rattle.jwt_verify.proofs.Paying.{work-append, paid_over}
@@ -137,11 +138,9 @@ module _ (eligible_words : (p : Settings) (s : SignatureParts) (k : KeyParts) (v
       go (Some s) e None h = cc
       go (Some s) e (Some k) h = pair_cost p v t i s k (sym e) h
 
-  pub within_bound : (q : Terms) (x : List ℕ) → work (tries (table q x)) ≤ work_bound q x
-  unfolding table
-  within_bound q x =
-      let t = token_or_none (token_of q.policy x) in
-      work_bounded (table_of q.policy q.verifiers q.keys t) (common_cost q.policy t) (at_pair long_key 0 t q.keys) (table_cost q.policy q.verifiers q.keys t)
+  pub within_bound : (q : Terms) (token : Token) → work (tries (table_of q.policy q.verifiers q.keys token)) ≤ work_bound q token (table_of q.policy q.verifiers q.keys token)
+  within_bound q token =
+      work_bounded (table_of q.policy q.verifiers q.keys token) (common_cost q.policy token) (at_pair long_key 0 token q.keys) (table_cost q.policy q.verifiers q.keys token)
 
 -- ---- a ceiling that is as great as the work
 
@@ -250,9 +249,3 @@ module _ (q : Terms) (x : List ℕ) (w v : ℕ) (enough : work (tries (table q x
     paid_same (table q x) q.policy.max_calls w v enough as_well,
     ap (states_at (table q x)) (stop_same (table q x) q.policy.max_calls w v enough as_well),
   )
-
-pub within_both : (eligible_words : (p : Settings) (s : SignatureParts) (k : KeyParts) (v : List Meaning) → eligible_for p s k v ≡ true → IsEligible p s k v)
-    → (no_row : (p : Settings) (s : SignatureParts) (v : List Meaning) → bar_of p s v ≡ None → NoRow (bar_rows p s v)) → CeilingSuffices
-within_both eligible_words no_row q x w v l m =
-    let b = within_bound eligible_words no_row q x in
-    suffices q x w v (omega (arith, b, l)) (omega (arith, b, m))

@@ -2,17 +2,21 @@
 use Rattle.std.proofs.Common.{◌≡◌, ℕ, ◌*◌, ◌≤◌, true, List, ◌∷◌, length, map, None, Result, Ok, Err, refl, sym, ◌∙◌, ap, subst, arith, length-append}
 use Rattle.jwt_jws.specs.Token.{Token}
 use Rattle.jwt_verify.specs.declared.report.Fault.{Fault}
-use Rattle.jwt_verify.specs.declared.report.Verdict.TheVariants.{Accepted}
-use Rattle.jwt_verify.specs.Table.{Table, entry, tries, stop, states_at}
+use Rattle.jwt_verify.specs.declared.report.Fault.TheVariants.{WorkExceeded}
+use Rattle.jwt_verify.specs.declared.report.Verdict.TheVariants.{Accepted, Refused}
+use Rattle.jwt_verify.specs.Table.{Table, entry, tries, work, paid, stop, states_at, states}
 use Rattle.jwt_verify.specs.Verdict.{Terms, token_of, table}
 use Rattle.jwt_verify.specs.Asks.{IsToken}
 use Rattle.jwt_verify.specs.Laws.{with_keys, kind_of, without_key, with_valid, verdict_by}
-use Rattle.jwt_verify.specs.Verdicts.{PaidIsLongest, CallsSuffice, IsUnstopped, MoreKeysAccept, SameKeysAgree, SparesNone, LeastTriesOfToken}
+use Rattle.jwt_verify.specs.Verdicts.{PaidIsLongest, CallsSuffice, work_bound, WorkIsBounded, CeilingSuffices, IsUnstopped, MoreKeysAccept, SameKeysAgree, SparesNone, LeastTriesOfToken}
 use Rattle.jwt_verify.proofs.Bounds.{length-tries}
 use Rattle.jwt_verify.proofs.Judged.{unbarred_by, table_none, table_of_token}
 use Rattle.jwt_verify.proofs.LeastVerdict.{least_tries_hold}
 use Rattle.jwt_verify.proofs.Accepting.{token_is, is_token}
 use Rattle.jwt_verify.proofs.Refusing.{no_stop, verdict_token}
+use Rattle.jwt_verify.proofs.States.{are_states}
+use Rattle.jwt_verify.proofs.Ceilings.{within_bound, suffices}
+use Rattle.jwt_verify.proofs.Pinning.{table_is}
 use Rattle.jwt_verify.proofs.Allowing.{are_paid, paid_only, words_unstopped}
 use Rattle.jwt_verify.proofs.SameKeys.{more_keys_unstopped, same_keys_unstopped}
 use Rattle.jwt_verify.proofs.Stepwise.{IsReadToken}
@@ -22,7 +26,7 @@ pub paid_is_longest : PaidIsLongest
 paid_is_longest t octets calls = (are_paid t octets calls, paid_only t octets calls)
 
 module _ (laws : Laws) where
-  read_in : (q : Terms) (x : List ℕ) (token : Token) → IsToken q x token → IsReadToken q x token
+  read_in : (q : Terms) (x : List ℕ) (token : Token) → IsToken q.policy x token → IsReadToken q x token
   read_in q x token is = (is.0, (laws.signed_tokens _ _ token).1 is.1)
 
   pub calls_suffice : CallsSuffice
@@ -34,6 +38,24 @@ module _ (laws : Laws) where
       subst (λ n. length (tries t) ≤ n * length q.keys) signatures (subst (λ n. length (tries t) ≤ t.signatures * n) asks.1.keys (length-tries t)) in
       let room : length token.signatures * length q.keys ≤ most = within most e in
       absurd (omega (arith, few, room, beyond, ap length at.next.1, length-append es (entry t i j ∷ at.next.0)))
+
+  pub work_is_bounded : WorkIsBounded
+  work_is_bounded q x token t asks =
+      subst (λ t. work (tries t) ≤ work_bound q token t) (sym (table_is laws.eligible laws.bar q token t asks.1))
+      (within_bound (λ p s k v h. (laws.eligible p s k v).0 h) laws.no_bar q token)
+
+  pub ceiling_suffices : CeilingSuffices
+  ceiling_suffices q x w v token t asks least_w least_v =
+      let b = work_is_bounded q x token t asks in
+      let here : t ≡ table q x = (asks_token laws q x token t asks).1 in
+      let enough : work (tries (table q x)) ≤ w = subst (λ t. work (tries t) ≤ w) here (omega (arith, b, least_w)) in
+      let as_well : work (tries (table q x)) ≤ v = subst (λ t. work (tries t) ≤ v) here (omega (arith, b, least_v)) in
+      let s = suffices q x w v enough as_well in (
+        λ i j h. s.0 i j ((tells_in_words laws q x w (Refused (WorkExceeded i j))).1 h),
+        λ u h. (tells_in_words laws q x v u).0 (sym s.1 ∙ (tells_in_words laws q x w u).1 h),
+        subst (λ t. paid t w q.policy.max_calls ≡ paid t v q.policy.max_calls) (sym here) s.2,
+        subst (λ t. states t w q.policy.max_calls ≡ states t v q.policy.max_calls) (sym here) s.3,
+      )
 
   unstopped_none : (q : Terms) (x : List ℕ) (w : ℕ) → IsUnstopped q x w → stop (table q x) w q.policy.max_calls ≡ None
   unstopped_none q x w h = go (token_of q.policy x) refl
@@ -55,9 +77,11 @@ module _ (laws : Laws) where
       let other_none = unstopped_none p x other_w other_unstopped in
       let s = same_keys_unstopped q others x w other_w h k none other_none in (
         λ u v us vs. ap without_key (sym ((tells_in_words laws q x w u).1 us)) ∙ s.0 ∙ ap without_key ((tells_in_words laws p x other_w v).1 vs),
-        λ token t o asks other_asks. ap (λ t. map kind_of (states_at t None)) (asks_token laws q x token t asks).1
+        λ token t o mine theirs asks other_asks here there. ap (map kind_of) (are_states t None mine here)
+            ∙ ap (λ t. map kind_of (states_at t None)) (asks_token laws q x token t asks).1
             ∙ sym (ap (λ n. map kind_of (states_at (table q x) n)) none) ∙ s.1 ∙ ap (λ n. map kind_of (states_at (table p x) n)) other_none
-            ∙ sym (ap (λ t. map kind_of (states_at t None)) (asks_token laws p x token o other_asks).1),
+            ∙ sym (ap (λ t. map kind_of (states_at t None)) (asks_token laws p x token o other_asks).1)
+            ∙ sym (ap (map kind_of) (are_states o None theirs there)),
       )
 
   pub least_tries_of_token : LeastTriesOfToken
@@ -82,10 +106,9 @@ module _ (laws : Laws) where
       here =
           let l = least_tries_hold (table q x) v w q.policy.max_calls unbarred in (
             λ agree. (let a = l.0 agree in (
-              a.0,
-              a.1,
+              a,
               (tells_in_words laws q x w (verdict_by (with_valid (table q x) v) w q.policy.max_calls q.policy q.now token.payload)).0
-                  (verdict_token q x w token read ∙ sym (a.3 q.policy q.now token.payload)),
+                  (verdict_token q x w token read ∙ sym (a.same_verdict q.policy q.now token.payload)),
             )),
             l.1,
           )

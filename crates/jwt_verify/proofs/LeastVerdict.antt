@@ -48,6 +48,6 @@ least_tries_hold t v octets calls unbarred = (
       let s = same_run t v octets calls agree in
       let sts : states (with_valid t v) octets calls ≡ states t octets calls = rw s.stop_same s.states_same in
       let ends : ending (with_valid t v) octets calls ≡ ending t octets calls = rw (s.paid_same, s.stop_same) refl in
-      (s.paid_same, sts, ends, λ p now payload. verdict_same t v octets calls unbarred sts ends p now payload)),
-  λ i j paid_here changed others same. changed_states t v octets calls unbarred i j paid_here changed others same,
+      record { same_tries = s.paid_same; same_states = sts; same_ending = ends; same_verdict = λ p now payload. verdict_same t v octets calls unbarred sts ends p now payload }),
+  λ i j paid_here differ same. changed_states t v octets calls unbarred i j paid_here differ.0 differ.1 same,
 )

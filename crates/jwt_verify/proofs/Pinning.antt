@@ -1,9 +1,9 @@
 -- A token and a list of keys have one table in words, and it is the one that is computed.
-use Rattle.std.proofs.Common.{◌≡◌, ℕ, Bool, true, false, List, Option, Some, None, refl, sym, ◌∙◌, inl, inr, ◌⊎◌}
+use Rattle.std.proofs.Common.{◌≡◌, ℕ, ◌<◌, Bool, true, false, List, Option, Some, None, refl, sym, ◌∙◌, inl, inr, ◌⊎◌, arith}
 use Rattle.std.specs.Prelude.{◌↔◌, slice_get, if◌then◌else◌}
 use Rattle.std.specs.Option.{option_map_or, option_and_then}
 use Rattle.std.proofs.Math.Path.{fun_ext}
-use Rattle.std.proofs.lemmas.Bool.{false≢true}
+use Rattle.std.proofs.lemmas.Bool.{cases_lt, false≢true}
 use Rattle.std.proofs.lemmas.Slice.Eq.{bytes_eq-Decides}
 use Rattle.jwt_mac.specs.declared.algorithm.Alg.{Alg}
 use Rattle.jwt_mac.specs.Algorithm.{is_hmac_alg, tag_of}
@@ -17,9 +17,9 @@ use Rattle.jwt_policy.specs.Bars.{alg, bar_rows, bar_of}
 use Rattle.jwt_policy.specs.Eligible.{eligible_for}
 use Rattle.jwt_policy.specs.Laws.{IsEligible}
 use Rattle.jwt_verify.specs.Table.{Table}
-use Rattle.jwt_verify.specs.Trying.{is_tag, accepted_by, lacking_by, valid_under, may_lack_under, valid_by, may_lack_by, at_pair, table_of}
+use Rattle.jwt_verify.specs.Trying.{is_tag, accepted_by, lacking_by, valid_under, may_lack_under, valid_by, may_lack_by, cost_under, cost_by, at_pair, table_of}
 use Rattle.jwt_verify.specs.Verdict.{Terms}
-use Rattle.jwt_verify.specs.Asks.{IsAsked, IsValid, AtPair, IsTable}
+use Rattle.jwt_verify.specs.Asks.{IsAsked, IsValid, IsCost, AtPair, IsTable}
 
 bool_same : (a b : Bool) → (a ≡ true → b ≡ true) → (b ≡ true → a ≡ true) → a ≡ b
 bool_same true true f g = refl
@@ -92,7 +92,41 @@ lack_is verifiers m s k = (λ y. go (alg s) refl y, λ (a, e, h). rw e (words_la
     go None e y = absurd (false≢true y)
     go (Some a) e y = (a, sym e, lack_words verifiers a k.octets m s.octets (is_hmac_alg a) refl y)
 
+-- ---- what it costs
+
+cost_octets : (s : SignatureParts) (key : KeyParts) (m : MessageOctets) (n : ℕ) (a : Alg) → alg s ≡ Some a → (o : KeyOctets) → o ≡ key.octets → 0 < n → cost_under a o m ≡ n → IsCost m s key n
+cost_octets s key m n a named (OctKey k) is some y = (a, k, named, sym is, sym y)
+cost_octets s key m n a named (RsaKey z e) is some y = absurd (omega (arith, some, y))
+cost_octets s key m n a named (EcKey c x z) is some y = absurd (omega (arith, some, y))
+cost_octets s key m n a named (OkpKey c x) is some y = absurd (omega (arith, some, y))
+
+cost_is : (m : MessageOctets) (s : SignatureParts) (key : KeyParts) (n : ℕ) → 0 < n → (cost_by m s key ≡ n) ↔ IsCost m s key n
+unfolding cost_by
+cost_is m s key n some = (λ y. go (alg s) refl y, λ (a, k, e, is, y). rw (e, is) (sym y))
+  where
+    go : (o : Option Alg) → o ≡ alg s → option_map_or (λ a. cost_under a key.octets m) o 0 ≡ n → IsCost m s key n
+    go None e y = absurd (omega (arith, some, y))
+    go (Some a) e y = cost_octets s key m n a (sym e) key.octets refl some y
+
+nat_same : (a b : ℕ) → ((n : ℕ) → 0 < n → a ≡ n → b ≡ n) → ((n : ℕ) → 0 < n → b ≡ n → a ≡ n) → a ≡ b
+nat_same a b f g = elim (cases_lt 0 a) [
+  | inl l ↦ sym (f a l refl)
+  | inr z ↦ elim (cases_lt 0 b) [
+    | inl m ↦ g b m refl
+    | inr w ↦ omega (arith, z, w)
+  ]
+]
+
 -- ---- all pairs
+
+at_cost : (f : SignatureParts → KeyParts → ℕ) (P : SignatureParts → KeyParts → Type 0) (n : ℕ) → 0 < n → ((s : SignatureParts) (k : KeyParts) → (f s k ≡ n) ↔ P s k)
+    → (t : Token) (ks : List KeyParts) (i j : ℕ) → (at_pair f 0 t ks i j ≡ n) ↔ AtPair t ks i j P
+at_cost f P n some h t ks i j = (λ y. go (slice_get t.signatures i) refl (slice_get ks j) refl y, λ (s, k, e, l, w). rw (e, l) ((h s k).1 w))
+  where
+    go : (o : Option SignatureParts) → o ≡ slice_get t.signatures i → (p : Option KeyParts) → p ≡ slice_get ks j → option_map_or (λ s. option_map_or (f s) p 0) o 0 ≡ n → AtPair t ks i j P
+    go None e p l y = absurd (omega (arith, some, y))
+    go (Some s) e None l y = absurd (omega (arith, some, y))
+    go (Some s) e (Some k) l y = (s, k, sym e, sym l, (h s k).0 y)
 
 at_true : (f : SignatureParts → KeyParts → Bool) (P : SignatureParts → KeyParts → Type 0) → ((s : SignatureParts) (k : KeyParts) → (f s k ≡ true) ↔ P s k)
     → (t : Token) (ks : List KeyParts) (i j : ℕ) → (at_pair f false t ks i j ≡ true) ↔ AtPair t ks i j P
@@ -113,7 +147,7 @@ tables_same q token t u h k =
     let eligible : t.eligible ≡ u.eligible = fun_ext (λ i. fun_ext (λ j. bool_same (t.eligible i j) (u.eligible i j) (λ e. (k.eligible i j).1 ((h.eligible i j).0 e)) (λ e. (h.eligible i j).1 ((k.eligible i j).0 e)))) in
     let valid : t.valid ≡ u.valid = fun_ext (λ i. fun_ext (λ j. bool_same (t.valid i j) (u.valid i j) (λ e. (k.valid i j).1 ((h.valid i j).0 e)) (λ e. (h.valid i j).1 ((k.valid i j).0 e)))) in
     let may_lack : t.may_lack ≡ u.may_lack = fun_ext (λ i. fun_ext (λ j. bool_same (t.may_lack i j) (u.may_lack i j) (λ e. (k.may_lack i j).1 ((h.may_lack i j).0 e)) (λ e. (h.may_lack i j).1 ((k.may_lack i j).0 e)))) in
-    let cost : t.cost ≡ u.cost = fun_ext (λ i. fun_ext (λ j. h.cost i j ∙ sym (k.cost i j))) in
+    let cost : t.cost ≡ u.cost = fun_ext (λ i. fun_ext (λ j. nat_same (t.cost i j) (u.cost i j) (λ n l e. (k.cost i j n l).1 ((h.cost i j n l).0 e)) (λ n l e. (h.cost i j n l).1 ((k.cost i j n l).0 e)))) in
     λ d. record { signatures = signatures d; keys = keys d; mode = mode d; bar = bar d; eligible = eligible d; valid = valid d; may_lack = may_lack d; cost = cost d }
 
 module _ (eligible_words : (p : Settings) (s : SignatureParts) (k : KeyParts) (v : List Meaning) → (eligible_for p s k v ≡ true) ↔ IsEligible p s k v)
@@ -136,7 +170,7 @@ module _ (eligible_words : (p : Settings) (s : SignatureParts) (k : KeyParts) (v
     eligible = at_true (λ s k. eligible_for q.policy s k q.verifiers) (λ s k. IsEligible q.policy s k q.verifiers) (λ s k. eligible_words q.policy s k q.verifiers) token q.keys;
     valid = at_true (λ s k. valid_by q.verifiers (message_of token s) s k) (λ s k. IsValid q.verifiers (message_of token s) s k) (λ s k. valid_is q.verifiers (message_of token s) s k) token q.keys;
     may_lack = at_true (λ s k. may_lack_by q.verifiers (message_of token s) s k) (λ s k. MayLack q.verifiers (message_of token s) s k) (λ s k. lack_is q.verifiers (message_of token s) s k) token q.keys;
-    cost = λ i j. refl;
+    cost = λ i j n l. at_cost (λ s k. cost_by (message_of token s) s k) (λ s k. IsCost (message_of token s) s k n) n l (λ s k. cost_is (message_of token s) s k n l) token q.keys i j;
   }
 
   pub table_is : (q : Terms) (token : Token) (t : Table) → IsTable q token t → t ≡ table_of q.policy q.verifiers q.keys token

@@ -1,7 +1,7 @@
 -- The report that the steps leave is the report in words.
-use Rattle.std.proofs.Common.{◌≡◌, ◌≢◌, ℕ, ◌+◌, ◌*◌, ◌≤◌, ◌⊎◌, Bool, true, List, [], ◌∷◌, ◌++◌, length, take, get_or, Option, Result, Ok, Err, refl, sym, ◌∙◌, ap, subst, inl, inr, arith, length-append, append_assoc}
+use Rattle.std.proofs.Common.{◌≡◌, ◌≢◌, ℕ, ◌+◌, ◌*◌, ◌≤◌, ◌⊎◌, Bool, true, List, [], ◌∷◌, ◌++◌, length, take, get_or, Option, Some, Result, Ok, Err, refl, sym, ◌∙◌, ap, subst, inl, inr, arith, length-append, append_assoc}
 use Rattle.std.specs.Prelude.{slice_get}
-use Rattle.std.specs.List.{All, AllPairs, sum_by}
+use Rattle.std.specs.List.{All, AllPairs, AllZip, sum_by}
 use Rattle.std.proofs.lemmas.List.{nil_from_length, take_at, get_or_append_left}
 use Rattle.std.proofs.lemmas.List.Elements.{All-nil, All-take, All-weaker}
 use Rattle.std.proofs.Math.Nat.{mul-le-mul_right}
@@ -16,13 +16,13 @@ use Rattle.jwt_verify.specs.declared.report.Fault.TheVariants.{OutOfMemory, Text
 use Rattle.jwt_verify.specs.declared.report.Report.{Report}
 use Rattle.jwt_verify.specs.declared.report.Verdict.{Verdict}
 use Rattle.jwt_verify.specs.declared.report.Verdict.TheVariants.{Accepted, Refused}
-use Rattle.jwt_verify.specs.Table.{Table, tries, work, paid, stop, states_at, states}
+use Rattle.jwt_verify.specs.Table.{Table, below, tries, work, paid, stop, states_at, states}
 use Rattle.jwt_verify.specs.Trying.{at_pair, table_of}
 use Rattle.jwt_verify.specs.Verdict.{Terms, token_of, table, verdict_of}
 use Rattle.jwt_verify.specs.Paying.{IsFront, IsWithin, AreAllowed, ArePaid}
 use Rattle.jwt_verify.specs.Asks.{AtPair, IsToken, IsAsking}
 use Rattle.jwt_verify.specs.Laws.{IsBefore, common_cost, long_key}
-use Rattle.jwt_verify.specs.Reports.{FoundMemory, IsComplete, IsReport, AreEligible, IsBounded}
+use Rattle.jwt_verify.specs.Reports.{FoundMemory, IsState, IsComplete, IsReport, AreEligible, IsBounded}
 use Rattle.jwt_verify.specs.Steps.{IsSourceFault, IsWhole, IsListed, ReportsInWords, ReportsOnTaken, TakenTokens, TellsReports}
 use Rattle.jwt_verify.proofs.Bounds.{HasCost, rows_ordered, tries_eligible, length-tries, sum_bound, tries_bounded}
 use Rattle.jwt_verify.proofs.Walking.{tries_are_rows}
@@ -32,6 +32,7 @@ use Rattle.jwt_verify.proofs.Taking.{token_taken}
 use Rattle.jwt_verify.proofs.Ceilings.{table_cost}
 use Rattle.jwt_verify.proofs.Accepting.{token_is, is_token}
 use Rattle.jwt_verify.proofs.Allowing.{are_paid, paid_only, paid_allowed}
+use Rattle.jwt_verify.proofs.States.{states_are, are_states}
 use Rattle.jwt_verify.proofs.Pinning.{the_table}
 use Rattle.jwt_verify.proofs.Words.{Laws, token_asks, asks_token, tells_in_words}
 
@@ -66,9 +67,11 @@ module _ (t : Table) (w : ℕ) (calls : Option ℕ) (es more : List Try) (front 
 -- ---- what the run leaves
 
 module _ (t : Table) (w : ℕ) (calls : Option ℕ) (es : List Try) (sts : List SigState) where
-  completed : (es ≡ paid t w calls) × (sts ≡ states t w calls) → ArePaid t w calls es × (sts ≡ states_at t (slice_get (tries t) (length es)))
+  completed : (es ≡ paid t w calls) × (sts ≡ states t w calls) → ArePaid t w calls es × AllZip (IsState t (slice_get (tries t) (length es))) (below t.signatures) sts
   unfolding stop
-  completed h = (subst (ArePaid t w calls) (sym h.0) (are_paid t w calls), h.1 ∙ ap (λ fs. states_at t (slice_get (tries t) (length fs))) (sym h.0))
+  completed h =
+      let same : sts ≡ states_at t (slice_get (tries t) (length es)) = h.1 ∙ ap (λ fs. states_at t (slice_get (tries t) (length fs))) (sym h.0) in
+      (subst (ArePaid t w calls) (sym h.0) (are_paid t w calls), subst (AllZip (IsState t (slice_get (tries t) (length es))) (below t.signatures)) (sym same) (states_are t (slice_get (tries t) (length es))))
 
   complete : (v : Verdict) → IsWhole t w calls es sts v → IsComplete t w calls es sts v
   complete (Accepted i j claims) h = completed h
@@ -78,12 +81,12 @@ module _ (t : Table) (w : ℕ) (calls : Option ℕ) (es : List Try) (sts : List 
   complete (Refused (WorkExceeded i j)) h = completed h
   complete (Refused (Signature i f)) h = completed h
   complete (Refused (Claim f)) h = completed h
-  complete (Refused VerifierMemory) h = h
+  complete (Refused VerifierMemory) (before, e, is, lack, states) = (before, e, is, lack, subst (AllZip (IsState t (Some e)) (below t.signatures)) (sym states) (states_are t (Some e)))
   complete (Refused (CallsExceeded i j)) h = completed h
 
-  left : ArePaid t w calls es × (sts ≡ states_at t (slice_get (tries t) (length es))) → (es ≡ paid t w calls) × (sts ≡ states t w calls)
+  left : ArePaid t w calls es × AllZip (IsState t (slice_get (tries t) (length es))) (below t.signatures) sts → (es ≡ paid t w calls) × (sts ≡ states t w calls)
   unfolding stop
-  left h = let e = paid_only t w calls es h.0 in (e, h.1 ∙ ap (λ fs. states_at t (slice_get (tries t) (length fs))) e)
+  left h = let e = paid_only t w calls es h.0 in (e, are_states t (slice_get (tries t) (length es)) sts h.1 ∙ ap (λ fs. states_at t (slice_get (tries t) (length fs))) e)
 
   found_left : (v : Verdict) → FoundMemory v → IsComplete t w calls es sts v → (es ≡ paid t w calls) × (sts ≡ states t w calls)
   found_left (Accepted i j claims) found h = left h
@@ -138,17 +141,17 @@ memory_report q x w r nil memory = record {
 }
 
 -- the source failed, or memory was refused before anything was tried
-pub source_report : (q : Terms) (x : List ℕ) (w : ℕ) (r : Report) (failed : Bool) (f : Fault) → IsSourceFault failed f → r.verdict ≡ Refused f → r.tries.items ≡ []
+pub source_report : (q : Terms) (x : List ℕ) (w : ℕ) (r : Report) (before failed : Bool) (f : Fault) → IsSourceFault before failed f → r.verdict ≡ Refused f → r.tries.items ≡ []
     → r.verdict ≢ Refused (Text Read) → IsReport q x w r
-source_report q x w r failed OutOfMemory h v nil works = memory_report q x w r nil v
-source_report q x w r failed (Text Read) h v nil works = absurd (works v)
-source_report q x w r failed (Text TooLong) h v nil works = absurd h
-source_report q x w r failed (Form f) h v nil works = absurd h
-source_report q x w r failed (WorkExceeded i j) h v nil works = absurd h
-source_report q x w r failed (Signature i f) h v nil works = absurd h
-source_report q x w r failed (Claim f) h v nil works = absurd h
-source_report q x w r failed VerifierMemory h v nil works = absurd h
-source_report q x w r failed (CallsExceeded i j) h v nil works = absurd h
+source_report q x w r before failed OutOfMemory h v nil works = memory_report q x w r nil v
+source_report q x w r before failed (Text Read) h v nil works = absurd (works v)
+source_report q x w r before failed (Text TooLong) h v nil works = absurd h
+source_report q x w r before failed (Form f) h v nil works = absurd h
+source_report q x w r before failed (WorkExceeded i j) h v nil works = absurd h
+source_report q x w r before failed (Signature i f) h v nil works = absurd h
+source_report q x w r before failed (Claim f) h v nil works = absurd h
+source_report q x w r before failed VerifierMemory h v nil works = absurd h
+source_report q x w r before failed (CallsExceeded i j) h v nil works = absurd h
 
 -- ---- the report
 
@@ -157,7 +160,7 @@ abbrev IsBlank : Report → Type 0
 IsBlank r = (r.tries.items ≡ []) × ((r.verdict ≡ Refused OutOfMemory) ⊎ (FoundMemory r.verdict × (r.states.items ≡ [])))
 
 module _ (laws : Laws) where
-  listed_blank : (q : Terms) (x : List ℕ) (w : ℕ) (r : Report) → IsListed q x w r → ((token : Token) → ¬ IsToken q x token) → IsBlank r
+  listed_blank : (q : Terms) (x : List ℕ) (w : ℕ) (r : Report) → IsListed q x w r → ((token : Token) → ¬ IsToken q.policy x token) → IsBlank r
   listed_blank q x w r h none = go (token_of q.policy x) refl
     where
       go : (k : Result Token Fault) → k ≡ token_of q.policy x → IsBlank r
@@ -187,10 +190,10 @@ module _ (laws : Laws) where
   }
 
   -- the table of a token that is read
-  of_token : (q : Terms) (x : List ℕ) (token : Token) → IsToken q x token → table_of q.policy q.verifiers q.keys token ≡ table q x
+  of_token : (q : Terms) (x : List ℕ) (token : Token) → IsToken q.policy x token → table_of q.policy q.verifiers q.keys token ≡ table q x
   of_token q x token is = table_of_token q x token (is_token q x token (is.0, (laws.signed_tokens _ _ token).1 is.1))
 
-  module _ (q : Terms) (x : List ℕ) (es : List Try) (front : IsFront (table q x) es) (token : Token) (is : IsToken q x token) where
+  module _ (q : Terms) (x : List ℕ) (es : List Try) (front : IsFront (table q x) es) (token : Token) (is : IsToken q.policy x token) where
     abbrev T : Table
     T = table_of q.policy q.verifiers q.keys token
 
@@ -223,7 +226,7 @@ module _ (laws : Laws) where
 
   -- ---- what is taken of x
 
-  token_over : (q : Terms) (y x : List ℕ) → token_of q.policy y ≡ token_of q.policy x → (token : Token) → IsToken q x token → IsToken q y token
+  token_over : (q : Terms) (y x : List ℕ) → token_of q.policy y ≡ token_of q.policy x → (token : Token) → IsToken q.policy x token → IsToken q.policy y token
   token_over q y x e token is =
       let k = is_token q x token (is.0, (laws.signed_tokens _ _ token).1 is.1) in
       (token_asks laws q y token (token_is q y token (e ∙ k))).0
@@ -260,6 +263,6 @@ module _ (laws : Laws) where
           let l = found_left (table q x) w q.policy.max_calls r.tries.items r.states.items r.verdict found (h.run t (table q x) asks).2 in
           (verdict, l.0, l.1)
       go (Err f) e =
-          let none : (token : Token) → ¬ IsToken q x token = λ token is. (let never = e ∙ is_token q x token (is.0, (laws.signed_tokens _ _ token).1 is.1) in cc) in
+          let none : (token : Token) → ¬ IsToken q.policy x token = λ token is. (let never = e ∙ is_token q x token (is.0, (laws.signed_tokens _ _ token).1 is.1) in cc) in
           let l = nothing (table_none q x f (sym e)) (h.blank none) in
           (verdict, l.0, l.1)

@@ -1,5 +1,5 @@
 -- When a token is accepted, and why it is refused, in words.
-use Rattle.std.specs.Prelude.{ℕ, ◌+◌, ◌<◌, ◌≤◌, ◌≡◌, ◌⊎◌, ◌↔◌, true, false, List, length, Option, Some, None, ◌++◌, ◌∷◌, map}
+use Rattle.std.specs.Prelude.{ℕ, ◌+◌, ◌<◌, ◌≤◌, ◌≡◌, ◌⊎◌, ◌↔◌, true, false, List, length, Option, Some, None, Ok, Err, ◌++◌, ◌∷◌, map}
 use Rattle.serde_json.specs.Data.{Members}
 use Rattle.jwt_text.specs.ObjectText.{IsObjectText}
 use Rattle.jwt_text.specs.Rows.{IsFirstRow, NoRow}
@@ -11,6 +11,7 @@ use Rattle.jwt_policy.specs.declared.sig_fault.SigFault.{SigFault}
 use Rattle.jwt_policy.specs.declared.sig_fault.SigFault.TheVariants.{NoKey, BadSignature}
 use Rattle.jwt_policy.specs.declared.claim_fault.ClaimFault.{ClaimFault}
 use Rattle.jwt_policy.specs.declared.claim_fault.ClaimFault.TheVariants.{ClaimsShape}
+use Rattle.jwt_policy.specs.Settings.{Settings}
 use Rattle.jwt_policy.specs.ClaimKinds.{kind_rows}
 use Rattle.jwt_policy.specs.Checks.{missing, later_rows}
 use Rattle.jwt_policy.specs.Laws.{ClaimsHold}
@@ -22,8 +23,8 @@ use Rattle.jwt_verify.specs.declared.report.Verdict.{Verdict}
 use Rattle.jwt_verify.specs.declared.report.Verdict.TheVariants.{Accepted, Refused}
 use Rattle.jwt_verify.specs.Table.{Table, verifies, verified, entry, tries, work}
 use Rattle.jwt_verify.specs.Paying.{IsWithin, AreAllowed}
-use Rattle.jwt_verify.specs.Asks.{IsAsking}
-use Rattle.jwt_verify.specs.Verdict.{Terms, without_line_feed, verdict_of}
+use Rattle.jwt_verify.specs.Asks.{IsToken, IsAsking}
+use Rattle.jwt_verify.specs.Verdict.{Terms, without_line_feed, token_of, verdict_of}
 
 -- Signature i is the one that counts: in mode Any the first that is verified, in mode All the first of all, each of which is
 -- verified (RFC 7515, section 5.2).
@@ -82,10 +83,14 @@ IsClaimFault q payload f = ((f ≡ ClaimsShape) × ((claims : Members) → ¬ Is
 abbrev pub OfToken : Terms → List ℕ → (List ℕ → Table → Type 0) → Type 0
 OfToken q x P = (token : Token) × (t : Table) × IsAsking q x token t × P token.payload t
 
+-- why x is no signed token: it is too long, or without the line feed that is dropped it has a fault of form
+abbrev pub IsTokenFault : Settings → List ℕ → Fault → Type 0
+IsTokenFault p x (Text TooLong) = p.run.limit < length x
+IsTokenFault p x (Form f) = (length x ≤ p.run.limit) × IsFormFault p.run.max_signatures (without_line_feed p.run.line_feed x) f
+IsTokenFault p x _ = ⊥
+
 -- why x is refused, each cause where none before it holds; a signature and the claims where no ceiling stops the run
 abbrev pub IsFault : Terms → List ℕ → ℕ → Fault → Type 0
-IsFault q x w (Text TooLong) = q.policy.run.limit < length x
-IsFault q x w (Form f) = (length x ≤ q.policy.run.limit) × IsFormFault q.policy.run.max_signatures (without_line_feed q.policy.run.line_feed x) f
 -- one more call exceeds the ceiling on calls
 IsFault q x w (CallsExceeded i j) = OfToken q x (λ payload t. (es : List Try) × StopsAt t w q.policy.max_calls i j es
     × ((most : ℕ) × (q.policy.max_calls ≡ Some most) × (most < length es + 1)))
@@ -96,7 +101,7 @@ IsFault q x w (Signature i f) = OfToken q x (λ payload t. AreAllowed w q.policy
     × (IsFirstUnverified t.mode t i × IsReason t i f))
 IsFault q x w (Claim f) = OfToken q x (λ payload t. AreAllowed w q.policy.max_calls (tries t)
     × (((i : ℕ) × (j : ℕ) × IsVerifiedBy t i j) × IsClaimFault q payload f))
-IsFault q x w _ = ⊥
+IsFault q x w f = IsTokenFault q.policy x f
 
 -- ---- the verdict
 
@@ -120,3 +125,11 @@ RefusesExactly = (q : Terms) (x : List ℕ) (w : ℕ) (f : Fault) → (verdict_o
 -- it is the verdict on x
 abbrev pub TellsVerdicts : Type 0
 TellsVerdicts = (q : Terms) (x : List ℕ) (w : ℕ) (v : Verdict) → (verdict_of q x w ≡ v) ↔ IsVerdict q x w v
+
+-- the token that is read is the one that x is
+abbrev pub TellsTokens : Type 0
+TellsTokens = (p : Settings) (x : List ℕ) (token : Token) → (token_of p x ≡ Ok token) ↔ IsToken p x token
+
+-- where there is none, the fault is the one that x has
+abbrev pub TellsTokenFaults : Type 0
+TellsTokenFaults = (p : Settings) (x : List ℕ) (f : Fault) → (token_of p x ≡ Err f) ↔ IsTokenFault p x f

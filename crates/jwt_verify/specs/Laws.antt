@@ -2,16 +2,14 @@
 use Rattle.serde_json.specs.Data.{Members}
 use Rattle.jwt_keys.specs.Keys.{KeyParts}
 use Rattle.jwt_verify.specs.declared.report.Verdict.{Verdict}
-use Rattle.jwt_verify.specs.declared.report.Verdict.TheVariants.{Accepted, Refused}
-use Rattle.jwt_verify.specs.Verdict.{Terms, conclusion, unless_stopped, signing_of, token_of, token_or_none, table, verdict_of}
+use Rattle.jwt_verify.specs.declared.report.Verdict.TheVariants.{Accepted}
+use Rattle.jwt_verify.specs.Verdict.{Terms, conclusion, unless_stopped, signing_of, table, verdict_of}
 use Rattle.jwt_mac.specs.declared.algorithm.Alg.{Alg}
 use Rattle.jwt_mac.specs.Algorithm.{is_hmac_alg, block_size, digest_size, key_cost}
 use Rattle.jwt_mac.specs.Verifying.{KeyOctets, OctKey, signing_input}
 use Rattle.jwt_jws.specs.Token.{Token, SignatureParts, message_of}
 use Rattle.jwt_policy.specs.Settings.{Settings}
 use Rattle.jwt_policy.specs.Bars.{alg}
-use Rattle.jwt_verify.specs.declared.report.Fault.TheVariants.{WorkExceeded}
-use Rattle.jwt_verify.specs.Trying.{at_pair}
 use Rattle.std.specs.Prelude.{[], ◌∷◌, max, if◌then◌else◌, map, ℕ, ℤ, ◌+◌, ◌*◌, ◌<◌, ◌≤◌, ◌≡◌, ◌≢◌, ◌⊎◌, Bool, true, not, List, length, Option, None}
 use Rattle.std.specs.List.{sum_by, All, AllPairs, Contains}
 use Rattle.std.specs.Option.{option_map_or}
@@ -41,15 +39,27 @@ with_valid t v = record { signatures = t.signatures; keys = t.keys; mode = t.mod
 abbrev pub verdict_by : Table → ℕ → Option ℕ → Settings → ℤ → List ℕ → Verdict
 verdict_by t octets calls p now payload = unless_stopped (ending t octets calls) (conclusion p now payload (signing_of t))
 
--- What two validities agree on, for the paid tries of one, decides all that a run leaves, and its verdict; where they differ at one
--- paid try alone, the states differ. No key is eligible for a barred signature.
+-- another validity is that of the table, for these tries
+abbrev pub AgreeOn : Table → (ℕ → ℕ → Bool) → List Try → Type 0
+AgreeOn t v es = All (λ e. t.valid e.signature e.key ≡ v e.signature e.key) es
+
+-- it is another one for the pair of i and j, and for no other
+abbrev pub DifferOnlyAt : Table → (ℕ → ℕ → Bool) → ℕ → ℕ → Type 0
+DifferOnlyAt t v i j = (v i j ≡ not (t.valid i j)) × ((m n : ℕ) → (m ≡ i → n ≡ j → ⊥) → v m n ≡ t.valid m n)
+
+-- runs over the two tables leave the same, and come to the same verdict
+pub record LeaveTheSame (t u : Table) (octets : ℕ) (calls : Option ℕ) : Type 0 where
+  pub same_tries : paid u octets calls ≡ paid t octets calls
+  pub same_states : states u octets calls ≡ states t octets calls
+  pub same_ending : ending u octets calls ≡ ending t octets calls
+  pub same_verdict : (p : Settings) (now : ℤ) (payload : List ℕ) → verdict_by u octets calls p now payload ≡ verdict_by t octets calls p now payload
+
+-- No paid try can be spared: what is known of the paid tries decides what a run leaves; and where one paid try alone has other
+-- validity, the states differ. No key is eligible for a barred signature.
 abbrev pub LeastTries : Type 0
 LeastTries = (t : Table) (v : ℕ → ℕ → Bool) (octets : ℕ) (calls : Option ℕ) → ((i j : ℕ) → t.eligible i j ≡ true → t.bar i ≡ None)
-    → (All (λ e. t.valid e.signature e.key ≡ v e.signature e.key) (paid t octets calls)
-    → (paid (with_valid t v) octets calls ≡ paid t octets calls) × (states (with_valid t v) octets calls ≡ states t octets calls) × (ending (with_valid t v) octets calls ≡ ending t octets calls)
-    × ((p : Settings) (now : ℤ) (payload : List ℕ) → verdict_by (with_valid t v) octets calls p now payload ≡ verdict_by t octets calls p now payload))
-    × ((i j : ℕ) → Contains (paid t octets calls) (entry t i j) → v i j ≡ not (t.valid i j) → ((m n : ℕ) → (m ≡ i → n ≡ j → ⊥) → v m n ≡ t.valid m n)
-    → states (with_valid t v) octets calls ≢ states t octets calls)
+    → (AgreeOn t v (paid t octets calls) → LeaveTheSame t (with_valid t v) octets calls)
+    × ((i j : ℕ) → Contains (paid t octets calls) (entry t i j) → DifferOnlyAt t v i j → states (with_valid t v) octets calls ≢ states t octets calls)
 
 -- ---- other keys
 
@@ -64,7 +74,7 @@ AreAmong others keys = All (λ k. (o : KeyParts) × Contains others o × (unplac
 abbrev pub with_keys : Terms → List KeyParts → Terms
 with_keys q keys = record { policy = q.policy; keys = keys; now = q.now; verifiers = q.verifiers }
 
--- each ceiling leaves room for all tries
+-- the budget's ceiling leaves room for all tries, and the ceiling on calls for as many tries as there are pairs
 abbrev pub HasRoom : Table → ℕ → Option ℕ → Type 0
 HasRoom t octets calls = (work (tries t) ≤ octets) × (is_within calls (t.signatures * t.keys) ≡ true)
 
@@ -109,20 +119,3 @@ long_secret a _ = 0
 -- what a try costs for its key: the length of a secret that is longer than a block of the signature's algorithm
 abbrev pub long_key : SignatureParts → KeyParts → ℕ
 long_key s k = option_map_or (λ a. long_secret a k.octets) (alg s) 0
-
--- the common cost for each pair of signature and key, and each long key once for each of its tries
-abbrev pub work_bound : Terms → List ℕ → ℕ
-work_bound q x = let t = token_or_none (token_of q.policy x) in
-    bound (table q x) (common_cost q.policy t) (at_pair long_key 0 t q.keys)
-
--- the work is within the bound
-abbrev pub WorkIsBounded : Type 0
-WorkIsBounded = (q : Terms) (x : List ℕ) → work (tries (table q x)) ≤ work_bound q x
-
--- a ceiling of the bound is never exceeded, and how much more it is changes neither the verdict nor the tries nor the states
-abbrev pub CeilingSuffices : Type 0
-CeilingSuffices = (q : Terms) (x : List ℕ) (w v : ℕ) → work_bound q x ≤ w → work_bound q x ≤ v
-    → ((i j : ℕ) → verdict_of q x w ≢ Refused (WorkExceeded i j))
-    × (verdict_of q x w ≡ verdict_of q x v)
-    × (paid (table q x) w q.policy.max_calls ≡ paid (table q x) v q.policy.max_calls)
-    × (states (table q x) w q.policy.max_calls ≡ states (table q x) v q.policy.max_calls)

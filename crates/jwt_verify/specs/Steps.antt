@@ -19,18 +19,16 @@ use Rattle.jwt_verify.specs.Verdict.{Terms, Signing, fault_of, first_in, signing
 use Rattle.jwt_verify.specs.Asks.{IsToken}
 use Rattle.jwt_verify.specs.Reports.{FoundMemory, IsReport, AreEligible, IsBounded}
 
--- the octets of x that are held, and what is still to come; or memory was refused, and not more were taken
+-- the octets of x that are held, and what is still to come; or nothing is held, and at most the limit was taken
 abbrev pub Holds : Result Bounded Fault → ℕ → List ℕ → Option (List ℕ) → Type 0
 Holds (Ok held) limit x rest = (held.octets ≡ taken x limit) × (rest ≡ Some (drop (limit + 1) x))
-Holds (Err OutOfMemory) limit x rest =
-    (front back : List ℕ) × (x ≡ front ++ back) × (rest ≡ Some back) × (length front ≤ limit + 1)
-Holds (Err _) limit x rest = Unit {0}
+Holds (Err _) limit x rest = (front back : List ℕ) × (x ≡ front ++ back) × (rest ≡ Some back) × (length front ≤ limit)
 
--- why nothing is held, by whether the source has failed
-abbrev pub IsSourceFault : Bool → Fault → Type 0
-IsSourceFault failed OutOfMemory = Unit {0}
-IsSourceFault failed (Text Read) = failed ≡ true
-IsSourceFault failed _ = ⊥
+-- why nothing is held, by whether the source had failed, and whether it has: where memory was refused, it didn't fail now
+abbrev pub IsSourceFault : Bool → Bool → Fault → Type 0
+IsSourceFault before failed OutOfMemory = failed ≡ before
+IsSourceFault before failed (Text Read) = failed ≡ true
+IsSourceFault before failed _ = ⊥
 
 -- ---- what a run leaves
 
@@ -58,7 +56,7 @@ abbrev pub ReportsOnTaken : Type 0
 ReportsOnTaken = (q : Terms) (x : List ℕ) (w : ℕ) (r : Report) → IsReport q (taken x q.policy.run.limit) w r → IsReport q x w r
 
 abbrev pub TakenTokens : Type 0
-TakenTokens = (q : Terms) (x : List ℕ) (token : Token) → IsToken q x token → IsToken q (taken x q.policy.run.limit) token
+TakenTokens = (q : Terms) (x : List ℕ) (token : Token) → IsToken q.policy x token → IsToken q.policy (taken x q.policy.run.limit) token
 
 -- the report in words says what these steps leave, where memory was there
 abbrev pub TellsReports : Type 0

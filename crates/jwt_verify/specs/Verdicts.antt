@@ -1,19 +1,22 @@
 -- Laws of the verdict and of the tries, in words.
-use Rattle.std.specs.Prelude.{ℕ, ◌+◌, ◌*◌, ◌<◌, ◌≤◌, ◌≡◌, ◌≢◌, Bool, not, List, length, map, Option, None}
-use Rattle.std.specs.List.{All, Contains, sum_by}
+use Rattle.std.specs.Prelude.{ℕ, ◌+◌, ◌*◌, ◌<◌, ◌≤◌, ◌≡◌, ◌≢◌, Bool, List, length, map, Option, None}
+use Rattle.std.specs.List.{All, AllZip, Contains, sum_by}
 use Rattle.serde_json.specs.Data.{Members}
 use Rattle.jwt_jws.specs.Token.{Token}
 use Rattle.jwt_keys.specs.Keys.{KeyParts, secret_length}
 use Rattle.jwt_verify.specs.declared.report.Try.{Try}
-use Rattle.jwt_verify.specs.declared.report.Fault.TheVariants.{CallsExceeded}
+use Rattle.jwt_verify.specs.declared.report.SigState.{SigState}
+use Rattle.jwt_verify.specs.declared.report.Fault.TheVariants.{WorkExceeded, CallsExceeded}
 use Rattle.jwt_verify.specs.declared.report.Verdict.{Verdict}
 use Rattle.jwt_verify.specs.declared.report.Verdict.TheVariants.{Accepted, Refused}
-use Rattle.jwt_verify.specs.Table.{Table, entry, tries, work, paid, states_at, states}
+use Rattle.jwt_verify.specs.Table.{Table, below, entry, tries, work, paid, states}
+use Rattle.jwt_verify.specs.Trying.{at_pair}
 use Rattle.jwt_verify.specs.Verdict.{Terms}
 use Rattle.jwt_verify.specs.Paying.{IsWithin, AreAllowed, ArePaid}
 use Rattle.jwt_verify.specs.Asks.{IsToken, IsAsking}
 use Rattle.jwt_verify.specs.Accepted.{IsVerdict}
-use Rattle.jwt_verify.specs.Laws.{AreAmong, with_keys, kind_of, without_key, common_cost, with_valid, verdict_by}
+use Rattle.jwt_verify.specs.Reports.{IsState}
+use Rattle.jwt_verify.specs.Laws.{AreAmong, with_keys, kind_of, without_key, bound, common_cost, long_key, with_valid, verdict_by, AgreeOn, DifferOnlyAt, LeaveTheSame}
 
 -- what is paid is the longest prefix of the tries that both ceilings allow, and nothing else is
 abbrev pub PaidIsLongest : Type 0
@@ -21,8 +24,26 @@ PaidIsLongest = (t : Table) (octets : ℕ) (calls : Option ℕ) → ArePaid t oc
 
 -- where signatures times keys are within the ceiling on calls, no run stops for it
 abbrev pub CallsSuffice : Type 0
-CallsSuffice = (q : Terms) (x : List ℕ) (w i j : ℕ) (token : Token) → IsToken q x token → IsWithin q.policy.max_calls (length token.signatures * length q.keys)
+CallsSuffice = (q : Terms) (x : List ℕ) (w i j : ℕ) (token : Token) → IsToken q.policy x token → IsWithin q.policy.max_calls (length token.signatures * length q.keys)
     → ¬ IsVerdict q x w (Refused (CallsExceeded i j))
+
+-- ---- the bound on the work
+
+-- the common cost for each pair of signature and key, and each long key once for each of its tries
+abbrev pub work_bound : Terms → Token → Table → ℕ
+work_bound q token t = bound t (common_cost q.policy token) (at_pair long_key 0 token q.keys)
+
+-- the work is within the bound
+abbrev pub WorkIsBounded : Type 0
+WorkIsBounded = (q : Terms) (x : List ℕ) (token : Token) (t : Table) → IsAsking q x token t → work (tries t) ≤ work_bound q token t
+
+-- a ceiling of the bound is never exceeded, and how much more it is changes neither the verdict nor the tries nor the states
+abbrev pub CeilingSuffices : Type 0
+CeilingSuffices = (q : Terms) (x : List ℕ) (w v : ℕ) (token : Token) (t : Table) → IsAsking q x token t → work_bound q token t ≤ w → work_bound q token t ≤ v
+    → ((i j : ℕ) → ¬ IsVerdict q x w (Refused (WorkExceeded i j)))
+    × ((u : Verdict) → IsVerdict q x w u → IsVerdict q x v u)
+    × (paid t w q.policy.max_calls ≡ paid t v q.policy.max_calls)
+    × (states t w q.policy.max_calls ≡ states t v q.policy.max_calls)
 
 -- ---- the bound in a caller's terms
 
@@ -58,19 +79,18 @@ abbrev pub SameKeysAgree : Type 0
 SameKeysAgree = (q : Terms) (others : List KeyParts) (x : List ℕ) (w other_w : ℕ) → AreAmong others q.keys → AreAmong q.keys others
     → IsUnstopped q x w → IsUnstopped (with_keys q others) x other_w
     → ((u v : Verdict) → IsVerdict q x w u → IsVerdict (with_keys q others) x other_w v → without_key u ≡ without_key v)
-    × ((token : Token) (t o : Table) → IsAsking q x token t → IsAsking (with_keys q others) x token o
-    → map kind_of (states_at t None) ≡ map kind_of (states_at o None))
+    × ((token : Token) (t o : Table) (mine theirs : List SigState) → IsAsking q x token t → IsAsking (with_keys q others) x token o
+    → AllZip (IsState t None) (below t.signatures) mine → AllZip (IsState o None) (below o.signatures) theirs → map kind_of mine ≡ map kind_of theirs)
 
 -- ---- no try of a token can be spared
 
--- What another validity has in common with that of a table, for the paid tries, decides the tries, the states and the verdict on x;
--- where the two differ at one paid try alone, the states differ.
+-- What is known of the paid tries decides what a run leaves, and the verdict on x; where one paid try alone has other validity, the
+-- states differ.
 abbrev pub SparesNone : Terms → List ℕ → ℕ → List ℕ → Table → (ℕ → ℕ → Bool) → Type 0
-SparesNone q x w payload t v = (All (λ e. t.valid e.signature e.key ≡ v e.signature e.key) (paid t w q.policy.max_calls)
-    → (paid (with_valid t v) w q.policy.max_calls ≡ paid t w q.policy.max_calls)
-    × (states (with_valid t v) w q.policy.max_calls ≡ states t w q.policy.max_calls)
-    × IsVerdict q x w (verdict_by (with_valid t v) w q.policy.max_calls q.policy q.now payload))
-    × ((i j : ℕ) → Contains (paid t w q.policy.max_calls) (entry t i j) → v i j ≡ not (t.valid i j) → ((m n : ℕ) → (m ≡ i → n ≡ j → ⊥) → v m n ≡ t.valid m n)
+SparesNone q x w payload t v =
+    (AgreeOn t v (paid t w q.policy.max_calls)
+    → LeaveTheSame t (with_valid t v) w q.policy.max_calls × IsVerdict q x w (verdict_by (with_valid t v) w q.policy.max_calls q.policy q.now payload))
+    × ((i j : ℕ) → Contains (paid t w q.policy.max_calls) (entry t i j) → DifferOnlyAt t v i j
     → states (with_valid t v) w q.policy.max_calls ≢ states t w q.policy.max_calls)
 
 -- of a token none is spared

@@ -1,17 +1,18 @@
 //! Judges a token in hand, or one that a source gives.
 
-ghost use Rattle.std.specs.Prelude.{◌≡◌, ◌≢◌, ◌≤◌, ◌+◌, ◌++◌, [], ℕ, List, Some, true, false, map, length, drop, IfOk, OnOk, IfErr, IfSome};
+ghost use Rattle.std.specs.Prelude.{◌≡◌, ◌≢◌, ◌≤◌, ◌+◌, ◌++◌, [], ℕ, List, Some, Err, true, false, map, length, drop, IfOk, OnOk, IfErr, IfSome};
 ghost use Rattle.std.specs.List.{AllPairs};
 ghost use Rattle.jwt_text.specs.Answers.{Answers};
 ghost use Rattle.jwt_jws.specs.Views.{token};
 ghost use Rattle.jwt_verify.specs.Table.{work, paid};
 ghost use Rattle.jwt_verify.specs.AskedTable.{asked_terms, asked_table};
 ghost use Rattle.jwt_verify.specs.Verdict.{token_verdict, token_of, without_line_feed};
-ghost use Rattle.jwt_verify.specs.Accepted.{IsVerdict};
+ghost use Rattle.jwt_verify.specs.Asks.{IsToken};
+ghost use Rattle.jwt_verify.specs.Accepted.{IsTokenFault, IsVerdict};
 ghost use Rattle.jwt_verify.specs.Laws.{IsBefore};
 ghost use Rattle.jwt_verify.specs.Paying.{IsWithin};
 ghost use Rattle.jwt_text.specs.Intake.{TakesAtMost};
-ghost use Rattle.jwt_verify.specs.Reports.{FoundMemory, IsReport, IsReadAs, AreEligible, IsBounded, Failed, terms};
+ghost use Rattle.jwt_verify.specs.Reports.{FoundMemory, IsReport, IsReadAs, AreEligible, IsBounded, TakesMemory, Failed, terms};
 ghost use Rattle.jwt_verify.specs.Steps.{IsWhole, IsListed, Holds, IsSourceFault};
 ghost use Rattle.jwt_verify.specs.declared.report.InputFault.TheVariants.{Read};
 ghost use Rattle.jwt_verify.specs.declared.report.Fault.TheVariants.{OutOfMemory, Text};
@@ -23,6 +24,7 @@ use crate::conclusion::verdict_after;
 use crate::laws::reports_in_words;
 use crate::report::{Fault, InputFault, Report, Verdict};
 use crate::tries::run;
+use jwt_jws::laws::{form_faults, signed_tokens};
 use jwt_jws::{FormFault, Signed, parse_with};
 use jwt_keys::KeySet;
 use jwt_mac::{Budget, Verifier};
@@ -31,8 +33,9 @@ use jwt_text::{Intake, Scratch, Source, TextFault};
 use std::alloc::Global;
 
 /// The octets without one line feed at their end, where that is to be dropped.
-fn without_line_feed(octets: &[u8], drops: bool) -> &[u8]
-    ensures { result.now ≡ without_line_feed drops octets.now }
+pub fn without_line_feed(octets: &[u8], drops: bool) -> &[u8]
+    ensures value { result.now ≡ without_line_feed drops octets.now }
+    ensures short { length result.now ≤ length octets.now }
 {
     if drops && octets.len() > 0 && octets[octets.len() - 1] == 10 {
         &octets[..octets.len() - 1]
@@ -49,7 +52,8 @@ fn read_with<'a, 'p>(
     policy: &'p Policy,
     scratch: &mut Scratch,
 ) -> Result<Signed<'a>, Fault<'p>>
-    ensures { Answers Fault.OutOfMemory token result (token_of policy.now octets.now) }
+    ensures value { Answers Fault.OutOfMemory token result (token_of policy.now octets.now) }
+    ensures memory { result ≡ Err Fault.OutOfMemory → TakesMemory policy.now octets.now }
 {
     if octets.len() > policy.limit() as usize {
         return Err(Fault::Text(InputFault::TooLong));
@@ -67,14 +71,20 @@ fn read_with<'a, 'p>(
 ///
 /// # Errors
 /// Why the octets are none: `Text(TooLong)`, more octets than the policy's `limit`, or `Form`.
-/// `OutOfMemory` comes where an allocation was refused.
+/// `OutOfMemory` comes where an allocation was refused, and in place of neither `Text(TooLong)`, `Form(Empty)` nor a wrong number
+/// of periods, for which none is made.
 pub fn read_token<'a, 'p>(
     alloc: Global,
     octets: &'a [u8],
     policy: &'p Policy,
 ) -> Result<Signed<'a>, Fault<'p>>
-    ensures { Answers Fault.OutOfMemory token result (token_of policy.now octets.now) }
+    ensures token { IfOk result (λ signed. IsToken policy.now octets.now (token signed)) }
+    ensures fault { IfErr result
+        (λ f. f ≢ Fault.OutOfMemory → IsTokenFault policy.now octets.now f) }
+    ensures memory { result ≡ Err Fault.OutOfMemory → TakesMemory policy.now octets.now }
 {
+    signed_tokens();
+    form_faults();
     read_with(alloc, octets, policy, &mut Scratch::new(alloc))
 }
 
@@ -147,13 +157,15 @@ fn judge_octets<'a, 'p, B: Budget>(
     requires no_calls { B.calls budget.old ≡ 0 }
     ensures listed { IsListed (asked_terms meaning asked.now)
         octets.now (B.ceiling budget.old) result.report }
-    ensures token { IsReadAs (token_of asked.now.policy.now octets.now)
-        result.report.verdict result.token }
+    ensures token { IsReadAs asked.now.policy.now octets.now result.report.verdict result.token }
     ensures read { result.report.verdict ≢ Refused (Text Read) }
+    ensures memory { result.report.verdict ≡ Refused OutOfMemory
+        → TakesMemory asked.now.policy.now octets.now }
     ensures octets { B.octets budget.new ≡ work result.report.tries.items }
     ensures calls { B.calls budget.new ≡ length result.report.tries.items }
     ensures ceiling { B.ceiling budget.new ≡ B.ceiling budget.old }
 {
+    signed_tokens();
     match read_with(alloc, octets, asked.policy, scratch) {
         Ok(signed) => JudgedToken {
             report: judge_token(alloc, asked, &signed, budget, scratch),
@@ -182,8 +194,8 @@ fn judge_octets<'a, 'p, B: Budget>(
 /// With the first that holds of `Text(TooLong)`, more octets than the policy's `limit`; `Form`; `CallsExceeded` or `WorkExceeded`,
 /// at the first pair that would pass the policy's `max_calls` or the budget's ceiling, calls before work, and that pair isn't
 /// tried; `Signature`; `Claim`. `VerifierMemory` comes where a verifier that was asked lacked memory, and ends the run.
-/// `OutOfMemory` comes where an allocation was refused, in place of any other verdict. After each of them the budget agrees
-/// with the tries of the report.
+/// `OutOfMemory` comes where an allocation was refused, in place of any other verdict but `Text(TooLong)`, `Form(Empty)` and a wrong
+/// number of periods. After each of them the budget agrees with the tries of the report.
 pub fn judge<'p, B: Budget>(
     alloc: Global,
     octets: &[u8],
@@ -203,6 +215,7 @@ pub fn judge<'p, B: Budget>(
     ensures report { IsReport (terms policy.now keys.now now (map meaning verifiers.now))
         octets.now (B.ceiling budget.old) result }
     ensures read { result.verdict ≢ Refused (Text Read) }
+    ensures memory { result.verdict ≡ Refused OutOfMemory → TakesMemory policy.now octets.now }
 
     // No pair is tried twice, and each is eligible; the octets are within the bound, the calls within the policy's ceiling.
     ensures once { AllPairs IsBefore result.tries.items }
@@ -260,10 +273,12 @@ pub fn judge_signed<'a, 'p, B: Budget>(
     ensures report { IsReport (terms policy.now keys.now now (map meaning verifiers.now))
         octets.now (B.ceiling budget.old) result.report }
     ensures read { result.report.verdict ≢ Refused (Text Read) }
+    ensures memory { result.report.verdict ≡ Refused OutOfMemory
+        → TakesMemory policy.now octets.now }
     ensures within { IsWithin policy.now.max_calls (B.calls budget.new) }
 
     // The token is the one that the octets are.
-    ensures token { IsReadAs (token_of policy.now octets.now) result.report.verdict result.token }
+    ensures token { IsReadAs policy.now octets.now result.report.verdict result.token }
 
     // The budget agrees with the tries.
     ensures octets { B.octets budget.new ≡ work result.report.tries.items }
@@ -288,7 +303,7 @@ fn take_in<'p, R: Source>(alloc: Global, source: &mut R, limit: u32) -> Result<I
         (λ x. Holds result limit x (R.remaining source.new)) }
     ensures bound { IfOk result (λ held. length held.octets ≤ limit + 1) }
     ensures ok { OnOk result (R.failed source.new ≡ false) }
-    ensures fault { IfErr result (IsSourceFault (R.failed source.new)) }
+    ensures fault { IfErr result (IsSourceFault (R.failed source.old) (R.failed source.new)) }
 {
     let mut intake = Intake::new(alloc, limit);
     match intake.read_from(source) {
@@ -301,7 +316,7 @@ fn take_in<'p, R: Source>(alloc: Global, source: &mut R, limit: u32) -> Result<I
 
 /// The verdict on what a source gives: as [`judge`] says of it, however the source cuts it.
 ///
-/// At most one octet more than the policy's `limit` is taken, and nothing after that one.
+/// At most one octet more than the policy's `limit` is taken, and nothing after that one; at most `limit` where the source fails.
 ///
 /// ```rust
 /// use jwt_keys::KeySet;
@@ -323,7 +338,7 @@ fn take_in<'p, R: Source>(alloc: Global, source: &mut R, limit: u32) -> Result<I
 ///
 /// # Refused
 /// As [`judge`] refuses, and with `Text(Read)` exactly where the source has failed and no allocation was refused. Then nothing was
-/// tried.
+/// tried. `OutOfMemory` may stand in place of any other verdict but that: the octets are put into memory before they are looked at.
 pub fn validate<'p, R: Source, B: Budget>(
     alloc: Global,
     source: &mut R,
@@ -354,8 +369,10 @@ pub fn validate<'p, R: Source, B: Budget>(
     ensures taken { IfSome (R.remaining source.old) (λ x. result.verdict ≢ Refused (Text Read)
         → result.verdict ≢ Refused OutOfMemory
         → R.remaining source.new ≡ Some (drop (policy.now.run.limit + 1) x)) }
-    ensures most { IfSome (R.remaining source.old) (λ x. result.verdict ≢ Refused (Text Read)
-        → TakesAtMost (policy.now.run.limit + 1) x (R.remaining source.new)) }
+    ensures most { IfSome (R.remaining source.old) (λ x.
+        TakesAtMost (policy.now.run.limit + 1) x (R.remaining source.new)) }
+    ensures few { IfSome (R.remaining source.old) (λ x. result.verdict ≡ Refused (Text Read)
+        → TakesAtMost policy.now.run.limit x (R.remaining source.new)) }
 
     // Of every source, also of one whose octets aren't known: unless a read failed, some octets have this report.
     ensures some { result.verdict ≢ Refused (Text Read)
@@ -367,6 +384,8 @@ pub fn validate<'p, R: Source, B: Budget>(
     ensures failed { R.failed source.new ≡ true
         → Failed result.verdict result.tries.items result.states.items }
     ensures read { result.verdict ≡ Refused (Text Read) → R.failed source.new ≡ true }
+    ensures fails { R.failed source.old ≡ false → R.failed source.new ≡ true
+        → result.verdict ≡ Refused (Text Read) }
     ensures octets { B.octets budget.new ≡ work result.tries.items }
     ensures calls { B.calls budget.new ≡ length result.tries.items }
     ensures ceiling { B.ceiling budget.new ≡ B.ceiling budget.old }

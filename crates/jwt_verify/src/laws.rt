@@ -1,9 +1,9 @@
 //! Laws of the definitions: each function does nothing, and its contract holds of every table.
 
-ghost use Rattle.jwt_verify.specs.Accepted.{AcceptsExactly, RefusesExactly, TellsVerdicts, HasOneVerdict};
+ghost use Rattle.jwt_verify.specs.Accepted.{AcceptsExactly, RefusesExactly, TellsVerdicts, TellsTokens, TellsTokenFaults, HasOneVerdict};
 ghost use Rattle.jwt_verify.specs.Steps.{ReportsInWords, ReportsOnTaken, TakenTokens, TellsReports};
-ghost use Rattle.jwt_verify.specs.Laws.{TriesAreBounded, LeastTries, MoreKeys, SameKeys, WorkIsBounded, CeilingSuffices};
-ghost use Rattle.jwt_verify.specs.Verdicts.{PaidIsLongest, CallsSuffice, CallersBound, GreatestWork, MoreKeysAccept, SameKeysAgree, LeastTriesOfToken};
+ghost use Rattle.jwt_verify.specs.Laws.{TriesAreBounded, LeastTries, MoreKeys, SameKeys};
+ghost use Rattle.jwt_verify.specs.Verdicts.{PaidIsLongest, CallsSuffice, WorkIsBounded, CeilingSuffices, CallersBound, GreatestWork, MoreKeysAccept, SameKeysAgree, LeastTriesOfToken};
 
 use jwt_jws::laws::{form_faults, messages_fit, signed_tokens};
 use jwt_policy::laws::{
@@ -17,22 +17,34 @@ pub fn tries_are_bounded()
     ensures { TriesAreBounded }
 {}
 
-/// The work of a run is at most the common cost for each pair of signature and key, and the length of each key that is longer than
+/// The work of a token's run is at most the common cost for each pair of signature and key, and the length of each key that is longer than
 /// a block, once for each of its tries. The common cost is the length of the longest signing input, two blocks and a digest, these
 /// the greatest among the policy's algorithms (RFC 2104, section 2).
 pub fn work_is_bounded()
     ensures { WorkIsBounded }
 {
+    signed_tokens();
+    form_faults();
+    object_texts();
     eligible_pairs();
     bar_is_first_row();
+    payload_claims();
+    check_is_first_row();
+    claims_hold();
 }
 
 /// A ceiling of that bound is never exceeded, and how much greater it is changes neither the verdict nor the tries nor the states.
 pub fn ceiling_suffices()
     ensures { CeilingSuffices }
 {
+    signed_tokens();
+    form_faults();
+    object_texts();
     eligible_pairs();
     bar_is_first_row();
+    payload_claims();
+    check_is_first_row();
+    claims_hold();
 }
 
 /// No try can be spared: two tables that agree on the validity of the paid tries of one leave the same tries, the same states
@@ -85,6 +97,15 @@ pub fn tells_verdicts()
     payload_claims();
     check_is_first_row();
     claims_hold();
+}
+
+/// The token that is read, step by step, is the one that the octets are, in words, and the fault is the one that they have.
+pub fn tells_tokens()
+    ensures token { TellsTokens }
+    ensures fault { TellsTokenFaults }
+{
+    signed_tokens();
+    form_faults();
 }
 
 /// Exactly one verdict is that on given octets.
@@ -227,14 +248,15 @@ pub fn least_tries_of_token()
     claims_hold();
 }
 
-/// More keys never refuse: what is accepted with some keys is accepted with more, with the same claims, where the ceilings leave
-/// room for all tries. So a key set may be rotated by adding first and removing later.
+/// More keys never refuse: what is accepted with some keys is accepted with more, with the same claims, where the budget's ceiling
+/// leaves room for all tries, and the ceiling on calls for as many as there are pairs. So a key set may be rotated by adding first and
+/// removing later.
 pub fn more_keys()
     ensures { MoreKeys }
 {}
 
 /// Key sets with the same keys, in any order and with repeats, give the same verdict and the same states but for the numbers of
-/// keys, where the ceilings leave room for all tries.
+/// keys, where the budget's ceiling leaves room for all tries, and the ceiling on calls for as many as there are pairs.
 pub fn same_keys()
     ensures { SameKeys }
 {}

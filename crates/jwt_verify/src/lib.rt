@@ -17,5 +17,5 @@ mod settled;
 mod tries;
 mod unbarred;
 
-pub use judging::{JudgedToken, judge, judge_signed, read_token, validate};
+pub use judging::{JudgedToken, judge, judge_signed, read_token, validate, without_line_feed};
 pub use report::{Fault, InputFault, Report, SigState, Try, Verdict};

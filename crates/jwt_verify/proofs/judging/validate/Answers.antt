@@ -1,10 +1,11 @@
 -- What is taken of the source has the report of all of it.
-use Rattle.std.proofs.Common.{[], length, map, ap, subst, ◌∙◌, arith, w64}
+use Rattle.std.proofs.Common.{[], length, map, ap, sym, subst, ◌∙◌, arith, w64}
+use Rattle.std.proofs.lemmas.Bool.{false≢true}
 use Rattle.std.proofs.lemmas.Int.{to_z-of_z}
 use Rattle.std.proofs.lemmas.Option.{IfSome_then}
 use Rattle.jwt_verify.specs.Reports.{terms, IsReport, AreEligible, IsBounded}
 use Rattle.jwt_verify.proofs.Judged.{octets_none}
-use Rattle.jwt_verify.proofs.Taking.{takes_taken, source_takes}
+use Rattle.jwt_verify.proofs.Taking.{takes_taken, source_takes, takes_more, source_fails, nothing_failed}
 use Rattle.jwt_verify.proofs.Reporting.{none_once, none_within, none_eligible, none_bounded, source_report}
 use Rattle.jwt_verify.proofs.judging.validate.Goals as goal
 
@@ -47,7 +48,15 @@ returns-in-Ok-clause-bound g c =
 pub returns-in-Ok-clause-most : goal.returns-in-Ok-clause-most
 returns-in-Ok-clause-most g c =
     IfSome_then (g.R.Source.remaining c.args.source.now) c.in-Ok.ensures.octets
-    (λ x k read. takes_taken x c.args.policy.now.run.limit _ (rw c.limit.ensures.value at k.1))
+    (λ x k. takes_taken x c.args.policy.now.run.limit _ (rw c.limit.ensures.value at k.1))
+
+pub returns-in-Ok-clause-few : goal.returns-in-Ok-clause-few
+returns-in-Ok-clause-few g c =
+    IfSome_then (g.R.Source.remaining c.args.source.now) c.in-Ok.ensures.octets
+    (λ x k read. absurd (c.judge.ensures.read read))
+
+pub returns-in-Ok-clause-fails : goal.returns-in-Ok-clause-fails
+returns-in-Ok-clause-fails g c = λ worked fails. absurd (false≢true (sym c.in-Ok.ensures.ok ∙ fails))
 
 pub returns-in-Ok-clause-some : goal.returns-in-Ok-clause-some
 returns-in-Ok-clause-some g c =
@@ -60,7 +69,7 @@ returns-in-Err-clause-verdict g c =
     let q = terms c.args.policy.now c.args.keys.now c.args.now v in
     let w = g.B.Budget.ceiling c.args.budget.now in
     IfSome_then (g.R.Source.remaining c.args.source.now) c.take_in.ensures.octets
-    (λ x k read. (source_report q x w c.refused.result _ c.in-Err.fault c.in-Err.ensures.fault c.refused.ensures.verdict c.refused.ensures.tries read).verdict)
+    (λ x k read. (source_report q x w c.refused.result _ _ c.in-Err.fault c.in-Err.ensures.fault c.refused.ensures.verdict c.refused.ensures.tries read).verdict)
 
 pub returns-in-Err-clause-report : goal.returns-in-Err-clause-report
 returns-in-Err-clause-report g c =
@@ -68,7 +77,7 @@ returns-in-Err-clause-report g c =
     let q = terms c.args.policy.now c.args.keys.now c.args.now v in
     let w = g.B.Budget.ceiling c.args.budget.now in
     IfSome_then (g.R.Source.remaining c.args.source.now) c.take_in.ensures.octets
-    (λ x k read. source_report q x w c.refused.result _ c.in-Err.fault c.in-Err.ensures.fault c.refused.ensures.verdict c.refused.ensures.tries read)
+    (λ x k read. source_report q x w c.refused.result _ _ c.in-Err.fault c.in-Err.ensures.fault c.refused.ensures.verdict c.refused.ensures.tries read)
 
 pub returns-in-Err-clause-eligible : goal.returns-in-Err-clause-eligible
 returns-in-Err-clause-eligible g c =
@@ -87,14 +96,22 @@ returns-in-Err-clause-bound g c =
 pub returns-in-Err-clause-most : goal.returns-in-Err-clause-most
 returns-in-Err-clause-most g c =
     IfSome_then (g.R.Source.remaining c.args.source.now) c.in-Err.ensures.octets
-    (λ x k read. source_takes c.in-Err.fault _ c.args.policy.now.run.limit x _ c.refused.result.verdict c.in-Err.ensures.fault (rw c.limit.ensures.value at k) c.refused.ensures.verdict read)
+    (λ x k. takes_more c.args.policy.now.run.limit x _ (source_takes c.in-Err.fault c.args.policy.now.run.limit x _ (rw c.limit.ensures.value at k)))
+
+pub returns-in-Err-clause-few : goal.returns-in-Err-clause-few
+returns-in-Err-clause-few g c =
+    IfSome_then (g.R.Source.remaining c.args.source.now) c.in-Err.ensures.octets
+    (λ x k read. source_takes c.in-Err.fault c.args.policy.now.run.limit x _ (rw c.limit.ensures.value at k))
+
+pub returns-in-Err-clause-fails : goal.returns-in-Err-clause-fails
+returns-in-Err-clause-fails g c = source_fails c.in-Err.fault _ _ c.refused.result.verdict c.in-Err.ensures.fault c.refused.ensures.verdict
 
 pub returns-in-Err-clause-some : goal.returns-in-Err-clause-some
 returns-in-Err-clause-some g c =
     let v = map (λ b. (goal.Verifier-dyn g (b.vtable, b.value)).meaning b.value) c.args.verifiers.now in
     let q = terms c.args.policy.now c.args.keys.now c.args.now v in
     let w = g.B.Budget.ceiling c.args.budget.now in
-    λ read. ([], omega arith, source_report q [] w c.refused.result _ c.in-Err.fault c.in-Err.ensures.fault c.refused.ensures.verdict c.refused.ensures.tries read)
+    λ read. ([], omega arith, source_report q [] w c.refused.result _ _ c.in-Err.fault c.in-Err.ensures.fault c.refused.ensures.verdict c.refused.ensures.tries read)
 
 pub returns-in-Err-clause-once : goal.returns-in-Err-clause-once
 returns-in-Err-clause-once g c =
@@ -106,3 +123,6 @@ returns-in-Err-clause-within g c =
 
 pub returns-in-Err-clause-octets : goal.returns-in-Err-clause-octets
 returns-in-Err-clause-octets g c = octets_none _ _ c.requires.no_octets c.refused.ensures.tries
+
+pub returns-in-Err-clause-failed : goal.returns-in-Err-clause-failed
+returns-in-Err-clause-failed g c = λ failed. nothing_failed c.in-Err.fault _ _ _ _ _ c.in-Err.ensures.fault c.refused.ensures.verdict c.refused.ensures.tries c.refused.ensures.states

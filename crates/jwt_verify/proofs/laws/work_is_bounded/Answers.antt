@@ -1,5 +1,17 @@
-use Rattle.jwt_verify.proofs.Ceilings.{within_bound}
+use Rattle.jwt_verify.proofs.Holding.{work_is_bounded}
 use Rattle.jwt_verify.proofs.laws.work_is_bounded.Goals as goal
 
 pub returns : goal.returns
-returns c = within_bound (λ p s k v h. (c.eligible_pairs.ensures p s k v).0 h) (λ p s v h. (c.bar_is_first_row.ensures.none p s v).0 h)
+returns c = work_is_bounded (record {
+  signed_tokens = c.signed_tokens.ensures;
+  form_faults = c.form_faults.ensures;
+  eligible = c.eligible_pairs.ensures;
+  bar = c.bar_is_first_row.ensures.some;
+  no_bar = λ p s v h. (c.bar_is_first_row.ensures.none p s v).0 h;
+  objects = c.object_texts.ensures.object;
+  claims_read = c.payload_claims.ensures.read;
+  claims_kind = c.payload_claims.ensures.kind;
+  claims_shape = c.payload_claims.ensures.shape;
+  check = c.check_is_first_row.ensures.some;
+  hold = c.claims_hold.ensures;
+})
