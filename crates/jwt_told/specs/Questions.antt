@@ -1,7 +1,8 @@
 -- The questions about a token that no answer was told to.
-use Rattle.std.specs.Prelude.{◌≡◌, ℕ, ℤ, Bool, false, not, ◌&&◌, List, [], ◌∷◌, Option, None, Some, option_map, Result, Ok, Err}
-use Rattle.std.specs.List.{find}
+use Rattle.std.specs.Prelude.{◌≡◌, ℕ, ℤ, Bool, false, not, ◌&&◌, List, [], ◌∷◌, ◌++◌, Option, None, Some, option_map}
+use Rattle.std.specs.List.{find, All}
 use Rattle.std.specs.Option.{option_map_or, is_none}
+use Rattle.std.specs.Arc.{arc_value}
 use Rattle.jwt_mac.specs.declared.algorithm.Alg.{Alg}
 use Rattle.jwt_mac.specs.Algorithm.{is_hmac_alg}
 use Rattle.jwt_mac.specs.Verifying.{Meaning, KeyOctets, MessageOctets, key_octets, message_octets}
@@ -10,13 +11,12 @@ use Rattle.jwt_keys.specs.Keys.{KeyParts}
 use Rattle.jwt_policy.specs.Bars.{alg}
 use Rattle.jwt_policy.specs.Settings.{Settings}
 use Rattle.jwt_verify.specs.declared.report.Try.{Try}
-use Rattle.jwt_verify.specs.declared.report.Fault.{Fault}
 use Rattle.jwt_verify.specs.declared.report.Report.{Report}
 use Rattle.jwt_verify.specs.Trying.{at_pair}
-use Rattle.jwt_verify.specs.Asks.{AtPair}
+use Rattle.jwt_verify.specs.Asks.{AtPair, IsToken}
 use Rattle.jwt_verify.specs.Accepted.{IsVerdict}
 use Rattle.jwt_verify.specs.Reports.{FoundMemory, IsReport}
-use Rattle.jwt_verify.specs.Verdict.{Terms, token_of}
+use Rattle.jwt_verify.specs.Verdict.{Terms}
 use Rattle.jwt_told.specs.declared.questions.Asked.{Asked}
 use Rattle.jwt_told.specs.declared.told.AskedCopy.{AskedCopy}
 use Rattle.jwt_told.specs.Told.{ToldParts, Truth, AreRight, told_meaning, true_meaning, answer_to, key_view}
@@ -33,7 +33,7 @@ question_parts a = record { alg = a.alg; key = key_octets a.key; message = messa
 
 -- that of a copy
 unfoldable pub kept_parts : AskedCopy → QuestionParts
-kept_parts c = record { alg = c.alg; key = key_view c.key; message = record { protected = c.protected.items; payload = c.payload.items }; signature = c.signature.items }
+kept_parts c = record { alg = c.alg; key = key_view c.key; message = record { protected = (arc_value c.protected).items; payload = (arc_value c.payload).items }; signature = (arc_value c.signature).items }
 
 -- the question with an answer
 abbrev pub told_of : QuestionParts → Bool → ToldParts
@@ -59,18 +59,22 @@ abbrev pub asks_open : List ToldParts → Token → List KeyParts → Try → Bo
 asks_open ts t keys e = is_open ts t keys e.signature e.key
 
 -- the first of these tries whose question is open
-abbrev pub first_open : List ToldParts → Result Token Fault → List KeyParts → List Try → Option Try
-first_open ts (Ok t) keys es = find (asks_open ts t keys) es
-first_open ts (Err f) keys es = None
-
--- key j and signature i are the first of these tries whose question is open
-abbrev pub IsFirstOpen : List ToldParts → Result Token Fault → List KeyParts → List Try → ℕ → ℕ → Type 0
-IsFirstOpen ts r keys es i j = (e : Try) × (first_open ts r keys es ≡ Some e) × (e.signature ≡ i) × (e.key ≡ j)
+abbrev pub first_open : List ToldParts → Token → List KeyParts → List Try → Option Try
+first_open ts t keys es = find (asks_open ts t keys) es
 
 -- x is a token, and whether key j verifies signature i is a question that no answer was told to
-abbrev pub IsOpen : List ToldParts → Result Token Fault → List KeyParts → ℕ → ℕ → Type 0
-IsOpen ts (Ok t) keys i j = AtPair t keys i j (λ s k. (a : Alg) × (alg s ≡ Some a) × (is_hmac_alg a ≡ false) × (answer_to ts a k.octets (message_of t s) s.octets ≡ None))
-IsOpen ts (Err f) keys i j = ⊥
+abbrev pub IsOpen : List ToldParts → Settings → List ℕ → List KeyParts → ℕ → ℕ → Type 0
+IsOpen ts p x keys i j = (token : Token) × IsToken p x token
+    × AtPair token keys i j (λ s k. (a : Alg) × (alg s ≡ Some a) × (is_hmac_alg a ≡ false) × (answer_to ts a k.octets (message_of token s) s.octets ≡ None))
+
+-- the question of none of these tries is open
+abbrev pub NoneOpen : List ToldParts → Settings → List ℕ → List KeyParts → List Try → Type 0
+NoneOpen ts p x keys es = All (λ e. ¬ IsOpen ts p x keys e.signature e.key) es
+
+-- key j and signature i are those of the first of these tries whose question is open
+abbrev pub IsFirstOpen : List ToldParts → Settings → List ℕ → List KeyParts → List Try → ℕ → ℕ → Type 0
+IsFirstOpen ts p x keys es i j = (before after : List Try) × (e : Try) × (es ≡ before ++ e ∷ after) × (e.signature ≡ i) × (e.key ≡ j)
+    × NoneOpen ts p x keys before × IsOpen ts p x keys i j
 
 -- these are the tries of a run that finds memory, where what wasn't told counts as invalid
 abbrev pub AreTries : Terms → List ℕ → ℕ → List Try → Type 0
@@ -85,5 +89,5 @@ terms_by m p keys now = record { policy = p; keys = keys; now = now; verifiers =
 abbrev pub RightAnswers : Type 0
 RightAnswers = (ts : List ToldParts) (truth : Truth) (p : Settings) (keys : List KeyParts) (now : ℤ) (x : List ℕ) (w : ℕ) (r : Report)
     → AreRight truth ts → IsReport (terms_by (told_meaning ts) p keys now) x w r → FoundMemory r.verdict
-    → first_open ts (token_of p x) keys r.tries.items ≡ None
+    → NoneOpen ts p x keys r.tries.items
     → IsVerdict (terms_by (true_meaning truth) p keys now) x w r.verdict

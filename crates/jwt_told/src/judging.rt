@@ -1,6 +1,6 @@
 //! Judges a token by what a caller told.
 
-ghost use Rattle.std.specs.Prelude.{◌≡◌, ◌≢◌, ◌↔◌, ◌∷◌, [], None, Ok, IfOk, IfErr, IsTrue, map, length};
+ghost use Rattle.std.specs.Prelude.{◌≡◌, ◌≢◌, ◌↔◌, ◌∷◌, [], None, Ok, IfOk, IfErr, MatchResult, IsTrue, map, length};
 ghost use Rattle.jwt_jws.specs.Views.{token};
 ghost use Rattle.jwt_keys.specs.KeySets.{key_set};
 ghost use Rattle.jwt_verify.specs.Table.{work};
@@ -11,7 +11,7 @@ ghost use Rattle.jwt_verify.specs.Verdict.{token_of};
 ghost use Rattle.jwt_verify.specs.declared.report.Fault.TheVariants.{OutOfMemory};
 ghost use Rattle.jwt_verify.specs.declared.report.Verdict.TheVariants.{Refused};
 ghost use Rattle.jwt_told.specs.Told.{Truth, AreRight, told, told_meaning, true_meaning};
-ghost use Rattle.jwt_told.specs.Questions.{first_open, AreTries, IsFirstOpen, IsOpen};
+ghost use Rattle.jwt_told.specs.Questions.{AreTries, IsFirstOpen, IsOpen, NoneOpen};
 
 use crate::answers::Answers;
 use crate::laws::right_answers;
@@ -21,6 +21,7 @@ use jwt_keys::KeySet;
 use jwt_mac::{Budget, CountDown, Verifier};
 use jwt_policy::Policy;
 use jwt_text::Scratch;
+use jwt_verify::laws::tells_tokens;
 use jwt_verify::{Fault, JudgedToken, Report, Try, Verdict, judge_signed};
 use std::alloc::{AllocError, Global};
 
@@ -96,7 +97,7 @@ fn judge_under<'a, 'p>(
     ensures report { IsReport
         (terms policy.now keys.now now (told_meaning (told answers.now) ∷ []))
         octets.now (⟦<CountDown as Budget>⟧.ceiling budget.old) result.report }
-    ensures token { IsReadAs (token_of policy.now octets.now) result.report.verdict result.token }
+    ensures token { IsReadAs policy.now octets.now result.report.verdict result.token }
     ensures within { IsWithin policy.now.max_calls (⟦<CountDown as Budget>⟧.calls budget.new) }
     ensures octets { ⟦<CountDown as Budget>⟧.octets budget.new ≡ work result.report.tries.items }
     ensures calls { ⟦<CountDown as Budget>⟧.calls budget.new ≡ length result.report.tries.items }
@@ -123,7 +124,7 @@ fn judge_by<'a, 'p>(
     ensures report { IsReport
         (terms policy.now keys.now now (told_meaning (told answers.now) ∷ []))
         octets.now (⟦<CountDown as Budget>⟧.ceiling budget.old) result.report }
-    ensures token { IsReadAs (token_of policy.now octets.now) result.report.verdict result.token }
+    ensures token { IsReadAs policy.now octets.now result.report.verdict result.token }
     ensures within { IsWithin policy.now.max_calls (⟦<CountDown as Budget>⟧.calls budget.new) }
     ensures octets { ⟦<CountDown as Budget>⟧.octets budget.new ≡ work result.report.tries.items }
     ensures calls { ⟦<CountDown as Budget>⟧.calls budget.new ≡ length result.report.tries.items }
@@ -189,33 +190,36 @@ pub fn judge_told<'a, 'p>(
         octets.now (⟦<CountDown as Budget>⟧.ceiling budget.old) r.verdict) }
 
     // Of each of its tries it was told whether it is valid, unless memory was refused.
-    ensures told { IfOk result (λ r. FoundMemory r.verdict → first_open (told answers.now)
-        (token_of policy.now octets.now) (key_set keys.now).keys r.tries.items ≡ None) }
+    ensures told { IfOk result (λ r. FoundMemory r.verdict → NoneOpen (told answers.now)
+        policy.now octets.now (key_set keys.now).keys r.tries.items) }
 
     // What is asked is the first try of that run of which nothing was told.
     ensures tries { IfErr result (λ a. AreTries
         (terms policy.now keys.now now (told_meaning (told answers.now) ∷ []))
         octets.now (⟦<CountDown as Budget>⟧.ceiling budget.old) a.tries.items) }
     ensures first { IfErr result (λ a. IsFirstOpen (told answers.now)
-        (token_of policy.now octets.now) (key_set keys.now).keys a.tries.items
+        policy.now octets.now (key_set keys.now).keys a.tries.items
         a.question.signature a.question.key) }
     ensures question { IfErr result (λ a. IsOpen (told answers.now)
-        (token_of policy.now octets.now) (key_set keys.now).keys
+        policy.now octets.now (key_set keys.now).keys
         a.question.signature a.question.key) }
 
     // It comes with the token.
     ensures token { IfErr result (λ a. token_of policy.now octets.now ≡ Ok (token a.token)) }
 
     // What the budget counts.
-    ensures octets { IfOk result (λ r.
-        ⟦<CountDown as Budget>⟧.octets budget.new ≡ work r.tries.items) }
-    ensures calls { IfOk result (λ r.
-        ⟦<CountDown as Budget>⟧.calls budget.new ≡ length r.tries.items) }
+    ensures octets { MatchResult result
+        (λ r. ⟦<CountDown as Budget>⟧.octets budget.new ≡ work r.tries.items)
+        (λ a. ⟦<CountDown as Budget>⟧.octets budget.new ≡ work a.tries.items) }
+    ensures calls { MatchResult result
+        (λ r. ⟦<CountDown as Budget>⟧.calls budget.new ≡ length r.tries.items)
+        (λ a. ⟦<CountDown as Budget>⟧.calls budget.new ≡ length a.tries.items) }
     ensures within { IsWithin policy.now.max_calls (⟦<CountDown as Budget>⟧.calls budget.new) }
     ensures ceiling { ⟦<CountDown as Budget>⟧.ceiling budget.new
         ≡ ⟦<CountDown as Budget>⟧.ceiling budget.old }
 {
     right_answers();
+    tells_tokens();
     let JudgedToken { report, token } = judge_by(
         alloc, octets, keys, policy, now, answers, budget, scratch,
     );
