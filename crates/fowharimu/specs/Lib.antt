@@ -1,14 +1,19 @@
 -- What the contracts of the calls that this crate names cite: a crate above writes Rattle.fowharimu.specs and the name here.
 pub use Rattle.jwt_text.specs.Answers
+pub use Rattle.jwt_text.specs.Base64url
+pub use Rattle.jwt_text.specs.Intake
 pub use Rattle.jwt_text.specs.Members
+pub use Rattle.jwt_text.specs.Writing
 pub use Rattle.jwt_mac.specs.Algorithm
 pub use Rattle.jwt_mac.specs.Hmac
 pub use Rattle.jwt_mac.specs.Verifying
 pub use Rattle.jwt_rsa.specs.Meanings
+pub use Rattle.jwt_ecdsa.specs.Meanings as EcdsaMeanings
 pub use Rattle.jwt_ed25519.specs.Meanings as Ed25519Meanings
 pub use Rattle.jwt_keys.specs.FaultNames as KeysFaultNames
 pub use Rattle.jwt_keys.specs.Keys
 pub use Rattle.jwt_keys.specs.KeySets
+pub use Rattle.jwt_keys.specs.Numbers
 pub use Rattle.jwt_keys.specs.Views as KeyViews
 pub use Rattle.jwt_jws.specs.CompactForm
 pub use Rattle.jwt_jws.specs.Crit
@@ -17,6 +22,7 @@ pub use Rattle.jwt_jws.specs.Forms
 pub use Rattle.jwt_jws.specs.SignedToken
 pub use Rattle.jwt_jws.specs.Token
 pub use Rattle.jwt_jws.specs.Views as TokenViews
+pub use Rattle.jwt_jws.specs.declared.fault.Form.TheVariants as FormVariants
 pub use Rattle.jwt_policy.specs.Audiences
 pub use Rattle.jwt_policy.specs.Checks
 pub use Rattle.jwt_policy.specs.ClaimKinds
@@ -30,12 +36,16 @@ pub use Rattle.jwt_verify.specs.FaultNames
 pub use Rattle.jwt_verify.specs.Laws
 pub use Rattle.jwt_verify.specs.Paying
 pub use Rattle.jwt_verify.specs.Reports
+pub use Rattle.jwt_verify.specs.Steps
 pub use Rattle.jwt_verify.specs.Table
 pub use Rattle.jwt_verify.specs.Verdict
+pub use Rattle.jwt_verify.specs.Verdicts
 pub use Rattle.jwt_verify.specs.declared.report.Fault.TheVariants as FaultVariants
 pub use Rattle.jwt_verify.specs.declared.report.InputFault.TheVariants as InputFaultVariants
 pub use Rattle.jwt_verify.specs.declared.report.Verdict.TheVariants as VerdictVariants
 pub use Rattle.jwt_issue.specs.ClaimSets
 pub use Rattle.jwt_issue.specs.FaultNames as IssueFaultNames
 pub use Rattle.jwt_issue.specs.Issued
+pub use Rattle.jwt_issue.specs.Paying as IssuePaying
+pub use Rattle.jwt_issue.specs.Signed as IssueSigned
 pub use Rattle.jwt_issue.specs.Views as IssueViews

@@ -9,12 +9,12 @@
 //! let report = validator.validate(alloc, &mut Reader::new(stream), now, &mut validator.policy.budget());
 //! ```
 //!
-//! A [`Validator`] is made once and judges each token that comes. Its verifiers are for public keys: [`Rsa`] and [`Ed25519`] are
-//! two, and a caller's own is a [`Verifier`]. The [`Report`] has the [`Verdict`], what became of each signature, and each try of a
+//! A [`Validator`] is made once and judges each token that comes. Its verifiers are for public keys: [`Rsa`], [`Ecdsa`] and
+//! [`Ed25519`] are three, and a caller's own is a [`Verifier`]. The [`Report`] has the [`Verdict`], what became of each signature, and each try of a
 //! key with its cost.
 //!
 //! Each other name here is that of one of the libraries below: `jwt_text`, `jwt_mac`, `jwt_keys`, `jwt_jws`, `jwt_policy`,
-//! `jwt_verify`, `jwt_issue`, `jwt_rsa` and `jwt_ed25519`. Their modules `laws` stand here as `token_laws`, of issuing, and
+//! `jwt_verify`, `jwt_issue`, `jwt_rsa`, `jwt_ecdsa` and `jwt_ed25519`. Their modules `laws` stand here as `token_laws`, of issuing, and
 //! `verdict_laws`.
 #![tactic(auto)]
 
@@ -31,6 +31,7 @@ pub use jwt_verify::{Fault, InputFault, Report, SigState, Try, Verdict, judge, v
 pub use validator::Validator;
 
 // Verifiers of signatures by public keys.
+pub use jwt_ecdsa::Ecdsa;
 pub use jwt_ed25519::Ed25519;
 pub use jwt_mac::{Answer, Curve, EdCurve, KeyView, Message, Verifier};
 pub use jwt_rsa::{Pkcs1, Pss, Rsa};

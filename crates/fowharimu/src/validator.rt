@@ -1,13 +1,13 @@
 //! A policy, keys and verifiers, kept for many tokens.
 
-ghost use Rattle.std.specs.Prelude.{◌≡◌, ◌≢◌, ◌≤◌, ◌+◌, ℕ, List, Some, true, map, length, drop, [], IfSome};
+ghost use Rattle.std.specs.Prelude.{◌≡◌, ◌≢◌, ◌≤◌, ◌+◌, ℕ, List, Some, true, false, map, length, drop, [], IfSome};
 ghost use Rattle.std.specs.List.{AllPairs};
 ghost use Rattle.jwt_verify.specs.Table.{work};
 ghost use Rattle.jwt_verify.specs.Accepted.{IsVerdict};
 ghost use Rattle.jwt_verify.specs.Laws.{IsBefore};
 ghost use Rattle.jwt_verify.specs.Paying.{IsWithin};
 ghost use Rattle.jwt_text.specs.Intake.{TakesAtMost};
-ghost use Rattle.jwt_verify.specs.Reports.{FoundMemory, IsReport, AreEligible, IsBounded, Failed, terms};
+ghost use Rattle.jwt_verify.specs.Reports.{FoundMemory, IsReport, AreEligible, IsBounded, TakesMemory, Failed, terms};
 ghost use Rattle.jwt_verify.specs.declared.report.InputFault.TheVariants.{Read};
 ghost use Rattle.jwt_verify.specs.declared.report.Fault.TheVariants.{OutOfMemory, Text};
 ghost use Rattle.jwt_verify.specs.declared.report.Verdict.TheVariants.{Refused};
@@ -68,6 +68,8 @@ impl Validator {
             (terms self.now.policy self.now.keys now (map meaning self.now.verifiers.items))
             octets.now (B.ceiling budget.old) result }
         ensures read { result.verdict ≢ Refused (Text Read) }
+        ensures memory { result.verdict ≡ Refused OutOfMemory
+            → TakesMemory self.now.policy octets.now }
 
         // No pair is tried twice, and each is eligible; the octets are within the bound, the calls within the policy's ceiling.
         ensures once { AllPairs IsBefore result.tries.items }
@@ -133,8 +135,10 @@ impl Validator {
         ensures taken { IfSome (R.remaining source.old) (λ x. result.verdict ≢ Refused (Text Read)
             → result.verdict ≢ Refused OutOfMemory
             → R.remaining source.new ≡ Some (drop (self.now.policy.run.limit + 1) x)) }
-        ensures most { IfSome (R.remaining source.old) (λ x. result.verdict ≢ Refused (Text Read)
-            → TakesAtMost (self.now.policy.run.limit + 1) x (R.remaining source.new)) }
+        ensures most { IfSome (R.remaining source.old) (λ x.
+            TakesAtMost (self.now.policy.run.limit + 1) x (R.remaining source.new)) }
+        ensures few { IfSome (R.remaining source.old) (λ x. result.verdict ≡ Refused (Text Read)
+            → TakesAtMost self.now.policy.run.limit x (R.remaining source.new)) }
 
         // Of every source, also of one whose octets aren't known: unless a read failed, some octets have this report.
         ensures some { result.verdict ≢ Refused (Text Read)
@@ -147,6 +151,8 @@ impl Validator {
         ensures failed { R.failed source.new ≡ true
             → Failed result.verdict result.tries.items result.states.items }
         ensures read { result.verdict ≡ Refused (Text Read) → R.failed source.new ≡ true }
+        ensures fails { R.failed source.old ≡ false → R.failed source.new ≡ true
+            → result.verdict ≡ Refused (Text Read) }
         ensures octets { B.octets budget.new ≡ work result.tries.items }
         ensures calls { B.calls budget.new ≡ length result.tries.items }
         ensures ceiling { B.ceiling budget.new ≡ B.ceiling budget.old }

@@ -1,0 +1,226 @@
+//! Signatures by ECDSA over a curve (SEC 1, section 4.1.4).
+
+ghost use Rattle.std.specs.Prelude.{◌≡◌, ◌+◌, ◌*◌, ◌%◌, ◌<◌, ◌==◌, ◌&&◌, nat_lt, true, Option, Some, IfSome};
+ghost use Rattle.ecdsa.specs.Inverse.{inverse as the_inverse};
+ghost use Rattle.ecdsa.specs.Limbs.{number};
+ghost use Rattle.ecdsa.specs.Curve.{Point as CurvePoint, Point.Affine, sum_of, multiple, has_x, holds_by, is_key, holds};
+ghost use Rattle.ecdsa.specs.Domains.{domain};
+ghost use Rattle.ecdsa.specs.Doubles.{IsTable};
+ghost use Rattle.ecdsa.specs.Field.{size, value, Below};
+ghost use Rattle.ecdsa.specs.Stands.{IsBelow, AreFor, Stands};
+
+use crate::curve::Curve;
+use crate::field::Field;
+use crate::limbs::{is_less, is_same, reduce, small};
+use crate::multiples::multiple;
+use crate::point::Point;
+use crate::sums::add;
+use crate::tables::base_multiple;
+
+/// The finite point at forms x and y.
+pub fn affine<const N: usize, const KIND: usize>(
+    f: &Field<N, KIND>,
+    x: [u64; N],
+    y: [u64; N],
+) -> Point<N>
+    requires x { Below f.now x }
+    requires y { Below f.now y }
+    ensures below { IsBelow f.now result }
+    ensures one { value f.now result.z ≡ 1 }
+    ensures stands { AreFor (size f.now) (value f.now result.x) (value f.now result.y) (value f.now result.z) (Some (Affine (value f.now x.entry) (value f.now y.entry))) }
+{
+    let z = f.one();
+    Point { x, y, z }
+}
+
+/// Whether y^2 = x^3 + a x + b.
+fn is_on_curve<const N: usize, const KIND: usize>(
+    curve: &Curve<N, KIND>,
+    x: [u64; N],
+    y: [u64; N],
+) -> bool
+    requires x { Below curve.now.field x }
+    requires y { Below curve.now.field y }
+    ensures { result ≡ ((value curve.now.field y.entry * value curve.now.field y.entry) % size curve.now.field == (value curve.now.field x.entry * value curve.now.field x.entry * value curve.now.field x.entry + (domain curve.now).a * value curve.now.field x.entry + (domain curve.now).b) % size curve.now.field) }
+{
+    let f = &curve.field;
+    let square = f.times(x, x);
+    let cube = f.times(square, x);
+    let twice = f.plus(x, x);
+    let thrice = f.plus(twice, x);
+    let rest = f.minus(cube, thrice);
+    let b = curve.b_form();
+    let right = f.plus(rest, b);
+    let left = f.times(y, y);
+    f.is(left, right)
+}
+
+/// Whether x and y are a key.
+pub fn is_key<const N: usize, const KIND: usize>(
+    curve: &Curve<N, KIND>,
+    x: [u64; N],
+    y: [u64; N],
+) -> bool
+    ensures is { result ≡ is_key (domain curve.now) (number x.entry) (number y.entry) }
+    ensures x { result ≡ true → number x.entry < size curve.now.field }
+    ensures y { result ≡ true → number y.entry < size curve.now.field }
+{
+    let f = &curve.field;
+    if !is_less(x, f.n) {
+        return false;
+    }
+    if !is_less(y, f.n) {
+        return false;
+    }
+    let x_form = f.form(x);
+    let y_form = f.form(y);
+    is_on_curve(curve, x_form, y_form)
+}
+
+/// Whether it is above 0 and below n.
+fn is_scalar<const N: usize>(a: [u64; N], n: [u64; N]) -> bool
+    requires { 0 < N }
+    ensures { result ≡ (nat_lt 0 (number a.entry) && nat_lt (number a.entry) (number n.entry)) }
+{
+    if is_same(a, small(0)) {
+        return false;
+    }
+    is_less(a, n)
+}
+
+/// x of a finite point, of whose Z the inverse is i.
+fn affine_x<const N: usize, const KIND: usize>(
+    f: &Field<N, KIND>,
+    x: [u64; N],
+    i: [u64; N],
+) -> [u64; N]
+    requires x { Below f.now x }
+    requires i { Below f.now i }
+    ensures { number result ≡ (value f.now x.entry * (value f.now i.entry * value f.now i.entry)) % size f.now }
+{
+    let square = f.times(i, i);
+    let product = f.times(x, square);
+    f.plain(product)
+}
+
+/// Whether x of a finite point is r modulo n.
+fn finite_has_x<const N: usize, const KIND: usize>(
+    curve: &Curve<N, KIND>,
+    p: Point<N>,
+    r: [u64; N],
+) -> bool
+    requires { IsBelow curve.now.field p }
+    ensures { (R : Option CurvePoint) → AreFor (size curve.now.field) (value curve.now.field p.entry.x) (value curve.now.field p.entry.y) (value curve.now.field p.entry.z) R → result ≡ has_x (domain curve.now) (number r.entry) R }
+{
+    let p_x = p.x;
+    let p_z = p.z;
+    match curve.field.inverse(p_z) {
+        None => false,
+        Some(i) => {
+            let x = affine_x(&curve.field, p_x, i);
+            let rest = reduce(x, false, curve.order.n);
+            is_same(rest, r)
+        }
+    }
+}
+
+/// Whether x of a point is r modulo n.
+fn has_x<const N: usize, const KIND: usize>(
+    curve: &Curve<N, KIND>,
+    p: Option<Point<N>>,
+    r: [u64; N],
+) -> bool
+    requires { IfSome p (λ q. IsBelow curve.now.field q) }
+    ensures { (R : Option CurvePoint) → Stands curve.now.field p.entry R → result ≡ has_x (domain curve.now) (number r.entry) R }
+{
+    match p {
+        None => false,
+        Some(p) => finite_has_x(curve, p, r),
+    }
+}
+
+/// Whether x of [e w]G + [r w]Q is r modulo n; xs and ys are the table of G's doubles.
+fn holds_at<const N: usize, const KIND: usize>(
+    curve: &Curve<N, KIND>,
+    xs: &[[u64; N]],
+    ys: &[[u64; N]],
+    x: [u64; N],
+    y: [u64; N],
+    e: [u64; N],
+    r: [u64; N],
+    w: [u64; N],
+) -> bool
+    requires table { IsTable curve.now.field (domain curve.now) xs.now ys.now }
+    requires x { number x < size curve.now.field }
+    requires y { number y < size curve.now.field }
+    requires e { number e < size curve.now.order }
+    requires r { number r < size curve.now.order }
+    ensures { result ≡ holds_by (domain curve.now) (number x.entry) (number y.entry) (number e.entry) (number r.entry) (Some (value curve.now.order w.entry)) }
+{
+    let f = &curve.field;
+    let x_form = f.form(x);
+    let y_form = f.form(y);
+    let key = affine(f, x_form, y_form);
+    let u = curve.order.scaled(e, w);
+    let v = curve.order.scaled(r, w);
+    let first = base_multiple(curve, xs, ys, u);
+    let second = multiple(curve, v, key);
+    let sum = add(curve, first, second);
+    has_x(curve, sum, r)
+}
+
+/// The same with the inverse of s, if there is one.
+fn holds_with<const N: usize, const KIND: usize>(
+    curve: &Curve<N, KIND>,
+    xs: &[[u64; N]],
+    ys: &[[u64; N]],
+    x: [u64; N],
+    y: [u64; N],
+    e: [u64; N],
+    r: [u64; N],
+    s: [u64; N],
+) -> bool
+    requires table { IsTable curve.now.field (domain curve.now) xs.now ys.now }
+    requires x { number x < size curve.now.field }
+    requires y { number y < size curve.now.field }
+    requires e { number e < 2 * size curve.now.order }
+    requires r { number r < size curve.now.order }
+    requires s { number s < size curve.now.order }
+    ensures { result ≡ holds_by (domain curve.now) (number x.entry) (number y.entry) (number e.entry) (number r.entry) (the_inverse (size curve.now.order) (number s.entry)) }
+{
+    let form = curve.order.form(s);
+    match curve.order.inverse(form) {
+        None => false,
+        Some(w) => {
+            let rest = reduce(e, false, curve.order.n);
+            holds_at(curve, xs, ys, x, y, rest, r, w)
+        }
+    }
+}
+
+/// Whether r and s are a signature of the hash e by the key (x, y); xs and ys are the table of the base point's doubles.
+pub fn holds<const N: usize, const KIND: usize>(
+    curve: &Curve<N, KIND>,
+    xs: &[[u64; N]],
+    ys: &[[u64; N]],
+    x: [u64; N],
+    y: [u64; N],
+    e: [u64; N],
+    r: [u64; N],
+    s: [u64; N],
+) -> bool
+    requires table { IsTable curve.now.field (domain curve.now) xs.now ys.now }
+    requires e { number e < 2 * size curve.now.order }
+    ensures { result ≡ holds (domain curve.now) (number x.entry) (number y.entry) (number e.entry) (number r.entry) (number s.entry) }
+{
+    if !is_scalar(r, curve.order.n) {
+        return false;
+    }
+    if !is_scalar(s, curve.order.n) {
+        return false;
+    }
+    if !is_key(curve, x, y) {
+        return false;
+    }
+    holds_with(curve, xs, ys, x, y, e, r, s)
+}
