@@ -6,7 +6,7 @@ use Rattle.std.proofs.Math.Nat.{le-min}
 use Rattle.std.proofs.lemmas.List.{drop-drop, drop-take}
 use Rattle.jwt_text.specs.Intake.{TakesAtMost}
 use Rattle.jwt_command.specs.TakenLines.{LineFails, TakesLine, after_line, first_line, has_line_feed, line_most}
-use Rattle.jwt_command.specs.declared.take_line.LineFault.TheVariants.{TooLong}
+use Rattle.jwt_command.specs.declared.input.line.LineFault.TheVariants.{TooLong}
 
 abbrev pub HasNoFeed : List ℕ → Type 0
 HasNoFeed octets = has_line_feed octets ≡ false

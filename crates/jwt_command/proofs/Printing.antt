@@ -1,11 +1,11 @@
 -- From the answer before it goes out to how the run ends.
 use Rattle.std.proofs.Common.{◌≡◌, ◌∙◌, ◌⊎◌, inl, inr, sym, subst, ℕ, Bool, true, List, Option, None, Some, Result, Ok, Err, IfOk, IfErr, IfSome, arith}
 use Rattle.jwt_mac.specs.Verifying.{Meaning}
-use Rattle.jwt_command.specs.Documents.{Held}
-use Rattle.jwt_command.specs.Printed.{Answer, Gives, out_of_memory}
+use Rattle.jwt_words.specs.InHand.{Held}
+use Rattle.jwt_printing.specs.Printed.{Answer, Gives, out_of_memory}
 use Rattle.jwt_command.specs.RunLines.{Outcome, Printed}
 use Rattle.jwt_command.specs.Runs.{Runs}
-use Rattle.jwt_command.specs.Words.{EachLine, Once, Request}
+use Rattle.jwt_words.specs.Words.{EachLine, Once, Request}
 
 pub gives_reply : {A E : Type 0} (view : A → Answer) (reply : Result A E) (a : Answer) (o : Outcome) → IfOk reply (λ r. view r ≡ a)
     → IfOk reply (λ r. Printed (view r) o) → IfErr reply (λ e. Printed out_of_memory o) → Gives a o.before o.after o.failed o.status
@@ -22,7 +22,7 @@ gives_known view reply (Some x) answer o is printed lacks = gives_reply view rep
 -- want of memory ends each run
 pub lacks_memory : (built_in : List Meaning) (says : ℕ → List ℕ → ℕ → Type 0) (held : Held) (q : Option Request) (x : List ℕ) (fails : Bool) (o : Outcome) → Printed out_of_memory o → Runs built_in says held q x fails o
 lacks_memory built_in says held None x fails o printed = inr printed
-lacks_memory built_in says held (Some (Once json order)) x fails o printed = inr printed
+lacks_memory built_in says held (Some (Once printing order)) x fails o printed = inr printed
 lacks_memory built_in says held (Some (EachLine order)) x fails o printed = inl printed
 
 pub lacks_known : (built_in : List Meaning) (says : ℕ → List ℕ → ℕ → Type 0) (held : Held) (q : Option Request) (known : Option (List ℕ)) (fails : Bool) (o : Outcome) → Printed out_of_memory o

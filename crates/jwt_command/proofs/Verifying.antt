@@ -1,5 +1,5 @@
 -- What `verify` takes, and its answer where a line is too long.
-use Rattle.std.proofs.Common.{◌≡◌, ◌≢◌, ◌≤◌, ◌<◌, ◌⊎◌, inl, inr, ℕ, ◌+◌, Bool, true, false, List, length, drop, Option, None, Some, Result, Ok, Err, IfOk, refl, sym, ap, subst, ◌∙◌, drop-drop, arith, nat_lt, true≢false, IfSome}
+use Rattle.std.proofs.Common.{◌≡◌, ◌≢◌, ◌≤◌, ◌<◌, ◌⊎◌, inl, inr, ℕ, ◌+◌, Bool, true, false, List, [], length, drop, Option, None, Some, Result, Ok, Err, IfOk, refl, sym, ap, subst, ◌∙◌, drop-drop, arith, nat_lt, true≢false, IfSome}
 use Rattle.std.proofs.lemmas.Bool.Decides.{nat_tests}
 use Rattle.std.specs.Option.{option_map_or}
 use Rattle.jwt_mac.specs.Verifying.{Meaning}
@@ -8,8 +8,13 @@ use Rattle.jwt_keys.specs.declared.fault.KeysFault.TheVariants as keys
 use Rattle.jwt_policy.specs.Document.{policy_of}
 use Rattle.jwt_policy.specs.declared.policy_fault.PolicyFault.TheVariants as policy
 use Rattle.jwt_verify.specs.Table.{states, work}
-use Rattle.jwt_verify.specs.Verdict.{Terms, table, verdict_of}
-use Rattle.jwt_verify.specs.Reports.{FoundMemory, Failed, IsReport}
+use Rattle.jwt_jws.specs.Token.{Token}
+use Rattle.jwt_jws.specs.declared.signed.Signed.{Signed}
+use Rattle.jwt_jws.specs.Views.{token as token_view}
+use Rattle.jwt_verify.specs.Accepted.{TellsTokens}
+use Rattle.jwt_verify.specs.declared.report.Fault.{Fault}
+use Rattle.jwt_verify.specs.Verdict.{Terms, table, token_of, token_or_none, verdict_of}
+use Rattle.jwt_verify.specs.Reports.{FoundMemory, Failed, IsReadAs, IsReport}
 use Rattle.jwt_verify.specs.Steps.{TellsReports}
 use Rattle.jwt_verify.specs.declared.report.Report.{Report}
 use Rattle.jwt_verify.specs.declared.report.Try.{Try}
@@ -19,17 +24,20 @@ use Rattle.jwt_verify.specs.declared.report.Fault.TheVariants.{OutOfMemory, Text
 use Rattle.jwt_verify.specs.declared.report.Verdict.{Verdict}
 use Rattle.jwt_verify.specs.declared.report.Verdict.TheVariants.{Accepted, Refused}
 use Rattle.jwt_policy.specs.Settings.{Settings}
-use Rattle.jwt_command.specs.Documents.{Held, TakesDocument, behind, document, document_most, last_document, last_most}
+use Rattle.jwt_words.specs.InHand.{Held}
+use Rattle.jwt_command.specs.Documents.{TakesDocument, behind, document, document_most, last_document, last_most}
 use Rattle.jwt_text.specs.Intake.{TakesAtMost}
 use Rattle.jwt_command.specs.Issue.{TokenAsked, issue_answer, issue_under}
-use Rattle.jwt_command.specs.Json.{verdict_json, token_json, payload_of}
-use Rattle.jwt_command.specs.Verify.{Telling, in_lines, keys_answer, keys_refused, token_answer, under_keys, under_policy, unless_read_failed, verify_answer, verify_line}
-use Rattle.jwt_command.specs.Printed.{Answer}
-use Rattle.jwt_command.specs.ListedJson.{list_answer, listed}
+use Rattle.jwt_printing.specs.Json.{verdict_json, token_json, payload_of}
+use Rattle.jwt_printing.specs.Printer.{Printer, in_lines, unless_read_failed, printer}
+use Rattle.jwt_command.specs.Verify.{keys_answer, payload_in, under_keys, under_policy, verify_answer}
+use Rattle.jwt_printing.specs.Verdicts.{keys_refused, token_answer, verify_line}
+use Rattle.jwt_printing.specs.Printed.{Answer}
+use Rattle.jwt_command.specs.Keys.{list_answer, listed}
 use Rattle.jwt_command.specs.Stops.{behind_keys, behind_policy, keys_most, verify_most}
-use Rattle.jwt_command.specs.Told.{told}
 use Rattle.jwt_command.specs.TakenLines.{TakesLine}
 use Rattle.jwt_command.proofs.LineLemmas.{line_taken}
+use Rattle.jwt_words.specs.declared.printing.Printing.{Printing}
 
 -- ---- what is taken
 
@@ -72,7 +80,7 @@ behind_keys_taken most held x octets mid rest failed set h is then =
     (document_then_stops 4194304 (λ y. most) held x octets mid rest failed h then)
 
 -- the answer under a policy that is read
-pub policy_read : (tell : Telling) {A E : Type 0} (view : A → Answer) (r : Result A E) (vs : List Meaning) (now : ℕ) (h : Held) (p : Settings) (x octets : List ℕ) (mid : Option (List ℕ)) (failed : Bool)
+pub policy_read : (tell : Printer) {A E : Type 0} (view : A → Answer) (r : Result A E) (vs : List Meaning) (now : ℕ) (h : Held) (p : Settings) (x octets : List ℕ) (mid : Option (List ℕ)) (failed : Bool)
     → TakesDocument 65536 h.policy x octets mid → policy_of octets ≡ Ok p → IfSome mid (λ y. IfOk r (λ a. view a ≡ unless_read_failed tell failed (keys_answer tell vs now h p y)))
     → IfOk r (λ a. view a ≡ verify_answer tell vs now h failed x)
 policy_read tell view r vs now h p x octets mid failed d is then =
@@ -104,20 +112,20 @@ pub policy_too_long : (z : List ℕ) → 65536 < length z → policy_of z ≡ Er
 unfolding policy_of
 policy_too_long z long = let is : nat_lt 65536 (length z) ≡ true = grind (arith, nat_tests, long) in rw is refl
 
-pub keys_line_too_long : (tell : Telling) (vs : List Meaning) (now : ℕ) (h : Held) (p : Settings) (x : List ℕ) (failed : Bool) → failed ≡ false → 4194304 < length (document h.keys x)
+pub keys_line_too_long : (tell : Printer) (vs : List Meaning) (now : ℕ) (h : Held) (p : Settings) (x : List ℕ) (failed : Bool) → failed ≡ false → 4194304 < length (document h.keys x)
     → tell.keys_refused keys.TooLong ≡ unless_read_failed tell failed (keys_answer tell vs now h p x)
 keys_line_too_long tell vs now h p x failed works long =
     sym (ap (λ f. unless_read_failed tell f (keys_answer tell vs now h p x)) works ∙ ap (λ k. under_keys tell vs now p k (last_document h.token (behind h.keys x))) (keys_too_long (document h.keys x) long))
 
-pub policy_line_too_long : (tell : Telling) (vs : List Meaning) (now : ℕ) (h : Held) (x : List ℕ) (failed : Bool) → failed ≡ false → 65536 < length (document h.policy x)
+pub policy_line_too_long : (tell : Printer) (vs : List Meaning) (now : ℕ) (h : Held) (x : List ℕ) (failed : Bool) → failed ≡ false → 65536 < length (document h.policy x)
     → tell.policy_refused policy.TooLong ≡ verify_answer tell vs now h failed x
 policy_line_too_long tell vs now h x failed works long =
     sym (ap (λ f. verify_answer tell vs now h f x) works ∙ ap (λ k. under_policy tell vs now h k (behind h.policy x)) (policy_too_long (document h.policy x) long))
 
-pub set_too_long : (json : Bool) (x : List ℕ) (failed : Bool) → failed ≡ false → 4194304 < length x
-    → (told json).keys_refused keys.TooLong ≡ list_answer json failed x
-set_too_long json x failed works long =
-    sym (ap (λ f. list_answer json f x) works ∙ ap (listed json) (keys_too_long x long))
+pub set_too_long : (printing : Printing) (x : List ℕ) (failed : Bool) → failed ≡ false → 4194304 < length x
+    → (printer printing).keys_refused keys.TooLong ≡ list_answer printing failed x
+set_too_long printing x failed works long =
+    sym (ap (λ f. list_answer printing f x) works ∙ ap (listed printing) (keys_too_long x long))
 
 pub issue_line_too_long : (asked : TokenAsked) (held : Option (List ℕ)) (x : List ℕ) (failed : Bool) → failed ≡ false → 4194304 < length (document held x)
     → keys_refused keys.TooLong ≡ issue_answer asked held failed x
@@ -143,16 +151,8 @@ read_or (Refused VerifierMemory) = inr (λ e. cc)
 read_or (Refused (CallsExceeded i j)) = inr (λ e. cc)
 
 failed_read : (v : Verdict) (es : List Try) (sts : List SigState) → FoundMemory v → Failed v es sts → v ≡ Refused (Text Read)
-failed_read (Accepted i j claims) es sts found h = absurd h
-failed_read (Refused OutOfMemory) es sts found h = absurd found
-failed_read (Refused (Text Read)) es sts found h = refl
-failed_read (Refused (Text TooLong)) es sts found h = absurd h
-failed_read (Refused (Form f)) es sts found h = absurd h
-failed_read (Refused (WorkExceeded i j)) es sts found h = absurd h
-failed_read (Refused (Signature i f)) es sts found h = absurd h
-failed_read (Refused (Claim f)) es sts found h = absurd h
-failed_read (Refused VerifierMemory) es sts found h = absurd h
-failed_read (Refused (CallsExceeded i j)) es sts found h = absurd h
+failed_read v es sts found (inl read, tries, states) = read
+failed_read v es sts found (inr memory, tries, states) = absurd (subst FoundMemory memory found)
 
 -- the line of a report, where memory was there, is that of the verdict on what the source gave
 pub answered : (q : Terms) (x : List ℕ) → TellsReports → (failed : Bool) (r : Report) (octets : ℕ) → (r.verdict ≢ Refused (Text Read) → IsReport q x q.policy.run.work r)
@@ -179,6 +179,16 @@ answered_in_hand q x tells r octets report counted found a line =
     ∙ ap (λ es. verify_line (verdict_of q x q.policy.run.work) (length es) (work es)) t.1
 
 -- the same in JSON
+-- the payload of the token that was read for a verdict is that of the token that the octets are
+pub read_payload : (p : Settings) (x : List ℕ) (v : Verdict) (read : Option Signed) → TellsTokens → FoundMemory v → IsReadAs p x v read
+    → payload_in read ≡ (token_or_none (token_of p x)).payload
+read_payload p x v (Some signed) tells found is = sym (ap (λ r. (token_or_none r).payload) ((tells p x (token_view signed)).1 is))
+read_payload p x v None tells found is = none_read (token_of p x) refl
+  where
+    none_read : (r : Result Token Fault) → token_of p x ≡ r → [] ≡ (token_or_none r).payload
+    none_read (Ok token) e = absurd (is (λ lacks. subst FoundMemory lacks found) token ((tells p x token).0 e))
+    none_read (Err fault) e = refl
+
 pub answered_in_json : (q : Terms) (x payload : List ℕ) → TellsReports → (r : Report) (octets : ℕ) → IsReport q x q.policy.run.work r → payload ≡ payload_of q x
     → octets ≡ work r.tries.items → FoundMemory r.verdict → (a : Answer) → a ≡ verdict_json r.verdict payload r.states.items r.tries.items octets → a ≡ token_json q x
 answered_in_json q x payload tells r octets report payload_is counted found a line =

@@ -5,10 +5,10 @@ use Rattle.std.proofs.lemmas.List.Folds.{list_any-append}
 use Rattle.std.proofs.lemmas.Bool.Decides.{nat_tests}
 use Rattle.std.specs.Io.KnownBytes.{Consumes, IsAtEnd, Keeps, prepend_known}
 use Rattle.jwt_command.specs.Lines.{lines, onto_first}
-use Rattle.jwt_command.specs.Printed.{Answer}
-use Rattle.jwt_command.specs.Json.{payload_of, token_json, verdict_json}
-use Rattle.jwt_command.specs.Told.{in_json, told}
-use Rattle.jwt_command.specs.Verify.{paid_tries, token_answer, unless_read_failed}
+use Rattle.jwt_printing.specs.Printed.{Answer}
+use Rattle.jwt_printing.specs.Json.{payload_of, token_json, verdict_json}
+use Rattle.jwt_printing.specs.Printer.{in_json, printer, unless_read_failed}
+use Rattle.jwt_printing.specs.Verdicts.{paid_tries, token_answer}
 use Rattle.jwt_policy.specs.Settings.{Settings}
 use Rattle.jwt_verify.specs.Verdict.{Terms, table, token_of, token_or_none, verdict_of}
 use Rattle.jwt_verify.specs.Table.{states, work}
@@ -16,6 +16,8 @@ use Rattle.jwt_verify.specs.declared.report.InputFault.TheVariants.{TooLong}
 use Rattle.jwt_verify.specs.declared.report.Fault.TheVariants.{Text}
 use Rattle.jwt_command.specs.TakenLines.{after_line, first_line, has_line_feed}
 use Rattle.jwt_command.proofs.LineLemmas.{HasNoFeed, line_at_end, line_at_feed, one_line}
+use Rattle.jwt_words.specs.declared.printing.Printing.{Printing}
+use Rattle.jwt_words.specs.declared.printing.Printing.TheVariants.{Json, Lines}
 
 -- ---- the first line
 
@@ -187,9 +189,9 @@ json_bounded q l = go (nat_lt q.policy.run.limit (length l)) refl
         ap (token_json q) (take_all (q.policy.run.limit + 1) l (omega (arith, short)))
 
 -- the answer looks at a token no further than one octet past the limit, in JSON or in lines
-pub told_bounded : (json : Bool) (q : Terms) (l : List ℕ) → (told json).token q (take (q.policy.run.limit + 1) l) ≡ (told json).token q l
-told_bounded true q l = json_bounded q l
-told_bounded false q l = token_bounded q l
+pub printed_bounded : (printing : Printing) (q : Terms) (l : List ℕ) → (printer printing).token q (take (q.policy.run.limit + 1) l) ≡ (printer printing).token q l
+printed_bounded Json q l = json_bounded q l
+printed_bounded Lines q l = token_bounded q l
 
 -- the answer in JSON to what was taken of a token
 pub json_taken : {A E : Type 0} (view : A → Answer) (r : Result A E) (q : Terms) (x octets : List ℕ) (limit : ℕ) (failed : Bool) → limit ≡ q.policy.run.limit → octets ≡ take (limit + 1) x → failed ≡ false

@@ -1,36 +1,9 @@
 -- The documents of a command: a line of the input each, or what a file holds.
-use Rattle.std.specs.Prelude.{◌≡◌, ◌<◌, ℕ, Bool, true, false, List, [], ◌∷◌, Option, Some, None, length, codes}
-use Rattle.json.specs.Print.{quoted as quoted_text}
+use Rattle.std.specs.Prelude.{◌≡◌, ◌<◌, ℕ, Bool, true, false, List, Option, Some, None, length}
 use Rattle.jwt_text.specs.Intake.{TakesAtMost}
-use Rattle.jwt_command.specs.Printed.{Answer, line}
 use Rattle.jwt_command.specs.TakenLines.{after_line, first_line, line_most}
-use Rattle.jwt_command.specs.Words.{Files}
-use Rattle.jwt_command.specs.declared.take_line.LineFault.{LineFault}
-use Rattle.jwt_command.specs.declared.take_line.LineFault.TheVariants.{OutOfMemory, Read, TooLong}
-
--- ---- what is in hand
-
--- the octets of the documents that were read from files
-pub record Held : Type 0 where
-  pub policy : Option (List ℕ)
-  pub keys : Option (List ℕ)
-  pub token : Option (List ℕ)
-  pub key : Option (List ℕ)
-
-abbrev pub none_held : Held
-none_held = record { policy = None; keys = None; token = None; key = None }
-
--- a file that is named and isn't in hand, else the next
-abbrev pub unread_or : Option (List ℕ) → Option (List ℕ) → Option (List ℕ) → Option (List ℕ)
-unread_or (Some name) None next = Some name
-unread_or name held next = next
-
--- the first file that is named and isn't in hand
-abbrev pub unread : Files → Held → Option (List ℕ)
-unread files held = unread_or files.policy held.policy (unread_or files.keys held.keys (unread_or files.token held.token (unread_or files.key held.key None)))
-
-abbrev pub file_failed : List ℕ → Answer
-file_failed name = line (codes "failed Read file=" ∷ quoted_text name ∷ []) 3
+use Rattle.jwt_command.specs.declared.input.line.LineFault.{LineFault}
+use Rattle.jwt_command.specs.declared.input.line.LineFault.TheVariants.{OutOfMemory, Read, TooLong}
 
 -- ---- what stands where
 

@@ -1,6 +1,5 @@
 -- What `jwt issue` answers.
-use Rattle.std.specs.Prelude.{ℕ, Bool, List, [], ◌∷◌, length, map, nat_lt, slice_get, if◌then◌else◌, Option, Result, Ok, Err, codes, true}
-use Rattle.std.specs.Fmt.{decimal}
+use Rattle.std.specs.Prelude.{ℕ, Bool, List, length, map, nat_lt, slice_get, if◌then◌else◌, Option, Result, Ok, Err, codes, true}
 use Rattle.std.specs.Option.{option_map_or}
 use Rattle.jwt_mac.specs.declared.algorithm.Alg.{Alg}
 use Rattle.jwt_keys.specs.KeySets.{KeyList, key_set_of}
@@ -11,25 +10,16 @@ use Rattle.jwt_jws.specs.declared.fault.Form.TheVariants.{Compact, Flattened, Ge
 use Rattle.jwt_policy.specs.declared.claim_fault.ClaimFault.{ClaimFault}
 use Rattle.jwt_issue.specs.ClaimSets.{claim_set_of}
 use Rattle.jwt_issue.specs.Issued.{pair, compact_of, flattened_of, general_of}
-use Rattle.jwt_issue.specs.FaultNames.{issue_fault_name}
 use Rattle.jwt_issue.specs.declared.fault.IssueFault.{IssueFault}
 use Rattle.jwt_issue.specs.declared.fault.IssueFault.TheVariants as issue
-use Rattle.jwt_command.specs.Faults.{claim_fault_parts, joined_parts}
+use Rattle.jwt_printing.specs.Faults.{claim_fault_parts, joined_parts, issue_fault_parts}
 use Rattle.jwt_verify.specs.Verdict.{without_line_feed}
-use Rattle.jwt_command.specs.Printed.{Answer, refused}
+use Rattle.jwt_printing.specs.Printed.{Answer, refused}
 use Rattle.jwt_command.specs.Documents.{behind, document}
-use Rattle.jwt_command.specs.Verify.{keys_refused, unless_failed}
+use Rattle.jwt_printing.specs.Verdicts.{keys_refused}
+use Rattle.jwt_printing.specs.Printer.{unless_failed}
 
 -- ---- the token
-
-abbrev pub issue_fault_place : IssueFault → List (List ℕ)
-issue_fault_place (issue.AlgNotHmac i) = codes " sig=" ∷ decimal i ∷ []
-issue_fault_place (issue.KeyUnfit i) = codes " sig=" ∷ decimal i ∷ []
-issue_fault_place (issue.Spent i) = codes " sig=" ∷ decimal i ∷ []
-issue_fault_place _ = []
-
-abbrev pub issue_fault_parts : IssueFault → List (List ℕ)
-issue_fault_parts f = issue_fault_name f ∷ issue_fault_place f
 
 -- how a token is to be issued
 pub record TokenAsked : Type 0 where

@@ -2,9 +2,10 @@
 use Rattle.std.specs.Prelude.{◌≡◌, ◌≤◌, ◌<◌, ◌⊎◌, ◌==◌, ◌+◌, ℕ, suc, Bool, true, List, [], ◌∷◌, ◌++◌, length, take, Option, Some, None, if◌then◌else◌}
 use Rattle.std.specs.Io.KnownBytes.{Appends}
 use Rattle.jwt_command.specs.TakenLines.{first_line}
-use Rattle.jwt_command.specs.declared.take_line.LineFault.{LineFault}
-use Rattle.jwt_command.specs.declared.take_line.LineFault.TheVariants.{Read}
-use Rattle.jwt_command.specs.Printed.{Answer, Prints, out_of_memory}
+use Rattle.jwt_command.specs.declared.input.line.LineFault.{LineFault}
+use Rattle.jwt_command.specs.declared.input.line.LineFault.TheVariants.{Read}
+use Rattle.jwt_words.specs.Moments.{last_moment}
+use Rattle.jwt_printing.specs.Printed.{Answer, Prints, out_of_memory}
 
 -- ---- the lines
 
@@ -25,7 +26,7 @@ lines (c ∷ cs) = if c == 10 then [] ∷ lines cs else onto_first c (lines cs)
 -- the moment of an answer: the one that `--now` names, else one that the clock says for that line
 abbrev pub IsMoment : (ℕ → Type 0) → Option ℕ → ℕ → Type 0
 IsMoment says (Some now) m = m ≡ now
-IsMoment says None m = says m × (m ≤ 9223372036854775807)
+IsMoment says None m = says m × (m ≤ last_moment)
 
 -- the moments of lines, the first of which has this number
 abbrev pub AreMoments : (ℕ → List ℕ → ℕ → Type 0) → Option ℕ → ℕ → List ℕ → List (List ℕ) → Type 0

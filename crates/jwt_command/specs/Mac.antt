@@ -1,7 +1,6 @@
 -- What `jwt mac` finds of a token, and its line.
-use Rattle.std.specs.Prelude.{◌+◌, ℕ, Bool, true, false, ◌&&◌, List, [], ◌∷◌, length, Option, Some, None, Result, Ok, Err, codes, nat_lt, nat_le, if◌then◌else◌, option_and_then}
+use Rattle.std.specs.Prelude.{◌+◌, ℕ, Bool, true, false, ◌&&◌, List, length, Option, Some, None, Result, Ok, Err, codes, nat_lt, nat_le, if◌then◌else◌, option_and_then}
 use Rattle.std.specs.Str.{bytes_eq}
-use Rattle.hex.specs.Hex.{encode_lower}
 use Rattle.jwt_text.specs.Answers.{◌>>=◌, or_fault, some_or}
 use Rattle.jwt_text.specs.Base64url.{octets_of, spelled}
 use Rattle.jwt_text.specs.Members.{text_at}
@@ -13,7 +12,8 @@ use Rattle.jwt_jws.specs.Forms.{CompactTexts, compact_texts}
 use Rattle.jwt_command.specs.declared.mac.MacFault.{MacFault}
 use Rattle.jwt_command.specs.declared.mac.MacFault.TheVariants.{OutOfMemory, Segments, Base64, Header, AlgMissing, AlgNotAllowed}
 use Rattle.jwt_verify.specs.Verdict.{without_line_feed}
-use Rattle.jwt_command.specs.Printed.{Answer, line, read_failed, refused}
+use Rattle.jwt_printing.specs.Printed.{Answer, read_failed, refused}
+use Rattle.jwt_printing.specs.Mac.{Digest, digest_line, key_refused}
 
 -- ---- the key: 1 to 4,096 octets in base64url
 
@@ -24,11 +24,6 @@ abbrev pub key_spelled : List ℕ → Option (List ℕ)
 key_spelled text = option_and_then within_bounds (octets_of text)
 
 -- ---- the tag
-
--- the tag of the signing input, and whether the signature is that tag
-pub record Digest : Type 0 where
-  pub tag : List ℕ
-  pub equal : Bool
 
 abbrev pub hmac_only : Alg → Option Alg
 hmac_only alg = if is_hmac_alg alg then Some alg else None
@@ -68,9 +63,6 @@ fault_name AlgMissing = codes "AlgMissing"
 fault_name AlgNotAllowed = codes "AlgNotAllowed"
 fault_name OutOfMemory = codes "OutOfMemory"
 
-abbrev pub digest_line : Digest → Answer
-digest_line d = if d.equal then line (codes "mac " ∷ encode_lower d.tag ∷ codes " equal" ∷ []) 0 else line (codes "mac " ∷ encode_lower d.tag ∷ codes " differ" ∷ []) 1
-
 abbrev pub mac_line : Result Digest MacFault → Answer
 mac_line (Ok d) = digest_line d
 mac_line (Err fault) = refused (fault_name fault)
@@ -79,10 +71,6 @@ mac_line (Err fault) = refused (fault_name fault)
 abbrev pub mac_on : List ℕ → ℕ → Bool → List ℕ → Answer
 mac_on key limit true input = read_failed
 mac_on key limit false input = if nat_lt limit (length input) then refused (codes "TooLong") else mac_line (digest_of key (without_line_feed true input))
-
--- of a key text that is refused, whatever the input
-abbrev pub key_refused : Answer
-key_refused = line (codes "refused Key" ∷ []) 2
 
 abbrev pub mac_under : Option (List ℕ) → ℕ → Bool → List ℕ → Answer
 mac_under None limit failed input = key_refused

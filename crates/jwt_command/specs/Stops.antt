@@ -5,9 +5,10 @@ use Rattle.jwt_keys.specs.declared.fault.KeysFault.{KeysFault}
 use Rattle.jwt_policy.specs.Document.{policy_of}
 use Rattle.jwt_policy.specs.Settings.{Settings}
 use Rattle.jwt_policy.specs.declared.policy_fault.PolicyFault.{PolicyFault}
-use Rattle.jwt_command.specs.Documents.{Held, behind, document, document_most, last_most, most_unless_unread, unread}
+use Rattle.jwt_words.specs.InHand.{Held, unread}
+use Rattle.jwt_command.specs.Documents.{behind, document, document_most, last_most, most_unless_unread}
 use Rattle.jwt_command.specs.Mac.{behind_key, key_spelled, mac_most}
-use Rattle.jwt_command.specs.Words.{Issue, Keys, Mac, MacFile, Order, Show, Verify, Version, files_in_order}
+use Rattle.jwt_words.specs.Words.{Issue, Keys, Mac, MacFile, Order, Show, Verify, Version, files_in_order}
 
 -- behind the line of a key set, of so many octets at most
 abbrev pub behind_keys : ℕ → Result KeyList KeysFault → ℕ

@@ -2,8 +2,8 @@
 use Rattle.std.specs.Prelude.{◌≡◌, ◌<◌, ◌≤◌, ◌+◌, ◌==◌, ℕ, Bool, true, false, List, [], ◌∷◌, length, drop, min, Option, Some, if◌then◌else◌}
 use Rattle.std.specs.List.{list_any}
 use Rattle.jwt_text.specs.Intake.{TakesAtMost}
-use Rattle.jwt_command.specs.declared.take_line.LineFault.{LineFault}
-use Rattle.jwt_command.specs.declared.take_line.LineFault.TheVariants.{OutOfMemory, Read, TooLong}
+use Rattle.jwt_command.specs.declared.input.line.LineFault.{LineFault}
+use Rattle.jwt_command.specs.declared.input.line.LineFault.TheVariants.{OutOfMemory, Read, TooLong}
 
 -- the octets before the first line feed, or all where there is none
 abbrev pub first_line : List ℕ → List ℕ

@@ -1,28 +1,27 @@
 //! The command `issue`: a token of some claims by a key set.
-ghost use Rattle.std.specs.Prelude.{◌≡◌, ◌≢◌, ◌⊎◌, true, map, option_map, string_bytes, IfOk, IfSome};
+ghost use Rattle.std.specs.Prelude.{◌≡◌, ◌≢◌, ◌⊎◌, true, map, option_map, IfOk, IfSome};
 ghost use Rattle.jwt_text.specs.Answers.{Answers};
 ghost use Rattle.jwt_keys.specs.KeySets.{key_set};
-ghost use Rattle.jwt_issue.specs.Views.{pair_parts, text_of};
+ghost use Rattle.jwt_issue.specs.Views.{pair_parts};
 ghost use Rattle.jwt_text.specs.Intake.{TakesAtMost};
 ghost use Rattle.jwt_command.specs.Stops.{keys_most};
 ghost use Rattle.jwt_issue.specs.Issued.{pair};
-ghost use Rattle.jwt_command.specs.Issue.{claims_answer, issue_answer, issue_fault_parts, issued, of_claims, issued_answer};
-ghost use Rattle.jwt_command.specs.Faults.{claim_fault_parts, joined_parts};
+ghost use Rattle.jwt_command.specs.Issue.{claims_answer, issue_answer, issued, of_claims, issued_answer};
 ghost use Rattle.jwt_issue.specs.ClaimSets.{claim_set_of};
-ghost use Rattle.jwt_command.specs.Printed.{refused};
-ghost use Rattle.jwt_command.specs.Verify.{unless_failed};
-ghost use Rattle.jwt_command.specs.Views.{reply_view, wanted_view};
+ghost use Rattle.jwt_printing.specs.Printed.{refused};
+ghost use Rattle.jwt_printing.specs.Printer.{unless_failed};
+ghost use Rattle.jwt_printing.specs.Views.{reply_view};
+ghost use Rattle.jwt_command.specs.Views.{wanted_view};
 
 use crate::documents::document;
-use crate::faults::claim_fault_text;
-use crate::input::{read_input, without_line_feed};
-use crate::reply::Reply;
-use crate::take_line::LineFault;
+use crate::input::line::LineFault;
+use crate::input::whole::{read_input, without_line_feed};
 use jwt_issue::{ClaimSet, IssueFault, issue_compact, issue_flat, issue_json};
 use jwt_jws::Form;
 use jwt_keys::{Key, KeySet, KeysFault};
 use jwt_mac::{Alg, CountDown};
 use jwt_policy::ClaimFault;
+use jwt_printing::{Reply, issue_fault_text, refused_claims};
 use jwt_text::{Source, TextFault};
 use std::alloc::{AllocError, Global};
 
@@ -77,19 +76,6 @@ fn issued(
     }
 }
 
-// Why nothing was issued, with its place.
-fn issue_fault_text(alloc: Global, fault: IssueFault) -> Result<String, AllocError>
-    ensures { IfOk result (λ s. string_bytes s ≡ joined_parts (issue_fault_parts fault)) }
-{
-    let name = fault.name();
-    match fault {
-        IssueFault::AlgNotHmac(i) | IssueFault::KeyUnfit(i) | IssueFault::Spent(i) => {
-            format!(in alloc; "{name} sig={i}")
-        }
-        _ => String::from_str(alloc, name),
-    }
-}
-
 // The answer where these claims stand.
 fn of_claims(
     alloc: Global,
@@ -110,15 +96,6 @@ fn of_claims(
             Reply::refused(alloc, name.as_str())
         }
     }
-}
-
-// The line of refused claims.
-fn refused_claims(alloc: Global, fault: &ClaimFault<'_>) -> Result<Reply, AllocError>
-    ensures { IfOk result
-        (λ a. reply_view a ≡ refused (joined_parts (claim_fault_parts fault.now))) }
-{
-    let name = claim_fault_text(alloc, fault)?;
-    Reply::around(alloc, "refused ", name.as_slice(), "\n", 1)
 }
 
 // The token of claims as they stand.

@@ -1,149 +1,37 @@
-//! The command `keys`: a line for each entry of a key set, or a JSON object of them.
-ghost use Rattle.std.specs.Prelude.{◌≡◌, ◌≤◌, ◌+◌, ◌++◌, ◌⊎◌, true, length, IfOk, IfSome};
-ghost use Rattle.std.specs.List.{flat_map};
-ghost use Rattle.jwt_mac.specs.Verifying.{key_octets};
-ghost use Rattle.jwt_keys.specs.KeySets.{key_set};
-ghost use Rattle.jwt_keys.specs.Views.{key_parts};
+//! The command `keys`: the entries of a key set, in lines or in JSON.
+ghost use Rattle.std.specs.Prelude.{◌≡◌, ◌⊎◌, true, IfOk, IfSome};
 ghost use Rattle.jwt_text.specs.Intake.{TakesAtMost};
-ghost use Rattle.jwt_command.specs.Listed.{before, key_line, kty_of, set_lines, sized_by, skip_line};
-ghost use Rattle.jwt_command.specs.ListedJson.{list_answer, set_told};
-ghost use Rattle.jwt_command.specs.Views.{reply_view};
+ghost use Rattle.jwt_command.specs.Keys.{list_answer};
+ghost use Rattle.jwt_printing.specs.Views.{reply_view};
 
-use crate::input::read_input;
-use crate::json_keys::keys_json;
-use crate::pieces::{put_labelled, quoted_or_dash};
-use crate::reply::Reply;
-use crate::told::{told_keys, told_read};
-use jwt_keys::{Key, KeySet, KeysFault, Skip};
-use jwt_mac::KeyView;
+use crate::input::whole::read_input;
+use jwt_keys::{KeySet, KeysFault};
+use jwt_printing::{Reply, printed_keys_fault, printed_read_fault, printed_set};
 use jwt_text::{GREATEST_LIMIT, Source, TextFault};
+use jwt_words::Printing;
 use std::alloc::{AllocError, Global};
 
-/// The `kty` of a key.
-pub(crate) fn kty_of(view: KeyView<'_>) -> &'static str
-    ensures { result.now ≡ kty_of (key_octets view.entry) }
-{
-    match view {
-        KeyView::Oct { .. } => "oct",
-        KeyView::Rsa { .. } => "RSA",
-        KeyView::Ec { .. } => "EC",
-        KeyView::Okp { .. } => "OKP",
-    }
-}
-
-/// How many octets `k` has, or `n` as spelled, or `x`.
-pub(crate) fn size_of(view: KeyView<'_>) -> usize
-    ensures { result ≡ length (sized_by (key_octets view.entry)) }
-{
-    match view {
-        KeyView::Oct { k } => k.len(),
-        KeyView::Rsa { n, .. } => n.len(),
-        KeyView::Ec { x, .. } => x.len(),
-        KeyView::Okp { x, .. } => x.len(),
-    }
-}
-
-fn put_key(alloc: Global, out: &mut Vec<u8>, number: u32, key: &Key) -> Result<(), AllocError>
-    ensures { IfOk result
-        (λ _. out.new.items ≡ out.old.items ++ key_line number (key_parts key.now)) }
-{
-    let place = key.place();
-    let kty = kty_of(key.view());
-    let size = size_of(key.view());
-    let start = format!(in alloc; "key={number} place={place} kty={kty} kid=")?;
-    let kid = quoted_or_dash(alloc, key.kid())?;
-    let alg = quoted_or_dash(alloc, key.alg_text())?;
-    let size = format!(in alloc; " size={size} thumbprint=")?;
-    put_labelled(out, start.as_str(), kid.as_slice())?;
-    put_labelled(out, " alg=", alg.as_slice())?;
-    put_labelled(out, size.as_str(), key.thumbprint())?;
-    out.push(b'\n')?;
-    Ok(())
-}
-
-fn put_skip(alloc: Global, out: &mut Vec<u8>, skip: &Skip) -> Result<(), AllocError>
-    ensures { IfOk result (λ _. out.new.items ≡ out.old.items ++ skip_line skip.now) }
-{
-    let place = skip.place;
-    let reason = skip.reason.name();
-    let line = format!(in alloc; "skip place={place} {reason}\n")?;
-    out.extend_from_slice(line.as_bytes())
-}
-
-#[tactic(auto, using(std::proofs::lemmas::List::at_drop_more, std::proofs::lemmas::List::at_drop_all))]
-fn put_skips(alloc: Global, out: &mut Vec<u8>, skips: &[Skip]) -> Result<(), AllocError>
-    ensures { IfOk result (λ _. out.new.items ≡ out.old.items ++ flat_map skip_line skips.now) }
-{
-    for skip in skips {
-        put_skip(alloc, out, skip)?;
-    }
-    Ok(())
-}
-
-// How many skips stand before the first at or behind this place.
-#[tactic(auto, using(std::proofs::lemmas::List::at_drop_more, std::proofs::lemmas::List::at_drop_all))]
-fn before(place: u32, skips: &[Skip]) -> usize
-    ensures value { result ≡ before place skips.now }
-    ensures within { result ≤ length skips.now }
-{
-    for count in 0..skips.len() {
-        if skips[count].place >= place {
-            return count;
-        }
-    }
-    skips.len()
-}
-
-// The lines of a key set, in the order of places.
-fn set_lines(alloc: Global, set: &KeySet) -> Result<Vec<u8>, AllocError>
-    ensures { IfOk result
-        (λ v. v.items ≡ set_lines 0 (key_set set.now).keys (key_set set.now).skips) }
-{
-    let mut out = Vec::new(alloc);
-    let mut skips = set.skipped();
-    for number in 0..set.len() {
-        if let Some(key) = set.key(number) {
-            let (first, rest) = skips.split_at(before(key.place(), skips));
-            put_skips(alloc, &mut out, first)?;
-            put_key(alloc, &mut out, number, key)?;
-            skips = rest;
-        }
-    }
-    put_skips(alloc, &mut out, skips)?;
-    Ok(out)
-}
-
-// The answer of a key set, in JSON or in lines.
-fn told_set(alloc: Global, json: bool, set: &KeySet) -> Result<Reply, AllocError>
-    ensures { IfOk result (λ a. reply_view a ≡ set_told json (key_set set.now)) }
-{
-    if json {
-        keys_json(alloc, set)
-    } else {
-        Ok(Reply {
-            text: set_lines(alloc, set)?,
-            status: 0,
-        })
-    }
-}
-
 /// Runs `jwt keys`, in JSON or in lines, on an input of at most 4,194,304 octets. A set without entries has no line.
-pub(crate) fn keys<R: Source>(alloc: Global, json: bool, r: &mut R) -> Result<Reply, AllocError>
+pub(crate) fn keys<R: Source>(
+    alloc: Global,
+    printing: Printing,
+    r: &mut R,
+) -> Result<Reply, AllocError>
     ensures line { IfSome (R.remaining r.old)
-        (λ x. IfOk result (λ a. reply_view a ≡ list_answer json (R.failed r.new) x)) }
+        (λ x. IfOk result (λ a. reply_view a ≡ list_answer printing (R.failed r.new) x)) }
     ensures taken { IfSome (R.remaining r.old)
         (λ x. (R.failed r.new ≡ true) ⊎ TakesAtMost 4194305 x (R.remaining r.new)) }
     ensures failed { IfOk result (λ a. a.status ≡ 3 → R.failed r.new ≡ true) }
 {
     let input = match read_input(alloc, GREATEST_LIMIT, r) {
         Ok(input) => input,
-        Err(TextFault::Read) => return told_read(alloc, json),
-        Err(TextFault::TooLong) => return told_keys(alloc, json, &KeysFault::TooLong),
+        Err(TextFault::Read) => return printed_read_fault(alloc, printing),
+        Err(TextFault::TooLong) => return printed_keys_fault(alloc, printing, &KeysFault::TooLong),
         Err(_) => return Err(AllocError),
     };
     match KeySet::read(alloc, input.octets()) {
-        Ok(set) => told_set(alloc, json, &set),
+        Ok(set) => printed_set(alloc, printing, &set),
         Err(KeysFault::OutOfMemory) => Err(AllocError),
-        Err(fault) => told_keys(alloc, json, &fault),
+        Err(fault) => printed_keys_fault(alloc, printing, &fault),
     }
 }

@@ -6,14 +6,15 @@ ghost use Rattle.jwt_text.specs.Base64url.{spelled};
 ghost use Rattle.jwt_mac.specs.Algorithm.{is_hmac_alg};
 ghost use Rattle.jwt_jws.specs.Views.{texts_view};
 ghost use Rattle.jwt_command.specs.declared.mac.MacFault.TheVariants.{Base64};
-ghost use Rattle.jwt_command.specs.Mac.{algorithm_of, behind_key, digest_by, digest_line, digest_of, fault_name, key_refused, key_spelled, mac_answer, mac_in_hand, mac_line, mac_most, texts_digest};
+ghost use Rattle.jwt_command.specs.Mac.{algorithm_of, behind_key, digest_by, digest_of, fault_name, key_spelled, mac_answer, mac_in_hand, mac_line, mac_most, texts_digest};
+ghost use Rattle.jwt_printing.specs.Mac.{digest_line, key_refused};
 ghost use Rattle.jwt_text.specs.Intake.{TakesAtMost};
-ghost use Rattle.jwt_command.specs.Views.{digest_view, reply_view};
+ghost use Rattle.jwt_printing.specs.Views.{digest_view, reply_view};
 
-use crate::input::{read_input, without_line_feed};
-use crate::reply::Reply;
+use crate::input::whole::{read_input, without_line_feed};
 use jwt_jws::{CompactTexts, compact_texts};
 use jwt_mac::{Alg, CountDown, Message, Tag, hmac};
+use jwt_printing::{Digest, Reply, digest_line, refused_key};
 use jwt_text::{Source, TextFault};
 use std::alloc::{AllocError, Global};
 
@@ -26,13 +27,6 @@ pub(crate) enum MacFault {
     Header,
     AlgMissing,
     AlgNotAllowed,
-}
-
-/// A tag, and whether the signature is that tag.
-#[derive(Drop)]
-pub(crate) struct Digest {
-    pub(crate) tag: Tag,
-    pub(crate) equal: bool,
 }
 
 // The octets that one of the three texts spells.
@@ -143,21 +137,6 @@ fn fault_name(fault: MacFault) -> &'static str
     }
 }
 
-// The line of a digest.
-fn digest_line(alloc: Global, digest: &Digest) -> Result<Reply, AllocError>
-    ensures line { IfOk result (λ r. reply_view r ≡ digest_line (digest_view digest.now)) }
-    ensures done { IfOk result (λ r. r.status ≢ 3) }
-{
-    let tag = hex::encode(alloc, digest.tag.octets())?;
-    if digest.equal {
-        let text = format!(in alloc; "mac {tag} equal\n")?.into_bytes();
-        Ok(Reply { text, status: 0 })
-    } else {
-        let text = format!(in alloc; "mac {tag} differ\n")?.into_bytes();
-        Ok(Reply { text, status: 1 })
-    }
-}
-
 // The line of a token.
 fn token_line(alloc: Global, key: &[u8], token: &[u8]) -> Result<Reply, AllocError>
     requires key { length key.now ≤ 4096 }
@@ -182,13 +161,6 @@ fn key_octets(alloc: Global, text: &[u8]) -> Result<Option<Vec<u8>>, AllocError>
         Ok(_) | Err(TextFault::Base64) => Ok(None),
         Err(_) => Err(AllocError),
     }
-}
-
-// The line of a key that is refused.
-fn refused_key(alloc: Global) -> Result<Reply, AllocError>
-    ensures { IfOk result (λ a. reply_view a ≡ key_refused) }
-{
-    Reply::line(alloc, "refused Key", 2)
 }
 
 /// Runs `jwt mac` on an input: a token in compact form, and one line feed behind it or none. A key text that spells no 1 to

@@ -1,28 +1,28 @@
 //! The command, over any source and sink.
-ghost use Rattle.std.specs.Prelude.{◌≡◌, ◌≤◌, ◌⊎◌, ℕ, Bool, List, [], None, Some, is_some, map, true, false, IfErr, IfOk, IfSome};
+ghost use Rattle.std.specs.Prelude.{◌≡◌, ◌⊎◌, [], None, Some, is_some, map, true, false, IfOk, IfSome};
 ghost use Rattle.jwt_command.specs.Answered.{answer_in_hand, answer_of, version_answer};
-ghost use Rattle.jwt_command.specs.Documents.{none_held, unread};
+ghost use Rattle.jwt_words.specs.InHand.{none_held, unread};
 ghost use Rattle.jwt_text.specs.Intake.{TakesAtMost};
-ghost use Rattle.jwt_command.specs.Printed.{Prints, out_of_memory};
 ghost use Rattle.jwt_command.specs.Runs.{Runs, reads_nothing};
-ghost use Rattle.jwt_command.specs.Seen.{seen};
-ghost use Rattle.jwt_command.specs.Views.{held_view, reply_view};
+ghost use Rattle.jwt_words.specs.Seen.{held_view, seconds_of, seen};
+ghost use Rattle.jwt_printing.specs.Views.{reply_view};
 ghost use Rattle.jwt_command.specs.Stops.{most_in_hand, most_taken};
 ghost use Rattle.jwt_command.specs.Verify.{asked_for};
-ghost use Rattle.jwt_command.specs.Words.{HasLimits, Once, Order as Asked, files_in_order, request_of};
+ghost use Rattle.jwt_words.specs.Words.{HasLimits, Once, Order as Asked, files_in_order, request_of};
 
-use crate::documents::{Held, unread};
 use crate::issue::{Wanted, issue};
 use crate::keys::keys;
-use crate::lines::{Clock, NoClock, run_lines};
 use crate::mac::{mac, mac_in_hand};
-use crate::reply::Reply;
 use crate::show::show;
-use crate::told::told_file;
 use crate::verify::verify;
-use crate::words::{Order, Request, WordsFault, files_in_order, read_words};
+use crate::verify_lines::{Clock, NoClock, run_lines};
 use jwt_mac::Verifier;
-use jwt_text::{Sink, Source, write_out};
+pub use jwt_printing::lack_memory;
+use jwt_printing::{Reply, give, printed_file_fault, send};
+use jwt_text::{Sink, Source};
+use jwt_words::{
+    Held, Moment, Order, Printing, Request, WordsFault, files_in_order, read_words, unread,
+};
 use std::alloc::{AllocError, Global};
 
 /// Runs the command that `words` ask for on `r`, prints its answer to `w`, and answers its status. The first word is the
@@ -44,8 +44,8 @@ pub fn run<R: Source, W: Sink>(alloc: Global, words: &[&str], r: &mut R, w: &mut
         })) }
 
     // At most one octet past the limit is taken, and nothing behind a line that is refused.
-    ensures stops { (json : Bool) (order : Asked)
-        → request_of None (map (λ word. word.now) words.now) ≡ Some (Once json order)
+    ensures stops { (printing : Printing) (order : Asked)
+        → request_of None (map (λ word. word.now) words.now) ≡ Some (Once printing order)
         → IfSome (R.remaining r.old) (λ x. (R.failed r.new ≡ true)
         ⊎ TakesAtMost (most_taken none_held order x) x (R.remaining r.new)) }
 
@@ -61,8 +61,8 @@ pub fn run<R: Source, W: Sink>(alloc: Global, words: &[&str], r: &mut R, w: &mut
           failed = W.failed w.new;
           status = result;
         }) }
-    ensures failed { (json : Bool) (order : Asked)
-        → request_of None (map (λ word. word.now) words.now) ≡ Some (Once json order)
+    ensures failed { (printing : Printing) (order : Asked)
+        → request_of None (map (λ word. word.now) words.now) ≡ Some (Once printing order)
         → result ≡ 3 → (R.failed r.new ≡ true) ⊎ ((W.failed w.new ≡ true)
         ⊎ (is_some (unread (files_in_order order) none_held) ≡ true)) }
 {
@@ -90,17 +90,16 @@ pub fn run_with<R: Source, W: Sink, C: Clock>(
     alloc: Global,
     words: &[&str],
     built_in: &[Box<dyn Verifier>],
-    clock: Option<u64>,
+    clock: Option<Moment>,
     moments: &mut C,
     held: Held<'_>,
     r: &mut R,
     w: &mut W,
 ) -> u8
-    requires { IfSome clock (λ n. n ≤ 9223372036854775807) }
     // What the words ask for is answered.
     ensures answer { IfSome (R.remaining r.old) (λ x.
         Runs (map meaning built_in.now) C.says (held_view held.entry)
-        (request_of clock (map (λ word. word.now) words.now)) x (R.failed r.new)
+        (request_of (seconds_of clock) (map (λ word. word.now) words.now)) x (R.failed r.new)
         (record {
           before = W.contents w.old;
           after = W.contents w.new;
@@ -109,66 +108,39 @@ pub fn run_with<R: Source, W: Sink, C: Clock>(
         })) }
 
     // At most one octet past the limit is taken, and nothing behind a line that is refused.
-    ensures stops { (json : Bool) (order : Asked)
-        → request_of clock (map (λ word. word.now) words.now) ≡ Some (Once json order)
+    ensures stops { (printing : Printing) (order : Asked)
+        → request_of (seconds_of clock) (map (λ word. word.now) words.now)
+        ≡ Some (Once printing order)
         → IfSome (R.remaining r.old) (λ x. (R.failed r.new ≡ true)
         ⊎ TakesAtMost (most_taken (held_view held.entry) order x) x (R.remaining r.new)) }
 
     // Of every source: what is answered without reading, and where the status is 3.
-    ensures unread { reads_nothing (request_of clock (map (λ word. word.now) words.now)) ≡ true
+    ensures unread { reads_nothing
+        (request_of (seconds_of clock) (map (λ word. word.now) words.now)) ≡ true
         → r.new ≡ r.old }
-    ensures known { reads_nothing (request_of clock (map (λ word. word.now) words.now)) ≡ true
+    ensures known { reads_nothing
+        (request_of (seconds_of clock) (map (λ word. word.now) words.now)) ≡ true
         → Runs (map meaning built_in.now) C.says (held_view held.entry)
-        (request_of clock (map (λ word. word.now) words.now)) [] false
+        (request_of (seconds_of clock) (map (λ word. word.now) words.now)) [] false
         (record {
           before = W.contents w.old;
           after = W.contents w.new;
           failed = W.failed w.new;
           status = result;
         }) }
-    ensures failed { (json : Bool) (order : Asked)
-        → request_of clock (map (λ word. word.now) words.now) ≡ Some (Once json order)
+    ensures failed { (printing : Printing) (order : Asked)
+        → request_of (seconds_of clock) (map (λ word. word.now) words.now)
+        ≡ Some (Once printing order)
         → result ≡ 3 → (R.failed r.new ≡ true) ⊎ ((W.failed w.new ≡ true)
         ⊎ (is_some (unread (files_in_order order) (held_view held.entry)) ≡ true)) }
 {
     match read_words(alloc, words, clock) {
-        Ok(Request::Once { json, order }) => {
-            give(w, reply_of(alloc, json, order, built_in, held, r))
+        Ok(Request::Once { printing, order }) => {
+            give(w, reply_of(alloc, printing, order, built_in, held, r))
         }
         Ok(Request::EachLine(order)) => run_lines(alloc, order, built_in, moments, held, r, w),
         Err(WordsFault::Wrong(text)) => send(w, text.as_bytes(), 2),
         Err(WordsFault::OutOfMemory) => lack_memory(w),
-    }
-}
-
-/// Prints that an allocation was refused, and answers the status 4, or 3 where a write fails.
-pub fn lack_memory<W: Sink>(w: &mut W) -> u8
-    ensures { Prints out_of_memory (W.contents w.old) (W.contents w.new) (W.failed w.new) result }
-{
-    send(w, b"failed OutOfMemory\n", 4)
-}
-
-/// Sends a whole answer.
-pub(crate) fn send<W: Sink>(w: &mut W, text: &[u8], status: u8) -> u8
-    ensures { Prints (record { text = text.now; status = status })
-        (W.contents w.old) (W.contents w.new) (W.failed w.new) result }
-{
-    match write_out(w, text) {
-        Ok(()) => status,
-        Err(_) => 3,
-    }
-}
-
-/// Sends an answer, where memory was there.
-pub(crate) fn give<W: Sink>(w: &mut W, reply: Result<Reply, AllocError>) -> u8
-    ensures ok { IfOk reply
-        (λ a. Prints (reply_view a) (W.contents w.old) (W.contents w.new) (W.failed w.new) result) }
-    ensures err { IfErr reply
-        (λ _. Prints out_of_memory (W.contents w.old) (W.contents w.new) (W.failed w.new) result) }
-{
-    match reply {
-        Ok(reply) => send(w, reply.text.as_slice(), reply.status),
-        Err(_) => lack_memory(w),
     }
 }
 
@@ -197,7 +169,7 @@ pub(crate) fn asked_for(public_keys: bool, built_in: &[Box<dyn Verifier>]) -> &[
 // The answer to an order whose files are in hand, in JSON or in lines.
 fn reply_in_hand<R: Source>(
     alloc: Global,
-    json: bool,
+    printing: Printing,
     order: Order<'_>,
     built_in: &[Box<dyn Verifier>],
     held: Held<'_>,
@@ -205,30 +177,33 @@ fn reply_in_hand<R: Source>(
 ) -> Result<Reply, AllocError>
     requires { HasLimits (seen order) }
     ensures answer { IfSome (R.remaining r.old) (λ x. IfOk result (λ a. reply_view a
-        ≡ answer_in_hand json (map meaning built_in.now) (held_view held.entry) (seen order.entry)
+        ≡ answer_in_hand printing (map meaning built_in.now) (held_view held.entry)
+        (seen order.entry)
         (R.failed r.new) x)) }
     ensures stops { IfSome (R.remaining r.old) (λ x. (R.failed r.new ≡ true)
         ⊎ TakesAtMost (most_in_hand (held_view held.entry) (seen order.entry) x) x
         (R.remaining r.new)) }
-    ensures unread { reads_nothing (Some (Once json (seen order.entry))) ≡ true → r.new ≡ r.old }
-    ensures known { reads_nothing (Some (Once json (seen order.entry))) ≡ true
+    ensures unread { reads_nothing (Some (Once printing (seen order.entry))) ≡ true
+        → r.new ≡ r.old }
+    ensures known { reads_nothing (Some (Once printing (seen order.entry))) ≡ true
         → IfOk result (λ a. reply_view a
-        ≡ answer_in_hand json (map meaning built_in.now) (held_view held.entry) (seen order.entry)
+        ≡ answer_in_hand printing (map meaning built_in.now) (held_view held.entry)
+        (seen order.entry)
         false []) }
     ensures failed { IfOk result (λ a. a.status ≡ 3 → R.failed r.new ≡ true) }
 {
     match order {
         Order::Mac { key, limit } => mac(alloc, key.as_bytes(), limit, r),
         Order::MacFile { limit, .. } => mac_in_hand(alloc, held.key, limit, r),
-        Order::Keys => keys(alloc, json, r),
-        Order::Show { limit } => show(alloc, json, limit, r),
+        Order::Keys => keys(alloc, printing, r),
+        Order::Show { limit } => show(alloc, printing, limit, r),
         Order::Verify {
             now,
             public_keys,
             ..
         } => {
             let verifiers = asked_for(public_keys, built_in);
-            verify(alloc, json, verifiers, now, held, r)
+            verify(alloc, printing, verifiers, now, held, r)
         }
         Order::Issue { alg, typ, form, .. } => {
             issue(alloc, Wanted { alg, typ, form }, held.keys, r)
@@ -240,7 +215,7 @@ fn reply_in_hand<R: Source>(
 // The answer to an order, in JSON or in lines, before any of it goes out.
 fn reply_of<R: Source>(
     alloc: Global,
-    json: bool,
+    printing: Printing,
     order: Order<'_>,
     built_in: &[Box<dyn Verifier>],
     held: Held<'_>,
@@ -248,21 +223,22 @@ fn reply_of<R: Source>(
 ) -> Result<Reply, AllocError>
     requires { HasLimits (seen order) }
     ensures answer { IfSome (R.remaining r.old) (λ x. IfOk result (λ a. reply_view a
-        ≡ answer_of json (map meaning built_in.now) (held_view held.entry) (seen order.entry)
+        ≡ answer_of printing (map meaning built_in.now) (held_view held.entry) (seen order.entry)
         (R.failed r.new) x)) }
     ensures stops { IfSome (R.remaining r.old) (λ x. (R.failed r.new ≡ true)
         ⊎ TakesAtMost (most_taken (held_view held.entry) (seen order.entry) x) x
         (R.remaining r.new)) }
-    ensures unread { reads_nothing (Some (Once json (seen order.entry))) ≡ true → r.new ≡ r.old }
-    ensures known { reads_nothing (Some (Once json (seen order.entry))) ≡ true
+    ensures unread { reads_nothing (Some (Once printing (seen order.entry))) ≡ true
+        → r.new ≡ r.old }
+    ensures known { reads_nothing (Some (Once printing (seen order.entry))) ≡ true
         → IfOk result (λ a. reply_view a
-        ≡ answer_of json (map meaning built_in.now) (held_view held.entry) (seen order.entry) false
-        []) }
+        ≡ answer_of printing (map meaning built_in.now) (held_view held.entry)
+        (seen order.entry) false []) }
     ensures failed { IfOk result (λ a. a.status ≡ 3 → (R.failed r.new ≡ true)
         ⊎ (is_some (unread (files_in_order (seen order.entry)) (held_view held.entry)) ≡ true)) }
 {
     match unread(files_in_order(order), held) {
-        Some(name) => told_file(alloc, json, name),
-        None => reply_in_hand(alloc, json, order, built_in, held, r),
+        Some(name) => printed_file_fault(alloc, printing, name),
+        None => reply_in_hand(alloc, printing, order, built_in, held, r),
     }
 }

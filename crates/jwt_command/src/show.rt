@@ -1,233 +1,30 @@
 //! The command `show`: what stands in a token, with nothing of it verified, in lines or in JSON.
-ghost use Rattle.std.specs.Prelude.{◌≡◌, ◌≢◌, ◌≤◌, ◌+◌, ◌++◌, ◌⊎◌, ℕ, List, true, length, option_map, IfOk, IfSome, Ok, Err, string_bytes};
-ghost use Rattle.jwt_text.specs.Base64url.{Spells};
+ghost use Rattle.std.specs.Prelude.{◌≡◌, ◌≢◌, ◌≤◌, ◌+◌, ◌⊎◌, true, IfOk, IfSome, Ok, Err};
 ghost use Rattle.jwt_jws.specs.Forms.{form_of};
-ghost use Rattle.jwt_jws.specs.Views.{parts, token};
-ghost use Rattle.jwt_policy.specs.ClaimKinds.{claims_of};
 ghost use Rattle.jwt_text.specs.Intake.{TakesAtMost};
-ghost use Rattle.jwt_command.specs.Shown.{audience, claims_line, form_name, header_text, member_count, signature_line, signature_sizes, spelled_len, token_lines};
-ghost use Rattle.jwt_command.specs.ShownJson.{show_answer, shown, told_form, told_token, told_too_long};
-ghost use Rattle.jwt_command.specs.Views.{reply_view};
+ghost use Rattle.jwt_command.specs.Show.{show_answer, shown};
+ghost use Rattle.jwt_printing.specs.ShownJson.{printed_form_fault, printed_token, printed_too_long};
+ghost use Rattle.jwt_printing.specs.Views.{reply_view};
 
-use crate::faults::{claim_fault_text, form_fault_text};
-use crate::input::{read_input, without_line_feed};
-use crate::json_show::{form_refused_json, token_json, too_long_json};
-use crate::pieces::{number_or_dash, put_labelled, quoted_or_dash};
-use crate::reply::Reply;
-use crate::told::told_read;
-use jwt_jws::{Form, FormFault, Signature, Signed, parse};
-use jwt_policy::{ClaimFault, Claims};
+use crate::input::whole::{read_input, without_line_feed};
+use jwt_jws::{FormFault, parse};
+use jwt_printing::{
+    Reply, printed_form_fault, printed_read_fault, printed_token, printed_too_long,
+};
 use jwt_text::{Source, TextFault};
+use jwt_words::Printing;
 use std::alloc::{AllocError, Global};
 
-/// The name of a form.
-pub(crate) fn form_name(form: Form) -> &'static str
-    ensures { result.now ≡ form_name form }
-{
-    match form {
-        Form::Compact => "compact",
-        Form::General => "json",
-        Form::Flattened => "flattened",
-    }
-}
-
-// A text of the header: `-` where it is absent, `?` where it is of another kind.
-fn header_text(alloc: Global, there: bool, text: Option<&str>) -> Result<Vec<u8>, AllocError>
-    ensures { IfOk result (λ v. v.items ≡ header_text there (option_map (λ t. t.now) text.entry)) }
-{
-    if there && text.is_none() {
-        return b"?".to_vec(alloc);
-    }
-    quoted_or_dash(alloc, text)
-}
-
-fn unprotected_count(signature: &Signature<'_>) -> usize
-    ensures { result ≡ member_count (parts signature.now).unprotected }
-{
-    match signature.unprotected() {
-        Some(header) => header.member_count(),
-        None => 0,
-    }
-}
-
-// How many octets a base64url text of so many characters spells (RFC 4648, section 5).
-fn spelled_len(chars: usize) -> usize
-    ensures value { result ≡ spelled_len chars }
-    ensures spelled { (text octets : List ℕ) → length text ≡ chars → Spells text octets
-        → result ≡ length octets }
-{
-    chars / 4 * 3 + chars % 4 * 3 / 4
-}
-
-// The sizes of a signature. The signing input has one period between its two texts.
-fn signature_sizes(
-    alloc: Global,
-    signature: &Signature<'_>,
-    payload: usize,
-) -> Result<String, AllocError>
-    ensures { IfOk result (λ s. string_bytes s ≡ signature_sizes payload (parts signature.now)) }
-{
-    let chars = signature.protected_text().len();
-    let protected = spelled_len(chars);
-    let unprotected = unprotected_count(signature);
-    let octets = signature.octets().len();
-    let input = chars as u128 + 1 + payload as u128;
-    format!(in alloc;
-        " protected={protected} unprotected={unprotected} signature={octets} input={input}\n"
-    )
-}
-
-// The line of signature `i`.
-fn put_signature(
-    alloc: Global,
-    out: &mut Vec<u8>,
-    i: u32,
-    signature: &Signature<'_>,
-    payload: usize,
-) -> Result<(), AllocError>
-    ensures { IfOk result
-        (λ _. out.new.items ≡ out.old.items ++ signature_line payload i (parts signature.now)) }
-{
-    let start = format!(in alloc; "sig={i} alg=")?;
-    let has_alg = signature.protected().has("alg");
-    let alg = header_text(alloc, has_alg, signature.alg_text())?;
-    let kid = header_text(alloc, signature.in_header("kid"), signature.kid())?;
-    let sizes = signature_sizes(alloc, signature, payload)?;
-    put_labelled(out, start.as_str(), alg.as_slice())?;
-    put_labelled(out, " kid=", kid.as_slice())?;
-    out.extend_from_slice(sizes.as_bytes())?;
-    Ok(())
-}
-
-// The compact text of `aud`, and `-` for none.
-fn audience(alloc: Global, claims: &Claims) -> Result<Vec<u8>, AllocError>
-    ensures { IfOk result (λ v. v.items ≡ audience claims.now) }
-{
-    match claims.object().compact(alloc, "aud") {
-        Ok(Some(text)) => Ok(text),
-        Ok(None) => b"-".to_vec(alloc),
-        Err(_) => Err(AllocError),
-    }
-}
-
-fn put_claims(alloc: Global, out: &mut Vec<u8>, claims: &Claims) -> Result<(), AllocError>
-    ensures { IfOk result (λ _. out.new.items ≡ out.old.items ++ claims_line (Ok claims.now)) }
-{
-    let aud = audience(alloc, claims)?;
-    let exp = number_or_dash(alloc, claims.exp())?;
-    let iat = number_or_dash(alloc, claims.iat())?;
-    let iss = quoted_or_dash(alloc, claims.iss())?;
-    let jti = quoted_or_dash(alloc, claims.jti())?;
-    let nbf = number_or_dash(alloc, claims.nbf())?;
-    let sub = quoted_or_dash(alloc, claims.sub())?;
-    put_labelled(out, "claims aud=", aud.as_slice())?;
-    put_labelled(out, " exp=", exp.as_slice())?;
-    put_labelled(out, " iat=", iat.as_slice())?;
-    put_labelled(out, " iss=", iss.as_slice())?;
-    put_labelled(out, " jti=", jti.as_slice())?;
-    put_labelled(out, " nbf=", nbf.as_slice())?;
-    put_labelled(out, " sub=", sub.as_slice())?;
-    out.push(b'\n')?;
-    Ok(())
-}
-
-// The line of claims that are refused before any policy is looked at.
-fn put_refused_claims(
-    alloc: Global,
-    out: &mut Vec<u8>,
-    fault: &ClaimFault<'_>,
-) -> Result<(), AllocError>
-    ensures { IfOk result (λ _. out.new.items ≡ out.old.items ++ claims_line (Err fault.now)) }
-{
-    let name = claim_fault_text(alloc, fault)?;
-    put_labelled(out, "claims refused ", name.as_slice())?;
-    out.push(b'\n')?;
-    Ok(())
-}
-
-fn put_claims_line(alloc: Global, out: &mut Vec<u8>, payload: &[u8]) -> Result<(), AllocError>
-    ensures { IfOk result
-        (λ _. out.new.items ≡ out.old.items ++ claims_line (claims_of payload.now)) }
-{
-    match Claims::read(alloc, payload) {
-        Ok(claims) => put_claims(alloc, out, &claims),
-        Err(ClaimFault::OutOfMemory) => Err(AllocError),
-        Err(fault) => put_refused_claims(alloc, out, &fault),
-    }
-}
-
-fn token_lines(alloc: Global, signed: &Signed<'_>) -> Result<Vec<u8>, AllocError>
-    ensures { IfOk result (λ v. v.items ≡ token_lines (token signed.now)) }
-{
-    let mut out = Vec::new(alloc);
-    let form = form_name(signed.form());
-    let octets = signed.payload().len();
-    let payload = signed.payload_text().len();
-    let start = format!(in alloc; "unverified {form}\npayload octets={octets}\n")?;
-    out.extend_from_slice(start.as_bytes())?;
-    for i in 0..signed.count() {
-        if let Some(signature) = signed.signature(i) {
-            put_signature(alloc, &mut out, i, signature, payload)?;
-        }
-    }
-    put_claims_line(alloc, &mut out, signed.payload())?;
-    Ok(out)
-}
-
-// What stands in a token of these octets, in JSON or in lines.
-fn told_token(
-    alloc: Global,
-    json: bool,
-    octets: &[u8],
-    signed: &Signed<'_>,
-) -> Result<Reply, AllocError>
-    ensures line { IfOk result (λ a. reply_view a ≡ told_token json octets.now (token signed.now)) }
-    ensures done { IfOk result (λ a. a.status ≢ 3) }
-{
-    if json {
-        token_json(alloc, octets, signed)
-    } else {
-        Ok(Reply {
-            text: token_lines(alloc, signed)?,
-            status: 0,
-        })
-    }
-}
-
-// The octets are no signed token.
-fn told_form(alloc: Global, json: bool, fault: FormFault) -> Result<Reply, AllocError>
-    ensures line { IfOk result (λ a. reply_view a ≡ told_form json fault) }
-    ensures done { IfOk result (λ a. a.status ≢ 3) }
-{
-    if json {
-        form_refused_json(alloc, fault)
-    } else {
-        Reply::refused(alloc, form_fault_text(alloc, fault)?.as_str())
-    }
-}
-
-// The token is over the limit.
-fn told_too_long(alloc: Global, json: bool) -> Result<Reply, AllocError>
-    ensures line { IfOk result (λ a. reply_view a ≡ told_too_long json) }
-    ensures done { IfOk result (λ a. a.status ≢ 3) }
-{
-    if json {
-        too_long_json(alloc)
-    } else {
-        Reply::refused(alloc, "TooLong")
-    }
-}
-
 // What stands in a token of these octets, of at most 32 signatures, or why they are none.
-fn shown(alloc: Global, json: bool, octets: &[u8]) -> Result<Reply, AllocError>
+fn shown(alloc: Global, printing: Printing, octets: &[u8]) -> Result<Reply, AllocError>
     ensures line { IfOk result
-        (λ a. reply_view a ≡ shown json octets.now (form_of 32 octets.now)) }
+        (λ a. reply_view a ≡ shown printing octets.now (form_of 32 octets.now)) }
     ensures done { IfOk result (λ a. a.status ≢ 3) }
 {
     match parse(alloc, octets, 32) {
-        Ok(signed) => told_token(alloc, json, octets, &signed),
+        Ok(signed) => printed_token(alloc, printing, octets, &signed),
         Err(FormFault::OutOfMemory) => Err(AllocError),
-        Err(fault) => told_form(alloc, json, fault),
+        Err(fault) => printed_form_fault(alloc, printing, fault),
     }
 }
 
@@ -235,22 +32,22 @@ fn shown(alloc: Global, json: bool, octets: &[u8]) -> Result<Reply, AllocError>
 /// or none.
 pub(crate) fn show<R: Source>(
     alloc: Global,
-    json: bool,
+    printing: Printing,
     limit: u64,
     r: &mut R,
 ) -> Result<Reply, AllocError>
     requires least { 1 ≤ limit }
     requires most { limit ≤ 1048576 }
     ensures line { IfSome (R.remaining r.old)
-        (λ x. IfOk result (λ a. reply_view a ≡ show_answer json limit (R.failed r.new) x)) }
+        (λ x. IfOk result (λ a. reply_view a ≡ show_answer printing limit (R.failed r.new) x)) }
     ensures taken { IfSome (R.remaining r.old)
         (λ x. (R.failed r.new ≡ true) ⊎ TakesAtMost (limit + 1) x (R.remaining r.new)) }
     ensures failed { IfOk result (λ a. a.status ≡ 3 → R.failed r.new ≡ true) }
 {
     match read_input(alloc, limit as u32, r) {
-        Ok(input) => shown(alloc, json, without_line_feed(input.octets())),
-        Err(TextFault::Read) => told_read(alloc, json),
-        Err(TextFault::TooLong) => told_too_long(alloc, json),
+        Ok(input) => shown(alloc, printing, without_line_feed(input.octets())),
+        Err(TextFault::Read) => printed_read_fault(alloc, printing),
+        Err(TextFault::TooLong) => printed_too_long(alloc, printing),
         Err(_) => Err(AllocError),
     }
 }

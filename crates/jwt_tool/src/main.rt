@@ -1,12 +1,13 @@
 //! The program `jwt`: JSON Web Tokens on the command line.
 #![tactic(auto)]
 
-ghost use Rattle.std.specs.Prelude.{◌≤◌, IfSome};
+ghost use Rattle.std.specs.Prelude.{◌≤◌};
 
 use jwt_command::documents::{Held, read_document};
-use jwt_command::files_named;
-use jwt_command::lines::Clock;
 use jwt_command::run::{lack_memory, run_with};
+use jwt_command::verify_lines::Clock;
+use jwt_command::{Moment, files_named};
+use jwt_ecdsa::Ecdsa;
 use jwt_ed25519::Ed25519;
 use jwt_mac::Verifier;
 use jwt_rsa::Rsa;
@@ -35,16 +36,9 @@ fn main(rt: HostRuntime) -> ExitCode {
 
 // The moment that the system's clock says, in seconds since 1970-01-01T00:00:00Z; none where it can't be read, or is set before
 // that or later than a command can name.
-fn moment(rt: &HostRuntime) -> Option<u64>
-    ensures { IfSome result (λ n. n ≤ 9223372036854775807) }
-{
+fn moment(rt: &HostRuntime) -> Option<Moment> {
     let since = SystemTime::now(rt).ok()?.duration_since(UNIX_EPOCH).ok()?;
-    let seconds = since.as_secs();
-    if seconds <= 9_223_372_036_854_775_807 {
-        Some(seconds)
-    } else {
-        None
-    }
+    Moment::new(since.as_secs())
 }
 
 // The system's clock.
@@ -57,7 +51,7 @@ impl Clock for System<'_> {
     // What the system says can't be stated.
     ghost says = { λ _ _ _. Unit {0} };
 
-    fn moment(&mut self, _number: u64, _line: &[u8]) -> Option<u64> {
+    fn moment(&mut self, _number: u64, _line: &[u8]) -> Option<Moment> {
         moment(self.rt)
     }
 }
@@ -87,17 +81,16 @@ fn octets(document: &Option<Intake>) -> Option<&[u8]> {
 // Reads the files that the words name, and runs the command with what they hold.
 fn run_words<R: Source, W: Sink>(
     rt: &HostRuntime,
-    clock: Option<u64>,
+    clock: Option<Moment>,
     r: &mut R,
     w: &mut W,
-) -> io::Result<u8>
-    requires { IfSome clock (λ n. n ≤ 9223372036854775807) }
-{
+) -> io::Result<u8> {
     let args: Vec<String> = env::args(rt)?.collect(rt.alloc())?;
     let words: Vec<&str> = args.iter().map(|word| word.as_str()).collect(rt.alloc())?;
-    let built_in: [Box<dyn Verifier>; 2] = [
+    let built_in: [Box<dyn Verifier>; 3] = [
         Box::new(rt.alloc(), Rsa)?,
         Box::new(rt.alloc(), Ed25519)?,
+        Box::new(rt.alloc(), Ecdsa)?,
     ];
     let files = files_named(rt.alloc(), words.as_slice(), clock)?;
     let policy = document(rt, files.policy, 65_536)?;

@@ -1,10 +1,11 @@
 use Rattle.std.proofs.Common.{rules, ◌≡◌, ◌∙◌, inr, ap, sym, subst, option_map, IfOk}
 use Rattle.std.proofs.lemmas.Option.{IfSome_then}
-use Rattle.jwt_command.specs.Printed.{Answer}
+use Rattle.jwt_printing.specs.Printed.{Answer}
 use Rattle.jwt_keys.specs.KeySets.{key_set, key_set_of}
 use Rattle.jwt_command.specs.Documents.{document}
 use Rattle.jwt_command.specs.Stops.{behind_keys}
-use Rattle.jwt_command.specs.Views.{reply_view, wanted_view}
+use Rattle.jwt_printing.specs.Views.{reply_view}
+use Rattle.jwt_command.specs.Views.{wanted_view}
 use Rattle.jwt_command.proofs.Verifying.{behind_keys_taken, document_stops, issue_line_too_long}
 use Rattle.jwt_command.proofs.issue.issue.Goals as goal
 

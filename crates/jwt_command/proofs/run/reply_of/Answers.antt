@@ -1,10 +1,10 @@
-use Rattle.std.proofs.Common.{◌≡◌, ◌⊎◌, ◌∙◌, ap, subst, ℕ, List, None, Option, IfSome, true}
-use Rattle.jwt_command.specs.Documents.{most_unless_unread, unread}
+use Rattle.std.proofs.Common.{◌≡◌, ◌⊎◌, ◌∙◌, ap, subst, sym, ℕ, List, None, Option, IfSome, true}
+use Rattle.jwt_command.specs.Documents.{most_unless_unread}
+use Rattle.jwt_words.specs.InHand.{unread}
 use Rattle.jwt_text.specs.Intake.{TakesAtMost}
-use Rattle.jwt_command.specs.Seen.{seen}
+use Rattle.jwt_words.specs.Seen.{seen, held_view}
 use Rattle.jwt_command.specs.Stops.{most_in_hand, most_taken}
-use Rattle.jwt_command.specs.Views.{held_view}
-use Rattle.jwt_command.specs.Words.{files_in_order}
+use Rattle.jwt_words.specs.Words.{files_in_order}
 use Rattle.jwt_command.proofs.Verifying.{nothing_taken}
 use Rattle.jwt_command.proofs.run.reply_of.Goals as goal
 
@@ -18,3 +18,16 @@ returns-in-None-clause-stops g c =
     subst (λ (u : Option (List ℕ)). IfSome (g.R.Source.remaining c.args.r.now) (λ x. (g.R.Source.failed c.reply_in_hand.new.r ≡ true)
     ⊎ TakesAtMost (most_unless_unread u (most_in_hand (held_view c.args.held) (seen c.args.order) x)) x (g.R.Source.remaining c.reply_in_hand.new.r)))
     none c.reply_in_hand.ensures.stops
+
+pub returns-in-None-clause-answer : goal.returns-in-None-clause-answer
+returns-in-None-clause-answer g c =
+    let none : unread (files_in_order (seen c.args.order)) (held_view c.args.held) ≡ None = sym (c.in-None.ensures ∙ ap (λ fs. unread fs (held_view c.args.held)) c.files_in_order.ensures) in
+    rw none c.reply_in_hand.ensures.answer
+
+pub returns-in-None-clause-known : goal.returns-in-None-clause-known
+returns-in-None-clause-known g c =
+    let none : unread (files_in_order (seen c.args.order)) (held_view c.args.held) ≡ None = sym (c.in-None.ensures ∙ ap (λ fs. unread fs (held_view c.args.held)) c.files_in_order.ensures) in
+    rw none c.reply_in_hand.ensures.known
+
+pub returns-in-None-clause-unread : goal.returns-in-None-clause-unread
+returns-in-None-clause-unread g c = c.reply_in_hand.ensures.unread

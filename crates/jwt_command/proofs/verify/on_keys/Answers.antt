@@ -1,11 +1,12 @@
 use Rattle.std.proofs.Common.{rules, ◌≡◌, ◌+◌, inr, map, subst, IfOk, ◌∙◌, sym, ap}
 use Rattle.std.proofs.lemmas.Option.{IfSome_then}
-use Rattle.jwt_command.specs.Printed.{Answer}
+use Rattle.jwt_printing.specs.Printed.{Answer}
 use Rattle.jwt_keys.specs.KeySets.{key_set, key_set_of}
 use Rattle.jwt_command.specs.Documents.{document, last_most}
 use Rattle.jwt_command.specs.Stops.{behind_keys}
-use Rattle.jwt_command.specs.Told.{told}
-use Rattle.jwt_command.specs.Views.{held_view, reply_view}
+use Rattle.jwt_printing.specs.Printer.{printer}
+use Rattle.jwt_words.specs.Seen.{held_view}
+use Rattle.jwt_printing.specs.Views.{reply_view}
 use Rattle.jwt_command.proofs.Verifying.{behind_keys_taken, document_stops, keys_line_too_long}
 use Rattle.jwt_command.proofs.verify.on_keys.Goals as goal
 
@@ -13,7 +14,7 @@ pub returns-in-Err-TooLong-clause-line : goal.returns-in-Err-TooLong-clause-line
 returns-in-Err-TooLong-clause-line g c =
     IfSome_then (g.R.Source.remaining c.args.r.now) c.in-Err-TooLong.ensures.fails
     (λ x h. let long = rw c.in-Err-TooLong.field-0-is at h in
-    subst (λ (a : Answer). IfOk c.told_keys.result (λ r. reply_view r ≡ a)) (keys_line_too_long (told c.args.json) (map (λ b. (goal.Verifier-dyn g (b.vtable, b.value)).meaning b.value) c.args.verifiers.now) c.args.now (held_view c.args.held) c.args.policy.now x _ long.1 long.0) c.told_keys.ensures)
+    subst (λ (a : Answer). IfOk c.printed_keys_fault.result (λ r. reply_view r ≡ a)) (keys_line_too_long (printer c.args.printing) (map (λ b. (goal.Verifier-dyn g (b.vtable, b.value)).meaning b.value) c.args.verifiers.now) c.args.now.seconds (held_view c.args.held) c.args.policy.now x _ long.1 long.0) c.printed_keys_fault.ensures)
 
 pub returns-in-Err-TooLong-clause-stops : goal.returns-in-Err-TooLong-clause-stops
 returns-in-Err-TooLong-clause-stops g c = IfSome_then (g.R.Source.remaining c.args.r.now) c.in-Err-TooLong.ensures.taken (λ x h. document_stops 4194304 (behind_keys (last_most (c.args.policy.now.run.limit + 1) (held_view c.args.held).token) (key_set_of (document (held_view c.args.held).keys x))) (held_view c.args.held).keys x _ _ h)

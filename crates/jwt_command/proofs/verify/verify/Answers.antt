@@ -1,11 +1,12 @@
 use Rattle.std.proofs.Common.{rules, ◌≡◌, ◌+◌, ◌∙◌, sym, ap, Ok, inr, map, subst, IfOk}
 use Rattle.std.proofs.lemmas.Option.{IfSome_then}
-use Rattle.jwt_command.specs.Printed.{Answer}
+use Rattle.jwt_printing.specs.Printed.{Answer}
 use Rattle.jwt_policy.specs.Document.{policy_of}
 use Rattle.jwt_command.specs.Documents.{behind, document, last_most}
 use Rattle.jwt_command.specs.Stops.{behind_policy, keys_most}
-use Rattle.jwt_command.specs.Told.{told}
-use Rattle.jwt_command.specs.Views.{held_view, reply_view}
+use Rattle.jwt_printing.specs.Printer.{printer}
+use Rattle.jwt_words.specs.Seen.{held_view}
+use Rattle.jwt_printing.specs.Views.{reply_view}
 use Rattle.jwt_command.proofs.Verifying.{document_stops, document_then_stops, policy_line_too_long, policy_read, under_policy_taken}
 use Rattle.jwt_command.proofs.verify.verify.Goals as goal
 
@@ -13,7 +14,7 @@ pub returns-in-Err-TooLong-clause-line : goal.returns-in-Err-TooLong-clause-line
 returns-in-Err-TooLong-clause-line g c =
     IfSome_then (g.R.Source.remaining c.args.r.now) c.in-Err-TooLong.ensures.fails
     (λ x h. let long = rw c.in-Err-TooLong.field-0-is at h in
-    subst (λ (a : Answer). IfOk c.told_policy.result (λ r. reply_view r ≡ a)) (policy_line_too_long (told c.args.json) (map (λ b. (goal.Verifier-dyn g (b.vtable, b.value)).meaning b.value) c.args.verifiers.now) c.args.now (held_view c.args.held) x _ long.1 long.0) c.told_policy.ensures)
+    subst (λ (a : Answer). IfOk c.printed_policy_fault.result (λ r. reply_view r ≡ a)) (policy_line_too_long (printer c.args.printing) (map (λ b. (goal.Verifier-dyn g (b.vtable, b.value)).meaning b.value) c.args.verifiers.now) c.args.now.seconds (held_view c.args.held) x _ long.1 long.0) c.printed_policy_fault.ensures)
 
 pub returns-in-Err-TooLong-clause-stops : goal.returns-in-Err-TooLong-clause-stops
 returns-in-Err-TooLong-clause-stops g c = IfSome_then (g.R.Source.remaining c.args.r.now) c.in-Err-TooLong.ensures.taken (λ x h. document_stops 65536 (behind_policy (held_view c.args.held) (policy_of (document (held_view c.args.held).policy x)) (behind (held_view c.args.held).policy x)) (held_view c.args.held).policy x _ _ h)
@@ -27,7 +28,7 @@ returns-in-Ok-read-clause-line g c =
     IfSome_then (g.R.Source.remaining c.args.r.now) c.in-Ok.ensures.document
     (λ x h.
     let is : Ok c.in-Ok-read.policy ≡ policy_of c.octets.result.now = c.in-Ok-read.ensures.answer (λ bad. cc bad) in
-    policy_read (told c.args.json) reply_view c.on_keys.result vs c.args.now (held_view c.args.held) c.in-Ok-read.policy x _ _ _ h (ap policy_of (sym c.octets.ensures) ∙ sym is) c.on_keys.ensures.line)
+    policy_read (printer c.args.printing) reply_view c.on_keys.result vs c.args.now.seconds (held_view c.args.held) c.in-Ok-read.policy x _ _ _ h (ap policy_of (sym c.octets.ensures) ∙ sym is) c.on_keys.ensures.line)
 
 pub returns-in-Ok-read-clause-stops : goal.returns-in-Ok-read-clause-stops
 returns-in-Ok-read-clause-stops g c =

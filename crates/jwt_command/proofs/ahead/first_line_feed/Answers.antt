@@ -1,5 +1,0 @@
-use Rattle.jwt_command.proofs.LineLemmas.{first_feed}
-use Rattle.jwt_command.proofs.ahead.first_line_feed.Goals as goal
-
-pub returns : goal.returns
-returns c = first_feed c.args.octets.now c.memchr.result c.memchr.ensures

@@ -1,0 +1,13 @@
+pub mod Faults
+pub mod Json
+pub mod JsonTokens
+pub mod Listed
+pub mod ListedJson
+pub mod Mac
+pub mod Nearest
+pub mod Printed
+pub mod Shown
+pub mod ShownJson
+pub mod Printer
+pub mod Verdicts
+pub mod Views

@@ -1,0 +1,11 @@
+-- What contracts see of this crate's own values.
+use Rattle.jwt_printing.specs.declared.mac.Digest.{Digest as CodeDigest}
+use Rattle.jwt_printing.specs.declared.reply.Reply.{Reply}
+use Rattle.jwt_printing.specs.Mac.{Digest}
+use Rattle.jwt_printing.specs.Printed.{Answer}
+
+abbrev pub digest_view : CodeDigest → Digest
+digest_view d = record { tag = d.tag; equal = d.equal }
+
+abbrev pub reply_view : Reply → Answer
+reply_view r = record { text = r.text.items; status = r.status }

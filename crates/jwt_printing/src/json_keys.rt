@@ -1,0 +1,87 @@
+//! What `keys --json` prints.
+ghost use Rattle.std.specs.Prelude.{◌≡◌, ◌++◌, ◌∷◌, [], IfOk, OnOk, map, codes};
+ghost use Rattle.json.specs.Tree.{json_tokens};
+ghost use Rattle.jwt_keys.specs.KeySets.{key_set};
+ghost use Rattle.jwt_keys.specs.Views.{key_parts};
+ghost use Rattle.jwt_printing.specs.Json.{list};
+ghost use Rattle.jwt_printing.specs.JsonTokens.{named_tokens};
+ghost use Rattle.jwt_printing.specs.ListedJson.{key_end, key_json, key_start, keys_json, skip_json};
+ghost use Rattle.jwt_printing.specs.Views.{reply_view};
+
+use crate::json_out::JsonOut;
+use crate::keys::{kty_of, size_of};
+use crate::reply::Reply;
+use jwt_keys::{Key, KeySet, Skip};
+use std::alloc::{AllocError, Global};
+
+// Where the entry of a key stands, and its names.
+fn put_start(out: &mut JsonOut, key: &Key) -> Result<(), AllocError>
+    ensures { OnOk result (out.new ≡ out.old ++ named_tokens (key_start (key_parts key.now))) }
+{
+    out.count("place", key.place() as u64)?;
+    out.text("kty", kty_of(key.view()))?;
+    out.some_text("kid", key.kid())?;
+    out.some_text("alg", key.alg_text())
+}
+
+// Its number of octets, and its thumbprint.
+fn put_end(out: &mut JsonOut, key: &Key) -> Result<(), AllocError>
+    ensures { OnOk result (out.new ≡ out.old ++ named_tokens (key_end (key_parts key.now))) }
+{
+    out.count("size", size_of(key.view()) as u64)?;
+    out.text("thumbprint", key.thumbprint_text())
+}
+
+fn put_key(out: &mut JsonOut, key: &Key) -> Result<(), AllocError>
+    ensures { OnOk result (out.new ≡ out.old ++ json_tokens (key_json (key_parts key.now))) }
+{
+    out.begin_object()?;
+    put_start(out, key)?;
+    put_end(out, key)?;
+    out.end_object()
+}
+
+fn put_keys(out: &mut JsonOut, set: &KeySet) -> Result<(), AllocError>
+    ensures { OnOk result (out.new
+        ≡ out.old ++ named_tokens
+        (list (codes "keys") (map key_json (key_set set.now).keys) ∷ [])) }
+{
+    out.begin_list("keys")?;
+    for number in 0..set.len() {
+        if let Some(key) = set.key(number) {
+            put_key(out, key)?;
+        }
+    }
+    out.end_list()
+}
+
+fn put_skip(out: &mut JsonOut, skip: &Skip) -> Result<(), AllocError>
+    ensures { OnOk result (out.new ≡ out.old ++ json_tokens (skip_json skip.now)) }
+{
+    out.begin_object()?;
+    out.count("place", skip.place as u64)?;
+    out.text("reason", skip.reason.name())?;
+    out.end_object()
+}
+
+#[tactic(auto, using(std::proofs::lemmas::List::at_drop_more, std::proofs::lemmas::List::at_drop_all))]
+fn put_skips(out: &mut JsonOut, skips: &[Skip]) -> Result<(), AllocError>
+    ensures { OnOk result (out.new
+        ≡ out.old ++ named_tokens (list (codes "skipped") (map skip_json skips.now) ∷ [])) }
+{
+    out.begin_list("skipped")?;
+    for skip in skips {
+        put_skip(out, skip)?;
+    }
+    out.end_list()
+}
+
+/// The line of a key set.
+pub(crate) fn keys_json(alloc: Global, set: &KeySet) -> Result<Reply, AllocError>
+    ensures { IfOk result (λ a. reply_view a ≡ keys_json (key_set set.now)) }
+{
+    let mut out = JsonOut::object(alloc)?;
+    put_keys(&mut out, set)?;
+    put_skips(&mut out, set.skipped())?;
+    out.reply(0)
+}

@@ -1,0 +1,204 @@
+//! What `show --json` prints.
+ghost use Rattle.std.specs.Prelude.{◌≡◌, ◌++◌, ◌∷◌, [], IfOk, IfSome, OnOk, option_map, codes};
+ghost use Rattle.json.specs.Find.{at, get};
+ghost use Rattle.json.specs.Tree.{HasNumbers, json_tokens};
+ghost use Rattle.json.specs.Value.{value_view};
+ghost use Rattle.jwt_jws.specs.FaultNames.{form_fault_name};
+ghost use Rattle.jwt_jws.specs.Views.{parts, token};
+ghost use Rattle.jwt_printing.specs.Json.{form_place, list, object_of_members, value_of};
+ghost use Rattle.jwt_printing.specs.JsonTokens.{named_tokens};
+ghost use Rattle.jwt_printing.specs.ShownJson.{header_at, header_json, protected_json, signature_at, signature_members, signatures_json, spelled_octets, token_json, token_refused_json, unverified};
+ghost use Rattle.jwt_printing.specs.Views.{reply_view};
+
+use crate::json_out::{JsonOut, value_in};
+use crate::json_verdict::put_form_place;
+use crate::reply::Reply;
+use crate::show::form_name;
+use json::{Scratch, Value};
+use jwt_jws::{Form, FormFault, Signature, Signed};
+use jwt_text::{TextFault, decode};
+use std::alloc::{AllocError, Global};
+
+// The octets that a text spells, and none where it spells none.
+fn spelled_octets(alloc: Global, text: &[u8]) -> Result<Vec<u8>, AllocError>
+    ensures { IfOk result (λ v. v.items ≡ spelled_octets text.now) }
+{
+    match decode(alloc, text) {
+        Ok(octets) => Ok(octets),
+        Err(TextFault::OutOfMemory) => Err(AllocError),
+        Err(_) => Ok(Vec::new(alloc)),
+    }
+}
+
+// The protected header, where its text isn't empty.
+fn put_protected(alloc: Global, out: &mut JsonOut, text: &[u8]) -> Result<(), AllocError>
+    ensures { OnOk result (out.new ≡ out.old ++ named_tokens (protected_json text.now)) }
+{
+    if text.is_empty() {
+        return Ok(());
+    }
+    let octets = spelled_octets(alloc, text)?;
+    out.value(alloc, "protected", octets.as_slice())
+}
+
+// The member of a value.
+fn member_of<'d, 'a>(value: &'d Value<'a>, name: &str) -> Option<&'d Value<'a>>
+    requires { HasNumbers (value_view value.now) }
+    ensures value { option_map (λ v. value_view v.now) result
+        ≡ get name.now (value_view value.now) }
+    ensures writable { IfSome result (λ v. HasNumbers (value_view v.now)) }
+{
+    value.get(name)
+}
+
+// The element of a value.
+fn element_of<'d, 'a>(value: &'d Value<'a>, i: u32) -> Option<&'d Value<'a>>
+    requires { HasNumbers (value_view value.now) }
+    ensures value { option_map (λ v. value_view v.now) result ≡ at i (value_view value.now) }
+    ensures writable { IfSome result (λ v. HasNumbers (value_view v.now)) }
+{
+    value.at(i as usize)
+}
+
+// The object that signature `i` stands in, of a token in JSON form.
+fn signature_at<'d, 'a>(form: Form, document: &'d Value<'a>, i: u32) -> Option<&'d Value<'a>>
+    requires { HasNumbers (value_view document.now) }
+    ensures value { option_map (λ v. value_view v.now) result
+        ≡ signature_at form (value_view document.now) i }
+    ensures writable { IfSome result (λ v. HasNumbers (value_view v.now)) }
+{
+    match form {
+        Form::Compact => None,
+        Form::General => element_of(member_of(document, "signatures")?, i),
+        Form::Flattened => Some(document),
+    }
+}
+
+// Its unprotected header.
+fn header_at<'d, 'a>(form: Form, document: &'d Value<'a>, i: u32) -> Option<&'d Value<'a>>
+    requires { HasNumbers (value_view document.now) }
+    ensures value { option_map (λ v. value_view v.now) result
+        ≡ header_at form (value_view document.now) i }
+    ensures writable { IfSome result (λ v. HasNumbers (value_view v.now)) }
+{
+    member_of(signature_at(form, document, i)?, "header")
+}
+
+fn put_header(out: &mut JsonOut, header: Option<&Value<'_>>) -> Result<(), AllocError>
+    requires { IfSome header (λ v. HasNumbers (value_view v.now)) }
+    ensures { OnOk result (out.new ≡ out.old
+        ++ named_tokens (header_json (option_map (λ v. value_view v.now) header.entry))) }
+{
+    match header {
+        Some(value) => out.tree("header", value),
+        None => Ok(()),
+    }
+}
+
+// The headers of a signature, and how many octets it has.
+fn put_members(
+    alloc: Global,
+    out: &mut JsonOut,
+    signature: &Signature<'_>,
+    header: Option<&Value<'_>>,
+) -> Result<(), AllocError>
+    requires { IfSome header (λ v. HasNumbers (value_view v.now)) }
+    ensures { OnOk result (out.new ≡ out.old ++ named_tokens (signature_members
+        (option_map (λ v. value_view v.now) header.entry) (parts signature.now))) }
+{
+    put_protected(alloc, out, signature.protected_text())?;
+    put_header(out, header)?;
+    out.count("octets", signature.octets().len() as u64)
+}
+
+fn put_signature(
+    alloc: Global,
+    out: &mut JsonOut,
+    signature: &Signature<'_>,
+    header: Option<&Value<'_>>,
+) -> Result<(), AllocError>
+    requires { IfSome header (λ v. HasNumbers (value_view v.now)) }
+    ensures { OnOk result (out.new ≡ out.old ++ json_tokens (object_of_members (signature_members
+        (option_map (λ v. value_view v.now) header.entry) (parts signature.now)))) }
+{
+    out.begin_object()?;
+    put_members(alloc, out, signature, header)?;
+    out.end_object()
+}
+
+fn put_signatures(
+    alloc: Global,
+    out: &mut JsonOut,
+    signed: &Signed<'_>,
+    document: &Value<'_>,
+) -> Result<(), AllocError>
+    requires { HasNumbers (value_view document.now) }
+    ensures { OnOk result (out.new ≡ out.old ++ named_tokens (list (codes "signatures")
+        (signatures_json (token signed.now).form (value_view document.now) 0
+        (token signed.now).signatures) ∷ [])) }
+{
+    out.begin_list("signatures")?;
+    for i in 0..signed.count() {
+        if let Some(signature) = signed.signature(i) {
+            let header = header_at(signed.form(), document, i);
+            put_signature(alloc, out, signature, header)?;
+        }
+    }
+    out.end_list()
+}
+
+// What stands in a token.
+fn put_unverified(
+    alloc: Global,
+    out: &mut JsonOut,
+    signed: &Signed<'_>,
+    document: &Value<'_>,
+) -> Result<(), AllocError>
+    requires { HasNumbers (value_view document.now) }
+    ensures { OnOk result (out.new
+        ≡ out.old ++ named_tokens (unverified (value_view document.now) (token signed.now))) }
+{
+    out.text("form", form_name(signed.form()))?;
+    out.value(alloc, "payload", signed.payload())?;
+    put_signatures(alloc, out, signed, document)
+}
+
+/// The line of a token that stands in these octets.
+pub(crate) fn token_json(
+    alloc: Global,
+    octets: &[u8],
+    signed: &Signed<'_>,
+) -> Result<Reply, AllocError>
+    ensures { IfOk result
+        (λ a. reply_view a ≡ token_json (value_of octets.now) (token signed.now)) }
+{
+    let mut scratch = Scratch::new(alloc);
+    let document = value_in(alloc, octets, &mut scratch)?;
+    let mut out = JsonOut::object(alloc)?;
+    out.begin_named("unverified")?;
+    put_unverified(alloc, &mut out, signed, &document)?;
+    out.end_object()?;
+    out.reply(0)
+}
+
+/// The line of octets that are no signed token.
+pub(crate) fn form_refused_json(alloc: Global, fault: FormFault) -> Result<Reply, AllocError>
+    ensures { IfOk result (λ a. reply_view a
+        ≡ token_refused_json (form_fault_name fault) (form_place fault)) }
+{
+    let mut out = JsonOut::object(alloc)?;
+    out.text("verdict", "refused")?;
+    out.text("fault", fault.name())?;
+    put_form_place(&mut out, fault)?;
+    out.reply(1)
+}
+
+/// The line of a token over the limit.
+pub(crate) fn too_long_json(alloc: Global) -> Result<Reply, AllocError>
+    ensures { IfOk result (λ a. reply_view a ≡ token_refused_json (codes "TooLong") []) }
+{
+    let mut out = JsonOut::object(alloc)?;
+    out.text("verdict", "refused")?;
+    out.text("fault", "TooLong")?;
+    out.reply(1)
+}

@@ -1,0 +1,316 @@
+//! What `verify --json` prints.
+ghost use Rattle.std.specs.Prelude.{◌≡◌, ◌++◌, ◌∷◌, [], IfOk, OnOk, map, codes};
+ghost use Rattle.json.specs.Tree.{json_tokens};
+ghost use Rattle.jwt_verify.specs.FaultNames.{fault_name};
+ghost use Rattle.jwt_verify.specs.Reports.{FoundMemory};
+ghost use Rattle.jwt_verify.specs.declared.report.InputFault.TheVariants.{Read};
+ghost use Rattle.jwt_verify.specs.declared.report.Fault.TheVariants.{Text};
+ghost use Rattle.jwt_verify.specs.declared.report.Verdict.TheVariants.{Refused};
+ghost use Rattle.jwt_printing.specs.Json.{claim_place, count, evidence, file_failed_json, form_place, keys_refused_json, list, place_of, policy_place, policy_refused_json, read_failed_json, said_json, some_text, state_json, state_members, text, try_json, value_of, verdict_json, verdict_members, verdict_status};
+ghost use Rattle.jwt_printing.specs.JsonTokens.{named_tokens};
+ghost use Rattle.jwt_printing.specs.Nearest.{nearest_member};
+ghost use Rattle.jwt_printing.specs.Views.{reply_view};
+
+use crate::json_out::JsonOut;
+use crate::nearest::nearest_member;
+use crate::reply::Reply;
+use jwt_jws::{FormFault, Place};
+use jwt_keys::KeysFault;
+use jwt_policy::{ClaimFault, PolicyFault};
+use jwt_verify::{Fault, InputFault, Report, SigState, Try, Verdict};
+use std::alloc::{AllocError, Global};
+
+/// What a fault of the form names.
+pub(crate) fn put_form_place(out: &mut JsonOut, fault: FormFault) -> Result<(), AllocError>
+    ensures { OnOk result (out.new ≡ out.old ++ named_tokens (form_place fault)) }
+{
+    match fault {
+        FormFault::Base64(Place::Payload) => out.text("part", "payload"),
+        FormFault::Base64(Place::Protected(i)) => {
+            out.text("part", "protected")?;
+            out.count("signature", i as u64)
+        }
+        FormFault::Base64(Place::Signature(i)) => {
+            out.text("part", "signature")?;
+            out.count("signature", i as u64)
+        }
+        FormFault::Header(i) => out.count("signature", i as u64),
+        FormFault::UnprotectedKind(i) => out.count("signature", i as u64),
+        FormFault::NamesOverlap(i) => out.count("signature", i as u64),
+        _ => Ok(()),
+    }
+}
+
+// The claim that a fault names.
+fn put_claim_place(out: &mut JsonOut, fault: &ClaimFault<'_>) -> Result<(), AllocError>
+    ensures { OnOk result (out.new ≡ out.old ++ named_tokens (claim_place fault.now)) }
+{
+    match fault {
+        ClaimFault::ClaimKind(claim) | ClaimFault::ClaimDate(claim) => {
+            out.text("claim", claim.name())
+        }
+        ClaimFault::ClaimMissing(claim) => out.text("claim", claim.text()),
+        _ => Ok(()),
+    }
+}
+
+fn put_pair(out: &mut JsonOut, i: u32, j: u32) -> Result<(), AllocError>
+    ensures { OnOk result
+        (out.new ≡ out.old
+        ++ named_tokens (count (codes "signature") i ∷ count (codes "key") j ∷ [])) }
+{
+    out.count("signature", i as u64)?;
+    out.count("key", j as u64)
+}
+
+// What a fault names.
+fn put_place(out: &mut JsonOut, fault: &Fault<'_>) -> Result<(), AllocError>
+    ensures { OnOk result (out.new ≡ out.old ++ named_tokens (place_of fault.now)) }
+{
+    match fault {
+        Fault::Form(fault) => put_form_place(out, *fault),
+        Fault::Claim(fault) => put_claim_place(out, fault),
+        Fault::Signature(i, _) => out.count("signature", *i as u64),
+        Fault::WorkExceeded(i, j) | Fault::CallsExceeded(i, j) => put_pair(out, *i, *j),
+        _ => Ok(()),
+    }
+}
+
+// A member, and the one of a policy that is near to its name.
+fn put_member(alloc: Global, out: &mut JsonOut, name: &str) -> Result<(), AllocError>
+    ensures { OnOk result (out.new ≡ out.old ++ named_tokens (text (codes "member") name.now
+        ∷ some_text (codes "nearest") (nearest_member name.now))) }
+{
+    out.text("member", name)?;
+    out.some_text("nearest", nearest_member(alloc, name)?)
+}
+
+// The member that a fault of the policy names.
+fn put_policy_place(alloc: Global, out: &mut JsonOut, fault: &PolicyFault) -> Result<(), AllocError>
+    ensures { OnOk result (out.new ≡ out.old ++ named_tokens (policy_place fault.now)) }
+{
+    match fault {
+        PolicyFault::Member(member) => put_member(alloc, out, member.text()),
+        PolicyFault::Range(member) => out.text("member", member.text()),
+        _ => Ok(()),
+    }
+}
+
+fn put_state_members(out: &mut JsonOut, state: SigState) -> Result<(), AllocError>
+    ensures { OnOk result (out.new ≡ out.old ++ named_tokens (state_members state)) }
+{
+    match state {
+        SigState::Barred(fault) => {
+            out.text("state", "Barred")?;
+            out.text("fault", fault.name())
+        }
+        SigState::Verified(key) => {
+            out.text("state", "Verified")?;
+            out.count("key", key as u64)
+        }
+        SigState::NoKey => out.text("state", "NoKey"),
+        SigState::BadSignature => out.text("state", "BadSignature"),
+        SigState::NotReached => out.text("state", "NotReached"),
+        SigState::Stopped => out.text("state", "Stopped"),
+    }
+}
+
+// What became of a signature.
+fn put_state(out: &mut JsonOut, state: SigState) -> Result<(), AllocError>
+    ensures { OnOk result (out.new ≡ out.old ++ json_tokens (state_json state)) }
+{
+    out.begin_object()?;
+    put_state_members(out, state)?;
+    out.end_object()
+}
+
+#[tactic(auto, using(std::proofs::lemmas::List::at_drop_more, std::proofs::lemmas::List::at_drop_all))]
+fn put_states(out: &mut JsonOut, states: &[SigState]) -> Result<(), AllocError>
+    ensures { OnOk result
+        (out.new ≡ out.old
+        ++ named_tokens (list (codes "signatures") (map state_json states.now) ∷ [])) }
+{
+    out.begin_list("signatures")?;
+    for state in states {
+        put_state(out, *state)?;
+    }
+    out.end_list()
+}
+
+// A try, with its cost.
+fn put_try(out: &mut JsonOut, entry: Try) -> Result<(), AllocError>
+    ensures { OnOk result (out.new ≡ out.old ++ json_tokens (try_json entry)) }
+{
+    out.begin_object()?;
+    put_pair(out, entry.signature, entry.key)?;
+    out.count("cost", entry.cost)?;
+    out.end_object()
+}
+
+#[tactic(auto, using(std::proofs::lemmas::List::at_drop_more, std::proofs::lemmas::List::at_drop_all))]
+fn put_tries(out: &mut JsonOut, tries: &[Try]) -> Result<(), AllocError>
+    ensures { OnOk result
+        (out.new ≡ out.old ++ named_tokens (list (codes "tries") (map try_json tries.now) ∷ [])) }
+{
+    out.begin_list("tries")?;
+    for entry in tries {
+        put_try(out, *entry)?;
+    }
+    out.end_list()
+}
+
+// What became of each signature, the tries, and what they cost.
+fn put_evidence(
+    out: &mut JsonOut,
+    states: &[SigState],
+    tries: &[Try],
+    work: u64,
+) -> Result<(), AllocError>
+    ensures { OnOk result (out.new ≡ out.old ++ named_tokens (evidence states.now tries.now work)) }
+{
+    put_states(out, states)?;
+    put_tries(out, tries)?;
+    out.count("work", work)
+}
+
+fn put_accepted(
+    alloc: Global,
+    out: &mut JsonOut,
+    signature: u32,
+    key: u32,
+    payload: &[u8],
+) -> Result<(), AllocError>
+    ensures { OnOk result
+        (out.new ≡ out.old ++ named_tokens (text (codes "verdict") (codes "accepted")
+        ∷ count (codes "signature") signature ∷ count (codes "key") key ∷
+        (codes "claims", value_of payload.now) ∷ [])) }
+{
+    out.text("verdict", "accepted")?;
+    put_pair(out, signature, key)?;
+    out.value(alloc, "claims", payload)
+}
+
+fn put_refused(out: &mut JsonOut, fault: &Fault<'_>) -> Result<(), AllocError>
+    ensures { OnOk result
+        (out.new ≡ out.old ++ named_tokens (text (codes "verdict") (codes "refused")
+        ∷ text (codes "fault") (fault_name fault.now) ∷ place_of fault.now)) }
+{
+    out.text("verdict", "refused")?;
+    out.text("fault", fault.name())?;
+    put_place(out, fault)
+}
+
+fn put_verdict(
+    alloc: Global,
+    out: &mut JsonOut,
+    verdict: &Verdict<'_>,
+    payload: &[u8],
+) -> Result<(), AllocError>
+    ensures { OnOk result
+        (out.new ≡ out.old ++ named_tokens (verdict_members verdict.now payload.now)) }
+{
+    match verdict {
+        Verdict::Accepted { signature, key, .. } => put_accepted(
+            alloc, out, *signature, *key, payload,
+        ),
+        Verdict::Refused(fault) => put_refused(out, fault),
+    }
+}
+
+fn verdict_status(verdict: &Verdict<'_>) -> u8
+    ensures { result ≡ verdict_status verdict.now }
+{
+    match verdict {
+        Verdict::Accepted { .. } => 0,
+        Verdict::Refused(_) => 1,
+    }
+}
+
+// The line of a report on a token with this payload.
+fn said(alloc: Global, report: &Report<'_>, payload: &[u8], work: u64) -> Result<Reply, AllocError>
+    ensures { IfOk result (λ a. reply_view a
+        ≡ said_json report.now.verdict payload.now report.now.states.items report.now.tries.items
+        work) }
+{
+    let mut out = JsonOut::object(alloc)?;
+    put_verdict(alloc, &mut out, &report.verdict, payload)?;
+    put_evidence(
+        &mut out,
+        report.states.as_slice(),
+        report.tries.as_slice(),
+        work,
+    )?;
+    out.reply(verdict_status(&report.verdict))
+}
+
+/// The line of a report on a token with this payload. Where memory was refused there is none.
+pub fn report_json(
+    alloc: Global,
+    report: &Report<'_>,
+    payload: &[u8],
+    work: u64,
+) -> Result<Reply, AllocError>
+    ensures line { IfOk result (λ a. reply_view a
+        ≡ verdict_json report.now.verdict payload.now report.now.states.items
+        report.now.tries.items work) }
+    ensures memory { IfOk result (λ a. FoundMemory report.now.verdict) }
+    ensures failed { IfOk result (λ a. a.status ≡ 3 → report.now.verdict ≡ Refused (Text Read)) }
+{
+    match &report.verdict {
+        Verdict::Refused(Fault::OutOfMemory | Fault::VerifierMemory) => Err(AllocError),
+        Verdict::Refused(Fault::Text(InputFault::Read)) => read_failed_json(alloc),
+        Verdict::Accepted { .. }
+        | Verdict::Refused(
+            Fault::Text(InputFault::TooLong)
+            | Fault::Form(_)
+            | Fault::WorkExceeded(..)
+            | Fault::CallsExceeded(..)
+            | Fault::Signature(..)
+            | Fault::Claim(_),
+        ) => said(alloc, report, payload, work),
+    }
+}
+
+/// The line for a read that failed.
+pub fn read_failed_json(alloc: Global) -> Result<Reply, AllocError>
+    ensures { IfOk result (λ a. reply_view a ≡ read_failed_json) }
+{
+    let mut out = JsonOut::object(alloc)?;
+    out.text("verdict", "failed")?;
+    out.text("fault", "Read")?;
+    out.reply(3)
+}
+
+/// The line for a file that can't be read.
+pub(crate) fn file_failed_json(alloc: Global, name: &str) -> Result<Reply, AllocError>
+    ensures { IfOk result (λ a. reply_view a ≡ file_failed_json name.now) }
+{
+    let mut out = JsonOut::object(alloc)?;
+    out.text("verdict", "failed")?;
+    out.text("fault", "Read")?;
+    out.text("file", name)?;
+    out.reply(3)
+}
+
+/// The line of a refused key set.
+pub(crate) fn keys_refused_json(alloc: Global, fault: &KeysFault) -> Result<Reply, AllocError>
+    ensures { IfOk result (λ a. reply_view a ≡ keys_refused_json fault.now) }
+{
+    let mut out = JsonOut::object(alloc)?;
+    out.text("verdict", "refused")?;
+    out.text("document", "keys")?;
+    out.text("fault", fault.name())?;
+    out.reply(1)
+}
+
+/// The line of a refused policy.
+pub(crate) fn policy_refused_json(alloc: Global, fault: &PolicyFault) -> Result<Reply, AllocError>
+    ensures { IfOk result (λ a. reply_view a ≡ policy_refused_json fault.now) }
+{
+    let mut out = JsonOut::object(alloc)?;
+    out.text("verdict", "refused")?;
+    out.text("document", "policy")?;
+    out.text("fault", fault.name())?;
+    put_policy_place(alloc, &mut out, fault)?;
+    out.reply(1)
+}

@@ -1,0 +1,154 @@
+-- What some words ask for.
+use Rattle.std.proofs.Common.{◌≡◌, [], ◌∷◌, None, Some, true, false, refl}
+use Rattle.std.specs.Prelude.{codes}
+use Rattle.clap.proofs.OnLiterals.{clap_on_literals}
+use Rattle.jwt_words.specs.Words.{EachLine, Keys, Mac, MacFile, Once, Show, Verify, Version, no_files, request_of}
+use Rattle.jwt_words.specs.declared.printing.Printing.TheVariants.{Json, Lines}
+
+pub key_alone : request_of None (codes "jwt" ∷ codes "mac" ∷ codes "--k" ∷ codes "AA" ∷ []) ≡ Some (Once Lines (Mac (codes "AA") 8192))
+unfolding clap_on_literals
+key_alone = refl
+
+pub key_and_limit : request_of None (codes "jwt" ∷ codes "mac" ∷ codes "--k" ∷ codes "AA" ∷ codes "--limit" ∷ codes "178" ∷ []) ≡ Some (Once Lines (Mac (codes "AA") 178))
+unfolding clap_on_literals
+key_and_limit = refl
+
+pub key_with_hyphen : request_of None (codes "jwt" ∷ codes "mac" ∷ codes "--k=-AA" ∷ []) ≡ Some (Once Lines (Mac (codes "-AA") 8192))
+unfolding clap_on_literals
+key_with_hyphen = refl
+
+pub key_hyphen_apart : request_of None (codes "jwt" ∷ codes "mac" ∷ codes "--k" ∷ codes "-AA" ∷ []) ≡ None
+unfolding clap_on_literals
+key_hyphen_apart = refl
+
+pub limit_zero : request_of None (codes "jwt" ∷ codes "mac" ∷ codes "--k" ∷ codes "AA" ∷ codes "--limit" ∷ codes "0" ∷ []) ≡ None
+unfolding clap_on_literals
+limit_zero = refl
+
+pub limit_plus : request_of None (codes "jwt" ∷ codes "mac" ∷ codes "--k" ∷ codes "AA" ∷ codes "--limit" ∷ codes "+7" ∷ []) ≡ Some (Once Lines (Mac (codes "AA") 7))
+unfolding clap_on_literals
+limit_plus = refl
+
+pub no_key : request_of None (codes "jwt" ∷ codes "mac" ∷ []) ≡ None
+unfolding clap_on_literals
+no_key = refl
+
+pub key_twice : request_of None (codes "jwt" ∷ codes "mac" ∷ codes "--k" ∷ codes "AA" ∷ codes "--k" ∷ codes "BB" ∷ []) ≡ None
+unfolding clap_on_literals
+key_twice = refl
+
+pub no_words : request_of None (codes "jwt" ∷ []) ≡ None
+unfolding clap_on_literals
+no_words = refl
+
+pub help_flag : request_of None (codes "jwt" ∷ codes "--help" ∷ []) ≡ None
+unfolding clap_on_literals
+help_flag = refl
+
+pub help_word : request_of None (codes "jwt" ∷ codes "help" ∷ codes "mac" ∷ []) ≡ None
+unfolding clap_on_literals
+help_word = refl
+
+pub mac_help : request_of None (codes "jwt" ∷ codes "mac" ∷ codes "-h" ∷ []) ≡ None
+unfolding clap_on_literals
+mac_help = refl
+
+pub empty_key : request_of None (codes "jwt" ∷ codes "mac" ∷ codes "--k=" ∷ []) ≡ Some (Once Lines (Mac [] 8192))
+unfolding clap_on_literals
+empty_key = refl
+
+pub a_moment : request_of None (codes "jwt" ∷ codes "verify" ∷ codes "--now" ∷ codes "1300819379" ∷ []) ≡ Some (Once Lines (Verify 1300819379 false no_files))
+unfolding clap_on_literals
+a_moment = refl
+
+pub too_late : request_of None (codes "jwt" ∷ codes "verify" ∷ codes "--now" ∷ codes "9223372036854775808" ∷ []) ≡ None
+unfolding clap_on_literals
+too_late = refl
+
+pub public_keys : request_of None (codes "jwt" ∷ codes "verify" ∷ codes "--public-keys" ∷ codes "--now" ∷ codes "1300819379" ∷ []) ≡ Some (Once Lines (Verify 1300819379 true no_files))
+unfolding clap_on_literals
+public_keys = refl
+
+pub public_keys_behind : request_of None (codes "jwt" ∷ codes "verify" ∷ codes "--now" ∷ codes "1300819379" ∷ codes "--public-keys" ∷ []) ≡ Some (Once Lines (Verify 1300819379 true no_files))
+unfolding clap_on_literals
+public_keys_behind = refl
+
+pub public_keys_twice : request_of None (codes "jwt" ∷ codes "verify" ∷ codes "--now" ∷ codes "7" ∷ codes "--public-keys" ∷ codes "--public-keys" ∷ []) ≡ None
+unfolding clap_on_literals
+public_keys_twice = refl
+
+pub public_keys_of_a_value : request_of None (codes "jwt" ∷ codes "verify" ∷ codes "--now" ∷ codes "7" ∷ codes "--public-keys=true" ∷ []) ≡ None
+unfolding clap_on_literals
+public_keys_of_a_value = refl
+
+pub version : request_of None (codes "jwt" ∷ codes "--version" ∷ []) ≡ Some (Once Lines Version)
+unfolding clap_on_literals
+version = refl
+
+pub version_and_more : request_of None (codes "jwt" ∷ codes "--version" ∷ codes "keys" ∷ []) ≡ None
+unfolding clap_on_literals
+version_and_more = refl
+
+pub version_of_a_command : request_of None (codes "jwt" ∷ codes "keys" ∷ codes "--version" ∷ []) ≡ None
+unfolding clap_on_literals
+version_of_a_command = refl
+
+pub clock_alone : request_of (Some 1300819379) (codes "jwt" ∷ codes "verify" ∷ []) ≡ Some (Once Lines (Verify 1300819379 false no_files))
+unfolding clap_on_literals
+clock_alone = refl
+
+pub now_before_clock : request_of (Some 7) (codes "jwt" ∷ codes "verify" ∷ codes "--now" ∷ codes "1300819379" ∷ []) ≡ Some (Once Lines (Verify 1300819379 false no_files))
+unfolding clap_on_literals
+now_before_clock = refl
+
+pub too_late_with_clock : request_of (Some 7) (codes "jwt" ∷ codes "verify" ∷ codes "--now" ∷ codes "9223372036854775808" ∷ []) ≡ None
+unfolding clap_on_literals
+too_late_with_clock = refl
+
+pub no_moment : request_of None (codes "jwt" ∷ codes "verify" ∷ []) ≡ None
+unfolding clap_on_literals
+no_moment = refl
+
+pub files_named : request_of None (codes "jwt" ∷ codes "verify" ∷ codes "--now" ∷ codes "7" ∷ codes "--policy" ∷ codes "p" ∷ codes "--keys=k" ∷ []) ≡ Some (Once Lines (Verify 7 false (record { policy = Some (codes "p"); keys = Some (codes "k"); token = None; key = None })))
+unfolding clap_on_literals
+files_named = refl
+
+pub key_file : request_of None (codes "jwt" ∷ codes "mac" ∷ codes "--key-file" ∷ codes "k" ∷ codes "--limit" ∷ codes "178" ∷ []) ≡ Some (Once Lines (MacFile (codes "k") 178))
+unfolding clap_on_literals
+key_file = refl
+
+pub key_and_its_file : request_of None (codes "jwt" ∷ codes "mac" ∷ codes "--key-file" ∷ codes "k" ∷ codes "--k" ∷ codes "AA" ∷ []) ≡ None
+unfolding clap_on_literals
+key_and_its_file = refl
+
+pub file_named_twice : request_of None (codes "jwt" ∷ codes "verify" ∷ codes "--now" ∷ codes "7" ∷ codes "--token" ∷ codes "t" ∷ codes "--token" ∷ codes "t" ∷ []) ≡ None
+unfolding clap_on_literals
+file_named_twice = refl
+
+pub verify_json : request_of None (codes "jwt" ∷ codes "verify" ∷ codes "--json" ∷ codes "--now" ∷ codes "7" ∷ []) ≡ Some (Once Json (Verify 7 false no_files))
+unfolding clap_on_literals
+verify_json = refl
+
+pub keys_json : request_of None (codes "jwt" ∷ codes "keys" ∷ codes "--json" ∷ []) ≡ Some (Once Json Keys)
+unfolding clap_on_literals
+keys_json = refl
+
+pub show_json : request_of None (codes "jwt" ∷ codes "show" ∷ codes "--json" ∷ []) ≡ Some (Once Json (Show 8192))
+unfolding clap_on_literals
+show_json = refl
+
+pub mac_json : request_of None (codes "jwt" ∷ codes "mac" ∷ codes "--k" ∷ codes "AA" ∷ codes "--json" ∷ []) ≡ None
+unfolding clap_on_literals
+mac_json = refl
+
+pub lines_alone : request_of (Some 7) (codes "jwt" ∷ codes "verify" ∷ codes "--lines" ∷ []) ≡ None
+unfolding clap_on_literals
+lines_alone = refl
+
+pub lines_json : request_of (Some 7) (codes "jwt" ∷ codes "verify" ∷ codes "--lines" ∷ codes "--json" ∷ codes "--policy=p" ∷ codes "--keys=k" ∷ []) ≡ Some (EachLine (record { now = None; public_keys = false; printing = Json; files = record { policy = Some (codes "p"); keys = Some (codes "k"); token = None; key = None } }))
+unfolding clap_on_literals
+lines_json = refl
+
+pub lines_token : request_of (Some 7) (codes "jwt" ∷ codes "verify" ∷ codes "--lines" ∷ codes "--policy=p" ∷ codes "--keys=k" ∷ codes "--token=t" ∷ []) ≡ None
+unfolding clap_on_literals
+lines_token = refl

@@ -1,0 +1,19 @@
+use Rattle.std.proofs.Common.{rules, ◌≡◌, ◌∙◌, ap₂}
+use Rattle.std.proofs.lemmas.Result.{IfOk-weaker}
+use Rattle.clap.specs.Words.{App, app_of, with_subcommand}
+use Rattle.jwt_words.specs.Words.{jwt_app, top_app}
+use Rattle.jwt_words.proofs.words.command.Goals as goal
+
+-- a command with one more subcommand
+abbrev more : App → App → App
+more a s = with_subcommand a s.top
+
+pub returns : goal.returns
+returns c =
+    let top : app_of c.subcommand_required.result ≡ top_app = search rules in
+    let one = c.in_ok-subcommand.ensures.shape c.in_ok-mac_command.ensures.local ∙ ap₂ more top c.in_ok-mac_command.ensures.shape in
+    let two = c.in_ok-subcommand-2.ensures.shape c.in_ok-keys_command.ensures.local ∙ ap₂ more one c.in_ok-keys_command.ensures.shape in
+    let three = c.in_ok-subcommand-3.ensures.shape c.in_ok-show_command.ensures.local ∙ ap₂ more two c.in_ok-show_command.ensures.shape in
+    let four = c.in_ok-subcommand-4.ensures.shape c.in_ok-verify_command.ensures.local ∙ ap₂ more three c.in_ok-verify_command.ensures.shape in
+    IfOk-weaker c.subcommand-5.result _ (λ r. app_of r ≡ jwt_app c.args.has_clock)
+    (λ r adds. adds.shape c.in_ok-issue_command.ensures.local ∙ ap₂ more four c.in_ok-issue_command.ensures.shape) c.subcommand-5.ensures

@@ -1,0 +1,43 @@
+-- What some words ask for.
+use Rattle.std.specs.Prelude.{◌≡◌, [], ◌∷◌, None, Some, true, false, codes}
+use Rattle.jwt_words.specs.Words.{EachLine, Keys, Mac, MacFile, Once, Show, Verify, Version, no_files, request_of}
+use Rattle.jwt_words.specs.declared.printing.Printing.TheVariants.{Json, Lines}
+
+pub record Examples : Type 0 where
+  pub key_alone : request_of None (codes "jwt" ∷ codes "mac" ∷ codes "--k" ∷ codes "AA" ∷ []) ≡ Some (Once Lines (Mac (codes "AA") 8192))
+  pub key_and_limit : request_of None (codes "jwt" ∷ codes "mac" ∷ codes "--k" ∷ codes "AA" ∷ codes "--limit" ∷ codes "178" ∷ []) ≡ Some (Once Lines (Mac (codes "AA") 178))
+  pub key_with_hyphen : request_of None (codes "jwt" ∷ codes "mac" ∷ codes "--k=-AA" ∷ []) ≡ Some (Once Lines (Mac (codes "-AA") 8192))
+  pub key_hyphen_apart : request_of None (codes "jwt" ∷ codes "mac" ∷ codes "--k" ∷ codes "-AA" ∷ []) ≡ None
+  pub limit_zero : request_of None (codes "jwt" ∷ codes "mac" ∷ codes "--k" ∷ codes "AA" ∷ codes "--limit" ∷ codes "0" ∷ []) ≡ None
+  pub limit_plus : request_of None (codes "jwt" ∷ codes "mac" ∷ codes "--k" ∷ codes "AA" ∷ codes "--limit" ∷ codes "+7" ∷ []) ≡ Some (Once Lines (Mac (codes "AA") 7))
+  pub no_key : request_of None (codes "jwt" ∷ codes "mac" ∷ []) ≡ None
+  pub key_twice : request_of None (codes "jwt" ∷ codes "mac" ∷ codes "--k" ∷ codes "AA" ∷ codes "--k" ∷ codes "BB" ∷ []) ≡ None
+  pub no_words : request_of None (codes "jwt" ∷ []) ≡ None
+  pub help_flag : request_of None (codes "jwt" ∷ codes "--help" ∷ []) ≡ None
+  pub help_word : request_of None (codes "jwt" ∷ codes "help" ∷ codes "mac" ∷ []) ≡ None
+  pub mac_help : request_of None (codes "jwt" ∷ codes "mac" ∷ codes "-h" ∷ []) ≡ None
+  pub empty_key : request_of None (codes "jwt" ∷ codes "mac" ∷ codes "--k=" ∷ []) ≡ Some (Once Lines (Mac [] 8192))
+  pub a_moment : request_of None (codes "jwt" ∷ codes "verify" ∷ codes "--now" ∷ codes "1300819379" ∷ []) ≡ Some (Once Lines (Verify 1300819379 false no_files))
+  pub too_late : request_of None (codes "jwt" ∷ codes "verify" ∷ codes "--now" ∷ codes "9223372036854775808" ∷ []) ≡ None
+  pub public_keys : request_of None (codes "jwt" ∷ codes "verify" ∷ codes "--public-keys" ∷ codes "--now" ∷ codes "1300819379" ∷ []) ≡ Some (Once Lines (Verify 1300819379 true no_files))
+  pub public_keys_behind : request_of None (codes "jwt" ∷ codes "verify" ∷ codes "--now" ∷ codes "1300819379" ∷ codes "--public-keys" ∷ []) ≡ Some (Once Lines (Verify 1300819379 true no_files))
+  pub public_keys_twice : request_of None (codes "jwt" ∷ codes "verify" ∷ codes "--now" ∷ codes "7" ∷ codes "--public-keys" ∷ codes "--public-keys" ∷ []) ≡ None
+  pub public_keys_of_a_value : request_of None (codes "jwt" ∷ codes "verify" ∷ codes "--now" ∷ codes "7" ∷ codes "--public-keys=true" ∷ []) ≡ None
+  pub version : request_of None (codes "jwt" ∷ codes "--version" ∷ []) ≡ Some (Once Lines Version)
+  pub version_and_more : request_of None (codes "jwt" ∷ codes "--version" ∷ codes "keys" ∷ []) ≡ None
+  pub version_of_a_command : request_of None (codes "jwt" ∷ codes "keys" ∷ codes "--version" ∷ []) ≡ None
+  pub clock_alone : request_of (Some 1300819379) (codes "jwt" ∷ codes "verify" ∷ []) ≡ Some (Once Lines (Verify 1300819379 false no_files))
+  pub now_before_clock : request_of (Some 7) (codes "jwt" ∷ codes "verify" ∷ codes "--now" ∷ codes "1300819379" ∷ []) ≡ Some (Once Lines (Verify 1300819379 false no_files))
+  pub too_late_with_clock : request_of (Some 7) (codes "jwt" ∷ codes "verify" ∷ codes "--now" ∷ codes "9223372036854775808" ∷ []) ≡ None
+  pub no_moment : request_of None (codes "jwt" ∷ codes "verify" ∷ []) ≡ None
+  pub files_named : request_of None (codes "jwt" ∷ codes "verify" ∷ codes "--now" ∷ codes "7" ∷ codes "--policy" ∷ codes "p" ∷ codes "--keys=k" ∷ []) ≡ Some (Once Lines (Verify 7 false (record { policy = Some (codes "p"); keys = Some (codes "k"); token = None; key = None })))
+  pub key_file : request_of None (codes "jwt" ∷ codes "mac" ∷ codes "--key-file" ∷ codes "k" ∷ codes "--limit" ∷ codes "178" ∷ []) ≡ Some (Once Lines (MacFile (codes "k") 178))
+  pub key_and_its_file : request_of None (codes "jwt" ∷ codes "mac" ∷ codes "--key-file" ∷ codes "k" ∷ codes "--k" ∷ codes "AA" ∷ []) ≡ None
+  pub file_named_twice : request_of None (codes "jwt" ∷ codes "verify" ∷ codes "--now" ∷ codes "7" ∷ codes "--token" ∷ codes "t" ∷ codes "--token" ∷ codes "t" ∷ []) ≡ None
+  pub verify_json : request_of None (codes "jwt" ∷ codes "verify" ∷ codes "--json" ∷ codes "--now" ∷ codes "7" ∷ []) ≡ Some (Once Json (Verify 7 false no_files))
+  pub keys_json : request_of None (codes "jwt" ∷ codes "keys" ∷ codes "--json" ∷ []) ≡ Some (Once Json Keys)
+  pub show_json : request_of None (codes "jwt" ∷ codes "show" ∷ codes "--json" ∷ []) ≡ Some (Once Json (Show 8192))
+  pub mac_json : request_of None (codes "jwt" ∷ codes "mac" ∷ codes "--k" ∷ codes "AA" ∷ codes "--json" ∷ []) ≡ None
+  pub lines_alone : request_of (Some 7) (codes "jwt" ∷ codes "verify" ∷ codes "--lines" ∷ []) ≡ None
+  pub lines_json : request_of (Some 7) (codes "jwt" ∷ codes "verify" ∷ codes "--lines" ∷ codes "--json" ∷ codes "--policy=p" ∷ codes "--keys=k" ∷ []) ≡ Some (EachLine (record { now = None; public_keys = false; printing = Json; files = record { policy = Some (codes "p"); keys = Some (codes "k"); token = None; key = None } }))
+  pub lines_token : request_of (Some 7) (codes "jwt" ∷ codes "verify" ∷ codes "--lines" ∷ codes "--policy=p" ∷ codes "--keys=k" ∷ codes "--token=t" ∷ []) ≡ None

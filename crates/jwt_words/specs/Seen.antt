@@ -1,0 +1,50 @@
+-- What a clause sees of the crate's own types.
+use Rattle.std.specs.Prelude.{ℕ, Option, option_map}
+use Rattle.jwt_words.specs.Words.{EachLine, Files, HasLimits, Issue, Keys, LinesOrder, Mac, MacFile, Once, Order, Request, Show, Verify, Version}
+use Rattle.jwt_words.specs.declared.moment.Moment.{Moment}
+use Rattle.jwt_words.specs.declared.words.Order.{Order as Asked}
+use Rattle.jwt_words.specs.declared.words.Order.TheVariants as asked
+use Rattle.jwt_words.specs.declared.words.Files.{Files as CodeFiles}
+use Rattle.jwt_words.specs.declared.words.LinesOrder.{LinesOrder as CodeLines}
+use Rattle.jwt_words.specs.declared.words.Request.{Request as CodeRequest}
+use Rattle.jwt_words.specs.declared.words.Request.TheVariants as request
+use Rattle.jwt_words.specs.declared.words.WordsFault.{WordsFault}
+use Rattle.jwt_words.specs.declared.words.WordsFault.TheVariants.{OutOfMemory, Wrong}
+use Rattle.jwt_words.specs.InHand.{Held}
+use Rattle.jwt_words.specs.declared.in_hand.Held.{Held as CodeHeld}
+
+-- the seconds of a moment, where there is one
+abbrev pub seconds_of : Option Moment → Option ℕ
+seconds_of moment = option_map (λ m. m.seconds) moment
+
+abbrev pub files_view : CodeFiles → Files
+files_view f = record { policy = option_map (λ t. t.now) f.policy; keys = option_map (λ t. t.now) f.keys; token = option_map (λ t. t.now) f.token; key = option_map (λ t. t.now) f.key }
+
+abbrev pub seen : Asked → Order
+seen (asked.Mac key limit) = Mac key.now limit
+seen (asked.MacFile name limit) = MacFile name.now limit
+seen asked.Keys = Keys
+seen (asked.Show limit) = Show limit
+seen (asked.Verify now public_keys files) = Verify now.seconds public_keys (files_view files)
+seen (asked.Issue alg typ form files) = Issue alg (option_map (λ t. t.now) typ) form (files_view files)
+seen asked.Version = Version
+
+abbrev pub lines_view : CodeLines → LinesOrder
+lines_view o = record { now = seconds_of o.now; public_keys = o.public_keys; printing = o.printing; files = files_view o.files }
+
+abbrev pub requested : CodeRequest → Request
+requested (request.Once printing order) = Once printing (seen order)
+requested (request.EachLine lines) = EachLine (lines_view lines)
+
+-- the numbers of a request are in their ranges
+abbrev pub HasRange : Request → Type 0
+HasRange (Once printing order) = HasLimits order
+HasRange (EachLine order) = Unit {0}
+
+-- the words are wrong, and memory was there
+abbrev pub IsWrong : WordsFault → Type 0
+IsWrong OutOfMemory = ⊥
+IsWrong (Wrong text) = Unit {0}
+
+abbrev pub held_view : CodeHeld → Held
+held_view h = record { policy = option_map (λ t. t.now) h.policy; keys = option_map (λ t. t.now) h.keys; token = option_map (λ t. t.now) h.token; key = option_map (λ t. t.now) h.key }

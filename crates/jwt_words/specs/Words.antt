@@ -1,0 +1,274 @@
+-- The words of the command `jwt`, over `clap`'s own definitions of what a command takes.
+use Rattle.std.specs.Prelude.{◌≤◌, ℕ, Bool, true, false, not, List, [], ◌∷◌, Option, Some, None, is_some, if◌then◌else◌, codes, option_and_then, option_map}
+use Rattle.std.specs.Option.{option_map_or}
+use Rattle.std.specs.Str.{bytes_eq}
+use Rattle.std.specs.Str.Parse.{digits_value, without_leading_plus}
+use Rattle.clap.specs.Words.{App, Kinds, Row, Rule, Text, fault_of, first_of, new_app, new_rule, one_of, subcommand_of, with_rule, with_subcommand}
+use Rattle.jwt_mac.specs.Algorithm.{alg_named}
+use Rattle.jwt_mac.specs.declared.algorithm.Alg.{Alg}
+use Rattle.jwt_jws.specs.declared.fault.Form.{Form}
+use Rattle.jwt_jws.specs.declared.fault.Form.TheVariants.{Compact, Flattened, General}
+use Rattle.clap.specs.ValueTests.{accepts}
+use Rattle.clap.specs.declared.builder.action.ArgAction.TheVariants.{SetTrue}
+use Rattle.clap.specs.declared.builder.value_parser.ValueParser.{ValueParser}
+use Rattle.clap.specs.declared.builder.value_parser.ValueParser.TheVariants as vp
+use Rattle.jwt_words.specs.Moments.{last_moment}
+use Rattle.jwt_words.specs.declared.printing.Printing.{Printing}
+use Rattle.jwt_words.specs.declared.printing.Printing.TheVariants.{Json, Lines}
+
+-- ---- the options
+
+-- an option `--name VALUE`
+abbrev pub option : Text → Rule
+option name = record (new_rule name) { long = Some name; value_names = 1 }
+
+abbrev pub limit_range : ValueParser
+limit_range = vp.Unsigned 1 1048576
+
+abbrev pub now_range : ValueParser
+now_range = vp.Unsigned 0 last_moment
+
+-- the key of `mac`: its text, or the file of it
+abbrev pub key_rule : Rule
+key_rule = option (codes "k")
+
+abbrev pub key_file_rule : Rule
+key_file_rule = option (codes "key-file")
+
+abbrev pub limit_rule : Rule
+limit_rule = record (option (codes "limit")) { parser = Some limit_range; defaults = codes "8192" ∷ [] }
+
+-- `--now` may be left out where there is a clock
+abbrev pub now_rule : Bool → Rule
+now_rule has_clock = record (option (codes "now")) { parser = Some now_range; required = not has_clock }
+
+-- a flag `--public-keys`
+abbrev pub public_keys_rule : Rule
+public_keys_rule = record (new_rule (codes "public-keys")) { long = Some (codes "public-keys"); action = Some SetTrue }
+
+-- a flag `--lines`
+abbrev pub lines_rule : Rule
+lines_rule = record (new_rule (codes "lines")) { long = Some (codes "lines"); action = Some SetTrue }
+
+-- a flag `--json`
+abbrev pub json_rule : Rule
+json_rule = record (new_rule (codes "json")) { long = Some (codes "json"); action = Some SetTrue }
+
+-- the file of a document, in the place of standard input
+abbrev pub policy_rule : Rule
+policy_rule = option (codes "policy")
+
+abbrev pub keys_rule : Rule
+keys_rule = option (codes "keys")
+
+abbrev pub token_rule : Rule
+token_rule = option (codes "token")
+
+abbrev pub alg_rule : Rule
+alg_rule = record (option (codes "alg")) { required = true }
+
+abbrev pub typ_rule : Rule
+typ_rule = option (codes "typ")
+
+abbrev pub form_rule : Rule
+form_rule = record (option (codes "form")) { defaults = codes "compact" ∷ [] }
+
+-- ---- the command
+
+abbrev pub mac_app : App
+mac_app = with_rule (with_rule (with_rule (new_app (codes "mac")) key_rule) key_file_rule) limit_rule
+
+abbrev pub keys_app : App
+keys_app = with_rule (new_app (codes "keys")) json_rule
+
+abbrev pub show_app : App
+show_app = with_rule (with_rule (new_app (codes "show")) limit_rule) json_rule
+
+-- `verify` on standard input alone, and with files
+abbrev pub verify_on_input : Bool → App
+verify_on_input has_clock = with_rule (with_rule (new_app (codes "verify")) (now_rule has_clock)) public_keys_rule
+
+abbrev pub verify_on_files : Bool → App
+verify_on_files has_clock = with_rule (with_rule (with_rule (verify_on_input has_clock) policy_rule) keys_rule) token_rule
+
+abbrev pub verify_app : Bool → App
+verify_app has_clock = with_rule (with_rule (verify_on_files has_clock) lines_rule) json_rule
+
+abbrev pub issue_app : App
+issue_app = with_rule (with_rule (with_rule (with_rule (new_app (codes "issue")) alg_rule) typ_rule) form_rule) keys_rule
+
+abbrev pub top_app : App
+top_app = record (new_app (codes "jwt")) { top = record (new_app (codes "jwt")).top { subcommand_required = true } }
+
+abbrev pub jwt_app : Bool → App
+jwt_app has_clock = with_subcommand (with_subcommand (with_subcommand (with_subcommand (with_subcommand top_app mac_app.top) keys_app.top) show_app.top) (verify_app has_clock).top) issue_app.top
+
+-- ---- what the words ask for
+
+-- the files that are named
+pub record Files : Type 0 where
+  pub policy : Option Text
+  pub keys : Option Text
+  pub token : Option Text
+  pub key : Option Text
+
+abbrev pub no_files : Files
+no_files = record { policy = None; keys = None; token = None; key = None }
+
+pub data Order : Type 0 where
+  Mac : Text → ℕ → Order
+  -- the file of the key
+  MacFile : Text → ℕ → Order
+  Keys : Order
+  Show : ℕ → Order
+  Verify : ℕ → Bool → Files → Order
+  Issue : Alg → Option Text → Form → Files → Order
+  Version : Order
+
+-- the numbers of an order are in their ranges
+abbrev pub HasLimits : Order → Type 0
+HasLimits (Mac key limit) = (1 ≤ limit) × (limit ≤ 1048576)
+HasLimits (MacFile name limit) = (1 ≤ limit) × (limit ≤ 1048576)
+HasLimits Keys = Unit {0}
+HasLimits (Show limit) = (1 ≤ limit) × (limit ≤ 1048576)
+HasLimits (Verify now public_keys files) = Unit {0}
+HasLimits (Issue alg typ form files) = Unit {0}
+HasLimits Version = Unit {0}
+
+-- the number that an option has, where its parser takes it
+abbrev pub number_in : ValueParser → Option Text → Option ℕ
+number_in range text = option_and_then (λ t. if accepts false range t then Some (digits_value 10 (without_leading_plus t)) else None) text
+
+-- the key by its text, or by its file: one of the two
+abbrev pub keyed : Option Text → Option Text → ℕ → Option Order
+keyed (Some text) None limit = Some (Mac text limit)
+keyed None (Some name) limit = Some (MacFile name limit)
+keyed text name limit = None
+
+abbrev pub mac_order : List Row → Option Order
+mac_order rows = option_and_then (keyed (first_of (codes "k") rows) (first_of (codes "key-file") rows)) (number_in limit_range (one_of (codes "limit") rows))
+
+abbrev pub show_order : List Row → Option Order
+show_order rows = option_map (λ limit. Show limit) (number_in limit_range (one_of (codes "limit") rows))
+
+-- a flag has the value `true` where it is used, and else `false`
+abbrev pub is_set : Text → List Row → Bool
+is_set name rows = option_map_or (λ t. bytes_eq t (codes "true")) (first_of name rows) false
+
+-- in JSON where `--json` is used
+abbrev pub printing_in : List Row → Printing
+printing_in rows = if is_set (codes "json") rows then Json else Lines
+
+-- the moment that `--now` names, else the clock's
+abbrev pub moment_in : Option ℕ → List Row → Option ℕ
+moment_in clock rows = if is_some (first_of (codes "now") rows) then number_in now_range (one_of (codes "now") rows) else clock
+
+abbrev pub files_in : List Row → Files
+files_in rows = record { policy = first_of (codes "policy") rows; keys = first_of (codes "keys") rows; token = first_of (codes "token") rows; key = None }
+
+abbrev pub verify_order : Option ℕ → List Row → Option Order
+verify_order clock rows = option_map (λ now. Verify now (is_set (codes "public-keys") rows) (files_in rows)) (moment_in clock rows)
+
+-- the form of a token that a text names
+abbrev pub form_named : Text → Option Form
+form_named text =
+    if bytes_eq text (codes "compact") then Some Compact
+    else if bytes_eq text (codes "json") then Some General
+    else if bytes_eq text (codes "flattened") then Some Flattened
+    else None
+
+abbrev pub alg_in : List Row → Option Alg
+alg_in rows = option_and_then alg_named (first_of (codes "alg") rows)
+
+abbrev pub form_in : List Row → Option Form
+form_in rows = option_and_then form_named (first_of (codes "form") rows)
+
+abbrev pub keys_file_in : List Row → Files
+keys_file_in rows = record { policy = None; keys = first_of (codes "keys") rows; token = None; key = None }
+
+abbrev pub issue_order : List Row → Option Order
+issue_order rows = option_and_then (λ alg. option_map (λ form. Issue alg (first_of (codes "typ") rows) form (keys_file_in rows)) (form_in rows)) (alg_in rows)
+
+-- what a subcommand asks for, where it asks for one answer
+abbrev pub order_in : Option ℕ → Text → List Row → Option Order
+order_in clock name rows =
+    if bytes_eq name (codes "mac") then mac_order rows
+    else if bytes_eq name (codes "keys") then Some Keys
+    else if bytes_eq name (codes "show") then show_order rows
+    else if bytes_eq name (codes "verify") then verify_order clock rows
+    else if bytes_eq name (codes "issue") then issue_order rows
+    else None
+
+-- ---- a verdict for each line
+
+-- what `verify --lines` asks for; with no moment, it is the clock's at each line
+pub record LinesOrder : Type 0 where
+  pub now : Option ℕ
+  pub public_keys : Bool
+  pub printing : Printing
+  pub files : Files
+
+-- the moment that `--now` names, if any
+abbrev pub named_moment : List Row → Option (Option ℕ)
+named_moment rows = if is_some (first_of (codes "now") rows) then option_map (λ now. Some now) (number_in now_range (one_of (codes "now") rows)) else Some None
+
+abbrev pub is_named : Text → List Row → Bool
+is_named name rows = is_some (first_of name rows)
+
+-- the policy and the key set are in files, and there is no file of one token
+abbrev pub lines_order : List Row → Option LinesOrder
+lines_order rows =
+    if is_named (codes "token") rows then None
+    else (if is_named (codes "policy") rows
+    then (if is_named (codes "keys") rows
+    then option_map (λ now. record { now = now; public_keys = is_set (codes "public-keys") rows; printing = printing_in rows; files = files_in rows }) (named_moment rows)
+    else None) else None)
+
+-- ---- the request
+
+-- one answer, in JSON or in lines, or an answer to each line of the input
+pub data Request : Type 0 where
+  Once : Printing → Order → Request
+  EachLine : LinesOrder → Request
+
+abbrev pub request_in : Option ℕ → Text → List Row → Option Request
+request_in clock name rows =
+    if is_set (codes "lines") rows then option_map (λ order. EachLine order) (lines_order rows)
+    else option_map (λ order. Once (printing_in rows) order) (order_in clock name rows)
+
+-- what a subcommand with its matches asks for, where `clap` has no fault
+abbrev pub request_under : Option ℕ → Kinds → Option (Text × List Row) → Option Request
+request_under clock [] matches = option_and_then (λ m. request_in clock m.0 m.1) matches
+request_under clock (fault ∷ faults) matches = None
+
+-- what the words ask for by `clap`, where it accepts them
+abbrev pub clap_request : Option ℕ → List Text → Option Request
+clap_request clock words = let app = jwt_app (is_some clock) in request_under clock (fault_of app words) (subcommand_of app words)
+
+-- behind the name of the program stands `--version` alone
+abbrev pub asks_version : List Text → Bool
+asks_version [] = false
+asks_version (program ∷ []) = false
+asks_version (program ∷ word ∷ []) = bytes_eq word (codes "--version")
+asks_version (program ∷ word ∷ more ∷ words) = false
+
+-- what the words ask for at the moment that a clock says, or without a clock
+abbrev pub request_of : Option ℕ → List Text → Option Request
+request_of clock words = if asks_version words then Some (Once Lines Version) else clap_request clock words
+
+-- ---- files
+
+-- the files that an order names
+abbrev pub files_in_order : Order → Files
+files_in_order (MacFile name limit) = record no_files { key = Some name }
+files_in_order (Verify now public_keys files) = files
+files_in_order (Issue alg typ form files) = files
+files_in_order order = no_files
+
+abbrev pub files_in_request : Request → Files
+files_in_request (Once printing order) = files_in_order order
+files_in_request (EachLine order) = order.files
+
+-- the files that words name
+abbrev pub files_of : Option ℕ → List Text → Files
+files_of clock words = option_map_or files_in_request (request_of clock words) no_files

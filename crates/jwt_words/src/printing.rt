@@ -1,0 +1,11 @@
+//! How an answer is printed.
+
+/// How an answer is printed.
+#[derive(Clone, Copy)]
+pub enum Printing {
+    /// In lines.
+    Lines,
+
+    /// As one JSON object on one line, by `--json`.
+    Json,
+}
