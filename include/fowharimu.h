@@ -10,13 +10,16 @@
  *         if (fow_answer_asked(&validator, valid) != FOW_OK) break;
  *     }
  *     if (report.verdict == FOW_OK) { ... it is accepted; every other verdict is none ... }
+ *     fow_forget(&validator); (after each token: what was told is kept until then)
+ *     ... the next token ...
  *     fow_close(&validator);
  *
  * What is proved is said function by function below, and exactly by the clauses in crates/jwt_c/src. It holds for callers that
  * keep to these premises, which C can't check:
  *
  *  - A fow_validator is zeroed before its first use (FOW_VALIDATOR_INIT), is changed by these functions alone, isn't copied
- *    while it holds something, and is used by one call at a time. Another thread may use it after a lock or a join.
+ *    while it holds something, and is used by one call at a time. Another thread may use it after a lock or a join. Validators
+ *    that were opened beside one another (fow_open_beside) may be used by as many threads at once.
  *  - A pointer with a length beside it is to so many readable octets (const) or writable octets (else), fewer than 2^63. It
  *    isn't NULL, even where the length is 0: hand in the address of any octet then. Every other pointer is to one readable and
  *    writable value of its type, and isn't NULL.
@@ -198,7 +201,7 @@ enum fow_alg {
     FOW_PS256 = 7,
     FOW_PS384 = 8,
     FOW_PS512 = 9,
-    FOW_ES256 = 10,
+    FOW_ES256 = 10, /* as JOSE allows, ECDSA takes (r, n - s) beside (r, s): such a token has two spellings */
     FOW_ES384 = 11,
     FOW_ES512 = 12,
     FOW_EDDSA = 13
@@ -242,6 +245,16 @@ enum fow_form { FOW_COMPACT = 1, FOW_GENERAL = 2, FOW_FLATTENED = 3 };
 uint32_t fow_open(fow_validator *validator, const uint8_t *policy, size_t policy_len, const uint8_t *keys, size_t keys_len,
     uint32_t *fault);
 
+/* Opens a validator beside another one: on the policy and the key set that the other holds, which aren't read again. The two may be used
+ * at the same time by two threads, and closed in any order: the policy and the key set are freed when the last of those that hold them
+ * is closed or opened anew. What is told to the one, and what is kept of its last judging, the other doesn't have. While this call
+ * runs, it has both to itself.
+ *
+ * Proved: FOW_OK: the policy and the key set that the other holds are held from now on, and nothing is told. FOW_NOT_OPEN: the other
+ * holds nothing. FOW_OUT_OF_MEMORY: memory was refused. Where the answer isn't FOW_OK, the validator holds what it held. The other
+ * holds what it held in each case. */
+uint32_t fow_open_beside(fow_validator *validator, fow_validator *another);
+
 /* Writes the name of the member for which a policy is refused (FOW_POLICY_MEMBER, FOW_POLICY_RANGE), in UTF-8, with JSON escapes undone.
  * It reads the policy's octets again, and needs no validator.
  *
@@ -264,6 +277,14 @@ void fow_close(fow_validator *validator);
  * those whose `cost` is 0, until one is valid (fow_ask, fow_answer, which read the token again): then what is tried may be other pairs, and the token is judged again. So a token is judged at most once more than it
  * has signatures, however many keys there are. */
 uint32_t fow_judge(fow_validator *validator, const uint8_t *token, size_t token_len, int64_t now, fow_report *report);
+
+/* Judges a token as fow_judge does, by this library's own verifiers of RSA (RFC 7518, sections 3.3 and 3.5), of ECDSA (section 3.4) and
+ * of Ed25519 (RFC 8037, section 3.1), which are proved. It asks nothing, needs no other library, and what was told counts for nothing.
+ * A signature by Ed448 is refused: FOW_SIG_BAD_SIGNATURE.
+ *
+ * Proved: what is accepted or refused, and all that *report says of it, is the verdict of validate's contract on these octets under the
+ * policy, the key set, the moment and these verifiers. It never answers FOW_ASKS. FOW_NOT_OPEN, FOW_OUT_OF_MEMORY: as of fow_judge. */
+uint32_t fow_proved_judge(fow_validator *validator, const uint8_t *token, size_t token_len, int64_t now, fow_report *report);
 
 /* What became of signature `signature` of the token that was judged last. Proved: FOW_OK: that is what is kept of it, which
  * after an acceptance or a refusal is what validate's report says; FOW_ABSENT, and nothing else, where that has no such
@@ -318,6 +339,13 @@ uint32_t fow_answer_rsa(fow_validator *validator, const uint8_t *token, size_t t
  * Proved: as with fow_answer_rsa. FOW_ABSENT: the octets are no token, there is no such pair, its algorithm is another one, or its key
  * is of another curve, such as Ed448. */
 uint32_t fow_answer_ed25519(fow_validator *validator, const uint8_t *token, size_t token_len, uint32_t signature, uint32_t key);
+
+/* The same by the one of this library's proved verifiers that names the algorithm: that of RSA, that of Ed25519, or that of ECDSA (SEC 1,
+ * section 4.1.4; FIPS 186-5, section 6.4.2), for ES256, ES384 and ES512.
+ *
+ * Proved: as with fow_answer_rsa. FOW_ABSENT: the octets are no token, there is no such pair, its algorithm is HMAC, or its key is of
+ * the curve Ed448. */
+uint32_t fow_answer_proved(fow_validator *validator, const uint8_t *token, size_t token_len, uint32_t signature, uint32_t key);
 
 /* Forgets what was told: do so from time to time, since all answers are kept until then. Proved: nothing is told, and the
  * policy and the key set are as before. */

@@ -1,6 +1,7 @@
 -- What is told by a proved verifier, and that no verdict asks.
-use Rattle.std.proofs.Common.{◌≡◌, ℕ, Bool, true, false, ◌&&◌, refl, subst, Some, None, option_map}
+use Rattle.std.proofs.Common.{◌≡◌, ℕ, Bool, true, false, ◌&&◌, ◌||◌, refl, subst, Some, None, option_map}
 use Rattle.std.specs.Prelude.{if◌then◌else◌}
+use Rattle.jwt_ecdsa.specs.Meanings.{ecdsa_meaning}
 use Rattle.jwt_ed25519.specs.Meanings.{ed25519_meaning}
 use Rattle.jwt_rsa.specs.Meanings.{rsa_meaning}
 use Rattle.jwt_jws.specs.declared.fault.FormFault.{FormFault}
@@ -12,9 +13,9 @@ use Rattle.jwt_verify.specs.declared.report.Verdict.{Verdict}
 use Rattle.jwt_verify.specs.declared.report.Verdict.TheVariants.{Accepted, Refused}
 use Rattle.jwt_told.specs.Questions.{QuestionParts}
 use Rattle.jwt_c.specs.declared.asking.Proved.{Proved}
-use Rattle.jwt_c.specs.declared.asking.Proved.TheVariants.{Rsa, Ed25519 as OnEd25519}
+use Rattle.jwt_c.specs.declared.asking.Proved.TheVariants.{Rsa, Ed25519 as OnEd25519, Any}
 use Rattle.jwt_c.specs.declared.desk.Desk.{Desk}
-use Rattle.jwt_c.specs.Asking.{TellsDesk, is_ed25519, rsa_says, ed25519_says, asked_of, said_by}
+use Rattle.jwt_c.specs.Asking.{TellsDesk, is_ed25519, rsa_says, ed25519_says, proved_says, asked_of, said_by}
 use Rattle.jwt_c.specs.Faults.{form_numbers, claim_numbers, verdict_numbers}
 
 -- ---- what a proved verifier tells
@@ -31,6 +32,8 @@ pub tells : (by : Proved) (q : QuestionParts) (accepts : Bool) (status : ℕ) (d
 tells Rsa q accepts status d e h t = told_if (rsa_meaning.named q.alg) accepts (λ r. rsa_says (Some r)) q status d e h t
 tells OnEd25519 q accepts status d e h t =
     told_if (ed25519_meaning.named q.alg && is_ed25519 q.key) accepts (λ r. ed25519_says (Some r)) q status d e h t
+tells Any q accepts status d e h t =
+    told_if (rsa_meaning.named q.alg || ecdsa_meaning.named q.alg || (ed25519_meaning.named q.alg && is_ed25519 q.key)) accepts (λ r. proved_says (Some r)) q status d e h t
 
 not_if : (b : Bool) (says : QuestionParts → Bool) (q : QuestionParts) → None ≡ option_map says (if b then Some q else None)
     → (if b then Some q else None) ≡ None
@@ -40,6 +43,8 @@ not_if false says q h = refl
 pub untold : (by : Proved) (q : QuestionParts) → None ≡ option_map (λ r. said_by by (Some r)) (asked_of by (Some q)) → asked_of by (Some q) ≡ None
 untold Rsa q h = not_if (rsa_meaning.named q.alg) (λ r. rsa_says (Some r)) q h
 untold OnEd25519 q h = not_if (ed25519_meaning.named q.alg && is_ed25519 q.key) (λ r. ed25519_says (Some r)) q h
+untold Any q h =
+    not_if (rsa_meaning.named q.alg || ecdsa_meaning.named q.alg || (ed25519_meaning.named q.alg && is_ed25519 q.key)) (λ r. proved_says (Some r)) q h
 
 -- ---- no verdict asks
 

@@ -1,5 +1,5 @@
 -- Questions, as they are written for the caller, and their answers.
-use Rattle.std.specs.Prelude.{◌≡◌, ◌≢◌, ◌<◌, ℕ, Bool, true, false, ◌&&◌, if◌then◌else◌, ◌++◌, List, [], ◌∷◌, length, Option, Some, None}
+use Rattle.std.specs.Prelude.{◌≡◌, ◌≢◌, ◌<◌, ℕ, Bool, true, false, ◌&&◌, ◌||◌, if◌then◌else◌, ◌++◌, List, [], ◌∷◌, length, Option, Some, None}
 use Rattle.jwt_mac.specs.declared.algorithm.Alg.{Alg}
 use Rattle.jwt_mac.specs.declared.algorithm.Alg.TheVariants as alg
 use Rattle.jwt_mac.specs.declared.message.Curve.{Curve}
@@ -7,14 +7,16 @@ use Rattle.jwt_mac.specs.declared.message.Curve.TheVariants.{P256, P384, P521}
 use Rattle.jwt_mac.specs.declared.message.EdCurve.{EdCurve}
 use Rattle.jwt_mac.specs.declared.message.EdCurve.TheVariants.{Ed25519, Ed448}
 use Rattle.jwt_mac.specs.Verifying.{KeyOctets, OctKey, RsaKey, EcKey, OkpKey, signing_input}
+use Rattle.jwt_ecdsa.specs.Meanings.{ecdsa_meaning}
 use Rattle.jwt_ed25519.specs.Meanings.{ed25519_meaning}
 use Rattle.jwt_rsa.specs.Meanings.{rsa_meaning}
 use Rattle.jwt_told.specs.Told.{ToldParts, told}
 use Rattle.jwt_told.specs.Questions.{QuestionParts, told_of}
 use Rattle.jwt_c.specs.declared.asking.Proved.{Proved}
-use Rattle.jwt_c.specs.declared.asking.Proved.TheVariants.{Rsa, Ed25519 as OnEd25519}
+use Rattle.jwt_c.specs.declared.asking.Proved.TheVariants.{Rsa, Ed25519 as OnEd25519, Any}
 use Rattle.jwt_c.specs.declared.desk.Desk.{Desk}
 use Rattle.jwt_c.specs.declared.report.FowQuestion.{FowQuestion}
+use Rattle.jwt_c.specs.Documents.{documents}
 use Rattle.jwt_c.specs.Written.{IsAbsent}
 
 abbrev pub alg_number : Alg → ℕ
@@ -86,13 +88,13 @@ TellsOne q valid status old new = (status ≡ 0 → new ≡ old ++ told_of q val
 
 -- the same policy and key set, where this is told besides
 abbrev TellsOf : List ToldParts → Desk → Desk → Type 0
-TellsOf ts d e = (e.policy ≡ d.policy) × (e.keys ≡ d.keys) × (told e.answers ≡ told d.answers ++ ts)
+TellsOf ts d e = (documents e ≡ documents d) × (told e.answers ≡ told d.answers ++ ts)
 
 -- exactly this answer is told besides, unless memory was refused; where there is no question, nothing is
 abbrev pub TellsDesk : Option QuestionParts → Bool → ℕ → Desk → Desk → Type 0
-TellsDesk None valid status d e = IsAbsent status × (status ≢ 0) × (e.policy ≡ d.policy) × (e.keys ≡ d.keys) × (told e.answers ≡ told d.answers)
+TellsDesk None valid status d e = IsAbsent status × (status ≢ 0) × (documents e ≡ documents d) × (told e.answers ≡ told d.answers)
 TellsDesk (Some q) valid status d e = (status ≡ 0 → TellsOf (told_of q valid ∷ []) d e)
-    × (status ≢ 0 → (status ≡ 3) × (e.policy ≡ d.policy) × (e.keys ≡ d.keys) × (told e.answers ≡ told d.answers))
+    × (status ≢ 0 → (status ≡ 3) × (documents e ≡ documents d) × (told e.answers ≡ told d.answers))
 
 abbrev pub IsTold : Option QuestionParts → Bool → ℕ → Desk → Option Desk → Type 0
 IsTold q valid status d None = ⊥
@@ -125,11 +127,33 @@ abbrev pub ed25519_says : Option QuestionParts → Bool
 ed25519_says None = false
 ed25519_says (Some q) = ed25519_meaning.accepts q.alg q.key q.message q.signature
 
+-- the question, where ECDSA's verifier names its algorithm
+abbrev pub ecdsa_asked : Option QuestionParts → Option QuestionParts
+ecdsa_asked None = None
+ecdsa_asked (Some q) = if ecdsa_meaning.named q.alg then Some q else None
+
+-- whether ECDSA's verifier accepts the signature
+abbrev pub ecdsa_says : Option QuestionParts → Bool
+ecdsa_says None = false
+ecdsa_says (Some q) = ecdsa_meaning.accepts q.alg q.key q.message q.signature
+
+-- the question, where a proved verifier names its algorithm, and a key of EdDSA is of the curve Ed25519
+abbrev pub proved_asked : Option QuestionParts → Option QuestionParts
+proved_asked None = None
+proved_asked (Some q) = if rsa_meaning.named q.alg || ecdsa_meaning.named q.alg || (ed25519_meaning.named q.alg && is_ed25519 q.key) then Some q else None
+
+-- whether the proved verifier that names the algorithm accepts the signature
+abbrev pub proved_says : Option QuestionParts → Bool
+proved_says None = false
+proved_says (Some q) = if rsa_meaning.named q.alg then rsa_says (Some q) else if ecdsa_meaning.named q.alg then ecdsa_says (Some q) else ed25519_says (Some q)
+
 -- the same by the verifier that is chosen
 abbrev pub asked_of : Proved → Option QuestionParts → Option QuestionParts
 asked_of Rsa q = rsa_asked q
 asked_of OnEd25519 q = ed25519_asked q
+asked_of Any q = proved_asked q
 
 abbrev pub said_by : Proved → Option QuestionParts → Bool
 said_by Rsa q = rsa_says q
 said_by OnEd25519 q = ed25519_says q
+said_by Any q = proved_says q

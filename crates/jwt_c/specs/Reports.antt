@@ -22,10 +22,12 @@ use Rattle.jwt_verify.specs.Reports.{FoundMemory, IsReport, terms}
 use Rattle.jwt_told.specs.Told.{Truth, AreRight, told, told_meaning, true_meaning}
 use Rattle.jwt_told.specs.Questions.{AreTries, IsFirstOpen, IsOpen, QuestionParts, kept_parts, question_at}
 use Rattle.jwt_c.specs.declared.desk.Desk.{Desk}
+use Rattle.jwt_c.specs.declared.desk.Documents.{Documents}
 use Rattle.jwt_c.specs.declared.desk.Last.{Last}
 use Rattle.jwt_c.specs.declared.report.FowReport.{FowReport}
 use Rattle.jwt_c.specs.declared.report.FowState.{FowState}
 use Rattle.jwt_c.specs.declared.report.FowTry.{FowTry}
+use Rattle.jwt_c.specs.Documents.{documents}
 use Rattle.jwt_c.specs.Faults.{Numbers, keys_number, policy_number, sig_number, verdict_numbers, missing_in}
 
 abbrev pub report_numbers : FowReport → Numbers
@@ -67,10 +69,19 @@ try_parts t = record { cost = t.cost; signature = t.signature; key = t.key }
 abbrev pub IsNew : Last → Type 0
 IsNew l = (l.states.items ≡ []) × (l.tries.items ≡ []) × (l.claims ≡ None) × (l.missing.items ≡ []) × (l.asked ≡ None)
 
+-- the policy and the key set that these octets spell
+abbrev pub IsRead : List ℕ → List ℕ → Documents → Type 0
+IsRead policy keys it = (policy_of policy ≡ Ok it.policy) × (key_set_of keys ≡ Ok (key_set it.keys))
+
 -- what was read from these documents is held, and nothing is told
 abbrev pub IsOpened : List ℕ → List ℕ → Option Desk → Type 0
 IsOpened policy keys None = ⊥
-IsOpened policy keys (Some d) = (policy_of policy ≡ Ok d.policy) × (key_set_of keys ≡ Ok (key_set d.keys)) × (told d.answers ≡ []) × IsNew d.last
+IsOpened policy keys (Some d) = IsRead policy keys (documents d) × (told d.answers ≡ []) × IsNew d.last
+
+-- these documents are held, and nothing is told
+abbrev pub IsFresh : Documents → Option Desk → Type 0
+IsFresh it None = ⊥
+IsFresh it (Some d) = (documents d ≡ it) × (told d.answers ≡ []) × IsNew d.last
 
 -- Why what these documents hold isn't held, by the status and the fault that are answered: the policy is refused for this fault, or it
 -- stands and the key set is; or memory was refused.
@@ -90,14 +101,19 @@ abbrev pub IsAlike : Option Desk → Option Desk → Type 0
 IsAlike None None = Unit {0}
 IsAlike None (Some e) = ⊥
 IsAlike (Some d) None = ⊥
-IsAlike (Some d) (Some e) = (e.policy ≡ d.policy) × (e.keys ≡ d.keys) × (told e.answers ≡ told d.answers)
+IsAlike (Some d) (Some e) = (documents e ≡ documents d) × (told e.answers ≡ told d.answers)
 
 -- the same policy and key set are held, and nothing is told
 abbrev pub IsForgotten : Option Desk → Option Desk → Type 0
 IsForgotten None None = Unit {0}
 IsForgotten None (Some e) = ⊥
 IsForgotten (Some d) None = ⊥
-IsForgotten (Some d) (Some e) = (e.policy ≡ d.policy) × (e.keys ≡ d.keys) × (told e.answers ≡ [])
+IsForgotten (Some d) (Some e) = (documents e ≡ documents d) × (told e.answers ≡ [])
+
+-- the policy and key set of the first are held by the second, and nothing is told to that
+abbrev pub IsBeside : Option Desk → Option Desk → Type 0
+IsBeside None e = ⊥
+IsBeside (Some d) e = IsFresh (documents d) e
 
 -- ---- a judging
 
@@ -113,8 +129,8 @@ Keeps r l = (l.states.items ≡ r.states.items) × (l.tries.items ≡ r.tries.it
 -- is true, the verdict is the one under what is true.
 abbrev pub IsJudged : Desk → ℤ → List ℕ → FowReport → Last → Type 0
 IsJudged d now x said l = (r : Report)
-    × IsReport (terms d.policy d.keys now (told_meaning (told d.answers) ∷ [])) x d.policy.run.work r
-    × (FoundMemory r.verdict → (truth : Truth) → AreRight truth (told d.answers) → IsVerdict (terms d.policy d.keys now (true_meaning truth ∷ [])) x d.policy.run.work r.verdict)
+    × IsReport (terms (documents d).policy (documents d).keys now (told_meaning (told d.answers) ∷ [])) x (documents d).policy.run.work r
+    × (FoundMemory r.verdict → (truth : Truth) → AreRight truth (told d.answers) → IsVerdict (terms (documents d).policy (documents d).keys now (true_meaning truth ∷ [])) x (documents d).policy.run.work r.verdict)
     × (report_numbers said ≡ verdict_numbers r.verdict) × (said.tries ≡ length r.tries.items) × (said.work ≡ work r.tries.items) × Keeps r l
 
 -- the report is judged so, and is what the desk that is held keeps
@@ -130,11 +146,11 @@ asked_at (Err f) keys i j = None
 -- The tries that are kept are those of a run that finds memory, where what wasn't told counts as invalid. The pair that is named is the
 -- first of them of which nothing was told, and the question about it is kept.
 abbrev pub IsAsked : Desk → ℤ → List ℕ → FowReport → Last → Type 0
-IsAsked d now x said l = AreTries (terms d.policy d.keys now (told_meaning (told d.answers) ∷ [])) x d.policy.run.work l.tries.items
-    × IsFirstOpen (told d.answers) (token_of d.policy x) (key_set d.keys).keys l.tries.items said.signature said.key
-    × IsOpen (told d.answers) (token_of d.policy x) (key_set d.keys).keys said.signature said.key
+IsAsked d now x said l = AreTries (terms (documents d).policy (documents d).keys now (told_meaning (told d.answers) ∷ [])) x (documents d).policy.run.work l.tries.items
+    × IsFirstOpen (told d.answers) (documents d).policy x (key_set (documents d).keys).keys l.tries.items said.signature said.key
+    × IsOpen (told d.answers) (documents d).policy x (key_set (documents d).keys).keys said.signature said.key
     × (said.tries ≡ length l.tries.items)
-    × (option_map kept_parts l.asked ≡ asked_at (token_of d.policy x) (key_set d.keys).keys said.signature said.key)
+    × (option_map kept_parts l.asked ≡ asked_at (token_of (documents d).policy x) (key_set (documents d).keys).keys said.signature said.key)
 
 -- what is asked is so, and its tries are what the desk that is held keeps
 abbrev pub IsAskedBy : Desk → ℤ → List ℕ → FowReport → Option Desk → Type 0

@@ -6,11 +6,13 @@ ghost use Rattle.jwt_keys.specs.KeySets.{key_set};
 ghost use Rattle.jwt_verify.specs.Verdict.{token_of};
 ghost use Rattle.jwt_told.specs.Questions.{kept_parts, question_parts};
 ghost use Rattle.jwt_told.specs.Told.{told};
+ghost use Rattle.jwt_c.specs.Documents.{documents};
 ghost use Rattle.jwt_c.specs.Reports.{asked_at};
-ghost use Rattle.jwt_c.specs.Asking.{alg_number, kind_number, key_first, key_second, question_octets, PutsQuestion, TellsOne, TellsDesk, is_ed25519, rsa_says, ed25519_says, asked_of, said_by};
+ghost use Rattle.jwt_c.specs.Asking.{alg_number, kind_number, key_first, key_second, question_octets, PutsQuestion, TellsOne, TellsDesk, is_ed25519, rsa_asked, rsa_says, ecdsa_asked, ecdsa_says, ed25519_asked, ed25519_says, proved_asked, proved_says, asked_of, said_by};
 
 use crate::desk::{Desk, Last};
 use crate::report::FowQuestion;
+use jwt_ecdsa::Ecdsa;
 use jwt_ed25519::Ed25519;
 use jwt_mac::{Alg, Answer, Curve, EdCurve, KeyView, Verifier};
 use jwt_rsa::Rsa;
@@ -142,11 +144,12 @@ pub(crate) fn ask_about(
     into: &mut FowQuestion,
 ) -> u32
     ensures { PutsQuestion
-        (asked_at (token_of desk.now.policy token.now) (key_set desk.now.keys).keys signature key)
+        (asked_at (token_of (documents desk.now).policy token.now)
+        (key_set (documents desk.now).keys).keys signature key)
         result into.new out.old out.new }
 {
-    match read_token(alloc, token, &desk.policy) {
-        Ok(Some(signed)) => match (Question { signature, key }).about(&signed, &desk.keys) {
+    match read_token(alloc, token, &desk.shared.policy) {
+        Ok(Some(signed)) => match (Question { signature, key }).about(&signed, &desk.shared.keys) {
             Some(asked) => write_question(alloc, &asked, out, into),
             None => 6,
         },
@@ -208,11 +211,11 @@ pub(crate) fn tell(
     key: u32,
     valid: bool,
 ) -> u32
-    ensures { TellsDesk (asked_at (token_of desk.old.policy token.now)
-        (key_set desk.old.keys).keys signature key) valid result desk.old desk.new }
+    ensures { TellsDesk (asked_at (token_of (documents desk.old).policy token.now)
+        (key_set (documents desk.old).keys).keys signature key) valid result desk.old desk.new }
 {
-    match read_token(alloc, token, &desk.policy) {
-        Ok(Some(signed)) => match (Question { signature, key }).about(&signed, &desk.keys) {
+    match read_token(alloc, token, &desk.shared.policy) {
+        Ok(Some(signed)) => match (Question { signature, key }).about(&signed, &desk.shared.keys) {
             Some(asked) => tell_of(alloc, &mut desk.answers, &asked, valid),
             None => 6,
         },
@@ -228,6 +231,8 @@ pub enum Proved {
     Rsa,
     /// That of EdDSA with the curve Ed25519.
     Ed25519,
+    /// The one of RSA, ECDSA and Ed25519 that names the algorithm.
+    Any,
 }
 
 /// Whether the verifier of RSA accepts the signature.
@@ -250,6 +255,16 @@ fn ed25519_accepts(asked: &Asked<'_>) -> bool
     }
 }
 
+/// Whether the verifier of ECDSA accepts the signature.
+fn ecdsa_accepts(asked: &Asked<'_>) -> bool
+    ensures { result ≡ ecdsa_says (Some (question_parts asked.now)) }
+{
+    match Ecdsa.verify(asked.alg, &asked.key, asked.message, asked.signature) {
+        Answer::Valid => true,
+        _ => false,
+    }
+}
+
 /// Whether a key is of the curve Ed25519.
 fn is_ed25519(key: &KeyView) -> bool
     ensures { result ≡ is_ed25519 (key_octets key.now) }
@@ -263,26 +278,61 @@ fn is_ed25519(key: &KeyView) -> bool
     }
 }
 
+/// What the verifier of RSA says of a signature; `None` where it names another algorithm.
+fn rsa_answer(asked: &Asked<'_>) -> Option<bool>
+    ensures { result ≡ option_map (λ q. rsa_says (Some q)) (rsa_asked (Some (question_parts asked.now))) }
+{
+    if Rsa.names(asked.alg) {
+        Some(rsa_accepts(asked))
+    } else {
+        None
+    }
+}
+
+/// What the verifier of ECDSA says of a signature; `None` where it names another algorithm.
+fn ecdsa_answer(asked: &Asked<'_>) -> Option<bool>
+    ensures { result ≡ option_map (λ q. ecdsa_says (Some q)) (ecdsa_asked (Some (question_parts asked.now))) }
+{
+    if Ecdsa.names(asked.alg) {
+        Some(ecdsa_accepts(asked))
+    } else {
+        None
+    }
+}
+
+/// What the verifier of Ed25519 says of a signature; `None` where it is about another algorithm or curve.
+fn ed25519_answer(asked: &Asked<'_>) -> Option<bool>
+    ensures { result ≡ option_map (λ q. ed25519_says (Some q)) (ed25519_asked (Some (question_parts asked.now))) }
+{
+    if Ed25519.names(asked.alg) && is_ed25519(&asked.key) {
+        Some(ed25519_accepts(asked))
+    } else {
+        None
+    }
+}
+
+/// What the verifier that names the algorithm says of a signature; `None` where none does, or the curve is of no verifier.
+fn any_answer(asked: &Asked<'_>) -> Option<bool>
+    ensures { result ≡ option_map (λ q. proved_says (Some q)) (proved_asked (Some (question_parts asked.now))) }
+{
+    if Rsa.names(asked.alg) {
+        rsa_answer(asked)
+    } else if Ecdsa.names(asked.alg) {
+        ecdsa_answer(asked)
+    } else {
+        ed25519_answer(asked)
+    }
+}
+
 /// What a proved verifier says of a signature; `None` where it is about an algorithm or a curve of others.
 fn proved_answer(by: Proved, asked: &Asked<'_>) -> Option<bool>
     ensures { result ≡ option_map (λ q. said_by by (Some q))
         (asked_of by (Some (question_parts asked.now))) }
 {
     match by {
-        Proved::Rsa => {
-            if Rsa.names(asked.alg) {
-                Some(rsa_accepts(asked))
-            } else {
-                None
-            }
-        }
-        Proved::Ed25519 => {
-            if Ed25519.names(asked.alg) && is_ed25519(&asked.key) {
-                Some(ed25519_accepts(asked))
-            } else {
-                None
-            }
-        }
+        Proved::Rsa => rsa_answer(asked),
+        Proved::Ed25519 => ed25519_answer(asked),
+        Proved::Any => any_answer(asked),
     }
 }
 
@@ -297,13 +347,14 @@ pub(crate) fn tell_by(
     by: Proved,
 ) -> u32
     ensures { TellsDesk
-        (asked_of by (asked_at (token_of desk.old.policy token.now)
-        (key_set desk.old.keys).keys signature key))
-        (said_by by (asked_at (token_of desk.old.policy token.now)
-        (key_set desk.old.keys).keys signature key)) result desk.old desk.new }
+        (asked_of by (asked_at (token_of (documents desk.old).policy token.now)
+        (key_set (documents desk.old).keys).keys signature key))
+        (said_by by (asked_at (token_of (documents desk.old).policy token.now)
+        (key_set (documents desk.old).keys).keys signature key)) result desk.old desk.new }
 {
-    match read_token(alloc, token, &desk.policy) {
-        Ok(Some(signed)) => match (Question { signature, key }).about(&signed, &desk.keys) {
+    let documents = &*desk.shared;
+    match read_token(alloc, token, &documents.policy) {
+        Ok(Some(signed)) => match (Question { signature, key }).about(&signed, &documents.keys) {
             Some(asked) => match proved_answer(by, &asked) {
                 Some(accepts) => tell_of(alloc, &mut desk.answers, &asked, accepts),
                 None => 6,

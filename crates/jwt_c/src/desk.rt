@@ -5,6 +5,7 @@ use jwt_policy::{Claims, Policy};
 use jwt_text::Scratch;
 use jwt_told::{Answers, AskedCopy};
 use jwt_verify::{SigState, Try};
+use std::sync::Arc;
 
 /// What is kept of the last judging.
 #[derive(Drop)]
@@ -17,13 +18,20 @@ pub struct Last {
     pub(crate) asked: Option<AskedCopy>,
 }
 
-/// What a validator holds: a policy, a key set, what was told, what is kept of the last judging, and the memory that reading a token
-/// needs beside its result, of which nothing else depends on what it holds.
+/// What is read once, and only lent from then on.
 #[derive(Drop)]
-pub struct Desk {
+pub struct Documents {
     pub(crate) policy: Policy,
     pub(crate) keys: KeySet,
+}
+
+/// What a validator holds: documents, which those beside it hold too, what was told, what is kept of the last judging, and the memory that
+/// reading a token needs beside its result, of which nothing else depends on what it holds. That is large, and so in a box of its own: a
+/// desk is moved over the stack.
+#[derive(Drop)]
+pub struct Desk {
+    pub(crate) shared: Arc<Documents>,
     pub(crate) answers: Answers,
     pub(crate) last: Last,
-    pub(crate) scratch: Scratch,
+    pub(crate) scratch: Box<Scratch>,
 }

@@ -1,35 +1,40 @@
 //! What C calls.
 
 ghost use Rattle.std.specs.Prelude.{◌≡◌, ◌≢◌, ◌≤◌, IfSome, Some, None, slice_get, option_map, IfOk, IfErr, IsUtf8};
+ghost use Rattle.std.specs.Arc.{arc_value};
 ghost use Rattle.jwt_keys.specs.KeySets.{key_set};
 ghost use Rattle.jwt_policy.specs.Document.{policy_of};
 ghost use Rattle.jwt_verify.specs.Verdict.{token_of};
 ghost use Rattle.jwt_told.specs.Questions.{kept_parts};
-ghost use Rattle.jwt_c.specs.Reports.{asked_at, IsOpened, IsRefused, IsAlike, IsForgotten, IsAskedBy, IsJudgedBy, report_numbers};
+ghost use Rattle.jwt_c.specs.Documents.{documents};
+ghost use Rattle.jwt_c.specs.Reports.{asked_at, IsBeside, IsFresh, IsOpened, IsRead, IsRefused, IsAlike, IsForgotten, IsAskedBy, IsJudgedBy, report_numbers};
 ghost use Rattle.jwt_c.specs.Faults.{bare};
 ghost use Rattle.jwt_c.specs.Written.{PutsPayload, PutsName, IsState, IsTry, PutsSome, PutsNumber, claim_at, header_at, number_at, refused_member};
-ghost use Rattle.jwt_c.specs.Asking.{PutsQuestion, IsTold, rsa_asked, rsa_says, ed25519_asked, ed25519_says};
+ghost use Rattle.jwt_c.specs.Asking.{PutsQuestion, IsTold, rsa_asked, rsa_says, ed25519_asked, ed25519_says, proved_asked, proved_says};
+ghost use Rattle.jwt_c.specs.Proving.{IsProvedBy};
 ghost use Rattle.jwt_c.specs.Issuing.{hmac_at, form_at, typ_of, PutsIssued};
 ghost use Rattle.jwt_issue.specs.ClaimSets.{claim_set_of};
 
 use crate::asking::{Proved, ask_about, ask_last, tell, tell_by, tell_last};
-use crate::desk::{Desk, Last};
+use crate::desk::{Desk, Documents, Last};
 use crate::faults::{keys_number, policy_number};
 use crate::handle::{Handle, take};
 use crate::issuing::put_numbered;
 use crate::judging::judge_desk;
+use crate::proving::prove_desk;
 use crate::report::{FowQuestion, FowReport, FowState, FowTry};
 use crate::writing::{number_at, payload_of, put, put_claim, put_header};
 use jwt_keys::{KeySet, KeysFault};
 use jwt_policy::{Policy, PolicyFault};
 use jwt_text::Scratch;
 use jwt_told::Answers;
-use std::alloc::Global;
+use std::alloc::{AllocError, Global};
 use std::str::from_utf8;
+use std::sync::Arc;
 
-/// The desk of a policy and a key set, or the status and the number of the fault for which one of them is refused.
-fn desk_of(alloc: Global, policy: &[u8], keys: &[u8]) -> Result<Desk, (u32, u32)>
-    ensures opened { IfOk result (λ d. IsOpened policy.now keys.now (Some d)) }
+/// The documents of a policy and a key set, or the status and the number of the fault for which one of them is refused.
+fn documents_of(alloc: Global, policy: &[u8], keys: &[u8]) -> Result<Arc<Documents>, (u32, u32)>
+    ensures read { IfOk result (λ shared. IsRead policy.now keys.now (arc_value shared)) }
     ensures refused { IfErr result (λ e. IsRefused policy.now keys.now e.0 e.1) }
 {
     let policy = match Policy::read(alloc, policy) {
@@ -42,13 +47,29 @@ fn desk_of(alloc: Global, policy: &[u8], keys: &[u8]) -> Result<Desk, (u32, u32)
         Err(KeysFault::OutOfMemory) => return Err((3, 0)),
         Err(fault) => return Err((1, keys_number(fault))),
     };
-    Ok(Desk {
-        policy,
-        keys,
+    match Arc::new(alloc, Documents { policy, keys }) {
+        Ok(shared) => Ok(shared),
+        Err(_) => Err((3, 0)),
+    }
+}
+
+/// A handle on these documents, to which nothing was told. `Err`: memory was refused.
+fn handle_on(alloc: Global, shared: Arc<Documents>) -> Result<Handle, AllocError>
+    ensures { IfOk result (λ h. IsFresh (arc_value shared) h.desk) }
+{
+    let Ok(scratch) = Box::new(alloc, Scratch::new(alloc)) else {
+        return Err(AllocError);
+    };
+    let desk = Desk {
+        shared,
         answers: Answers::new(alloc),
         last: Last::new(alloc),
-        scratch: Scratch::new(alloc),
-    })
+        scratch,
+    };
+    match Box::new(alloc, desk) {
+        Ok(desk) => Ok(Handle::of(desk)),
+        Err(_) => Err(AllocError),
+    }
 }
 
 /// Reads a policy and a key set. 0: they are held from now on; 1: one of them is refused, for the fault; 3: memory was refused. Where
@@ -66,10 +87,10 @@ pub extern "C" fn fow_open(
     ensures same { result ≢ 0 → validator.new.desk ≡ validator.old.desk }
 {
     *fault = 0;
-    match desk_of(alloc, policy, keys) {
-        Ok(desk) => match Box::new(alloc, desk) {
-            Ok(desk) => {
-                *validator = Handle::of(desk);
+    match documents_of(alloc, policy, keys) {
+        Ok(shared) => match handle_on(alloc, shared) {
+            Ok(handle) => {
+                *validator = handle;
                 0
             }
             Err(_) => 3,
@@ -78,6 +99,37 @@ pub extern "C" fn fow_open(
             *fault = number;
             status
         }
+    }
+}
+
+/// Opens a validator beside another one: on the documents that this holds, which aren't read again. 0: they are held by both from now on;
+/// 3: memory was refused; 4: the other holds nothing. Where it isn't 0, what was held is held on.
+#[unsafe(no_mangle)]
+pub extern "C" fn fow_open_beside(
+    validator: &mut Handle,
+    alloc: Global,
+    another: &mut Handle,
+) -> u32
+    ensures another { another.new.desk ≡ another.old.desk }
+    ensures none { another.old.desk ≡ None → result ≡ 4 }
+    ensures opened { result ≡ 0 → IsBeside another.old.desk validator.new.desk }
+    ensures refused { another.old.desk ≢ None → result ≢ 0 → result ≡ 3 }
+    ensures same { result ≢ 0 → validator.new.desk ≡ validator.old.desk }
+{
+    let Some(desk) = take(another, alloc) else {
+        return 4;
+    };
+    let shared = Arc::try_clone(&desk.shared);
+    *another = Handle::of(desk);
+    let Ok(shared) = shared else {
+        return 3;
+    };
+    match handle_on(alloc, shared) {
+        Ok(beside) => {
+            *validator = beside;
+            0
+        }
+        Err(_) => 3,
     }
 }
 
@@ -138,6 +190,38 @@ pub extern "C" fn fow_judge(
         return 4;
     };
     let said = judge_desk(alloc, &mut desk, token, now);
+    *report = said;
+    *validator = Handle::of(desk);
+    said.verdict
+}
+
+/// Judges a token at a moment, in seconds since 1970-01-01T00:00:00Z, by the proved verifiers of RSA, ECDSA and Ed25519, and answers the
+/// verdict, which the report has too. It asks nothing, and what was told counts for nothing.
+#[unsafe(no_mangle)]
+pub extern "C" fn fow_proved_judge(
+    validator: &mut Handle,
+    alloc: Global,
+    token: &[u8],
+    now: i64,
+    report: &mut FowReport,
+) -> u32
+    ensures verdict { result ≡ report.new.verdict }
+    ensures none { validator.old.desk ≡ None → report_numbers report.new ≡ bare 4 }
+    ensures alike { IsAlike validator.old.desk validator.new.desk }
+
+    // What is accepted or refused is judged by validate's contract, and what is kept of it is its report.
+    ensures judged { IfSome validator.old.desk (λ d. result ≤ 1
+        → IsProvedBy d now token.now report.new validator.new.desk) }
+    ensures never_asks { result ≢ 2 }
+
+    // Claims are kept of an acceptance alone.
+    ensures claims { IfSome validator.new.desk (λ e. result ≢ 0 → e.last.claims ≡ None) }
+{
+    let Some(mut desk) = take(validator, alloc) else {
+        *report = FowReport::bare(4);
+        return 4;
+    };
+    let said = prove_desk(alloc, &mut desk, token, now);
     *report = said;
     *validator = Handle::of(desk);
     said.verdict
@@ -212,7 +296,8 @@ pub extern "C" fn fow_ask(
     ensures same { validator.new.desk ≡ validator.old.desk }
     ensures none { validator.old.desk ≡ None → result ≡ 4 }
     ensures question { IfSome validator.old.desk (λ d. PutsQuestion
-        (asked_at (token_of d.policy token.now) (key_set d.keys).keys signature key)
+        (asked_at (token_of (documents d).policy token.now)
+        (key_set (documents d).keys).keys signature key)
         result asked.new out.old out.new) }
 {
     let Some(desk) = take(validator, alloc) else {
@@ -275,7 +360,8 @@ pub extern "C" fn fow_answer(
 ) -> u32
     ensures none { validator.old.desk ≡ None → (result ≡ 4) × (validator.new.desk ≡ None) }
     ensures told { IfSome validator.old.desk (λ d. IsTold
-        (asked_at (token_of d.policy token.now) (key_set d.keys).keys signature key)
+        (asked_at (token_of (documents d).policy token.now)
+        (key_set (documents d).keys).keys signature key)
         valid result d validator.new.desk) }
 {
     let Some(mut desk) = take(validator, alloc) else {
@@ -310,7 +396,7 @@ pub extern "C" fn fow_payload(
     ensures same { validator.new.desk ≡ validator.old.desk }
     ensures none { validator.old.desk ≡ None → result ≡ 4 }
     ensures payload { IfSome validator.old.desk (λ d. PutsPayload
-        (token_of d.policy token.now) result written.new out.old out.new) }
+        (token_of (documents d).policy token.now) result written.new out.old out.new) }
 {
     let Some(desk) = take(validator, alloc) else {
         return 4;
@@ -334,7 +420,7 @@ pub extern "C" fn fow_unverified_header(
     ensures same { validator.new.desk ≡ validator.old.desk }
     ensures none { validator.old.desk ≡ None → result ≡ 4 }
     ensures header { IfSome validator.old.desk (λ d. PutsSome
-        (header_at (token_of d.policy token.now) signature) result written.new out.old out.new) }
+        (header_at (token_of (documents d).policy token.now) signature) result written.new out.old out.new) }
 {
     let Some(desk) = take(validator, alloc) else {
         return 4;
@@ -382,8 +468,10 @@ pub extern "C" fn fow_answer_rsa(
 ) -> u32
     ensures none { validator.old.desk ≡ None → (result ≡ 4) × (validator.new.desk ≡ None) }
     ensures told { IfSome validator.old.desk (λ d. IsTold
-        (rsa_asked (asked_at (token_of d.policy token.now) (key_set d.keys).keys signature key))
-        (rsa_says (asked_at (token_of d.policy token.now) (key_set d.keys).keys signature key))
+        (rsa_asked (asked_at (token_of (documents d).policy token.now)
+        (key_set (documents d).keys).keys signature key))
+        (rsa_says (asked_at (token_of (documents d).policy token.now)
+        (key_set (documents d).keys).keys signature key))
         result d validator.new.desk) }
 {
     let Some(mut desk) = take(validator, alloc) else {
@@ -406,14 +494,42 @@ pub extern "C" fn fow_answer_ed25519(
 ) -> u32
     ensures none { validator.old.desk ≡ None → (result ≡ 4) × (validator.new.desk ≡ None) }
     ensures told { IfSome validator.old.desk (λ d. IsTold
-        (ed25519_asked (asked_at (token_of d.policy token.now) (key_set d.keys).keys signature key))
-        (ed25519_says (asked_at (token_of d.policy token.now) (key_set d.keys).keys signature key))
+        (ed25519_asked (asked_at (token_of (documents d).policy token.now)
+        (key_set (documents d).keys).keys signature key))
+        (ed25519_says (asked_at (token_of (documents d).policy token.now)
+        (key_set (documents d).keys).keys signature key))
         result d validator.new.desk) }
 {
     let Some(mut desk) = take(validator, alloc) else {
         return 4;
     };
     let status = tell_by(alloc, &mut desk, token, signature, key, Proved::Ed25519);
+    *validator = Handle::of(desk);
+    status
+}
+
+/// Tells what the proved verifier that names the algorithm says of a signature. 0: that is told from now on; 3: memory was refused; 4:
+/// nothing is held; 6: there is no such pair, or no proved verifier names its algorithm, or its key is of the curve Ed448.
+#[unsafe(no_mangle)]
+pub extern "C" fn fow_answer_proved(
+    validator: &mut Handle,
+    alloc: Global,
+    token: &[u8],
+    signature: u32,
+    key: u32,
+) -> u32
+    ensures none { validator.old.desk ≡ None → (result ≡ 4) × (validator.new.desk ≡ None) }
+    ensures told { IfSome validator.old.desk (λ d. IsTold
+        (proved_asked (asked_at (token_of (documents d).policy token.now)
+        (key_set (documents d).keys).keys signature key))
+        (proved_says (asked_at (token_of (documents d).policy token.now)
+        (key_set (documents d).keys).keys signature key))
+        result d validator.new.desk) }
+{
+    let Some(mut desk) = take(validator, alloc) else {
+        return 4;
+    };
+    let status = tell_by(alloc, &mut desk, token, signature, key, Proved::Any);
     *validator = Handle::of(desk);
     status
 }
@@ -441,7 +557,7 @@ pub extern "C" fn fow_issue(
     ensures typ { IfSome validator.old.desk (λ d. ¬ IsUtf8 typ.now → result ≡ 6) }
     ensures token { IfSome validator.old.desk (λ d. IfSome (hmac_at alg) (λ a.
         IfSome (form_at form) (λ f. IsUtf8 typ.now
-        → PutsIssued f a (typ_of typ.now) key (key_set d.keys).keys
+        → PutsIssued f a (typ_of typ.now) key (key_set (documents d).keys).keys
         (claim_set_of claims.now) result report.new written.new out.old out.new))) }
 {
     let Some(desk) = take(validator, alloc) else {
@@ -449,7 +565,16 @@ pub extern "C" fn fow_issue(
     };
     let status = match from_utf8(typ) {
         Ok(typ) => put_numbered(
-            alloc, alg, form, key, typ, &desk.keys, claims, out, written, report,
+            alloc,
+            alg,
+            form,
+            key,
+            typ,
+            &desk.shared.keys,
+            claims,
+            out,
+            written,
+            report,
         ),
         Err(_) => 6,
     };

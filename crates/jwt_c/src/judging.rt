@@ -5,6 +5,7 @@ ghost use Rattle.jwt_jws.specs.Views.{token};
 ghost use Rattle.jwt_keys.specs.KeySets.{key_set};
 ghost use Rattle.jwt_told.specs.Questions.{kept_parts, question_at};
 ghost use Rattle.jwt_told.specs.Told.{told};
+ghost use Rattle.jwt_c.specs.Documents.{documents};
 ghost use Rattle.jwt_c.specs.Faults.{missing_in, bare, verdict_numbers};
 ghost use Rattle.jwt_c.specs.Reports.{IsNew, IsAsked, IsJudged, Keeps, claims_in, report_numbers};
 
@@ -41,7 +42,7 @@ pub(crate) struct Judging {
 }
 
 /// The name of the claim that is missing.
-fn missing(alloc: Global, verdict: &Verdict<'_>) -> Result<Vec<u8>, AllocError>
+pub(crate) fn missing(alloc: Global, verdict: &Verdict<'_>) -> Result<Vec<u8>, AllocError>
     ensures { IfOk result (λ v. v.items ≡ missing_in verdict.now) }
 {
     match verdict {
@@ -53,7 +54,7 @@ fn missing(alloc: Global, verdict: &Verdict<'_>) -> Result<Vec<u8>, AllocError>
 }
 
 /// A verdict that speaks of nothing more, of which nothing is kept.
-fn bare(alloc: Global, verdict: u32) -> Judging
+pub(crate) fn bare(alloc: Global, verdict: u32) -> Judging
     ensures numbers { report_numbers result.said ≡ bare verdict }
     ensures claims { result.last.claims ≡ None }
 {
@@ -124,7 +125,7 @@ fn claims_in(verdict: Verdict<'_>) -> Option<Claims>
 }
 
 /// The judging that this report is.
-fn kept(report: Report<'_>, work: u64, missing: Vec<u8>) -> Judging
+pub(crate) fn kept(report: Report<'_>, work: u64, missing: Vec<u8>) -> Judging
     requires { missing.items ≡ missing_in report.verdict }
     ensures numbers { report_numbers result.said ≡ verdict_numbers report.entry.verdict }
     ensures tries { result.said.tries ≡ length report.entry.tries.items }
@@ -159,26 +160,26 @@ pub(crate) fn report_on(alloc: Global, desk: &mut Desk, octets: &[u8], now: i64)
     ensures asks { result.said.verdict ≡ 2
         → IsAsked desk.old now octets.now result.said result.last }
     ensures claims { result.said.verdict ≢ 0 → result.last.claims ≡ None }
-    ensures policy { desk.new.policy ≡ desk.old.policy }
-    ensures keys { desk.new.keys ≡ desk.old.keys }
+    ensures documents { documents desk.new ≡ documents desk.old }
     ensures told { told desk.new.answers ≡ told desk.old.answers }
 {
-    let mut budget = desk.policy.budget();
+    let documents = &*desk.shared;
+    let mut budget = documents.policy.budget();
     match judge_told(
         alloc,
         octets,
-        &desk.keys,
-        &desk.policy,
+        &documents.keys,
+        &documents.policy,
         now,
         &desk.answers,
         &mut budget,
-        &mut desk.scratch,
+        &mut *desk.scratch,
     ) {
         Ok(report) => match missing(alloc, &report.verdict) {
             Ok(missing) => kept(report, budget.octets(), missing),
             Err(_) => bare(alloc, 3),
         },
-        Err(asks) => match asking(alloc, asks, &desk.keys) {
+        Err(asks) => match asking(alloc, asks, &documents.keys) {
             Ok(judging) => judging,
             Err(_) => bare(alloc, 3),
         },
@@ -191,8 +192,7 @@ pub(crate) fn judge_desk(alloc: Global, desk: &mut Desk, octets: &[u8], now: i64
         → IsJudged desk.old now octets.now result desk.new.last }
     ensures asks { result.verdict ≡ 2 → IsAsked desk.old now octets.now result desk.new.last }
     ensures claims { result.verdict ≢ 0 → desk.new.last.claims ≡ None }
-    ensures policy { desk.new.policy ≡ desk.old.policy }
-    ensures keys { desk.new.keys ≡ desk.old.keys }
+    ensures documents { documents desk.new ≡ documents desk.old }
     ensures told { told desk.new.answers ≡ told desk.old.answers }
 {
     let Judging { said, last } = report_on(alloc, desk, octets, now);

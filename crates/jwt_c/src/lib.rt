@@ -12,5 +12,6 @@ pub mod handle;
 mod issuing;
 mod judging;
 mod loose;
+mod proving;
 pub mod report;
 mod writing;

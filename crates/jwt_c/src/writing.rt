@@ -3,6 +3,7 @@
 ghost use Rattle.std.specs.Prelude.{◌≡◌, IsUtf8, None};
 ghost use Rattle.jwt_text.specs.Base64url.{octets_of};
 ghost use Rattle.jwt_verify.specs.Verdict.{token_of};
+ghost use Rattle.jwt_c.specs.Documents.{documents};
 ghost use Rattle.jwt_c.specs.Written.{Puts, PutsPayload, PutsSome, claim_at, header_at, number_at};
 
 use crate::desk::Desk;
@@ -32,10 +33,10 @@ pub(crate) fn payload_of(
     out: &mut [u8],
     written: &mut usize,
 ) -> u32
-    ensures { PutsPayload (token_of desk.now.policy token.now)
+    ensures { PutsPayload (token_of (documents desk.now).policy token.now)
         result written.new out.old out.new }
 {
-    match read_token(alloc, token, &desk.policy) {
+    match read_token(alloc, token, &desk.shared.policy) {
         Ok(Some(signed)) => put(signed.payload(), out, written),
         Ok(None) => 6,
         Err(_) => 3,
@@ -52,10 +53,10 @@ pub(crate) fn put_header(
     out: &mut [u8],
     written: &mut usize,
 ) -> u32
-    ensures { PutsSome (header_at (token_of desk.now.policy token.now) signature)
+    ensures { PutsSome (header_at (token_of (documents desk.now).policy token.now) signature)
         result written.new out.old out.new }
 {
-    match read_token(alloc, token, &desk.policy) {
+    match read_token(alloc, token, &desk.shared.policy) {
         Ok(Some(signed)) => match signed.signature(signature) {
             Some(signature) => put_decoded(alloc, signature.protected_text(), out, written),
             None => 6,

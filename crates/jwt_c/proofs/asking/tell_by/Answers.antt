@@ -4,6 +4,7 @@ use Rattle.jwt_jws.specs.Views.{token}
 use Rattle.jwt_verify.specs.Verdict.{token_of}
 use Rattle.jwt_told.specs.Questions.{question_parts}
 use Rattle.jwt_c.specs.declared.desk.Desk.{Desk}
+use Rattle.jwt_c.specs.Documents.{documents}
 use Rattle.jwt_c.specs.Reports.{asked_at}
 use Rattle.jwt_c.specs.Asking.{TellsDesk, asked_of, said_by}
 use Rattle.jwt_c.proofs.Telling.{tells, untold}
@@ -11,23 +12,25 @@ use Rattle.jwt_c.proofs.asking.tell_by.Goals as goal
 
 pub returns-in-Some-proved_answer : goal.returns-in-Some-proved_answer
 returns-in-Some-proved_answer c =
-    let d = c.args.desk.now in let q = question_parts c.in-Some.asked in let keys = (key_set d.keys).keys in
-    let e : Desk = record { policy = d.policy; keys = d.keys; answers = c.tell_of.new.answers; last = d.last; scratch = d.scratch } in
-    let read : token_of d.policy c.args.token.now ≡ Ok (token c.in-Ok-Some.signed) = rw c.in-Ok-Some.field-0-is at c.in-Ok-Some.ensures in
-    let asked : asked_at (token_of d.policy c.args.token.now) keys c.args.signature c.args.key ≡ Some q =
-    ap (λ r. asked_at r keys c.args.signature c.args.key) read ∙ sym c.in-Some.ensures in
+    let d = c.args.desk.now in let q = question_parts c.in-Some.asked in let lent = c.deref-documents.result.now in
+    let e : Desk = record { shared = d.shared; answers = c.tell_of.new.answers; last = d.last; scratch = d.scratch } in
+    let read : token_of lent.policy c.args.token.now ≡ Ok (token c.in-Ok-Some.signed) = rw c.in-Ok-Some.field-0-is at c.in-Ok-Some.ensures in
+    let asked : asked_at (token_of (documents d).policy c.args.token.now) (key_set (documents d).keys).keys c.args.signature c.args.key ≡ Some q =
+    subst (λ it. asked_at (token_of it.policy c.args.token.now) (key_set it.keys).keys c.args.signature c.args.key ≡ Some q) c.deref-documents.ensures
+    (ap (λ r. asked_at r (key_set lent.keys).keys c.args.signature c.args.key) read ∙ sym c.in-Some.ensures) in
     let one = c.tell_of.ensures in
     let here : TellsDesk (Some q) c.in-Some-proved_answer.accepts c.tell_of.result d e =
-    ((λ z. (refl, refl, one.0 z)), (λ n. ((one.1 n).0, refl, refl, (one.1 n).1))) in
+    ((λ z. (refl, one.0 z)), (λ n. ((one.1 n).0, refl, (one.1 n).1))) in
     subst (λ o. TellsDesk (asked_of c.args.by o) (said_by c.args.by o) c.tell_of.result d e) (sym asked)
     (tells c.args.by q c.in-Some-proved_answer.accepts c.tell_of.result d e c.in-Some-proved_answer.ensures here)
 
 pub returns-in-Some : goal.returns-in-Some
 returns-in-Some c =
-    let d = c.args.desk.now in let q = question_parts c.in-Some.asked in let keys = (key_set d.keys).keys in
-    let read : token_of d.policy c.args.token.now ≡ Ok (token c.in-Ok-Some.signed) = rw c.in-Ok-Some.field-0-is at c.in-Ok-Some.ensures in
-    let asked : asked_at (token_of d.policy c.args.token.now) keys c.args.signature c.args.key ≡ Some q =
-    ap (λ r. asked_at r keys c.args.signature c.args.key) read ∙ sym c.in-Some.ensures in
+    let d = c.args.desk.now in let q = question_parts c.in-Some.asked in let lent = c.deref-documents.result.now in
+    let read : token_of lent.policy c.args.token.now ≡ Ok (token c.in-Ok-Some.signed) = rw c.in-Ok-Some.field-0-is at c.in-Ok-Some.ensures in
+    let asked : asked_at (token_of (documents d).policy c.args.token.now) (key_set (documents d).keys).keys c.args.signature c.args.key ≡ Some q =
+    subst (λ it. asked_at (token_of it.policy c.args.token.now) (key_set it.keys).keys c.args.signature c.args.key ≡ Some q) c.deref-documents.ensures
+    (ap (λ r. asked_at r (key_set lent.keys).keys c.args.signature c.args.key) read ∙ sym c.in-Some.ensures) in
     subst (λ o. TellsDesk (asked_of c.args.by o) (said_by c.args.by o) 6 d d) (sym asked)
     (subst (λ o. TellsDesk o (said_by c.args.by (Some q)) 6 d d) (sym (untold c.args.by q c.in-None-proved_answer.ensures))
-    ((λ _. refl), (λ h. omega (arith, h)), refl, refl, refl))
+    ((λ _. refl), (λ h. omega (arith, h)), refl, refl))

@@ -1,0 +1,12 @@
+use Rattle.std.proofs.Common.{◌≡◌, ◌≤◌, sym, subst, IfSome}
+use Rattle.std.proofs.Math.Facts.{to_z-of_z}
+use Rattle.jwt_c.specs.Proving.{IsProved, IsProvedBy}
+use Rattle.jwt_c.proofs.exports.fow_proved_judge.Goals as goal
+
+pub returns-clause-judged : goal.returns-clause-judged
+returns-clause-judged c =
+    let said = c.prove_desk-said.result in let x = c.args.token.now in let kept = c.prove_desk-said.new.desk in
+    subst (λ o. IfSome o (λ d. said.verdict ≤ 1 → IsProvedBy d c.args.now x said c.of.result.desk)) (sym c.in-Some.ensures.held)
+    (λ small. subst (λ o. IsProvedBy c.in-Some.desk.value c.args.now x said o) (sym c.of.ensures)
+    (subst (λ d. IsProved d c.args.now x said kept.last) c.deref_mut.ensures.value
+    (subst (λ n. IsProved c.deref_mut.result.now n x said kept.last) (to_z-of_z c.ranges.now) (c.prove_desk-said.ensures.judged small))))
