@@ -1,8 +1,9 @@
 //! The command `verify --lines`.
 use crate::examples::{ACCEPTED, MOMENT};
 use crate::runs::{Printed, assert_ran, ended, ran_with, status_with};
+use jwt_command::Moment;
 use jwt_command::documents::Held;
-use jwt_command::lines::{Clock, NoClock};
+use jwt_command::verify_lines::{Clock, NoClock};
 use jwt_support::cases::KEYS_A;
 use jwt_support::examples::{HS256, TOKEN_A, filled};
 use jwt_support::streams::{Drip, Narrow};
@@ -47,7 +48,7 @@ struct Ticks<'a> {
 impl Clock for Ticks<'_> {
     ghost says = { λ _ _ _. Unit {0} };
 
-    fn moment(&mut self, number: u64, line: &[u8]) -> Option<u64> {
+    fn moment(&mut self, number: u64, line: &[u8]) -> Option<Moment> {
         let at = self.number;
         let wanted = self.lines.get(at as usize)?;
         if line != wanted.as_bytes() || number != at as u64 {
@@ -56,7 +57,7 @@ impl Clock for Ticks<'_> {
         self.number = at.saturating_add(1);
         let now = self.next;
         self.next = now.saturating_add(1);
-        Some(now as u64)
+        Moment::new(now as u64)
     }
 }
 

@@ -1,8 +1,9 @@
 //! Runs of the command over sources and sinks in memory, and tables of them. No function here has a clause, so that a test which
 //! calls one doesn't carry the contract of the command through its own proof.
+use jwt_command::Moment;
 use jwt_command::documents::Held;
-use jwt_command::lines::{Clock, NoClock};
 use jwt_command::run::{run, run_with};
+use jwt_command::verify_lines::{Clock, NoClock};
 use jwt_mac::Verifier;
 use jwt_support::examples::filled;
 use jwt_text::{Reader, Sink, Source, Writer};
@@ -49,7 +50,7 @@ pub(crate) fn status_with<R: Source, W: Sink, C: Clock>(
     w: &mut W,
 ) -> u8 {
     let clock = match clock {
-        Some(moment) => Some(moment as u64),
+        Some(moment) => Moment::new(moment as u64),
         None => None,
     };
     run_with(alloc, words, verifiers, clock, moments, held, r, w)

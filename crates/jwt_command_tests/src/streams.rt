@@ -1,8 +1,8 @@
 //! Streams that fail, and what is left unread.
 use crate::examples::{ACCEPTED, LINE_A, MOMENT, VERIFY};
 use crate::runs::{assert_ran, ended, joined, ran_on, status_of};
+use jwt_command::input::line::{LineFault, line};
 use jwt_command::run::lack_memory;
-use jwt_command::take_line::{LineFault, line};
 use jwt_support::examples::{HS256, KEY_A, TOKEN_A};
 use jwt_support::streams::{Drip, Narrow};
 use jwt_text::{GREATEST_LIMIT, Reader, Writer};

@@ -2,7 +2,7 @@
 use crate::examples::{ACCEPTED, MOMENT, VERIFY, VERIFY_JSON};
 use crate::runs::{Printed, Row, assert_ran, assert_rows, joined, ran, ran_holding, ran_with};
 use jwt_command::documents::Held;
-use jwt_command::lines::NoClock;
+use jwt_command::verify_lines::NoClock;
 use jwt_mac::Verifier;
 use jwt_rsa::Rsa;
 use jwt_support::cases::{KEYS_A, KEYS_ZA, tables};

@@ -1,7 +1,7 @@
 //! The three forms of a signed token.
 ghost use Rattle.std.specs.Prelude.{◌≤◌, ◌<◌};
 
-use jwt_jws::{Form, FormFault, Place, Signed, parse};
+use jwt_jws::{FormFault, Place, Signature, parse};
 use jwt_support::examples::{TOKEN_A, filled};
 use jwt_support::texts::{nested, repeated};
 use jwt_text::encode;
@@ -145,77 +145,79 @@ fn reads_headers_nested_127_deep(rt: HostRuntime) -> Result<(), Fail> {
     Ok(())
 }
 
-// The octets of the first signature's protected text, the members of its protected header, and its own octets.
-fn first(signed: &Signed<'_>) -> Option<(usize, usize, usize)> {
-    let signature = signed.signature(0)?;
-    Some((
-        signature.protected_text().len(),
-        signature.protected().member_count(),
-        signature.octets().len(),
-    ))
+/// What a signature holds, as text: the octets of its protected text, the members of its protected header, its own octets, its `alg`
+/// and its `kid`.
+fn signature_text(alloc: Global, signature: &Signature<'_>) -> Result<String, AllocError> {
+    let protected = signature.protected_text().len();
+    let members = signature.protected().member_count();
+    let octets = signature.octets().len();
+    let alg = signature.alg_text().unwrap_or("no alg");
+    let kid = signature.kid().unwrap_or("no kid");
+    format!(in alloc; "; {protected} {members} {octets} {alg} {kid}")
 }
 
-#[test]
-fn reads_the_compact_form(rt: HostRuntime) -> Result<(), Fail> {
-    let signed = parse(rt.alloc(), TOKEN_A.as_bytes(), 1)
-        .ok()
-        .ok_or("a token")?;
-    assert_eq!(rt; signed.form(), Form::Compact);
-    assert_eq!(rt; signed.payload().len(), 70);
-    assert_eq!(rt; first(&signed), Some((40, 2, 32)));
-    assert!(rt; signed.message(0).is_some() && signed.message(1).is_none());
-    Ok(())
-}
-
-#[test]
-fn reads_a_token_without_claims_and_signature(rt: HostRuntime) -> Result<(), Fail> {
-    let signed = parse(rt.alloc(), b"e30..", 1).ok().ok_or("a token")?;
-    assert_eq!(rt; signed.payload().len(), 0);
-    assert_eq!(rt; first(&signed), Some((3, 0, 0)));
-    let signature = signed.signature(0).ok_or("a signature")?;
-    assert!(rt; signature.alg_text().is_none());
-    Ok(())
-}
-
-#[test]
-fn reads_the_flattened_form(rt: HostRuntime) -> Result<(), Fail> {
-    let token = br#" {"payload":"e\u00330","signature":"AQAB","header":{"kid":"k"}} "#;
-    let signed = parse(rt.alloc(), token, 1).ok().ok_or("a token")?;
-    assert_eq!(rt; signed.form(), Form::Flattened);
-    assert_eq!(rt; signed.payload_text(), b"e30".as_slice());
-    assert_eq!(rt; first(&signed), Some((0, 0, 3)));
-    let signature = signed.signature(0).ok_or("a signature")?;
-    assert_eq!(rt; signature.kid(), Some("k"));
-    Ok(())
-}
-
-#[test]
-fn reads_a_flattened_token_without_headers(rt: HostRuntime) -> Result<(), Fail> {
-    let token = br#"{"payload":"e30","signature":""}"#;
-    let signed = parse(rt.alloc(), token, 1).ok().ok_or("a token")?;
-    assert_eq!(rt; signed.form(), Form::Flattened);
-    assert_eq!(rt; first(&signed), Some((0, 0, 0)));
-    assert_eq!(rt; signed.count(), 1);
-    Ok(())
-}
-
-#[test]
-fn signatures_are_gone_through_in_order(rt: HostRuntime) -> Result<(), Fail> {
-    let alloc = rt.alloc();
-    let signed = parse(
-        alloc,
-        br#"{"payload":"e30","signatures":[{"signature":"","header":{"kid":"a"}},{"signature":"","header":{"kid":"b"}},{"signature":""}]}"#,
-        3,
-    )
-    .ok()
-    .ok_or("general")?;
-    let mut kids = String::new(alloc);
+/// What a token holds, as text: its form, its payload's text and how many octets that spells, and then each signature.
+fn token_text(alloc: Global, octets: &[u8]) -> Result<String, Fail> {
+    let signed = parse(alloc, octets, 8).ok().ok_or("a token")?;
+    let form = signed.form();
+    let len = signed.payload().len();
+    let payload = String::from_utf8_lossy(alloc, signed.payload_text())?;
+    let mut text = format!(in alloc; "{form:?} {payload} {len}")?;
     for signature in signed.iter() {
-        kids.push_str(signature.kid().unwrap_or("none"))?;
-        kids.push_str(",")?;
+        text.push_str(&signature_text(alloc, signature)?)?;
     }
-    assert_eq!(rt; kids.as_str(), "a,b,none,");
+    Ok(text)
+}
+
+/// Tokens, and what each holds. Names in angle brackets are those of [`filled`].
+static TOKENS: [(&str, &str); 5] = [
+    ("<TOKEN_A>", "Compact <PAYLOAD_A> 70; 40 2 32 HS256 no kid"),
+    ("e30..", "Compact  0; 3 0 0 no alg no kid"),
+    (
+        r#" {"payload":"e\u00330","signature":"AQAB","header":{"kid":"k"}} "#,
+        "Flattened e30 2; 0 0 3 no alg k",
+    ),
+    (
+        r#"{"payload":"e30","signature":""}"#,
+        "Flattened e30 2; 0 0 0 no alg no kid",
+    ),
+    (
+        r#"{"payload":"e30","signatures":[{"signature":"","header":{"kid":"a"}},{"signature":"","header":{"kid":"b"}},{"signature":""}]}"#,
+        "General e30 2; 0 0 0 no alg a; 0 0 0 no alg b; 0 0 0 no alg no kid",
+    ),
+];
+
+#[test]
+fn reads_each_form(rt: HostRuntime) -> Result<(), Fail> {
+    for &(token, want) in &TOKENS {
+        let token = filled(rt.alloc(), token)?;
+        let want = filled(rt.alloc(), want)?;
+        let found = token_text(rt.alloc(), token.as_bytes())?;
+        assert!(rt; found == want, "{token}");
+    }
     Ok(())
+}
+
+/// Whether a token has just so many signatures, each with its message.
+fn has_messages(alloc: Global, octets: &[u8], count: u32) -> bool
+    requires { count < 8 }
+{
+    match parse(alloc, octets, 8) {
+        Ok(signed) => {
+            let last = count.saturating_sub(1);
+            signed.count() == count
+                && signed.message(last).is_some()
+                && signed.message(count).is_none()
+        }
+        Err(_) => false,
+    }
+}
+
+#[test]
+fn each_signature_has_a_message(rt: HostRuntime) {
+    assert!(rt; has_messages(rt.alloc(), TOKEN_A.as_bytes(), 1));
+    let token = br#"{"payload":"e30","signature":""}"#;
+    assert!(rt; has_messages(rt.alloc(), token, 1));
 }
 
 /// Protected headers, and whether a name stands twice in their `crit`.
@@ -254,60 +256,80 @@ static NAMES: [(&str, bool, bool); 5] = [
     ("", false, false),
 ];
 
+/// The first row that a signature's headers don't meet.
+fn misplaced(signature: &Signature<'_>) -> Option<&'static str> {
+    for &(name, in_header, in_unprotected) in &NAMES {
+        if signature.in_header(name) != in_header
+            || signature.in_unprotected(name) != in_unprotected
+        {
+            return Some(name);
+        }
+    }
+    None
+}
+
+/// The first row that the headers of a token's first signature don't meet, where the unprotected one has two members.
+fn misplaced_in(alloc: Global, octets: &[u8]) -> Result<Option<&'static str>, Fail> {
+    let signed = parse(alloc, octets, 1).ok().ok_or("a token")?;
+    let signature = signed.signature(0).ok_or("a signature")?;
+    let unprotected = signature.unprotected().ok_or("a header")?;
+    if signed.is_compact() || unprotected.member_count() != 2 {
+        return Err("another token".into());
+    }
+    Ok(misplaced(signature))
+}
+
 #[test]
 fn names_are_looked_up_in_both_headers(rt: HostRuntime) -> Result<(), Fail> {
     // The protected header {"alg":"HS256"}.
     let token =
         br#"{"payload":"e30","protected":"eyJhbGciOiJIUzI1NiJ9","header":{"kid":"k","x":1},"signature":""}"#;
-    let signed = parse(rt.alloc(), token, 1).ok().ok_or("a token")?;
-    assert!(rt; !signed.is_compact());
-    let signature = signed.signature(0).ok_or("a signature")?;
-    for &(name, in_header, in_unprotected) in &NAMES {
-        assert_eq!(rt; signature.in_header(name), in_header, "{name}");
-        assert_eq!(rt; signature.in_unprotected(name), in_unprotected, "{name}");
-    }
-    let unprotected = signature.unprotected().ok_or("a header")?;
-    assert_eq!(rt; unprotected.member_count(), 2);
+    assert_eq!(rt; misplaced_in(rt.alloc(), token)?, None);
     Ok(())
 }
 
-/// Whether the first signature has no unprotected header, and its `alg` in the protected one.
-fn is_protected_alone(signed: &Signed<'_>) -> bool {
-    match signed.signature(0) {
-        Some(signature) => {
-            signature.unprotected().is_none()
-                && signature.in_header("alg")
-                && !signature.in_unprotected("alg")
-        }
-        None => false,
+/// Whether a signature has no unprotected header, and its `alg` in the protected one.
+fn is_protected_alone(signature: &Signature<'_>) -> bool {
+    signature.unprotected().is_none()
+        && signature.in_header("alg")
+        && !signature.in_unprotected("alg")
+}
+
+/// Whether a token is one in compact form whose signature has no unprotected header.
+fn is_compact_alone(alloc: Global, octets: &[u8]) -> bool {
+    match parse(alloc, octets, 1) {
+        Ok(signed) => match signed.signature(0) {
+            Some(signature) => signed.is_compact() && is_protected_alone(signature),
+            None => false,
+        },
+        Err(_) => false,
     }
 }
 
 #[test]
-fn a_compact_token_has_no_unprotected_header(rt: HostRuntime) -> Result<(), Fail> {
-    let signed = parse(rt.alloc(), TOKEN_A.as_bytes(), 1)
-        .ok()
-        .ok_or("a token")?;
-    assert!(rt; signed.is_compact() && is_protected_alone(&signed));
-    Ok(())
+fn a_compact_token_has_no_unprotected_header(rt: HostRuntime) {
+    assert!(rt; is_compact_alone(rt.alloc(), TOKEN_A.as_bytes()));
+}
+
+/// Whether a token has so many signatures, or memory is refused.
+fn counts_or_lacks(alloc: Global, octets: &[u8], count: u32) -> bool {
+    match parse(alloc, octets, 2) {
+        Ok(signed) => signed.count() == count,
+        Err(fault) => fault == FormFault::OutOfMemory,
+    }
 }
 
 // `refused-growths` refuses each allocation of this test in turn.
 #[test]
-fn a_refused_growth_is_out_of_memory(rt: HostRuntime) -> Result<(), Fail> {
+fn a_refused_growth_is_out_of_memory(rt: HostRuntime) {
     let general =
         br#"{"payload":"e30","signatures":[{"signature":"AQAB"},{"protected":"eyJhbGciOiJIUzI1NiJ9","header":{"kid":"k"},"signature":"AQAB"}]}"#;
-    for (octets, count) in [(TOKEN_A.as_bytes(), 1), (general.as_slice(), 2)] {
-        match parse(rt.alloc(), octets, 2) {
-            Ok(signed) => assert_eq!(rt; signed.count(), count),
-            Err(fault) => assert!(rt; fault == FormFault::OutOfMemory, "{count}"),
-        }
-    }
+    assert!(rt; counts_or_lacks(rt.alloc(), TOKEN_A.as_bytes(), 1));
+    assert!(rt; counts_or_lacks(rt.alloc(), general, 2));
     assert!(rt;
         matches!(
             fault_of(rt.alloc(), br#"{"payload":"e30"}"#, 2),
             Some(FormFault::Members | FormFault::OutOfMemory)
         )
     );
-    Ok(())
 }

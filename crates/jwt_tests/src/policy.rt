@@ -144,49 +144,90 @@ fn a_document_has_at_most_65536_octets(rt: HostRuntime) -> Result<(), Fail> {
     Ok(())
 }
 
-#[test]
-fn a_policy_has_its_defaults(rt: HostRuntime) -> Result<(), Fail> {
-    let policy = policy_of(rt.alloc(), HS256)?;
-    let numbers = (
+/// The numbers of a policy: its version, `limit`, `work`, `max_signatures` and `leeway`.
+fn numbers_of(policy: &Policy) -> (u32, u32, u64, u32, u32) {
+    (
         policy.version(),
         policy.limit(),
         policy.work(),
         policy.max_signatures(),
         policy.leeway(),
-    );
-    assert_eq!(rt; numbers, (1, 8192, 1_048_576, 8, 0));
-    assert_eq!(rt; policy.mode(), Mode::Any);
-    assert!(rt; !policy.line_feed() && !policy.need_kid() && !policy.thumb_kid());
-    assert!(rt;
-        policy.typ().is_none() && policy.max_age().is_none() && policy.max_calls().is_none()
-    );
-    assert!(rt; policy.understood().is_empty() && policy.issuers().is_empty());
-    assert!(rt; policy.audiences().is_empty() && policy.required().is_empty());
-    Ok(())
+    )
+}
+
+fn has_default_words(policy: &Policy) -> bool {
+    policy.mode() == Mode::Any
+        && policy.typ().is_none()
+        && !policy.line_feed()
+        && !policy.need_kid()
+        && !policy.thumb_kid()
+}
+
+fn has_no_bounds(policy: &Policy) -> bool {
+    policy.max_age().is_none() && policy.max_calls().is_none()
+}
+
+fn has_no_lists(policy: &Policy) -> bool {
+    policy.understood().is_empty()
+        && policy.issuers().is_empty()
+        && policy.audiences().is_empty()
+        && policy.required().is_empty()
+}
+
+/// Whether a policy that says nothing but its algorithms has the defaults.
+fn has_defaults(alloc: Global) -> bool {
+    match Policy::read(alloc, HS256.as_bytes()) {
+        Ok(policy) => {
+            numbers_of(&policy) == (1, 8192, 1_048_576, 8, 0)
+                && has_default_words(&policy)
+                && has_no_bounds(&policy)
+                && has_no_lists(&policy)
+        }
+        Err(_) => false,
+    }
 }
 
 #[test]
-fn a_policy_says_what_its_document_says(rt: HostRuntime) -> Result<(), Fail> {
-    let policy = policy_of(rt.alloc(), FULL)?;
-    let numbers = (
-        policy.version(),
-        policy.limit(),
-        policy.work(),
-        policy.max_signatures(),
-        policy.leeway(),
-    );
-    assert_eq!(rt; numbers, (2, 1_048_576, 0, 32, 86_400));
-    assert_eq!(rt; policy.algs(), [Alg::EdDSA, Alg::HS512].as_slice());
-    assert_eq!(rt; policy.mode(), Mode::All);
-    assert!(rt; policy.line_feed() && policy.need_kid() && policy.thumb_kid());
-    assert_eq!(rt; policy.typ(), Some("JWT"));
-    assert_eq!(rt;
-        (policy.max_age(), policy.max_calls()),
-        (Some(4_294_967_295), Some(32_768))
-    );
-    assert_eq!(rt; (policy.issuers().len(), policy.understood().len()), (2, 1));
-    assert_eq!(rt; (policy.audiences().len(), policy.required().len()), (1, 1));
-    Ok(())
+fn a_policy_has_its_defaults(rt: HostRuntime) {
+    assert!(rt; has_defaults(rt.alloc()));
+}
+
+fn has_full_words(policy: &Policy) -> bool {
+    policy.algs() == [Alg::EdDSA, Alg::HS512].as_slice()
+        && policy.mode() == Mode::All
+        && policy.typ() == Some("JWT")
+        && policy.line_feed()
+        && policy.need_kid()
+        && policy.thumb_kid()
+}
+
+fn has_full_bounds(policy: &Policy) -> bool {
+    policy.max_age() == Some(4_294_967_295) && policy.max_calls() == Some(32_768)
+}
+
+fn has_full_lists(policy: &Policy) -> bool {
+    policy.issuers().len() == 2
+        && policy.understood().len() == 1
+        && policy.audiences().len() == 1
+        && policy.required().len() == 1
+}
+
+/// Whether the policy of [`FULL`] says what the document says.
+fn has_all(alloc: Global) -> bool {
+    match Policy::read(alloc, FULL.as_bytes()) {
+        Ok(policy) => {
+            numbers_of(&policy) == (2, 1_048_576, 0, 32, 86_400)
+                && has_full_words(&policy)
+                && has_full_bounds(&policy)
+                && has_full_lists(&policy)
+        }
+        Err(_) => false,
+    }
+}
+
+#[test]
+fn a_policy_says_what_its_document_says(rt: HostRuntime) {
+    assert!(rt; has_all(rt.alloc()));
 }
 
 // ---- headers
@@ -666,51 +707,80 @@ fn claims_hold_or_are_refused_for_their_first_fault(rt: HostRuntime) -> Result<(
     assert_claims(&rt, rt.alloc(), &CLAIMS)
 }
 
+/// What is said of claims that nest so deep.
+fn nested_fault(alloc: Global, lists: usize) -> Result<String, Fail> {
+    let policy = policy_of(alloc, HS256)?;
+    let payload = nested(alloc, lists)?;
+    fault_of(alloc, &policy, &payload, 0)
+}
+
 #[test]
 fn claims_nest_127_deep(rt: HostRuntime) -> Result<(), Fail> {
-    let policy = policy_of(rt.alloc(), HS256)?;
     for (lists, want) in [(126, "none"), (127, "ClaimsShape")] {
-        let payload = nested(rt.alloc(), lists)?;
-        let found = fault_of(rt.alloc(), &policy, &payload, 0)?;
-        assert_eq!(rt; found.as_str(), want, "{lists}");
+        let found = nested_fault(rt.alloc(), lists)?;
+        assert!(rt; found.as_str() == want, "{lists}");
     }
     Ok(())
 }
 
-#[test]
-fn claims_say_what_their_payload_says(rt: HostRuntime) -> Result<(), Fail> {
+fn has_texts(claims: &Claims) -> bool {
+    claims.iss() == Some("joe") && claims.sub() == Some("") && claims.jti() == Some("x")
+}
+
+fn has_dates(claims: &Claims) -> bool {
+    claims.exp() == Some(1_300_819_380) && claims.nbf() == Some(-1) && claims.iat().is_none()
+}
+
+fn has_audience_and_flag(claims: &Claims) -> bool {
+    claims.object().flag("z") == Some(true)
+        && matches!(claims.aud(), Some(Audience::Texts(list)) if list.text(1) == Some("b"))
+}
+
+/// Whether claims say what this payload says.
+fn are_said(alloc: Global) -> bool {
     let payload =
         br#"{"iss":"joe","sub":"","aud":["a","b"],"exp":1300819380,"nbf":-1,"jti":"x","z":true}"#;
-    let claims = Claims::read(rt.alloc(), payload).ok().ok_or("refused")?;
-    assert_eq!(rt;
-        (claims.iss(), claims.sub(), claims.jti()),
-        (Some("joe"), Some(""), Some("x"))
-    );
-    assert_eq!(rt;
-        (claims.exp(), claims.nbf(), claims.iat()),
-        (Some(1_300_819_380), Some(-1), None)
-    );
-    assert!(rt; matches!(claims.aud(), Some(Audience::Texts(list)) if list.text(1) == Some("b")));
-    assert_eq!(rt; claims.object().flag("z"), Some(true));
-    Ok(())
+    match &Claims::read(alloc, payload) {
+        Ok(claims) => has_texts(claims) && has_dates(claims) && has_audience_and_flag(claims),
+        Err(_) => false,
+    }
+}
+
+#[test]
+fn claims_say_what_their_payload_says(rt: HostRuntime) {
+    assert!(rt; are_said(rt.alloc()));
+}
+
+/// Whether a policy is read, or memory was refused.
+fn is_read_or_lacks(alloc: Global) -> bool {
+    match &Policy::read(alloc, FULL.as_bytes()) {
+        Ok(policy) => policy.max_calls() == Some(32_768),
+        Err(fault) => matches!(fault, PolicyFault::OutOfMemory),
+    }
+}
+
+/// Whether a policy is refused for its `algs`, or memory was refused.
+fn is_refused_or_lacks(alloc: Global) -> bool {
+    match &Policy::read(alloc, br#"{"algs":["none"]}"#) {
+        Ok(_) => false,
+        Err(PolicyFault::Range(name)) => name.text() == "algs",
+        Err(fault) => matches!(fault, PolicyFault::OutOfMemory),
+    }
+}
+
+/// Whether claims are read, or memory was refused.
+fn are_read_or_lack(alloc: Global) -> bool {
+    match &Claims::read(alloc, br#"{"aud":["a"],"exp":5}"#) {
+        Ok(claims) => claims.exp() == Some(5),
+        Err(fault) => matches!(fault, ClaimFault::OutOfMemory),
+    }
 }
 
 /// Run with each allocation refused in turn.
 #[test]
-fn a_refused_growth_is_out_of_memory(rt: HostRuntime) -> Result<(), Fail> {
+fn a_refused_growth_is_out_of_memory(rt: HostRuntime) {
     let alloc = rt.alloc();
-    match &Policy::read(alloc, FULL.as_bytes()) {
-        Ok(policy) => assert_eq!(rt; policy.max_calls(), Some(32_768)),
-        Err(fault) => assert!(rt; matches!(fault, PolicyFault::OutOfMemory)),
-    }
-    match &Policy::read(alloc, br#"{"algs":["none"]}"#) {
-        Ok(_) => return Err("read".into()),
-        Err(PolicyFault::Range(name)) => assert_eq!(rt; name.text(), "algs"),
-        Err(fault) => assert!(rt; matches!(fault, PolicyFault::OutOfMemory)),
-    }
-    match &Claims::read(alloc, br#"{"aud":["a"],"exp":5}"#) {
-        Ok(claims) => assert_eq!(rt; claims.exp(), Some(5)),
-        Err(fault) => assert!(rt; matches!(fault, ClaimFault::OutOfMemory)),
-    }
-    Ok(())
+    assert!(rt; is_read_or_lacks(alloc));
+    assert!(rt; is_refused_or_lacks(alloc));
+    assert!(rt; are_read_or_lack(alloc));
 }

@@ -1,12 +1,12 @@
 //! Octets in and out, base64url and object texts.
-ghost use Rattle.std.specs.Prelude.{◌≡◌, IfOk};
+ghost use Rattle.std.specs.Prelude.{◌≡◌, ◌≤◌, ◌<◌, IfOk};
 
 use jwt_support::examples::TOKEN_A;
 use jwt_support::streams::{Drip, Endless, Narrow};
 use jwt_support::texts::nested;
 use jwt_text::{
-    Intake, Object, ObjectOut, ObjectRef, Part, Reader, Sink, Source, TextFault, Writer, Written,
-    decode, encode, object, quoted, write_out,
+    Intake, List, Object, ObjectOut, ObjectRef, Part, Reader, Sink, Source, TextFault, Writer,
+    Written, decode, encode, object, quoted, write_out,
 };
 use std::alloc::Global;
 use std::io::{self, ErrorKind, Read, Write};
@@ -57,71 +57,106 @@ impl Write for Faltering {
     }
 }
 
+/// Whether a pull is answered by a failure.
+fn pull_fails(source: &mut Reader<Faltering>) -> bool {
+    let mut room = [0u8; 4];
+    source.pull(&mut room).is_none() && source.failed()
+}
+
+/// Whether a put is answered by a failure.
+fn put_fails(sink: &mut Writer<Faltering>) -> bool {
+    sink.put(b"abc").is_none() && sink.failed()
+}
+
 #[test]
-fn an_interrupted_call_is_a_failure_and_not_tried_again(rt: HostRuntime) -> Result<(), Fail> {
+fn an_interrupted_call_is_a_failure_and_not_tried_again(rt: HostRuntime) {
     let mut source = Reader::new(Faltering { works: false });
     let mut sink = Writer::new(Faltering { works: false });
-    for _ in 0..2 {
-        let mut room = [0u8; 4];
-        assert_eq!(rt; source.pull(&mut room), None);
-        assert!(rt; source.failed());
-        assert_eq!(rt; sink.put(b"abc"), None);
-        assert!(rt; sink.failed());
+    assert!(rt; pull_fails(&mut source) && pull_fails(&mut source));
+    assert!(rt; put_fails(&mut sink) && put_fails(&mut sink));
+}
+
+/// A limit, what an intake of it answers of six octets that are dripped, how many are unread then, and how many pulls there were.
+static DRIPS: [(u32, Result<(), TextFault>, usize, usize); 3] = [
+    (4, Err(TextFault::TooLong), 1, 5),
+    (5, Err(TextFault::TooLong), 0, 6),
+    (6, Ok(()), 0, 7),
+];
+
+/// What an intake answers of six octets that are dripped, how many are unread then, and how many pulls there were; `None` where the
+/// limit is none of an intake.
+fn dripped(alloc: Global, limit: u32) -> Option<(Result<(), TextFault>, usize, usize)> {
+    if limit < 1 || 4_194_304 < limit {
+        return None;
     }
-    Ok(())
+    let mut source = Drip::new(b"abcdef", 100);
+    let mut intake = Intake::new(alloc, limit);
+    let answer = intake.read_from(&mut source);
+    Some((answer, source.rest.len(), source.pulls))
 }
 
 #[test]
-fn takes_one_octet_past_the_limit_in_as_many_pulls(rt: HostRuntime) -> Result<(), Fail> {
-    for (limit, want, unread, pulls) in [
-        (4, Err(TextFault::TooLong), 1, 5),
-        (5, Err(TextFault::TooLong), 0, 6),
-        (6, Ok(()), 0, 7),
-    ] {
-        let mut source = Drip::new(b"abcdef", 100);
-        let mut intake = Intake::new(rt.alloc(), limit);
-        assert_eq!(rt; intake.read_from(&mut source), want);
-        assert_eq!(rt; source.rest.len(), unread);
-        assert_eq!(rt; source.pulls, pulls);
+fn takes_one_octet_past_the_limit_in_as_many_pulls(rt: HostRuntime) {
+    for &(limit, want, unread, pulls) in &DRIPS {
+        assert!(rt;
+            dripped(rt.alloc(), limit) == Some((want, unread, pulls)),
+            "{limit}"
+        );
     }
-    Ok(())
 }
 
-#[test]
-fn holds_what_came_before_a_failure(rt: HostRuntime) -> Result<(), Fail> {
-    for pulls in 0..180 {
-        let mut source = Drip::new(TOKEN_A.as_bytes(), pulls);
-        let mut intake = Intake::new(rt.alloc(), 179);
-        assert_eq!(rt; intake.read_from(&mut source), Err(TextFault::Read));
-        assert_eq!(rt; intake.octets().len(), pulls);
-        assert_eq!(rt; intake.read_from(&mut source), Err(TextFault::Read));
-    }
+/// Whether a source that fails after so many pulls of an octet of the token leaves just these octets, and fails again.
+fn holds_before_failure(alloc: Global, pulls: usize) -> bool {
+    let mut source = Drip::new(TOKEN_A.as_bytes(), pulls);
+    let mut intake = Intake::new(alloc, 179);
+    intake.read_from(&mut source) == Err(TextFault::Read)
+        && intake.octets().len() == pulls
+        && intake.read_from(&mut source) == Err(TextFault::Read)
+}
+
+/// Whether the whole token is held.
+fn holds_all(alloc: Global) -> bool {
     let mut source = Drip::new(TOKEN_A.as_bytes(), 180);
-    let mut intake = Intake::new(rt.alloc(), 179);
-    intake.read_from(&mut source)?;
-    assert_eq!(rt; intake.octets(), TOKEN_A.as_bytes());
-    Ok(())
+    let mut intake = Intake::new(alloc, 179);
+    intake.read_from(&mut source) == Ok(()) && intake.octets() == TOKEN_A.as_bytes()
 }
 
 #[test]
-fn stops_an_endless_source_after_few_pulls(rt: HostRuntime) -> Result<(), Fail> {
+fn holds_what_came_before_a_failure(rt: HostRuntime) {
+    for pulls in 0..180 {
+        assert!(rt; holds_before_failure(rt.alloc(), pulls), "after {pulls}");
+    }
+    assert!(rt; holds_all(rt.alloc()));
+}
+
+/// How many octets are held of a source that never ends, and how many pulls there were, where it is too long.
+fn endless(alloc: Global) -> Option<(usize, usize)> {
     let mut source = Endless::new();
-    let mut intake = Intake::new(rt.alloc(), 1_048_576);
-    assert_eq!(rt; intake.read_from(&mut source), Err(TextFault::TooLong));
-    assert_eq!(rt; intake.octets().len(), 1_048_577);
-    assert!(rt; source.pulls < 20);
-    Ok(())
+    let mut intake = Intake::new(alloc, 1_048_576);
+    match intake.read_from(&mut source) {
+        Err(TextFault::TooLong) => Some((intake.octets().len(), source.pulls)),
+        _ => None,
+    }
 }
 
 #[test]
-fn feeds_up_to_one_octet_past_the_limit(rt: HostRuntime) -> Result<(), Fail> {
-    let mut intake = Intake::new(rt.alloc(), 178);
-    assert!(rt; !intake.is_too_long());
-    assert_eq!(rt; intake.feed(TOKEN_A.as_bytes())?, 179);
-    assert!(rt; intake.is_too_long());
-    assert_eq!(rt; intake.feed(TOKEN_A.as_bytes())?, 0);
-    assert_eq!(rt; intake.octets(), TOKEN_A.as_bytes());
-    Ok(())
+fn stops_an_endless_source_after_few_pulls(rt: HostRuntime) {
+    assert!(rt; matches!(endless(rt.alloc()), Some((1_048_577, pulls)) if pulls < 20));
+}
+
+/// Whether the token is fed up to one octet past its limit, and nothing then.
+fn is_fed_to_the_limit(alloc: Global) -> bool {
+    let mut intake = Intake::new(alloc, 178);
+    !intake.is_too_long()
+        && intake.feed(TOKEN_A.as_bytes()) == Ok(179)
+        && intake.is_too_long()
+        && intake.feed(TOKEN_A.as_bytes()) == Ok(0)
+        && intake.octets() == TOKEN_A.as_bytes()
+}
+
+#[test]
+fn feeds_up_to_one_octet_past_the_limit(rt: HostRuntime) {
+    assert!(rt; is_fed_to_the_limit(rt.alloc()));
 }
 
 #[test]
@@ -138,34 +173,31 @@ fn reads_a_slice_and_writes_into_a_vector(rt: HostRuntime) -> Result<(), Fail> {
     Ok(())
 }
 
+/// A token of 84 octets.
+const SENT: &[u8; 84] =
+    b"eyJhbGciOiJIUzI1NiIsInR5cCI6IkpXVCJ9.e30.LwimMJA3puF3ioGeS-tfczR3370GXBZMIL-bdpu4hOU";
+
+/// Whether a sink that takes so many octets of the token fails, and says so.
+fn sink_counts(alloc: Global, count: usize) -> bool {
+    let mut sink = Narrow::new(alloc, count);
+    write_out(&mut sink, SENT) == Err(Written { count }) && sink.failed()
+}
+
+/// Whether a writer with room for so many octets of the token says so, and holds these.
+fn writer_counts(count: usize) -> bool
+    requires { count < 84 }
+{
+    let mut room = [0u8; 84];
+    let written = write_out(&mut Writer::new(&mut room[..count]), SENT);
+    written == Err(Written { count }) && room[..count] == SENT[..count]
+}
+
 #[test]
-fn counts_what_went_out_before_a_failure(rt: HostRuntime) -> Result<(), Fail> {
-    let token: &[u8] =
-        b"eyJhbGciOiJIUzI1NiIsInR5cCI6IkpXVCJ9.e30.LwimMJA3puF3ioGeS-tfczR3370GXBZMIL-bdpu4hOU";
-    assert_eq!(rt; token.len(), 84);
+fn counts_what_went_out_before_a_failure(rt: HostRuntime) {
     for count in 0..84 {
-        let mut sink = Narrow::new(rt.alloc(), count);
-        assert_eq!(rt; write_out(&mut sink, token), Err(Written { count }));
-        assert!(rt; sink.failed());
-        let mut room = [0u8; 84];
-        assert_eq!(rt;
-            write_out(&mut Writer::new(&mut room[..count]), token),
-            Err(Written { count })
-        );
-        assert_eq!(rt; &room[..count], &token[..count]);
+        assert!(rt; sink_counts(rt.alloc(), count), "a sink, {count}");
+        assert!(rt; writer_counts(count), "a writer, {count}");
     }
-    // A writer that takes two octets, and then nothing; one that takes nothing at all.
-    let mut room = [0u8; 2];
-    assert_eq!(rt;
-        write_out(&mut Writer::new(&mut room[..]), b"abc"),
-        Err(Written { count: 2 })
-    );
-    let mut none = [0u8; 0];
-    assert_eq!(rt;
-        write_out(&mut Writer::new(&mut none[..]), b"abc"),
-        Err(Written { count: 0 })
-    );
-    Ok(())
 }
 
 #[test]
@@ -221,6 +253,53 @@ fn what_is_no_base64url_is_refused(rt: HostRuntime) -> Result<(), Fail> {
     Ok(())
 }
 
+/// Pieces of 9,000 octets, and how many an intake with a limit of 8,998 takes of each.
+static FEEDS: [(usize, usize, usize); 4] = [
+    (0, 1000, 1000),
+    (1000, 5000, 4000),
+    (5000, 9000, 3999),
+    (0, 9000, 0),
+];
+
+/// Whether an intake takes what it has to of each piece, and holds what it took.
+fn feeds_again(alloc: Global, all: &[u8; 9000]) -> bool {
+    let mut fed = Intake::new(alloc, 8998);
+    for &(start, end, count) in &FEEDS {
+        let Some(piece) = all.get(start..end) else {
+            return false;
+        };
+        if again!(fed.feed(piece)) != Ok(count) {
+            return false;
+        }
+    }
+    fed.octets() == &all[..8999]
+}
+
+/// A limit, after how many pulls a source of 9,000 octets fails, what an intake answers of it, and how many octets it holds then.
+static READS: [(u32, usize, Result<(), TextFault>, usize); 3] = [
+    (9000, 9001, Ok(()), 9000),
+    (8998, 9001, Err(TextFault::TooLong), 8999),
+    (9000, 8500, Err(TextFault::Read), 8500),
+];
+
+/// Whether an intake answers so, holds so many octets, and left the others.
+fn reads_on(
+    alloc: Global,
+    all: &[u8; 9000],
+    limit: u32,
+    pulls: usize,
+    want: Result<(), TextFault>,
+    held: usize,
+) -> bool {
+    if limit < 1 || 4_194_304 < limit {
+        return false;
+    }
+    let mut source = Drip::new(all, pulls);
+    let mut read = Intake::new(alloc, limit);
+    let answer = again!(read.read_from(&mut source));
+    answer == want && all.get(..held) == Some(read.octets()) && all.get(held..) == Some(source.rest)
+}
+
 // `rt try --test --fail-alloc N` refuses the Nth allocation: what came stays held, and the same call made again takes what is
 // missing.
 #[test]
@@ -229,28 +308,12 @@ fn a_refused_growth_loses_no_octets(rt: HostRuntime) -> Result<(), Fail> {
     for (place, octet) in all.iter_mut().enumerate() {
         *octet = (place % 251) as u8;
     }
-    let mut fed = Intake::new(rt.alloc(), 8998);
-    for (start, end, count) in [
-        (0, 1000, 1000),
-        (1000, 5000, 4000),
-        (5000, 9000, 3999),
-        (0, 9000, 0),
-    ] {
-        let piece = &all[start..end];
-        assert_eq!(rt; again!(fed.feed(piece))?, count, "from {start}");
-    }
-    assert!(rt; fed.octets() == &all[..8999]);
-
-    for (limit, pulls, want, held) in [
-        (9000, 9001, Ok(()), 9000),
-        (8998, 9001, Err(TextFault::TooLong), 8999),
-        (9000, 8500, Err(TextFault::Read), 8500),
-    ] {
-        let mut source = Drip::new(&all, pulls);
-        let mut read = Intake::new(rt.alloc(), limit);
-        assert_eq!(rt; again!(read.read_from(&mut source)), want);
-        assert!(rt; read.octets() == &all[..held], "with {limit}");
-        assert!(rt; source.rest == &all[held..], "with {limit}");
+    assert!(rt; feeds_again(rt.alloc(), &all));
+    for &(limit, pulls, want, held) in &READS {
+        assert!(rt;
+            reads_on(rt.alloc(), &all, limit, pulls, want, held),
+            "with {limit}"
+        );
     }
     Ok(())
 }
@@ -396,57 +459,83 @@ fn numbers_are_whole_within_64_bits(rt: HostRuntime) -> Result<(), Fail> {
 const MEMBERS: &[u8] =
     br#"{"t":"a\u0062","f":true,"l":["x",{"y":1},2],"o":{"b":1},"aud":[ "a" ],"none":[],"n":null}"#;
 
-fn members_are_read(rt: &impl Abort, all: ObjectRef<'_>) -> Result<(), Fail> {
-    assert!(rt; all.has("n") && !all.has("N"));
-    assert_eq!(rt; all.text("t"), Some("ab"));
-    assert_eq!(rt; all.text("f"), None);
-    assert_eq!(rt; all.flag("f"), Some(true));
-    assert_eq!(rt; all.flag("t"), None);
-    assert!(rt; all.list("o").is_none() && all.object("l").is_none());
-    assert_eq!(rt; all.name(0), Some("aud"));
-    Ok(())
+fn texts_and_flags_are_read(all: ObjectRef<'_>) -> bool {
+    all.text("t") == Some("ab")
+        && all.text("f").is_none()
+        && all.flag("f") == Some(true)
+        && all.flag("t").is_none()
 }
 
-fn lists_are_read(rt: &impl Abort, all: ObjectRef<'_>) -> Result<(), Fail> {
-    let list = all.list("l").ok_or("no list")?;
-    assert_eq!(rt; list.len(), 3);
-    assert!(rt; !list.is_empty() && !list.are_texts());
-    assert_eq!(rt; list.text(0), Some("x"));
-    assert_eq!(rt; list.text(1), None);
-    assert_eq!(rt; list.text(3), None);
-    assert_eq!(rt; list.object(1).ok_or("no object")?.whole("y"), Some(1));
-    assert!(rt; list.object(2).is_none());
-    let none = all.list("none").ok_or("no list")?;
-    assert!(rt; none.is_empty() && none.are_texts());
-    Ok(())
+fn names_are_read(all: ObjectRef<'_>) -> bool {
+    all.has("n")
+        && !all.has("N")
+        && all.name(0) == Some("aud")
+        && all.list("o").is_none()
+        && all.object("l").is_none()
+}
+
+fn elements_are_read(list: &List<'_>) -> bool {
+    list.len() == 3
+        && !list.is_empty()
+        && !list.are_texts()
+        && list.text(0) == Some("x")
+        && list.text(1).is_none()
+        && list.text(3).is_none()
+}
+
+fn objects_are_read(list: &List<'_>) -> bool {
+    match list.object(1) {
+        Some(inner) => inner.whole("y") == Some(1) && list.object(2).is_none(),
+        None => false,
+    }
+}
+
+fn lists_are_read(all: ObjectRef<'_>) -> bool {
+    match (all.list("l"), all.list("none")) {
+        (Some(list), Some(none)) => {
+            elements_are_read(&list)
+                && objects_are_read(&list)
+                && none.is_empty()
+                && none.are_texts()
+        }
+        _ => false,
+    }
 }
 
 #[test]
 fn readers_answer_by_name_and_kind(rt: HostRuntime) -> Result<(), Fail> {
     let all = object(rt.alloc(), MEMBERS)?;
-    members_are_read(&rt, all.lend())?;
-    lists_are_read(&rt, all.lend())
+    let members = texts_and_flags_are_read(all.lend()) && names_are_read(all.lend());
+    let lists = lists_are_read(all.lend());
+    assert!(rt; members && lists);
+    Ok(())
 }
 
-fn copies_are_read(
-    rt: &impl Abort,
-    copy: &Object,
-    inner: ObjectRef<'_>,
-    all: ObjectRef<'_>,
-) -> Result<(), Fail> {
-    assert_eq!(rt; copy.member_count(), 1);
-    assert_eq!(rt; copy.name(0), Some("b"));
-    assert_eq!(rt; copy.whole("b"), Some(1));
-    assert!(rt; copy.lend().shares_name(&inner) && !inner.shares_name(&all));
-    Ok(())
+fn copy_is_read(copy: &Object, inner: ObjectRef<'_>, all: ObjectRef<'_>) -> bool {
+    copy.member_count() == 1
+        && copy.name(0) == Some("b")
+        && copy.whole("b") == Some(1)
+        && copy.lend().shares_name(&inner)
+        && !inner.shares_name(&all)
+}
+
+/// Whether a copy of an object in an object has its members.
+fn is_copied(alloc: Global, all: ObjectRef<'_>) -> bool {
+    match all.object("o") {
+        Some(inner) => match inner.to_object(alloc) {
+            Ok(copy) => copy_is_read(&copy, inner, all),
+            Err(_) => false,
+        },
+        None => false,
+    }
 }
 
 #[test]
 fn an_object_in_an_object_is_copied(rt: HostRuntime) -> Result<(), Fail> {
     let all = object(rt.alloc(), MEMBERS)?;
-    let inner = all.object("o").ok_or("no object")?;
-    let copy = inner.to_object(rt.alloc())?;
-    copies_are_read(&rt, &copy, inner, all.lend())
+    let copied = is_copied(rt.alloc(), all.lend());
+    assert!(rt; copied);
+    Ok(())
 }
 
 /// Members of [`MEMBERS`], and the compact text of each that has one.
@@ -489,23 +578,35 @@ fn texts_are_quoted_as_json_writes_them(rt: HostRuntime) -> Result<(), Fail> {
     Ok(())
 }
 
-#[test]
-fn an_object_is_written_by_its_names(rt: HostRuntime) -> Result<(), Fail> {
-    let alloc = rt.alloc();
+/// Whether names that stand already are refused.
+fn refuses_names(claims: &mut ObjectOut) -> bool {
+    claims.text("sub", "b") == Err(TextFault::NameTwice)
+        && claims.whole("sub", 1) == Err(TextFault::NameTwice)
+        && claims.flag("b", false) == Err(TextFault::NameTwice)
+        && claims.texts("aud", &[]) == Err(TextFault::NameTwice)
+}
+
+/// The text of four members, where names that stand already are refused.
+fn written_once(alloc: Global) -> Result<Vec<u8>, TextFault> {
     let mut claims = ObjectOut::new(alloc);
     claims.text("sub", "a")?;
     claims.whole("exp", 5)?;
     claims.flag("b", true)?;
     claims.texts("aud", &["x", "y"])?;
-    assert_eq!(rt; claims.text("sub", "b"), Err(TextFault::NameTwice));
-    assert_eq!(rt; claims.whole("sub", 1), Err(TextFault::NameTwice));
-    assert_eq!(rt; claims.flag("b", false), Err(TextFault::NameTwice));
-    assert_eq!(rt; claims.texts("aud", &[]), Err(TextFault::NameTwice));
-    let text = claims.finish()?;
-    assert_eq!(rt;
-        text.as_slice(),
-        br#"{"aud":["x","y"],"b":true,"exp":5,"sub":"a"}"#.as_slice()
-    );
+    if refuses_names(&mut claims) {
+        claims.finish()
+    } else {
+        Err(TextFault::Json)
+    }
+}
+
+/// The text of these members.
+const WRITTEN: &[u8] = br#"{"aud":["x","y"],"b":true,"exp":5,"sub":"a"}"#;
+
+#[test]
+fn an_object_is_written_by_its_names(rt: HostRuntime) -> Result<(), Fail> {
+    let text = written_once(rt.alloc())?;
+    assert!(rt; text.as_slice() == WRITTEN);
     Ok(())
 }
 
@@ -522,36 +623,66 @@ fn written(alloc: Global) -> Result<Vec<u8>, TextFault> {
     }
 }
 
+/// Whether an object in this object is copied with its members.
+fn copies_again(alloc: Global, all: ObjectRef<'_>) -> bool {
+    match all.object("o") {
+        Some(inner) => match again!(inner.to_object(alloc)) {
+            Ok(copy) => {
+                copy.text("d") == Some("y")
+                    && matches!(copy.list("b"), Some(list) if list.len() == 2)
+            }
+            Err(_) => false,
+        },
+        None => false,
+    }
+}
+
+/// Whether a list of texts in this object has its compact text.
+fn compacts_again(alloc: Global, all: ObjectRef<'_>) -> bool {
+    match again!(all.compact(alloc, "aud")) {
+        Ok(Some(text)) => text.as_slice() == br#"["a"]"#.as_slice(),
+        _ => false,
+    }
+}
+
+/// Whether an object is read, copied, and a list of it written.
+fn reads_again(alloc: Global) -> bool {
+    let text = br#"{"o":{"b":["x",{"c":null}],"d":"y"},"aud":["a"]}"#;
+    match again!(object(alloc, text)) {
+        Ok(all) => copies_again(alloc, all.lend()) && compacts_again(alloc, all.lend()),
+        Err(_) => false,
+    }
+}
+
+/// The fault of a text that is no object text.
+fn fault_again(alloc: Global, octets: &[u8]) -> Option<TextFault> {
+    again!(object(alloc, octets)).err()
+}
+
+/// Whether a text is quoted.
+fn quotes_again(alloc: Global) -> bool {
+    match again!(quoted(alloc, r#"a""#)) {
+        Ok(text) => text.as_slice() == br#""a\"""#.as_slice(),
+        Err(_) => false,
+    }
+}
+
+/// Whether members are written.
+fn writes_again(alloc: Global) -> bool {
+    match again!(written(alloc)) {
+        Ok(text) => text.as_slice() == WRITTEN,
+        Err(_) => false,
+    }
+}
+
 // `rt try --test --fail-alloc N` refuses the Nth allocation: every other answer, and the text that is written, stay the same.
 #[test]
-fn a_refused_growth_changes_no_later_answer(rt: HostRuntime) -> Result<(), Fail> {
+fn a_refused_growth_changes_no_later_answer(rt: HostRuntime) {
     let alloc = rt.alloc();
-    let text = br#"{"o":{"b":["x",{"c":null}],"d":"y"},"aud":["a"]}"#;
-    let all = again!(object(alloc, text))?;
-    assert_eq!(rt;
-        again!(object(alloc, br#"{"a":1,"a":1}"#)).err(),
-        Some(TextFault::NameTwice)
-    );
-    assert_eq!(rt;
-        again!(object(alloc, br#"["a"]"#)).err(),
-        Some(TextFault::NotObject)
-    );
-    assert_eq!(rt;
-        again!(object(alloc, br#"{"a":"#)).err(),
-        Some(TextFault::Json)
-    );
-    let inner = all.object("o").ok_or("no object")?;
-    let copy = again!(inner.to_object(alloc))?;
-    assert_eq!(rt; copy.text("d"), Some("y"));
-    assert_eq!(rt; copy.list("b").ok_or("no list")?.len(), 2);
-    let aud = again!(all.compact(alloc, "aud"))?.ok_or("no text")?;
-    assert_eq!(rt; aud.as_slice(), br#"["a"]"#.as_slice());
-    let quotes = again!(quoted(alloc, r#"a""#))?;
-    assert_eq!(rt; quotes.as_slice(), br#""a\"""#.as_slice());
-    let claims = again!(written(alloc))?;
-    assert_eq!(rt;
-        claims.as_slice(),
-        br#"{"aud":["x","y"],"b":true,"exp":5,"sub":"a"}"#.as_slice()
-    );
-    Ok(())
+    assert!(rt; reads_again(alloc));
+    assert!(rt; fault_again(alloc, br#"{"a":1,"a":1}"#) == TWICE);
+    assert!(rt; fault_again(alloc, br#"["a"]"#) == Some(TextFault::NotObject));
+    assert!(rt; fault_again(alloc, br#"{"a":"#) == Some(TextFault::Json));
+    assert!(rt; quotes_again(alloc));
+    assert!(rt; writes_again(alloc));
 }

@@ -6,8 +6,7 @@ use jwt_keys::{Key, KeySet};
 use jwt_mac::{Alg, Budget, CountUp};
 use jwt_policy::{Claim, ClaimFault};
 use jwt_support::examples::key_set;
-use std::alloc::Global;
-use std::process::Abort;
+use std::alloc::{AllocError, Global};
 use std::test::Fail;
 
 /// 0: 32 zero octets. 1: the 64 octets of the key of RFC 7515, appendix A.1. 2: 19 octets. 3: that may only verify. 4: for HS512,
@@ -98,38 +97,39 @@ fn issue_from(alloc: Global, order: Order) -> Option<Issued> {
     })
 }
 
-/// Asserts that this token was issued, at this cost and by one call.
-fn assert_issued(rt: &impl Abort, issued: &Issued, token: &str, cost: u64) -> Result<(), Fail> {
-    let Ok(found) = &issued.token else {
-        return Err("no token".into());
-    };
-    assert_eq!(rt; found.as_slice(), token.as_bytes());
-    assert_eq!(rt; (issued.octets, issued.calls), (cost, 1));
-    Ok(())
+/// Whether this token was issued, at this cost and by one call.
+fn is_issued(issued: &Issued, token: &str, cost: u64) -> bool {
+    match &issued.token {
+        Ok(found) => {
+            found.as_slice() == token.as_bytes() && issued.octets == cost && issued.calls == 1
+        }
+        Err(_) => false,
+    }
 }
 
-/// Asserts that nothing was issued for this fault, and nothing paid.
-fn assert_unissued(rt: &impl Abort, issued: &Issued, fault: IssueFault) -> Result<(), Fail> {
-    let Err(found) = issued.token else {
-        return Err("a token".into());
-    };
-    assert_eq!(rt; found, fault);
-    assert_eq!(rt; (issued.octets, issued.calls), (0, 0));
-    Ok(())
+/// Whether nothing was issued for this fault, and so many octets and calls paid.
+fn is_unissued(issued: &Issued, fault: IssueFault, octets: u64, calls: u32) -> bool {
+    issued.token.as_ref().err() == Some(&fault) && issued.octets == octets && issued.calls == calls
+}
+
+/// Whether this token is issued from an order, at this cost and by one call.
+fn issues(alloc: Global, order: Order, token: &str, cost: u64) -> bool {
+    match issue_from(alloc, order) {
+        Some(issued) => is_issued(&issued, token, cost),
+        None => false,
+    }
 }
 
 #[test]
-fn tokens_in_compact_form(rt: HostRuntime) -> Result<(), Fail> {
-    let first = issue_from(rt.alloc(), FIRST).ok_or("no key")?;
-    assert_issued(&rt, &first, COMPACT, 200)?;
+fn tokens_in_compact_form(rt: HostRuntime) {
+    assert!(rt; issues(rt.alloc(), FIRST, COMPACT, 200));
     let order = Order {
         alg: Alg::HS512,
         key: 4,
         claims: r#"{ "sub" : "a" }"#,
         ..FIRST
     };
-    let other = issue_from(rt.alloc(), order).ok_or("no key")?;
-    assert_issued(&rt, &other, ESCAPED, 395)
+    assert!(rt; issues(rt.alloc(), order, ESCAPED, 395));
 }
 
 /// That of [`FLAT`].
@@ -140,9 +140,8 @@ const FLATTENED: Order = Order {
 };
 
 #[test]
-fn tokens_in_flattened_form(rt: HostRuntime) -> Result<(), Fail> {
-    let issued = issue_from(rt.alloc(), FLATTENED).ok_or("no key")?;
-    assert_issued(&rt, &issued, FLAT, 184)
+fn tokens_in_flattened_form(rt: HostRuntime) {
+    assert!(rt; issues(rt.alloc(), FLATTENED, FLAT, 184));
 }
 
 /// What may not sign: an algorithm, a key, and why.
@@ -157,23 +156,34 @@ static UNFIT: [(Alg, u32, IssueFault); 8] = [
     (Alg::HS512, 7, IssueFault::KeyUnfit(0)),
 ];
 
-#[test]
-fn keys_that_may_not_sign(rt: HostRuntime) -> Result<(), Fail> {
-    for &(alg, key, fault) in &UNFIT {
-        for form in [Form::Compact, Form::Flat] {
-            let order = Order {
-                form,
-                alg,
-                key,
-                typ: None,
-                ceiling: 0,
-                ..FIRST
-            };
-            let issued = issue_from(rt.alloc(), order).ok_or("no key")?;
-            assert_unissued(&rt, &issued, fault)?;
-        }
+/// Whether nothing is issued in this form for this fault, and nothing paid.
+fn refuses(alloc: Global, form: Form, alg: Alg, key: u32, fault: IssueFault) -> bool {
+    let order = Order {
+        form,
+        alg,
+        key,
+        typ: None,
+        ceiling: 0,
+        ..FIRST
+    };
+    match issue_from(alloc, order) {
+        Some(issued) => is_unissued(&issued, fault, 0, 0),
+        None => false,
     }
-    Ok(())
+}
+
+#[test]
+fn keys_that_may_not_sign(rt: HostRuntime) {
+    for &(alg, key, fault) in &UNFIT {
+        assert!(rt;
+            refuses(rt.alloc(), Form::Compact, alg, key, fault),
+            "{alg:?} by {key}"
+        );
+        assert!(rt;
+            refuses(rt.alloc(), Form::Flat, alg, key, fault),
+            "{alg:?} by {key}"
+        );
+    }
 }
 
 /// These keys with their algorithms.
@@ -215,17 +225,22 @@ static GENERAL: [(&[(Alg, u32)], &str, u64); 3] = [
     (&[(Alg::HS256, 5), (Alg::HS512, 1)], MIXED, 542),
 ];
 
-#[test]
-fn tokens_in_general_form(rt: HostRuntime) -> Result<(), Fail> {
-    for &(numbers, token, cost) in &GENERAL {
-        let issued = issue_general(rt.alloc(), numbers, None, cost).ok_or("no key")?;
-        let Ok(found) = &issued.token else {
-            return Err("no token".into());
-        };
-        assert_eq!(rt; found.as_slice(), token.as_bytes());
-        assert_eq!(rt; issued.octets, cost);
+/// Whether these keys sign this token, at this cost.
+fn issues_general(alloc: Global, numbers: &[(Alg, u32)], token: &str, cost: u64) -> bool {
+    match issue_general(alloc, numbers, None, cost) {
+        Some(issued) => match &issued.token {
+            Ok(found) => found.as_slice() == token.as_bytes() && issued.octets == cost,
+            Err(_) => false,
+        },
+        None => false,
     }
-    Ok(())
+}
+
+#[test]
+fn tokens_in_general_form(rt: HostRuntime) {
+    for &(numbers, token, cost) in &GENERAL {
+        assert!(rt; issues_general(rt.alloc(), numbers, token, cost), "{token}");
+    }
 }
 
 /// Algorithms and keys, a ceiling, why nothing is issued, and the octets and calls that are paid.
@@ -251,14 +266,28 @@ static UNFIT_GENERAL: [(&[(Alg, u32)], u64, IssueFault, (u64, u32)); 4] = [
     ),
 ];
 
-#[test]
-fn pairs_that_may_not_sign(rt: HostRuntime) -> Result<(), Fail> {
-    for &(numbers, ceiling, fault, paid) in &UNFIT_GENERAL {
-        let issued = issue_general(rt.alloc(), numbers, None, ceiling).ok_or("no key")?;
-        assert_eq!(rt; issued.token.as_ref().err(), Some(&fault));
-        assert_eq!(rt; (issued.octets, issued.calls), paid);
+/// Whether these keys sign nothing under a ceiling, for this fault, and this is paid.
+fn refuses_general(
+    alloc: Global,
+    numbers: &[(Alg, u32)],
+    ceiling: u64,
+    fault: IssueFault,
+    paid: (u64, u32),
+) -> bool {
+    match issue_general(alloc, numbers, None, ceiling) {
+        Some(issued) => is_unissued(&issued, fault, paid.0, paid.1),
+        None => false,
     }
-    Ok(())
+}
+
+#[test]
+fn pairs_that_may_not_sign(rt: HostRuntime) {
+    for &(numbers, ceiling, fault, paid) in &UNFIT_GENERAL {
+        assert!(rt;
+            refuses_general(rt.alloc(), numbers, ceiling, fault, paid),
+            "{fault:?}"
+        );
+    }
 }
 
 /// Claims of so many octets: an object and white space.
@@ -292,28 +321,45 @@ fn the_longest_token_has_1048576_octets(rt: HostRuntime) -> Result<(), Fail> {
     Ok(())
 }
 
-#[test]
-fn claims_are_gathered_by_name(rt: HostRuntime) -> Result<(), Fail> {
-    let mut builder = Builder::new(rt.alloc());
+/// The text of claims that are gathered, where a name that stands already is refused.
+fn gathered(alloc: Global) -> Result<ClaimSet, Fail> {
+    let mut builder = Builder::new(alloc);
     builder.text("sub", "a")?;
     builder.whole("exp", 5)?;
     builder.flag("b", true)?;
     builder.audience(&["x", "y"])?;
-    assert_eq!(rt; builder.text("sub", "b"), Err(BuildFault::NameTwice));
-    let claims = builder.finish().ok().ok_or("no claims")?;
+    if builder.text("sub", "b") != Err(BuildFault::NameTwice) {
+        return Err("a name twice".into());
+    }
+    Ok(builder.finish().ok().ok_or("no claims")?)
+}
+
+#[test]
+fn claims_are_gathered_by_name(rt: HostRuntime) -> Result<(), Fail> {
+    let claims = gathered(rt.alloc())?;
     let text = r#"{"aud":["x","y"],"b":true,"exp":5,"sub":"a"}"#;
-    assert_eq!(rt; claims.octets(), text.as_bytes());
+    assert!(rt; claims.octets() == text.as_bytes());
     Ok(())
+}
+
+/// Whether claims with a text for their end are refused for that.
+fn refuses_text_for_date(alloc: Global) -> Result<bool, BuildFault> {
+    let mut builder = Builder::new(alloc);
+    builder.text("exp", "x")?;
+    Ok(matches!(builder.finish(), Err(ClaimFault::ClaimKind(Claim::Exp))))
+}
+
+/// Whether a list is refused as no claims.
+fn refuses_list(alloc: Global) -> Result<bool, AllocError> {
+    let list = b"[]".to_vec(alloc)?;
+    let read = ClaimSet::from_octets(alloc, list);
+    Ok(matches!(read, Err(ClaimFault::ClaimsShape)))
 }
 
 #[test]
 fn claims_of_another_kind_are_refused(rt: HostRuntime) -> Result<(), Fail> {
-    let mut builder = Builder::new(rt.alloc());
-    builder.text("exp", "x")?;
-    assert!(rt; matches!(builder.finish(), Err(ClaimFault::ClaimKind(Claim::Exp))));
-    let list = b"[]".to_vec(rt.alloc())?;
-    let read = ClaimSet::from_octets(rt.alloc(), list);
-    assert!(rt; matches!(read, Err(ClaimFault::ClaimsShape)));
+    assert!(rt; refuses_text_for_date(rt.alloc())?);
+    assert!(rt; refuses_list(rt.alloc())?);
     Ok(())
 }
 

@@ -122,30 +122,48 @@ fn tell(
     Ok(())
 }
 
-#[test]
-fn a_token_is_judged_by_what_was_told(rt: HostRuntime) -> Result<(), Fail> {
-    let alloc = rt.alloc();
+/// The word for what is made of the token in a case.
+fn word_in(
+    alloc: Global,
+    case: Case,
+    keys: &KeySet,
+    policy: &Policy,
+    scratch: &mut Scratch<Global>,
+) -> Result<&'static str, Fail> {
+    let mut answers = Answers::new(alloc);
+    tell(alloc, case, keys, policy, &mut answers)?;
+    let mut budget = policy.budget();
+    let octets = TOKEN_A2.as_bytes();
+    let judged = judge_told(
+        alloc,
+        octets,
+        keys,
+        policy,
+        NOW,
+        &answers,
+        &mut budget,
+        scratch,
+    );
+    Ok(word_of(&judged))
+}
+
+/// The first case whose word is another.
+fn unmet(alloc: Global) -> Result<Option<&'static str>, Fail> {
     let policy = Policy::read(alloc, br#"{"algs":["RS256"]}"#)
         .ok()
         .ok_or("no policy")?;
     let keys = KeySet::read(alloc, KEYS_A2.as_bytes())?;
     let mut scratch = Scratch::new(alloc);
     for &case in &CASES {
-        let mut answers = Answers::new(alloc);
-        tell(alloc, case, &keys, &policy, &mut answers)?;
-        let mut budget = policy.budget();
-        let octets = TOKEN_A2.as_bytes();
-        let judged = judge_told(
-            alloc,
-            octets,
-            &keys,
-            &policy,
-            NOW,
-            &answers,
-            &mut budget,
-            &mut scratch,
-        );
-        assert_eq!(rt; word_of(&judged), case.word, "{}", case.shows);
+        if word_in(alloc, case, &keys, &policy, &mut scratch)? != case.word {
+            return Ok(Some(case.shows));
+        }
     }
+    Ok(None)
+}
+
+#[test]
+fn a_token_is_judged_by_what_was_told(rt: HostRuntime) -> Result<(), Fail> {
+    assert_eq!(rt; unmet(rt.alloc())?, None);
     Ok(())
 }

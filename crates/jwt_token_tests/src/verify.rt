@@ -193,17 +193,24 @@ fn unrefused_at(alloc: Global, keys: &KeySet, policy: &Policy, place: usize) -> 
     None
 }
 
-/// A token with one octet changed is never accepted, and at most one key is tried on it.
-#[test]
-fn a_token_with_one_octet_changed_is_not_accepted(rt: HostRuntime) -> Result<(), Fail> {
-    let keys = key_set(rt.alloc(), r#"{"kty":"oct","k":"<KEY_A>"}"#)?;
-    let policy = Policy::read(rt.alloc(), HS256.as_bytes())
+/// The first octet with a change of which the token isn't refused after at most one try, where there is one.
+fn unrefused(alloc: Global) -> Result<Option<usize>, Fail> {
+    let keys = key_set(alloc, r#"{"kty":"oct","k":"<KEY_A>"}"#)?;
+    let policy = Policy::read(alloc, HS256.as_bytes())
         .ok()
         .ok_or("no policy")?;
     for place in 0..TOKEN_A.len() {
-        let change = unrefused_at(rt.alloc(), &keys, &policy, place);
-        assert_eq!(rt; change, None, "octet {place}");
+        if unrefused_at(alloc, &keys, &policy, place).is_some() {
+            return Ok(Some(place));
+        }
     }
+    Ok(None)
+}
+
+/// A token with one octet changed is never accepted, and at most one key is tried on it.
+#[test]
+fn a_token_with_one_octet_changed_is_not_accepted(rt: HostRuntime) -> Result<(), Fail> {
+    assert_eq!(rt; unrefused(rt.alloc())?, None);
     Ok(())
 }
 
