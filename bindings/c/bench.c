@@ -106,13 +106,14 @@ static void deny_each(fow_validator *validator, uint64_t tries)
     }
 }
 
-static void time_many(const char *label, const char *name, const char *member)
+/* Each key is tried, so the policy allows as many calls. */
+static void time_many(const char *label, const char *name, const char *member, const char *alg)
 {
     static char set[KEYS_MOST];
     fow_validator validator = FOW_VALIDATOR_INIT;
     fow_report report;
     uint32_t fault;
-    read_named(&policy, name, "policy");
+    policy.len = (size_t)sprintf((char *)policy.at, "{\"version\":2,\"algs\":[\"%s\"],\"max_calls\":%d}", alg, KEYS);
     read_named(&keys, name, "keys");
     read_named(&token, name, "jwt");
     size_t len = other_keys(set, KEYS_MOST, &keys, member, KEYS);
@@ -130,8 +131,8 @@ int main(int argc, char **argv)
     time_hmac(argv[1]);
     time_rsa(argv[2]);
     if (argc == 4) {
-        time_many("RS256: 1,024 keys that are denied", argv[2], "\"n\":\"");
-        time_many("ES256: 1,024 keys that are denied", argv[3], "\"x\":\"");
+        time_many("RS256: 1,024 keys that are denied", argv[2], "\"n\":\"", "RS256");
+        time_many("ES256: 1,024 keys that are denied", argv[3], "\"x\":\"", "ES256");
     }
     return 0;
 }

@@ -57,6 +57,14 @@ static uint32_t open_it(void)
     return fow_open(&validator, policy.at, policy.len, keys.at, keys.len, &fault);
 }
 
+/* A second validator on the same documents, which is opened anew where it is open. */
+static fow_validator second = FOW_VALIDATOR_INIT;
+
+static uint32_t open_beside(void)
+{
+    return fow_open_beside(&second, &validator);
+}
+
 static uint32_t judge_it(void)
 {
     fow_report report;
@@ -90,6 +98,17 @@ static uint32_t answer_it(void)
 static uint32_t answer_by_rsa(void)
 {
     return fow_answer_rsa(&validator, token.at, token.len, 0, 0);
+}
+
+static uint32_t answer_by_proof(void)
+{
+    return fow_answer_proved(&validator, token.at, token.len, 0, 0);
+}
+
+static uint32_t judge_by_proof(void)
+{
+    fow_report report;
+    return fow_proved_judge(&validator, token.at, token.len, NOW, &report);
 }
 
 static uint32_t answer_by_ed25519(void)
@@ -155,6 +174,8 @@ static void refuse_on(const char *name, uint32_t verdict, uint32_t (*answer)(voi
     read_named(&token, name, "jwt");
     long before = held;
     refuse_each("fow_open", open_it, FOW_OK);
+    refuse_each("fow_open_beside", open_beside, FOW_OK);
+    refuse_each("fow_open_beside, opened anew", open_beside, FOW_OK);
     refuse_each("fow_judge", judge_it, verdict);
     refuse_each("fow_asked", asked_of_it, verdict == FOW_ASKS ? FOW_OK : FOW_ABSENT);
     refuse_each("fow_payload", payload_of_it, FOW_OK);
@@ -168,6 +189,14 @@ static void refuse_on(const char *name, uint32_t verdict, uint32_t (*answer)(voi
     fow_forget(&validator);
     refuse_each("fow_answer_rsa", answer_by_rsa, answer == answer_by_rsa ? FOW_OK : FOW_ABSENT);
     refuse_each("fow_answer_ed25519", answer_by_ed25519, answer == answer_by_ed25519 ? FOW_OK : FOW_ABSENT);
+    refuse_each("fow_answer_proved", answer_by_proof, verdict == FOW_ASKS ? FOW_OK : FOW_ABSENT);
+    refuse_each("fow_proved_judge", judge_by_proof, FOW_OK);
+    fow_close(&validator);
+
+    /* (the second holds the documents on) */
+    validator = second;
+    second = (fow_validator)FOW_VALIDATOR_INIT;
+    refuse_each("fow_judge, beside", judge_it, verdict);
     fow_close(&validator);
     CHECK(held == before);
 }

@@ -35,6 +35,8 @@ static void check_unopened(fow_validator *validator)
     CHECK(fow_answer_asked(validator, true) == FOW_NOT_OPEN);
     CHECK(fow_answer_rsa(validator, out, 0, 0, 0) == FOW_NOT_OPEN);
     CHECK(fow_answer_ed25519(validator, out, 0, 0, 0) == FOW_NOT_OPEN);
+    CHECK(fow_answer_proved(validator, out, 0, 0, 0) == FOW_NOT_OPEN);
+    CHECK(fow_proved_judge(validator, out, 0, NOW, &report) == FOW_NOT_OPEN);
     CHECK(fow_payload(validator, out, 0, out + 1, sizeof out - 1, &written) == FOW_NOT_OPEN);
     CHECK(fow_unverified_header(validator, out, 0, 0, out + 1, sizeof out - 1, &written) == FOW_NOT_OPEN);
     CHECK(fow_claim(validator, (const uint8_t *)"iss", 3, out, sizeof out, &written) == FOW_NOT_OPEN);
@@ -42,9 +44,45 @@ static void check_unopened(fow_validator *validator)
     CHECK(fow_number(validator, (const uint8_t *)"exp", 3, &number) == FOW_NOT_OPEN);
     CHECK(fow_issue(validator, FOW_HS256, FOW_COMPACT, 0, out, 0, (const uint8_t *)"{}", 2, out, sizeof out, &written, &report)
         == FOW_NOT_OPEN);
+    fow_validator second = FOW_VALIDATOR_INIT;
+    CHECK(fow_open_beside(&second, validator) == FOW_NOT_OPEN);
+    CHECK(fow_judge(&second, out, 0, NOW, &report) == FOW_NOT_OPEN);
     fow_forget(validator);
     fow_close(validator);
     fow_close(validator);
+}
+
+/* What is told to a validator isn't told to one beside it, which stays as it is where the other holds nothing, or is closed. */
+static void check_beside(const char *hmac, const char *rsa)
+{
+    fow_validator one = FOW_VALIDATOR_INIT, two = FOW_VALIDATOR_INIT, none = FOW_VALIDATOR_INIT;
+    fow_report report;
+    uint8_t out[MOST];
+    size_t written;
+    open_named(&two, hmac);
+    open_named(&one, rsa);
+    CHECK(fow_judge(&one, token.at, token.len, NOW, &report) == FOW_ASKS);
+    CHECK(fow_answer_rsa(&one, token.at, token.len, 0, 0) == FOW_OK);
+    CHECK(fow_judge(&one, token.at, token.len, NOW, &report) == FOW_OK);
+
+    /* (of the second, other documents are held, which are let go) */
+    CHECK(fow_judge(&two, token.at, token.len, NOW, &report) == FOW_REFUSED && report.fault == FOW_SIG_ALG_NOT_ALLOWED);
+    CHECK(fow_open_beside(&two, &none) == FOW_NOT_OPEN);
+    CHECK(fow_judge(&two, token.at, token.len, NOW, &report) == FOW_REFUSED && report.fault == FOW_SIG_ALG_NOT_ALLOWED);
+    CHECK(fow_open_beside(&two, &one) == FOW_OK);
+    CHECK(fow_number(&two, (const uint8_t *)"exp", 3, &(int64_t){ 0 }) == FOW_ABSENT);
+    CHECK(fow_judge(&two, token.at, token.len, NOW, &report) == FOW_ASKS);
+    CHECK(fow_judge(&one, token.at, token.len, NOW, &report) == FOW_OK);
+
+    /* (the first to be opened goes first, and the documents stay) */
+    fow_close(&one);
+    CHECK(fow_answer_rsa(&two, token.at, token.len, 0, 0) == FOW_OK);
+    CHECK(fow_judge(&two, token.at, token.len, NOW, &report) == FOW_OK);
+    CHECK(fow_payload(&two, token.at, token.len, out, sizeof out, &written) == FOW_OK);
+    CHECK(fow_open_beside(&one, &two) == FOW_OK);
+    fow_close(&two);
+    CHECK(fow_judge(&one, token.at, token.len, NOW, &report) == FOW_ASKS);
+    fow_close(&one);
 }
 
 /* Documents that are refused leave what is held as it was. */
@@ -104,6 +142,8 @@ static void check_no_token(const char *name)
     CHECK(fow_ask(&validator, zeros, 3, 0, 0, out, sizeof out, &asked) == FOW_ABSENT);
     CHECK(fow_answer(&validator, zeros, 3, 0, 0, true) == FOW_ABSENT);
     CHECK(fow_answer_ed25519(&validator, zeros, 3, 0, 0) == FOW_ABSENT);
+    CHECK(fow_answer_proved(&validator, zeros, 3, 0, 0) == FOW_ABSENT);
+    CHECK(fow_proved_judge(&validator, zeros, 3, NOW, &report) == FOW_REFUSED && report.fault == FOW_FORM_SEGMENTS);
     CHECK(fow_asked(&validator, out, sizeof out, &asked) == FOW_ABSENT);
     CHECK(fow_answer_asked(&validator, true) == FOW_ABSENT);
     CHECK(fow_payload(&validator, zeros, 3, out, sizeof out, &written) == FOW_ABSENT);
@@ -231,6 +271,7 @@ int main(int argc, char **argv)
     check_answers(argv[1], argv[2]);
     check_tries(argv[2]);
     check_issuing(argv[1]);
+    check_beside(argv[1], argv[2]);
     puts("each misuse is answered as it must be");
     return 0;
 }

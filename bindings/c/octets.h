@@ -29,9 +29,23 @@ static inline octets *read_named(octets *file, const char *name, const char *end
     CHECK(snprintf(path, sizeof path, "%s.%s", name, end) < (int)sizeof path);
     FILE *stream = fopen(path, "rb");
     CHECK(stream != NULL);
-    file->len = fread(file->at, 1, MOST, stream);
+    file->len = fread(file->at, 1, MOST - 1, stream);
     fclose(stream);
+    /* (it is searched as a text, and the file before it may have been longer) */
+    memset(file->at + file->len, 0, MOST - file->len);
     return file;
+}
+
+/* Writes octets in base64url (RFC 4648, section 5) without padding, and gives how many characters these are. */
+static inline size_t encode(const uint8_t *octets, size_t len, char *out)
+{
+    static const char characters[] = "ABCDEFGHIJKLMNOPQRSTUVWXYZabcdefghijklmnopqrstuvwxyz0123456789-_";
+    size_t written = 0;
+    for (size_t bit = 0; bit < 8 * len; bit += 6) {
+        unsigned pair = (unsigned)octets[bit / 8] << 8 | (bit / 8 + 1 < len ? octets[bit / 8 + 1] : 0);
+        out[written++] = characters[pair >> (10 - bit % 8) & 63];
+    }
+    return written;
 }
 
 /* Writes a key set of so many keys at `set`: the one key of `keys`, each time with other characters in the middle of the text of its

@@ -45,16 +45,17 @@ static uint32_t judge_by_proofs(fow_validator *validator, const octets *token, f
     fow_forget(validator);
     while (fow_judge(validator, token->at, token->len, NOW, report) == FOW_ASKS
         && (fow_answer_rsa(validator, token->at, token->len, report->signature, report->key) == FOW_OK
-            || fow_answer_ed25519(validator, token->at, token->len, report->signature, report->key) == FOW_OK))
+            || fow_answer_ed25519(validator, token->at, token->len, report->signature, report->key) == FOW_OK
+            || fow_answer_proved(validator, token->at, token->len, report->signature, report->key) == FOW_OK))
         ;
     return report->verdict;
 }
 
-/* The algorithms of which the library has no proved verifier: those of elliptic curves, and EdDSA with Ed448. */
+/* EdDSA with Ed448 is what the library has no proved verifier for. */
 static int is_left_to_openssl(const char *name)
 {
     const char *last = strrchr(name, '/') == NULL ? name : strrchr(name, '/') + 1;
-    return strncmp(last, "ES", 2) == 0 || strcmp(last, "rfc7515-a3") == 0 || strcmp(last, "Ed448") == 0;
+    return strcmp(last, "Ed448") == 0;
 }
 
 /* What the proved verifiers say of the token is what OpenSSL says; where there is none, the verdict stays open. */

@@ -3,6 +3,7 @@
  * POLICY, KEYS and TOKEN are files; NOW is in seconds since 1970-01-01T00:00:00Z, and the clock's moment where it is left out. Prints
  * the claims, or why the token is refused. Ends with 0 where it is accepted, 1 where it isn't, 2 for wrong words, 3 for a file that
  * can't be read. */
+#include <errno.h>
 #include <fowharimu_openssl.h>
 #include <inttypes.h>
 #include <stdio.h>
@@ -38,6 +39,19 @@ static void print_refusal(const char *what, const fow_report *report)
         printf("%s: status %" PRIu32 "\n", what, report->verdict);
 }
 
+/* The moment that a word names; the program ends with 2 where it names none that 64 bits have. */
+static int64_t moment_of(const char *word)
+{
+    char *end;
+    errno = 0;
+    long long moment = strtoll(word, &end, 10);
+    if (errno != 0 || end == word || *end != '\0') {
+        fprintf(stderr, "validate: %s is no moment\n", word);
+        exit(2);
+    }
+    return moment;
+}
+
 static void print_claims(fow_validator *validator, octets token)
 {
     size_t len = 0;
@@ -54,7 +68,7 @@ int main(int argc, char **argv)
         return 2;
     }
     octets policy = read_file(argv[1]), keys = read_file(argv[2]), token = read_file(argv[3]);
-    int64_t now = argc == 5 ? strtoll(argv[4], NULL, 10) : (int64_t)time(NULL);
+    int64_t now = argc == 5 ? moment_of(argv[4]) : (int64_t)time(NULL);
     fow_validator validator = FOW_VALIDATOR_INIT;
     fow_openssl crypto = FOW_OPENSSL_INIT;
     fow_report report = { 0 };
