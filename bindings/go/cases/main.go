@@ -1,0 +1,208 @@
+// Command cases answers each case of a table that bindings/cases/make wrote, over OpenSSL: cases FILE. bindings/cases/README.md says what a
+// line is.
+package main
+
+import (
+	"bufio"
+	"encoding/hex"
+	"encoding/json"
+	"errors"
+	"fmt"
+	"io"
+	"log"
+	"os"
+	"strconv"
+	"strings"
+	"time"
+
+	"example.org/fowharimu"
+)
+
+// said is an answer. What it doesn't speak of is 0 or empty.
+type said struct {
+	verdict, fault, claim, states, tries, claims string
+	part, signature, key                         int
+	work                                         uint64
+}
+
+func main() {
+	if len(os.Args) != 2 {
+		log.Fatal("usage: cases FILE")
+	}
+	table, err := os.Open(os.Args[1])
+	fatal(err)
+	lines, out := bufio.NewReader(table), bufio.NewWriter(os.Stdout)
+	var validator *fowharimu.Validator
+	var refused error
+	for {
+		line, err := lines.ReadString('\n')
+		if err == io.EOF {
+			break
+		}
+		fatal(err)
+		words := strings.Fields(line)
+		if words[0] == "open" {
+			validator, refused = fowharimu.Open(octetsOf(words[1]), octetsOf(words[2]))
+		} else if answer, isAsked := answered(validator, refused, words); isAsked {
+			fmt.Fprintf(out, "%s\t%s\n", words[1], answer)
+		}
+	}
+	fatal(out.Flush())
+}
+
+// answered gives the answer to a case, and whether it could be asked.
+func answered(validator *fowharimu.Validator, refused error, words []string) (said, bool) {
+	if refused != nil {
+		return refusedFor(refused), true
+	}
+	if words[0] == "judge" {
+		now, err := strconv.ParseInt(words[2], 10, 64)
+		fatal(err)
+		return judged(validator, string(octetsOf(words[3])), time.Unix(now, 0)), true
+	}
+	return issued(validator, words[2:])
+}
+
+// judged gives the report on a token, and its claims. What ValidateAt says has to be the same.
+func judged(validator *fowharimu.Validator, token string, now time.Time) said {
+	report, err := validator.JudgeAt(token, now)
+	fatal(err)
+	claims, refusal := validator.ValidateAt(token, now)
+	answer := said{verdict: "accepted", claims: claims.String()}
+	if report.Refusal != nil {
+		answer = refusedFor(report.Refusal)
+		if refusal == nil || refusal.Error() != report.Refusal.Error() {
+			log.Fatalf("ValidateAt says %v, JudgeAt %v", refusal, report.Refusal)
+		}
+		checkPair(answer, report)
+	} else {
+		fatal(refusal)
+	}
+	answer.signature, answer.key, answer.work = report.Signature, report.Key, report.Work
+	var states, tries []string
+	for _, it := range report.States {
+		states = append(states, fmt.Sprintf("%d/%s/%d", int(it.State), it.Fault, it.Key))
+	}
+	for _, it := range report.Tries {
+		tries = append(tries, fmt.Sprintf("%d/%d/%d", it.Signature, it.Key, it.Cost))
+	}
+	answer.states, answer.tries = strings.Join(states, ","), strings.Join(tries, ",")
+	return answer
+}
+
+// checkPair ends the program where a refusal names another signature or key than its report.
+func checkPair(answer said, report fowharimu.Report) {
+	kind, _, _ := strings.Cut(answer.fault, ".")
+	namesKey := answer.verdict == "asks" || kind == "ceiling"
+	if namesKey && answer.key != report.Key {
+		log.Fatal("the refusal and the report name other keys")
+	}
+	if (namesKey || kind == "form" || kind == "signature") && answer.signature != report.Signature {
+		log.Fatal("the refusal and the report name other signatures")
+	}
+}
+
+// issued gives the answer to claims that are to be issued. Those that json.Marshal would write otherwise can't be asked.
+func issued(validator *fowharimu.Validator, words []string) (said, bool) {
+	claims := json.RawMessage(octetsOf(words[4]))
+	written, err := json.Marshal(claims)
+	if err != nil || string(written) != string(claims) {
+		return said{}, false
+	}
+	how := fowharimu.Issuing{
+		Algorithm: fowharimu.Algorithm(numberOf(words[0]) - 1),
+		Form:      fowharimu.Form(numberOf(words[1]) - 1),
+		Key:       numberOf(words[2]),
+		Type:      string(octetsOf(words[3])),
+	}
+	token, err := validator.Issue(claims, how)
+	if err != nil {
+		return refusedFor(err), true
+	}
+	return said{verdict: "accepted", claims: token}, true
+}
+
+// refusedFor gives what an error says. One that says nothing of the case ends the program.
+func refusedFor(err error) said {
+	answer := said{verdict: "refused"}
+	var policy *fowharimu.PolicyError
+	var keys *fowharimu.KeysError
+	var long *fowharimu.TooLongError
+	var form *fowharimu.FormError
+	var ceiling *fowharimu.CeilingError
+	var signature *fowharimu.SignatureError
+	var claims *fowharimu.ClaimsError
+	var undecided *fowharimu.UndecidedError
+	var issue *fowharimu.IssueError
+	switch {
+	case errors.As(err, &policy):
+		answer.fault, answer.claim = "policy."+policy.Fault, policy.Member
+	case errors.As(err, &keys):
+		answer.fault = "keys." + keys.Fault
+	case errors.As(err, &long):
+		answer.fault = "text." + long.Fault
+	case errors.As(err, &form):
+		answer.fault, answer.part, answer.signature = "form."+form.Fault, int(form.Part), form.Signature
+	case errors.As(err, &ceiling):
+		answer.fault, answer.signature, answer.key = "ceiling."+ceiling.Fault, ceiling.Signature, ceiling.Key
+	case errors.As(err, &signature):
+		answer.fault, answer.signature = "signature."+signature.Fault, signature.Signature
+	case errors.As(err, &claims):
+		answer.fault, answer.claim = "claims."+claims.Fault, claims.Claim
+	case errors.As(err, &undecided):
+		answer.verdict, answer.signature, answer.key = "asks", undecided.Signature, undecided.Key
+	case errors.As(err, &issue):
+		answer.fault, answer.claim, answer.signature = kindOf(issue)+issue.Fault, issue.Claim, issue.Signature
+	default:
+		fatal(err)
+	}
+	return answer
+}
+
+// kindOf tells the faults of claims, for which issuing refuses too, from its own.
+func kindOf(issue *fowharimu.IssueError) string {
+	if strings.HasPrefix(issue.Fault, "Claim") {
+		return "claims."
+	}
+	return "issue."
+}
+
+// String is the answer as a line has it.
+func (s said) String() string {
+	fault := s.fault
+	if fault == "" {
+		fault = "-"
+	}
+	return fmt.Sprintf("%s\t%s\t%d\t%d\t%d\t%s\t%d\t%s\t%s\t%s", s.verdict, fault, s.part, s.signature, s.key, spelled(s.claim), s.work,
+		s.states, s.tries, spelled(s.claims))
+}
+
+// spelled is a text in hexadecimal, and - where it is empty.
+func spelled(text string) string {
+	if text == "" {
+		return "-"
+	}
+	return hex.EncodeToString([]byte(text))
+}
+
+// octetsOf gives the octets that a word of the table spells.
+func octetsOf(word string) []byte {
+	if word == "-" {
+		return nil
+	}
+	octets, err := hex.DecodeString(word)
+	fatal(err)
+	return octets
+}
+
+func numberOf(word string) int {
+	number, err := strconv.Atoi(word)
+	fatal(err)
+	return number
+}
+
+func fatal(err error) {
+	if err != nil {
+		log.Fatal(err)
+	}
+}

@@ -1,0 +1,121 @@
+"""The cases of bindings/cases that a request can carry, asked of nginx: what the module says has to be the stored answer.
+
+A request carries a token in its header Authorization: one without NUL, line feeds and carriage returns, and without a space at either end. A policy
+or a key set that is refused has no location. The moment is the same for all, that of most cases, by moment.c, which is preloaded.
+"""
+import http.client
+import json
+import os
+import pathlib
+import subprocess
+import tempfile
+from typing import Callable, Iterator, NamedTuple
+
+from server import TOP, Nginx
+
+TABLE = TOP / "build/cases"
+NOW = "1300819379"
+SHOWN = "".join(f"add_header X-{it.title()} $jwt_{it} always;" for it in ("verdict", "fault", "tries", "work", "claim_iss"))
+HEADERS = ("x-verdict", "x-fault", "x-tries", "x-work", "x-claim_iss")
+
+
+class Asked(NamedTuple):
+    """A case with the number of its location, and the fields of its stored answer."""
+
+    name: str
+    place: int
+    token: bytes
+    answer: list[str]
+
+
+def octets_of(word: str) -> bytes:
+    """The octets that a word of the table spells."""
+    return b"" if word == "-" else bytes.fromhex(word)
+
+
+def is_carried(now: str, token: bytes, answer: list[str]) -> bool:
+    """Whether a request can carry the token at this moment, under a policy and a key set that aren't refused."""
+    documents = answer[1].startswith(("policy.", "keys."))
+    return now == NOW and not documents and not set(token) & set(b"\0\r\n") and token == token.strip(b" ")
+
+
+def read_cases() -> tuple[list[tuple[bytes, bytes]], list[Asked], int]:
+    """The documents of each location, the cases that are asked, and how many tokens there are in all."""
+    answers = dict(it.split("\t", 1) for it in (TABLE / "openssl.tsv").read_text().splitlines())
+    documents: list[tuple[bytes, bytes]] = []
+    cases: list[Asked] = []
+    opened, count = (b"", b""), 0
+    with (TABLE / "cases.txt").open() as table:
+        for line in table:
+            what, *words = line.split()
+            if what == "open":
+                opened = (octets_of(words[0]), octets_of(words[1]))
+            elif what == "judge":
+                name, now, token = words[0], words[1], octets_of(words[2])
+                answer, count = answers[name].split("\t"), count + 1
+                if is_carried(now, token, answer):
+                    if not documents or documents[-1] != opened:
+                        documents.append(opened)
+                    cases.append(Asked(name, len(documents) - 1, token, answer))
+    return documents, cases, count
+
+
+def shown_issuer(claims: str) -> str:
+    """What $jwt_claim_iss has to be: a text without control characters, a whole number of 64 bits, a list of texts; else nothing."""
+    value = json.loads(bytes.fromhex(claims)).get("iss") if claims != "-" else None
+    return value if isinstance(value, str) and not any(ord(it) < 32 or ord(it) == 127 for it in value) else ""
+
+
+def expected(case: Asked) -> dict[str, str]:
+    """The headers that the stored answer comes to. Of claims whose digest alone is stored the issuer isn't compared."""
+    verdict, fault, *_, work, states, tries, claims = case.answer
+    found = {
+        "x-verdict": verdict,
+        "x-fault": fault.partition(".")[2],
+        "x-tries": str(len(tries.split(","))) if tries else "0",
+        "x-work": work,
+    }
+    if not claims.startswith("sha256:"):
+        found["x-claim_iss"] = shown_issuer(claims)
+    return found
+
+
+def differences(nginx: Nginx, cases: list[Asked]) -> Iterator[str]:
+    """Each case to which nginx answers otherwise. Connections are kept open."""
+    connection = http.client.HTTPConnection("127.0.0.1", nginx.port, timeout=20)
+    for case in cases:
+        connection.putrequest("GET", f"/{case.place}", skip_accept_encoding=True)
+        connection.putheader("Authorization", b"Bearer " + case.token)
+        connection.endheaders()
+        answer = connection.getresponse()
+        answer.read()
+        wanted = expected(case)
+        said = {name: (answer.getheader(name) or "").encode("latin-1").decode("utf-8", "replace") for name in wanted}
+        if said != wanted or answer.status != (200 if wanted["x-verdict"] == "accepted" else 401):
+            yield f"{case.name}: {answer.status} {said}, and not {wanted}"
+    connection.close()
+
+
+def run(check: Callable[..., None]) -> None:
+    """Asks all that can be carried, and says how many these are."""
+    made = subprocess.run([TOP / "bindings/cases/make", TABLE], stdout=subprocess.PIPE, stderr=subprocess.STDOUT, text=True)
+    check("cases made", made.returncode == 0, made.stdout)
+    if made.returncode:
+        return
+    documents, cases, count = read_cases()
+    with tempfile.TemporaryDirectory() as name:
+        room = pathlib.Path(name)
+        library = room / "moment.so"
+        subprocess.run([os.environ.get("CC", "cc"), "-O1", "-shared", "-fPIC", "-o", library, TOP / "bindings/nginx/moment.c"], check=True)
+        nginx = Nginx(room, workers=1, logs=False, LD_PRELOAD=str(library), MOMENT=NOW)
+        nginx.write("html/page", "the page\n")
+        for place, (policy, keys) in enumerate(documents):
+            nginx.write(f"{place}.policy", policy)
+            nginx.write(f"{place}.keys", keys)
+        locations = "\n".join(
+            f"location = /{place} {{ jwt on; jwt_policy {place}.policy; jwt_keys {place}.keys; try_files /page =404; }}" for place in range(len(documents))
+        )
+        nginx.configure(f"server {{ listen 127.0.0.1:{{port}}; {SHOWN} {locations} }}")
+        with nginx.running():
+            found = list(differences(nginx, cases))
+    check(f"{len(cases)} cases of {count} in {len(documents)} locations", len(cases) >= 3000 and not found, "\n  ".join(found[:20]))

@@ -1,0 +1,142 @@
+//! Answers each case of a table that `bindings/cases/make` wrote, over OpenSSL: cases FILE. `bindings/cases/README.md` says what a line is.
+//! `?` stands for what this crate doesn't show. It doesn't issue.
+
+use fowharimu::{Error, Part, Validator};
+use std::fs::File;
+use std::io::{self, BufRead, BufReader, BufWriter, Write};
+use std::{env, error};
+
+type Failure = Box<dyn error::Error>;
+
+/// The octets that a word of the table spells.
+fn octets_of(word: &str) -> Result<Vec<u8>, Failure> {
+    if word == "-" {
+        return Ok(Vec::new());
+    }
+    (0..word.len())
+        .step_by(2)
+        .map(|at| {
+            let pair = word.get(at..at + 2).ok_or("half an octet")?;
+            Ok(u8::from_str_radix(pair, 16)?)
+        })
+        .collect()
+}
+
+/// A text in hexadecimal, and `-` where it is empty.
+fn spelled(text: &str) -> String {
+    if text.is_empty() {
+        return "-".to_owned();
+    }
+    text.bytes().map(|it| format!("{it:02x}")).collect()
+}
+
+fn part_number(part: Option<Part>) -> u32 {
+    match part {
+        None => 0,
+        Some(Part::Payload) => 1,
+        Some(Part::Protected) => 2,
+        Some(Part::Signature) => 3,
+    }
+}
+
+/// The answer that an error is. One that says nothing of the case is handed on.
+fn refused(error: Error) -> Result<String, Error> {
+    let none = String::new;
+    let (fault, part, signature, key, claim) = match error {
+        Error::Policy { fault, member } => {
+            let member = spelled(&member.unwrap_or_default());
+            return Ok(format!(
+                "refused\tpolicy.{fault}\t0\t0\t0\t{member}\t0\t\t\t-"
+            ));
+        }
+        Error::Keys { fault } => return Ok(format!("refused\tkeys.{fault}\t0\t0\t0\t-\t0\t\t\t-")),
+        Error::TooLong => (
+            "text.TooLong".to_owned(),
+            0,
+            "0".to_owned(),
+            "0".to_owned(),
+            none(),
+        ),
+        Error::Form {
+            fault,
+            part,
+            signature,
+        } => (
+            format!("form.{fault}"),
+            part_number(part),
+            signature.to_string(),
+            "0".to_owned(),
+            none(),
+        ),
+        Error::Ceiling {
+            fault,
+            signature,
+            key,
+        } => (
+            format!("ceiling.{fault}"),
+            0,
+            signature.to_string(),
+            key.to_string(),
+            none(),
+        ),
+        Error::Signature { fault, signature } => (
+            format!("signature.{fault}"),
+            0,
+            signature.to_string(),
+            "?".to_owned(),
+            none(),
+        ),
+        Error::Claims { fault, claim } => (
+            format!("claims.{fault}"),
+            0,
+            "?".to_owned(),
+            "?".to_owned(),
+            claim.unwrap_or_default(),
+        ),
+        Error::Undecided { signature, key } => {
+            return Ok(format!("asks\t-\t0\t{signature}\t{key}\t-\t?\t?\t?\t-"));
+        }
+        other => return Err(other),
+    };
+    let claim = spelled(&claim);
+    Ok(format!(
+        "refused\t{fault}\t{part}\t{signature}\t{key}\t{claim}\t?\t?\t?\t-"
+    ))
+}
+
+/// The answer to a token.
+fn judged(opened: &Result<Validator, Error>, now: &str, token: &str) -> Result<String, Failure> {
+    let validator = match opened {
+        Ok(validator) => validator,
+        Err(error) => return Ok(refused(error.clone())?),
+    };
+    match validator.validate_at(&octets_of(token)?, now.parse()?) {
+        Ok(claims) => Ok(format!(
+            "accepted\t-\t0\t?\t?\t-\t?\t?\t?\t{}",
+            spelled(claims.json())
+        )),
+        Err(error) => Ok(refused(error)?),
+    }
+}
+
+fn main() -> Result<(), Failure> {
+    let name = env::args().nth(1).ok_or("usage: cases FILE")?;
+    let mut out = BufWriter::new(io::stdout().lock());
+    let mut opened = None;
+    for line in BufReader::new(File::open(name)?).lines() {
+        let line = line?;
+        let words: Vec<&str> = line.split(' ').collect();
+        match (words.as_slice(), &opened) {
+            (["open", policy, keys], _) => {
+                opened = Some(Validator::open(&octets_of(policy)?, &octets_of(keys)?));
+            }
+            (["judge", name, now, token], Some(opened)) => {
+                writeln!(out, "{name}\t{}", judged(opened, now, token)?)?
+            }
+            (["issue", ..], Some(_)) => {}
+            _ => return Err("the table has another line".into()),
+        }
+    }
+    out.flush()?;
+    Ok(())
+}
