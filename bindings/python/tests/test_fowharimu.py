@@ -1,20 +1,38 @@
 """Tests of the package, over the tokens of the repository."""
 
+import array
+import base64
+import contextlib
+import copy
+import gc
+import hmac
+import json
+import os
 import pathlib
+import pickle
+import sys
 import threading
+import time
 import unittest
+from typing import Any, Callable, Iterator, List
 
 from fowharimu import (
     CeilingReached,
     ClaimsRefused,
+    Closed,
     FormRefused,
+    FowharimuError,
     IssueRefused,
     KeysRefused,
     PolicyRefused,
     SignatureRefused,
     TokenRefused,
     TooLong,
+    Undecided,
+    Unreadable,
     Validator,
+    _library,
+    _object,
 )
 
 TOP = pathlib.Path(__file__).resolve().parents[3]
@@ -102,12 +120,166 @@ class Refusals(unittest.TestCase):
             Validator({"algs": ["HS256"]}, {})
         self.assertEqual(keys.exception.fault, "NotKeySet")
 
-    def test_a_closed_validator_refuses(self) -> None:
+    def test_a_closed_validator_says_so_in_every_call(self) -> None:
         validator = validator_of(HMAC)
         validator.close()
         validator.close()
-        with self.assertRaises(TokenRefused):
-            validator.validate(token_of(HMAC), NOW)
+        token = token_of(HMAC)
+        calls: List[Callable[[], Any]] = [
+            lambda: validator.validate(token, NOW),
+            lambda: validator.judge(token, NOW),
+            lambda: validator.unverified_header(token),
+            lambda: validator.issue({}),
+        ]
+        for call in calls:
+            with self.assertRaises(Closed):
+                call()
+
+
+@contextlib.contextmanager
+def transaction() -> Iterator[None]:
+    """What a service puts around its work: contextlib writes to an exception that passes through it."""
+    yield
+
+
+class Exceptions(unittest.TestCase):
+    def test_a_refusal_passes_through_context_managers(self) -> None:
+        with validator_of(HMAC) as validator:
+            with self.assertRaises(FormRefused), transaction():
+                validator.validate("a.b")
+            with self.assertRaises(FormRefused), contextlib.ExitStack() as stack:
+                stack.enter_context(transaction())
+                stack.callback(lambda: None)
+                validator.validate("a.b")
+
+    def test_each_is_copied_and_pickled_and_takes_notes(self) -> None:
+        every: List[FowharimuError] = [
+            PolicyRefused("Member", "audience"),
+            KeysRefused("NotKeySet"),
+            TokenRefused("Expired"),
+            TooLong("TooLong"),
+            FormRefused("Base64", "payload", 0),
+            CeilingReached("CallsExceeded", 1, 2),
+            SignatureRefused("BadSignature", 3),
+            ClaimsRefused("ClaimMissing", "role"),
+            Undecided("Undecided", 1, 2),
+            Unreadable("Claims", b"{}"),
+            IssueRefused("NoKey", 4),
+            Closed(),
+        ]
+        for error in every:
+            with self.subTest(type(error).__name__):
+                for other in (copy.copy(error), copy.deepcopy(error), pickle.loads(pickle.dumps(error))):
+                    self.assertEqual((type(other), vars(other), str(other)), (type(error), vars(error), str(error)))
+                if sys.version_info >= (3, 11):
+                    error.add_note("of this request")
+                    self.assertEqual(error.__notes__, ["of this request"])
+
+
+class Arguments(unittest.TestCase):
+    def setUp(self) -> None:
+        self.validator = validator_of(HMAC)
+        self.addCleanup(self.validator.close)
+        self.token = token_of(HMAC)
+
+    def test_a_token_is_a_str_or_bytes_like(self) -> None:
+        octets = self.token.encode()
+        for token in (octets, bytearray(octets), memoryview(octets), array.array("B", octets)):
+            self.assertEqual(self.validator.validate(token, NOW)["iss"], "joe")
+        for wrong in (5, 123_456_789, True, None, 1.5, [101], {"a": 1}, object()):
+            with self.subTest(repr(wrong)):
+                for call in (self.validator.validate, self.validator.judge, self.validator.unverified_header):
+                    with self.assertRaises(TypeError):
+                        call(wrong)
+        for wrong in (5, None, [1]):
+            with self.assertRaises(TypeError):
+                Validator(wrong, {"keys": []})
+            with self.assertRaises(TypeError):
+                Validator({"algs": ["HS256"]}, wrong)
+            with self.assertRaises(TypeError):
+                self.validator.issue(wrong)
+
+    def test_a_lone_surrogate_is_a_refusal(self) -> None:
+        for token in (json.loads('"a.b.\\ud800"'), b"a.b.\xff".decode("utf-8", "surrogateescape"), "\udfff", '{"\ud800":1}'):
+            with self.subTest(repr(token)):
+                with self.assertRaises(TokenRefused):
+                    self.validator.validate(token, NOW)
+                self.assertIsInstance(self.validator.judge(token, NOW).refusal, TokenRefused)
+                self.assertIsNone(self.validator.unverified_header(token))
+        with self.assertRaises(PolicyRefused):
+            Validator('{"algs":["\ud800"]}', {"keys": []})
+        with self.assertRaises(KeysRefused):
+            Validator({"algs": ["HS256"]}, '{"keys":[],"a":"\ud800"}')
+
+    def test_a_number_is_never_wrapped(self) -> None:
+        for now in (2**63, 2**64 + 1, 2**64 + NOW, -(2**63) - 1):
+            for call in (self.validator.validate, self.validator.judge):
+                with self.subTest(now), self.assertRaises(ValueError):
+                    call(self.token, now)
+        with self.assertRaises(TypeError):
+            self.validator.validate(self.token, NOW + 0.5)  # type: ignore[arg-type]
+        for number in (2**32, 2**64, -1):
+            with self.subTest(number):
+                with self.assertRaises(ValueError):
+                    self.validator.issue({}, key=number)
+                with self.assertRaises(ValueError):
+                    self.validator.unverified_header(self.token, number)
+        with self.assertRaises(ClaimsRefused):
+            self.validator.validate(self.token, 2**63 - 1)
+        self.assertEqual(self.validator.validate(self.token, -(2**63))["iss"], "joe")
+
+    def test_a_validator_is_not_copied(self) -> None:
+        for make in (copy.copy, copy.deepcopy, pickle.dumps):
+            with self.assertRaises(TypeError):
+                make(self.validator)
+            gc.collect()
+            self.assertEqual(self.validator.validate(self.token, NOW)["iss"], "joe")
+
+    def test_what_is_held_is_freed_with_the_validator(self) -> None:
+        closed, held = [], validator_of(HMAC)
+        held.validate(self.token, NOW)
+        for seat in (held._seats._documents, *held._seats._free):
+            library = seat.library
+
+            class Watched:
+                def __getattr__(self, name: str) -> Any:
+                    closed.append(name)
+                    return getattr(library, name)
+
+            seat.library = Watched()
+        del seat, held
+        gc.collect()
+        self.assertEqual(closed.count("fow_close"), 2)
+
+    def test_the_library_is_found_once(self) -> None:
+        self.assertIs(_library.load(), _library.load())
+
+    def test_what_json_does_not_take_is_a_refusal_with_its_octets(self) -> None:
+        long = '{"exp":1300819380,"iss":"joe","n":' + "1" * 5000 + "}"
+        with Validator({"algs": ["HS256"], "limit": 65536}, HMAC.with_suffix(".keys").read_bytes()) as validator:
+            # (the library itself takes no number that is infinite as a float)
+            with self.assertRaises(TokenRefused):
+                validator.validate(signed('{"alg":"HS256"}', long), NOW)
+            self.assertIsNone(validator.unverified_header(signed(long, "{}")))
+            wide = '{"exp":1300819380,"iss":"joe","n":' + "1" * 300 + ',"m":1.5e300}'
+            self.assertEqual(validator.validate(signed('{"alg":"HS256"}', wide), NOW), json.loads(wide))
+        if hasattr(sys, "get_int_max_str_digits"):
+            with self.assertRaises(Unreadable) as caught:
+                _object(long.encode(), "Claims")
+            self.assertEqual(caught.exception.octets, long.encode())
+
+
+def signed(header: str, payload: str) -> str:
+    """A token by HS256 with the key of the example."""
+    key = json.loads(HMAC.with_suffix(".keys").read_text())["keys"][0]["k"]
+    signing_input = f"{base64url(header)}.{base64url(payload)}"
+    tag = hmac.digest(base64.urlsafe_b64decode(key + "=="), signing_input.encode(), "sha256")
+    return f"{signing_input}.{base64.urlsafe_b64encode(tag).decode().rstrip('=')}"
+
+
+def base64url(text: str) -> str:
+    """The text in base64url without padding."""
+    return base64.urlsafe_b64encode(text.encode()).decode().rstrip("=")
 
 
 class Issuing(unittest.TestCase):
@@ -119,6 +291,17 @@ class Issuing(unittest.TestCase):
             with self.assertRaises(IssueRefused) as caught:
                 validator.issue(claims, key=7)
         self.assertEqual(caught.exception.fault, "NoKey")
+
+    def test_room_is_made_for_a_token_of_any_length(self) -> None:
+        keys = {"keys": [{"kty": "oct", "k": base64url(chr(65 + i) * 32)} for i in range(32)]}
+        with Validator({"algs": ["HS256"], "limit": 1_048_576, "max_signatures": 32}, keys) as validator:
+            token = validator.issue({"iss": "joe"}, form="general", typ="\0" * 2000)
+            self.assertGreater(len(token), 400_000)
+            self.assertEqual(validator.validate(token, NOW), {"iss": "joe"})
+        with Validator({"algs": ["HS256"], "required": ["x" * 5000]}, keys) as validator:
+            with self.assertRaises(ClaimsRefused) as caught:
+                validator.validate(validator.issue({}), NOW)
+        self.assertEqual(caught.exception.claim, "x" * 5000)
 
     def test_the_header_has_the_type_that_is_asked_for(self) -> None:
         with validator_of(HMAC) as validator:
@@ -145,6 +328,122 @@ class Threads(unittest.TestCase):
             for thread in threads:
                 thread.join()
         self.assertEqual(accepted, [True] * 800)
+
+    def test_there_are_as_many_seats_as_calls_at_once(self) -> None:
+        with validator_of(HMAC) as validator:
+            token = token_of(HMAC)
+            for _ in range(10):
+                threads = [threading.Thread(target=lambda: validator.validate(token, NOW)) for _ in range(8)]
+                for thread in threads:
+                    thread.start()
+                for thread in threads:
+                    thread.join()
+            self.assertLessEqual(len(validator._seats._free), 8)
+
+    def test_a_call_that_is_under_way_ends_where_the_validator_is_closed(self) -> None:
+        validator, token = validator_of(HMAC), token_of(HMAC)
+        free, taken = validator._seats.take(), validator._seats.take()
+        validator._seats.give(free)
+        validator.close()
+        self.assertFalse(free.held.held)
+        self.assertTrue(taken.held.held)
+        self.assertEqual(validator._judge(taken, token.encode(), NOW).verdict, _library.OK)
+        validator._seats.give(taken)
+        self.assertFalse(taken.held.held)
+        with self.assertRaises(Closed):
+            validator.validate(token, NOW)
+
+    def test_closing_while_threads_judge(self) -> None:
+        token = token_of(HMAC)
+        for _ in range(50):
+            validator, wrong, begun = validator_of(HMAC), [], threading.Barrier(5)
+
+            def judge_until_closed() -> None:
+                begun.wait()
+                try:
+                    while True:
+                        if validator.validate(token, NOW)["iss"] != "joe":
+                            wrong.append("claims")
+                except Closed:
+                    pass
+                except BaseException as error:
+                    wrong.append(error)
+
+            threads = [threading.Thread(target=judge_until_closed) for _ in range(4)]
+            for thread in threads:
+                thread.start()
+            begun.wait()
+            validator.close()
+            for thread in threads:
+                thread.join()
+            self.assertEqual((wrong, validator._seats._free), ([], []))
+
+
+@unittest.skipUnless(hasattr(os, "fork"), "there is no fork")
+class Forks(unittest.TestCase):
+    SECONDS = 20
+
+    def ends_well(self, child: int) -> bool:
+        """Whether a child process ends with status 0 in time; else it is ended."""
+        until = time.monotonic() + self.SECONDS
+        while time.monotonic() < until:
+            ended, status = os.waitpid(child, os.WNOHANG)
+            if ended:
+                return status == 0
+            time.sleep(0.002)
+        os.kill(child, 9)
+        os.waitpid(child, 0)
+        return False
+
+    def in_child(self, work: Callable[[], bool]) -> int:
+        """Forks, and ends the child with status 0 where the work is done well."""
+        child = os.fork()
+        if child == 0:
+            try:
+                os._exit(0 if work() else 1)
+            finally:
+                os._exit(2)
+        return child
+
+    def test_the_child_of_a_server_that_forks_first_works(self) -> None:
+        with validator_of(HMAC) as validator:
+            token = token_of(HMAC)
+            validator.validate(token, NOW)
+            children = [self.in_child(lambda: validator.validate(token, NOW)["iss"] == "joe") for _ in range(4)]
+            self.assertEqual([self.ends_well(it) for it in children], [True] * 4)
+            self.assertEqual(validator.validate(token, NOW)["iss"], "joe")
+
+    def test_a_child_waits_for_no_lock_of_its_parent(self) -> None:
+        for name in (HMAC, TOP / "bindings/tokens/PS256"):
+            with self.subTest(name.name):
+                self.check_children(name, 20)
+
+    def check_children(self, name: pathlib.Path, count: int) -> None:
+        """Forks so often while four threads judge, and open and close validators."""
+        with validator_of(name) as validator:
+            token, is_over = token_of(name), threading.Event()
+
+            def judge_until_over() -> None:
+                while not is_over.is_set():
+                    validator.judge(token, NOW)
+                    with validator_of(name) as another:
+                        another.validate(token, NOW)
+
+            def work() -> bool:
+                validator.judge(token, NOW)
+                with validator_of(name) as another:
+                    return bool(another.validate(token, NOW)["iss"] == validator.validate(token, NOW)["iss"] == "joe")
+
+            threads = [threading.Thread(target=judge_until_over) for _ in range(4)]
+            for thread in threads:
+                thread.start()
+            try:
+                for _ in range(count):
+                    self.assertTrue(self.ends_well(self.in_child(work)))
+            finally:
+                is_over.set()
+                for thread in threads:
+                    thread.join()
 
 
 if __name__ == "__main__":

@@ -13,16 +13,17 @@ from __future__ import annotations
 
 import ctypes
 import json
-import threading
+import operator
 import time
 from dataclasses import dataclass
 from types import TracebackType
-from typing import Any, Callable, Dict, List, Optional, Type, Union
+from typing import Any, Dict, List, NoReturn, Optional, SupportsIndex, Type, Union
 
 from . import _library
 from ._faults import (
     CeilingReached,
     ClaimsRefused,
+    Closed,
     FormRefused,
     FowharimuError,
     IssueRefused,
@@ -32,12 +33,15 @@ from ._faults import (
     TokenRefused,
     TooLong,
     Undecided,
+    Unreadable,
 )
+from ._seats import Seat, Seats, written
 
 __all__ = [
     "CeilingReached",
     "Claims",
     "ClaimsRefused",
+    "Closed",
     "FormRefused",
     "FowharimuError",
     "IssueRefused",
@@ -50,12 +54,13 @@ __all__ = [
     "TooLong",
     "Try",
     "Undecided",
+    "Unreadable",
     "Validator",
 ]
 
 Claims = Dict[str, Any]
-Document = Union[bytes, str, Dict[str, Any]]
-Text = Union[bytes, str]
+Text = Union[str, bytes, bytearray, memoryview]
+Document = Union[Text, Dict[str, Any]]
 
 _PARTS = {1: "payload", 2: "protected", 3: "signature"}
 _STATES = {1: "barred", 2: "no key", 3: "bad signature", 4: "verified", 5: "not reached", 6: "stopped"}
@@ -99,114 +104,162 @@ class Report:
         return self.refusal is None
 
 
-def _octets(text: Text) -> bytes:
-    return text.encode() if isinstance(text, str) else bytes(text)
+def _octets(text: Text, what: str) -> bytes:
+    """The octets of a text or of what is bytes-like. A lone surrogate, which UTF-8 doesn't have, becomes octets that the library refuses.
+    Raises TypeError for anything else, an `int` too."""
+    if isinstance(text, bytes):
+        return text
+    if isinstance(text, str):
+        return text.encode("utf-8", "surrogatepass")
+    try:
+        return bytes(memoryview(text))
+    except TypeError:
+        raise TypeError(f"{what} has to be str or bytes-like, and not {type(text).__name__}") from None
 
 
-def _document(document: Document) -> bytes:
-    return json.dumps(document).encode() if isinstance(document, dict) else _octets(document)
+def _document(document: Document, what: str) -> bytes:
+    return json.dumps(document).encode() if isinstance(document, dict) else _octets(document, what)
+
+
+def _number(number: SupportsIndex, what: str, least: int, greatest: int) -> int:
+    """A whole number in its range. Raises TypeError and ValueError: it is never wrapped."""
+    value = operator.index(number)
+    if not least <= value <= greatest:
+        raise ValueError(f"{what} has to be from {least} to {greatest}")
+    return value
+
+
+def _moment(now: Optional[SupportsIndex]) -> int:
+    return time.time_ns() // 1_000_000_000 if now is None else _number(now, "now", -(2**63), 2**63 - 1)
+
+
+def _object(octets: bytes, what: str) -> Dict[str, Any]:
+    """The object that a JSON text spells. Raises Unreadable where Python's `json` doesn't take it, though the library does."""
+    try:
+        members: Dict[str, Any] = json.loads(octets.decode())
+    except ValueError:
+        raise Unreadable(what, octets) from None
+    return members
 
 
 class Validator:
     """A policy and a key set, by which tokens are judged.
 
-    Both are given as octets, as a text, or as what is written as their JSON text. It may be shared by threads, of which one judges at
-    a time. It is closed by `close` or at the end of `with`.
+    Both are given as octets, as a text, or as what is written as their JSON text. Threads may share it, and judge side by side; after
+    fork, parent and child each go on with their own. It isn't copied. It is closed by `close` or at the end of `with`: calls that are
+    under way end, and later ones raise Closed. What a validator holds that is never closed is freed with it.
 
     Raises PolicyRefused or KeysRefused, and MemoryError where memory is refused.
     """
 
     def __init__(self, policy: Document, keys: Document) -> None:
         self._library = _library.load()
-        self._held = _library.CValidator()
-        self._crypto = _library.COpenssl()
-        self._lock = threading.Lock()
-        policy_octets, key_octets = _document(policy), _document(keys)
+        policy_octets, key_octets = _document(policy, "a policy"), _document(keys, "a key set")
+        documents = Seat()
         fault = ctypes.c_uint32()
         status = self._library.fow_open(
-            self._held, policy_octets, len(policy_octets), key_octets, len(key_octets), fault
+            documents.held, policy_octets, len(policy_octets), key_octets, len(key_octets), fault
         )
         if status == _library.OUT_OF_MEMORY:
             raise MemoryError
         if status != _library.OK:
             raise self._document_refused(fault.value, policy_octets)
+        self._seats = Seats(documents)
 
-    def validate(self, token: Text, now: Optional[int] = None) -> Claims:
+    def validate(self, token: Text, now: Optional[SupportsIndex] = None) -> Claims:
         """The claims of a token that is accepted at a moment, in seconds since 1970-01-01T00:00:00Z; without one, at the clock's.
 
-        Raises TokenRefused, and MemoryError where memory is refused.
+        Raises TokenRefused, Closed, MemoryError where memory is refused, TypeError for a token that is neither str nor bytes-like, and
+        ValueError for a moment that 64 bits don't have.
         """
-        octets = _octets(token)
-        with self._lock:
-            report = self._judge(octets, now)
-            refusal = self._refusal(report)
-            if refusal is not None:
-                raise refusal
-            payload = self._written(len(octets), self._library.fow_payload, self._held, octets, len(octets))
+        octets, moment = _octets(token, "a token"), _moment(now)
+        seat = self._seats.take()
+        try:
+            report = self._judge(seat, octets, moment)
+            if report.verdict != _library.OK:
+                raise self._refusal(seat, report)
+            payload = written(len(octets) + 1, self._library.fow_payload, seat.held, octets, len(octets))
+        finally:
+            self._seats.give(seat)
         if payload is None:
             raise MemoryError
-        return dict(json.loads(payload))
+        return _object(payload, "Claims")
 
-    def judge(self, token: Text, now: Optional[int] = None) -> Report:
-        """All that is said of a token: its verdict, its signatures, and each try with its cost. Raises MemoryError alone."""
-        octets = _octets(token)
-        with self._lock:
-            report = self._judge(octets, now)
+    def judge(self, token: Text, now: Optional[SupportsIndex] = None) -> Report:
+        """All that is said of a token: its verdict, its signatures, and each try with its cost. Raises as `validate` does, TokenRefused
+        aside: a refusal stands in the report."""
+        octets, moment = _octets(token, "a token"), _moment(now)
+        seat = self._seats.take()
+        try:
+            report = self._judge(seat, octets, moment)
             return Report(
-                refusal=self._refusal(report),
+                refusal=None if report.verdict == _library.OK else self._refusal(seat, report),
                 signature=report.signature,
                 key=report.key,
                 work=report.work,
-                states=self._states(),
-                tries=[self._try(n) for n in range(report.tries)],
+                states=self._states(seat),
+                tries=self._tries(seat, report.tries),
             )
+        finally:
+            self._seats.give(seat)
 
-    def unverified_header(self, token: Text, signature: int = 0) -> Optional[Dict[str, Any]]:
-        """The protected header of the signature of this number; None where there is none. Anyone may have written it."""
-        octets = _octets(token)
-        with self._lock:
-            header = self._written(
-                len(octets), self._library.fow_unverified_header, self._held, octets, len(octets), signature
+    def unverified_header(self, token: Text, signature: SupportsIndex = 0) -> Optional[Dict[str, Any]]:
+        """The protected header of the signature of this number; None where there is none. Anyone may have written it.
+
+        Raises Closed, Unreadable, MemoryError, TypeError and ValueError, as `validate` does.
+        """
+        octets, number = _octets(token, "a token"), _number(signature, "a signature's number", 0, 2**32 - 1)
+        seat = self._seats.take()
+        try:
+            header = written(
+                len(octets) + 1, self._library.fow_unverified_header, seat.held, octets, len(octets), number
             )
-        return None if header is None else dict(json.loads(header or b"{}"))
+        finally:
+            self._seats.give(seat)
+        return None if header is None else _object(header or b"{}", "Header")
 
     def issue(
-        self, claims: Document, key: int = 0, alg: str = "HS256", form: str = "compact", typ: str = ""
+        self, claims: Document, key: SupportsIndex = 0, alg: str = "HS256", form: str = "compact", typ: str = ""
     ) -> str:
         """The claims as a token, signed by HMAC with the key of this number; its header has `typ` where that isn't empty.
 
-        Raises IssueRefused, MemoryError where memory is refused, and KeyError for another algorithm or form.
+        Raises IssueRefused, Closed, MemoryError where memory is refused, KeyError for another algorithm or form, ValueError for a key's
+        number that 32 bits don't have or a `typ` that is no text in UTF-8, and TypeError.
         """
-        octets, typ_octets = _document(claims), typ.encode()
+        octets, typ_octets = _document(claims, "claims"), typ.encode()
+        number, algorithm, form_number = _number(key, "a key's number", 0, 2**32 - 1), _HMAC[alg], _FORMS[form]
         report = _library.CReport()
-        room = 2 * len(octets) + 64 * len(typ_octets) + 70_000
-        out, written = ctypes.create_string_buffer(room), ctypes.c_size_t()
-        with self._lock:
-            status = self._library.fow_issue(
-                self._held,
-                _HMAC[alg],
-                _FORMS[form],
-                key,
-                typ_octets,
-                len(typ_octets),
-                octets,
-                len(octets),
-                out,
-                room,
-                written,
-                report,
+
+        def issue_into(out: Any, room: int, length: Any) -> int:
+            return int(
+                self._library.fow_issue(
+                    seat.held,
+                    algorithm,
+                    form_number,
+                    number,
+                    typ_octets,
+                    len(typ_octets),
+                    octets,
+                    len(octets),
+                    out,
+                    room,
+                    length,
+                    report,
+                )
             )
-        if status == _library.OUT_OF_MEMORY:
-            raise MemoryError
-        if status != _library.OK:
+
+        seat = self._seats.take()
+        try:
+            token = written(2 * len(octets) + 2 * len(typ_octets) + 1_024, issue_into)
+        finally:
+            self._seats.give(seat)
+        if token is None:
             raise IssueRefused(self._name(report.fault), report.signature)
-        return out.raw[: written.value].decode()
+        return token.decode()
 
     def close(self) -> None:
-        """Frees what is held. It may be called twice; a closed validator refuses every token."""
-        with self._lock:
-            self._library.fow_openssl_clear(self._crypto)
-            self._library.fow_close(self._held)
+        """Frees what is held. It may be called twice. Calls that are under way end as if it weren't closed; later ones raise Closed."""
+        self._seats.close()
 
     def __enter__(self) -> "Validator":
         return self
@@ -219,25 +272,19 @@ class Validator:
     ) -> None:
         self.close()
 
-    def __del__(self) -> None:
-        if hasattr(self, "_lock"):
-            self.close()
+    def __reduce_ex__(self, protocol: SupportsIndex) -> NoReturn:
+        raise TypeError("a Validator isn't copied or pickled: what it holds belongs to it alone")
 
-    def _judge(self, octets: bytes, now: Optional[int]) -> _library.CReport:
+    def _judge(self, seat: Seat, octets: bytes, moment: int) -> _library.CReport:
         report = _library.CReport()
-        moment = int(time.time()) if now is None else now
-        self._library.fow_openssl_judge(self._crypto, self._held, octets, len(octets), moment, report)
-        if report.verdict == _library.OUT_OF_MEMORY:
+        self._library.fow_openssl_judge(seat.crypto, seat.held, octets, len(octets), moment, report)
+        if report.verdict not in (_library.OK, _library.REFUSED, _library.ASKS):
             raise MemoryError
         return report
 
-    def _refusal(self, report: _library.CReport) -> Optional[TokenRefused]:
-        if report.verdict == _library.OK:
-            return None
+    def _refusal(self, seat: Seat, report: _library.CReport) -> TokenRefused:
         if report.verdict == _library.ASKS:
             return Undecided("Undecided", report.signature, report.key)
-        if report.verdict != _library.REFUSED:
-            return TokenRefused("NotOpen")
         name, kind = self._name(report.fault), report.fault // 100
         if kind == 3:
             return TooLong(name)
@@ -247,23 +294,23 @@ class Validator:
             return CeilingReached(name, report.signature, report.key)
         if kind == 6:
             return SignatureRefused(name, report.signature)
-        return ClaimsRefused(name, self._claim(report.claim))
+        return ClaimsRefused(name, self._claim(seat, report.claim))
 
     def _document_refused(self, fault: int, policy: bytes) -> FowharimuError:
         if fault // 100 == 2:
             return KeysRefused(self._name(fault))
-        member = self._written(len(policy), self._library.fow_refused_member, policy, len(policy))
+        member = written(len(policy) + 1, self._library.fow_refused_member, policy, len(policy))
         return PolicyRefused(self._name(fault), member if member is None else member.decode())
 
-    def _claim(self, number: int) -> Optional[str]:
+    def _claim(self, seat: Seat, number: int) -> Optional[str]:
         if number in _CLAIMS:
             return _CLAIMS[number]
-        claim = self._written(65_536, self._library.fow_refused_claim, self._held)
+        claim = written(256, self._library.fow_refused_claim, seat.held)
         return None if claim is None else claim.decode()
 
-    def _states(self) -> List[SignatureState]:
+    def _states(self, seat: Seat) -> List[SignatureState]:
         states, state = [], _library.CState()
-        while self._library.fow_state_of(self._held, len(states), state) == _library.OK:
+        while self._library.fow_state_of(seat.held, len(states), state) == _library.OK:
             states.append(
                 SignatureState(
                     _STATES[state.state],
@@ -273,19 +320,11 @@ class Validator:
             )
         return states
 
-    def _try(self, n: int) -> Try:
-        tried = _library.CTry()
-        self._library.fow_try_of(self._held, n, tried)
-        return Try(tried.signature, tried.key, tried.cost)
+    def _tries(self, seat: Seat, count: int) -> List[Try]:
+        tries, tried = [], _library.CTry()
+        while len(tries) < count and self._library.fow_try_of(seat.held, len(tries), tried) == _library.OK:
+            tries.append(Try(tried.signature, tried.key, tried.cost))
+        return tries
 
     def _name(self, fault: int) -> str:
-        return self._library.fow_fault_name(fault).decode()
-
-    @staticmethod
-    def _written(room: int, function: Callable[..., int], *arguments: Any) -> Optional[bytes]:
-        """What a call writes, and None where there is nothing to write. Raises MemoryError where memory is refused."""
-        out, written = ctypes.create_string_buffer(room + 1), ctypes.c_size_t()
-        status = function(*arguments, out, room + 1, written)
-        if status == _library.OUT_OF_MEMORY:
-            raise MemoryError
-        return out.raw[: written.value] if status == _library.OK else None
+        return str(self._library.fow_fault_name(fault).decode())

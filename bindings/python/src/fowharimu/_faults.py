@@ -1,8 +1,11 @@
-"""Why something is refused: an exception for each kind."""
+"""Why something is refused: an exception for each kind.
+
+They are plain exceptions, whose arguments are their attributes in order: so they pass through `contextlib`, take notes, and are copied and
+pickled as any other.
+"""
 
 from __future__ import annotations
 
-from dataclasses import dataclass
 from typing import Optional
 
 
@@ -10,90 +13,115 @@ class FowharimuError(Exception):
     """Something was refused."""
 
 
-@dataclass(frozen=True)
+class Closed(FowharimuError):
+    """The validator was closed: nothing is said of the token."""
+
+    def __str__(self) -> str:
+        return "the validator is closed"
+
+
 class PolicyRefused(FowharimuError):
     """The policy is refused. `fault` is the name that the program `jwt` prints, such as `Member`; `member` the name of the member that it
     speaks of, where it speaks of one."""
 
-    fault: str
-    member: Optional[str]
+    def __init__(self, fault: str, member: Optional[str] = None) -> None:
+        super().__init__(fault, member)
+        self.fault = fault
+        self.member = member
 
     def __str__(self) -> str:
         return f"the policy is refused: {self.fault}" + (f" {self.member!r}" if self.member is not None else "")
 
 
-@dataclass(frozen=True)
 class KeysRefused(FowharimuError):
     """The key set is refused. `fault` is the name that the program `jwt` prints, such as `NotKeySet`."""
 
-    fault: str
+    def __init__(self, fault: str) -> None:
+        super().__init__(fault)
+        self.fault = fault
 
     def __str__(self) -> str:
         return f"the key set is refused: {self.fault}"
 
 
-@dataclass(frozen=True)
 class TokenRefused(FowharimuError):
     """The token is refused. `fault` is the name that the program `jwt` prints, such as `Expired`."""
 
-    fault: str
+    def __init__(self, fault: str, *others: object) -> None:
+        super().__init__(fault, *others)
+        self.fault = fault
 
     def __str__(self) -> str:
         return f"the token is refused: {self.fault}"
 
 
-@dataclass(frozen=True)
 class TooLong(TokenRefused):
     """The token has more octets than the policy's `limit`."""
 
 
-@dataclass(frozen=True)
 class FormRefused(TokenRefused):
     """The octets are no signed token. `part` is `payload`, `protected`, `signature` or None; `signature` a number from 0."""
 
-    part: Optional[str]
-    signature: int
+    def __init__(self, fault: str, part: Optional[str], signature: int) -> None:
+        super().__init__(fault, part, signature)
+        self.part = part
+        self.signature = signature
 
 
-@dataclass(frozen=True)
 class CeilingReached(TokenRefused):
     """The policy's `work` or `max_calls` was reached before this key was tried on this signature, both numbered from 0."""
 
-    signature: int
-    key: int
+    def __init__(self, fault: str, signature: int, key: int) -> None:
+        super().__init__(fault, signature, key)
+        self.signature = signature
+        self.key = key
 
 
-@dataclass(frozen=True)
 class SignatureRefused(TokenRefused):
     """The signature of this number, from 0, isn't verified."""
 
-    signature: int
+    def __init__(self, fault: str, signature: int) -> None:
+        super().__init__(fault, signature)
+        self.signature = signature
 
 
-@dataclass(frozen=True)
 class ClaimsRefused(TokenRefused):
     """The claims are refused; `claim` is the name of the claim that the fault speaks of, where it speaks of one."""
 
-    claim: Optional[str]
+    def __init__(self, fault: str, claim: Optional[str]) -> None:
+        super().__init__(fault, claim)
+        self.claim = claim
 
     def __str__(self) -> str:
         return super().__str__() + (f", claim {self.claim!r}" if self.claim is not None else "")
 
 
-@dataclass(frozen=True)
 class Undecided(TokenRefused):
     """OpenSSL couldn't say whether this key made this signature, both numbered from 0: so the token isn't accepted."""
 
-    signature: int
-    key: int
+    def __init__(self, fault: str, signature: int, key: int) -> None:
+        super().__init__(fault, signature, key)
+        self.signature = signature
+        self.key = key
 
 
-@dataclass(frozen=True)
+class Unreadable(TokenRefused):
+    """The JSON text of the claims, or of a header, has what Python's `json` doesn't take, such as a whole number of more digits than
+    `sys.get_int_max_str_digits` allows. `octets` is that text. Of claims the library has accepted them; it takes no such number today,
+    since that is infinite as a float."""
+
+    def __init__(self, fault: str, octets: bytes) -> None:
+        super().__init__(fault, octets)
+        self.octets = octets
+
+
 class IssueRefused(FowharimuError):
     """Nothing is issued. `fault` is the name that the program `jwt` prints; `signature` the signature that it speaks of, from 0."""
 
-    fault: str
-    signature: int
+    def __init__(self, fault: str, signature: int) -> None:
+        super().__init__(fault, signature)
+        self.fault = fault
+        self.signature = signature
 
     def __str__(self) -> str:
         return f"nothing is issued: {self.fault}"

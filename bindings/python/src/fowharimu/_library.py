@@ -3,10 +3,11 @@
 from __future__ import annotations
 
 import ctypes
+import functools
 import os
 from ctypes.util import find_library
 
-OK, REFUSED, ASKS, OUT_OF_MEMORY = 0, 1, 2, 3
+OK, REFUSED, ASKS, OUT_OF_MEMORY, NOT_OPEN, TOO_SHORT, ABSENT = range(7)
 
 
 class CValidator(ctypes.Structure):
@@ -61,6 +62,7 @@ _REPORT = ctypes.POINTER(CReport)
 
 _SIGNATURES = {
     "fow_open": (_U32, [_VALIDATOR, *_IN, *_IN, ctypes.POINTER(_U32)]),
+    "fow_open_beside": (_U32, [_VALIDATOR, _VALIDATOR]),
     "fow_close": (None, [_VALIDATOR]),
     "fow_refused_member": (_U32, [*_IN, *_OUT]),
     "fow_state_of": (_U32, [_VALIDATOR, _U32, ctypes.POINTER(CState)]),
@@ -75,8 +77,9 @@ _SIGNATURES = {
 }
 
 
+@functools.lru_cache(maxsize=None)
 def load() -> ctypes.CDLL:
-    """The library: the one that FOWHARIMU_LIBRARY names, or the installed one."""
+    """The library: the one that FOWHARIMU_LIBRARY names, or the installed one. It is looked for once."""
     name = os.environ.get("FOWHARIMU_LIBRARY") or find_library("fowharimu_openssl") or "libfowharimu_openssl.so.0"
     library = ctypes.CDLL(name)
     for function, (result, arguments) in _SIGNATURES.items():

@@ -1,0 +1,168 @@
+"""What one call at a time judges with, and how calls take it and give it back."""
+
+from __future__ import annotations
+
+import ctypes
+import os
+import threading
+import time
+from typing import Callable, List, Optional
+
+from . import _library
+from ._faults import Closed
+
+# What is held while a seat is opened, which needs the documents for itself, and while the process forks. A judging holds nothing.
+_opening = threading.RLock()
+
+# The threads that have a call under way, and whether the process is about to fork. A list's `append`, `remove`, `pop` and copy are one
+# step each.
+_under_way: List[int] = []
+_is_forking = False
+
+# How long a fork waits for calls that are under way, in seconds: each ends by itself, and takes some milliseconds at most as a rule.
+_PATIENCE = 10.0
+
+
+def _begin() -> None:
+    """Notes a call of this thread. Where the process is about to fork, it waits until that is done."""
+    thread = threading.get_ident()
+    _under_way.append(thread)
+    while _is_forking:
+        _under_way.remove(thread)
+        with _opening:
+            _under_way.append(thread)
+
+
+def _end() -> None:
+    """Notes that a call of this thread is over. In a child process, after fork, it may have been forgotten."""
+    try:
+        _under_way.remove(threading.get_ident())
+    except ValueError:
+        pass
+
+
+def _before_fork() -> None:
+    """Waits until no other thread opens a seat or judges: so the child has the documents whole, and no lock within OpenSSL is held in it for
+    ever."""
+    global _is_forking
+    _opening.acquire()
+    _is_forking = True
+    thread, until = threading.get_ident(), time.monotonic() + _PATIENCE
+    while any(it != thread for it in list(_under_way)) and time.monotonic() < until:
+        time.sleep(0.0002)
+
+
+def _after_fork_in_parent() -> None:
+    """Lets the calls go on that waited."""
+    global _is_forking
+    _is_forking = False
+    _opening.release()
+
+
+def _after_fork_in_child() -> None:
+    """The child has one thread: what others held or had under way is forgotten."""
+    global _opening, _is_forking
+    _opening = threading.RLock()
+    _is_forking = False
+    _under_way.clear()
+
+
+if hasattr(os, "register_at_fork"):
+    os.register_at_fork(before=_before_fork, after_in_parent=_after_fork_in_parent, after_in_child=_after_fork_in_child)
+
+
+class Seat:
+    """A validator of the library, and what OpenSSL made of its keys. It is used by one call at a time. What it holds is freed with it, without a
+    lock: Python may do so at any moment, in any thread."""
+
+    __slots__ = ("library", "held", "crypto")
+
+    def __init__(self) -> None:
+        self.library = _library.load()
+        self.held = _library.CValidator()
+        self.crypto = _library.COpenssl()
+
+    def close(self) -> None:
+        """Frees what is held. It may be called twice."""
+        self.library.fow_openssl_clear(self.crypto)
+        self.library.fow_close(self.held)
+
+    def __del__(self) -> None:
+        if hasattr(self, "crypto"):
+            self.close()
+
+
+class Seats:
+    """The seats of a validator: a call takes one that is free, or opens another on the same documents, and gives it back. So there is at most
+    one for each call that was under way at once. A list's `append` and `pop` are one step each, so no lock is held for them.
+
+    A fork waits for the calls that are under way, and for no longer than some seconds. In the child a seat that another thread had
+    taken even then is lost: it may be half written, and is never looked at.
+    """
+
+    def __init__(self, documents: Seat) -> None:
+        self._documents = documents
+        self._free: List[Seat] = []
+        self._is_closed = False
+
+    def take(self) -> Seat:
+        """A seat that no other call has. Raises Closed, and MemoryError where memory is refused."""
+        # (who waits for the lock isn't noted: a fork, which has it, would wait for that call)
+        seat = self._pop() or self._open()
+        _begin()
+        if self._is_closed:
+            self.give(seat)
+            raise Closed
+        return seat
+
+    def give(self, seat: Seat) -> None:
+        """Gives a seat back. Where all was closed meanwhile, it is closed too."""
+        self._free.append(seat)
+        if self._is_closed:
+            self._close_free()
+        _end()
+
+    def close(self) -> None:
+        """Frees what is held; what calls under way have, when they end."""
+        with _opening:
+            self._is_closed = True
+            self._documents.close()
+        self._close_free()
+
+    def _open(self) -> Seat:
+        with _opening:
+            if self._is_closed:
+                raise Closed
+            seat = Seat()
+            if seat.library.fow_open_beside(seat.held, self._documents.held) != _library.OK:
+                raise MemoryError
+            return seat
+
+    def _close_free(self) -> None:
+        while (seat := self._pop()) is not None:
+            seat.close()
+
+    def _pop(self) -> Optional[Seat]:
+        """A free seat, and None where there is none: another call may have taken it between a look and a step."""
+        try:
+            return self._free.pop()
+        except IndexError:
+            return None
+
+
+def written(room: int, function: Callable[..., int], *arguments: object) -> Optional[bytes]:
+    """What a call of the library writes, in as much room as it needs, and None where there is nothing to write.
+
+    Raises MemoryError where memory is refused.
+    """
+    length = ctypes.c_size_t()
+    while True:
+        out = ctypes.create_string_buffer(room)
+        status = function(*arguments, out, room, length)
+        if status == _library.OK:
+            return ctypes.string_at(out, length.value)
+        if status == _library.OUT_OF_MEMORY:
+            raise MemoryError
+        if status != _library.TOO_SHORT:
+            return None
+        room *= 2
