@@ -5,7 +5,7 @@ import (
 	"fmt"
 )
 
-// ErrClosed says that the validator was closed.
+// ErrClosed says that the validator was closed, or was never opened.
 var ErrClosed = errors.New("fowharimu: the validator is closed")
 
 // ErrOutOfMemory says that the library was refused an allocation, and that nothing is said of the token.
@@ -128,12 +128,17 @@ func refusedFor(fault string) string {
 	return "fowharimu: the token is refused: " + fault
 }
 
-// documentError says why a policy or a key set is refused: the faults of key sets are those from 200 to 299.
+// documentError says why a policy or a key set is refused: the faults of key sets are those from 200 to 299. Where memory is refused for
+// the name of the member, it is ErrOutOfMemory.
 func documentError(fault int, policy []byte) error {
 	if fault/100 == 2 {
 		return &KeysError{faultName(fault)}
 	}
-	return &PolicyError{faultName(fault), refusedMember(policy)}
+	member, err := refusedMember(policy)
+	if err != nil {
+		return err
+	}
+	return &PolicyError{faultName(fault), member}
 }
 
 // Part is a part of a token.

@@ -15,7 +15,7 @@ func Example() {
 	if err != nil {
 		log.Fatal(err)
 	}
-	validator, err := fowharimu.Open([]byte(`{"algs":["RS256"],"issuers":["joe"],"required":["exp"]}`), keys)
+	validator, err := fowharimu.Open([]byte(`{"version":2,"algs":["RS256"],"issuers":["joe"],"required":["exp"],"max_calls":8}`), keys)
 	if err != nil {
 		log.Fatal(err)
 	}

@@ -18,22 +18,25 @@ import (
 	"time"
 )
 
-// Validator is a policy and a key set, by which tokens are judged. Goroutines may share it, of which one judges at a time. Close frees
-// what it holds, and so does the garbage collector.
+// Validator is a policy and a key set, by which tokens are judged. Goroutines may share it, and judge side by side. Close frees what it
+// holds, and so does the garbage collector.
 type Validator struct {
-	mutex sync.Mutex
-	held  held
+	free      sync.Pool  // seats that were given back: the fast way to one
+	mutex     sync.Mutex // guards what follows
+	documents held       // the policy and the key set, which every seat holds too
+	seats     []*seat    // each that was opened, until Close: at most as many as calls were under way at once
+	closed    bool
 }
 
 // Open reads a policy and a key set. The error is a *PolicyError, a *KeysError or ErrOutOfMemory.
 func Open(policy, keys []byte) (*Validator, error) {
 	v := new(Validator)
-	status, fault := v.held.open(policy, keys)
+	status, fault := v.documents.open(policy, keys)
 	if status == statusOK {
 		runtime.SetFinalizer(v, (*Validator).Close)
 		return v, nil
 	}
-	v.held.close()
+	v.documents.close()
 	if status == statusRefused {
 		return nil, documentError(fault, policy)
 	}
@@ -47,16 +50,19 @@ func (v *Validator) Validate(token string) (Claims, error) {
 
 // ValidateAt is Validate at another moment, of which a fraction of a second is left out.
 func (v *Validator) ValidateAt(token string, now time.Time) (Claims, error) {
-	v.mutex.Lock()
-	defer v.mutex.Unlock()
-	_, refusal, err := v.judge(token, now)
+	s, err := v.take()
+	if err != nil {
+		return Claims{}, err
+	}
+	defer v.give(s)
+	_, refusal, err := s.judge(token, now)
 	if err != nil {
 		return Claims{}, err
 	}
 	if refusal != nil {
 		return Claims{}, refusal
 	}
-	payload, status := v.held.payload(token)
+	payload, status := s.held.payload(token)
 	if status != statusOK {
 		return Claims{}, ErrOutOfMemory
 	}
@@ -71,9 +77,12 @@ func (v *Validator) Judge(token string) (Report, error) {
 
 // JudgeAt is Judge at another moment, of which a fraction of a second is left out.
 func (v *Validator) JudgeAt(token string, now time.Time) (Report, error) {
-	v.mutex.Lock()
-	defer v.mutex.Unlock()
-	said, refusal, err := v.judge(token, now)
+	s, err := v.take()
+	if err != nil {
+		return Report{}, err
+	}
+	defer v.give(s)
+	said, refusal, err := s.judge(token, now)
 	if err != nil {
 		return Report{}, err
 	}
@@ -82,20 +91,20 @@ func (v *Validator) JudgeAt(token string, now time.Time) (Report, error) {
 		Signature: said.signature,
 		Key:       said.key,
 		Work:      said.work,
-		States:    v.states(),
-		Tries:     v.tries(said.tries),
+		States:    s.states(),
+		Tries:     s.tries(said.tries),
 	}, nil
 }
 
 // UnverifiedHeader gives the protected header of the signature of this number, from 0, as JSON text, and whether there is one. Anyone
 // may have written it. The error is ErrOutOfMemory or ErrClosed.
 func (v *Validator) UnverifiedHeader(token string, signature int) (json.RawMessage, bool, error) {
-	v.mutex.Lock()
-	defer v.mutex.Unlock()
-	if v.held.at == nil {
-		return nil, false, ErrClosed
+	s, err := v.take()
+	if err != nil {
+		return nil, false, err
 	}
-	header, status := v.held.header(token, signature)
+	defer v.give(s)
+	header, status := s.held.header(token, signature)
 	switch status {
 	case statusOK:
 		return header, len(header) > 0, nil
@@ -106,25 +115,29 @@ func (v *Validator) UnverifiedHeader(token string, signature int) (json.RawMessa
 	}
 }
 
-// Close frees what is held. It may be called twice. The error is nil.
+// Close frees what is held. Calls that are under way end as if it weren't closed, and what they use is freed then. It may be called
+// twice. The error is nil.
 func (v *Validator) Close() error {
 	v.mutex.Lock()
 	defer v.mutex.Unlock()
-	v.held.close()
+	v.closed = true
+	for _, s := range v.seats {
+		s.leave()
+	}
+	v.seats = nil
+	v.documents.close()
 	return nil
 }
 
 // judge gives what is said of a token first, and the refusal, which is nil where the token is accepted.
-func (v *Validator) judge(token string, now time.Time) (verdict, Refusal, error) {
-	if v.held.at == nil {
-		return verdict{}, nil, ErrClosed
-	}
-	said := v.held.judge(token, now.Unix())
+func (s *seat) judge(token string, now time.Time) (verdict, Refusal, error) {
+	said := s.held.judge(token, now.Unix())
 	switch said.status {
 	case statusOK:
 		return said, nil, nil
 	case statusRefused:
-		return said, v.refusal(said), nil
+		refusal, err := s.refusal(said)
+		return said, refusal, err
 	case statusAsks:
 		return said, &UndecidedError{said.signature, said.key}, nil
 	default:
@@ -132,44 +145,47 @@ func (v *Validator) judge(token string, now time.Time) (verdict, Refusal, error)
 	}
 }
 
-// refusal says why the token that was judged last is refused: the kinds of faults differ by their hundreds.
-func (v *Validator) refusal(said verdict) Refusal {
+// refusal says why the token that was judged last is refused: the kinds of faults differ by their hundreds. The error is ErrOutOfMemory.
+func (s *seat) refusal(said verdict) (Refusal, error) {
 	fault := faultName(said.fault)
 	switch said.fault / 100 {
 	case 3:
-		return &TooLongError{fault}
+		return &TooLongError{fault}, nil
 	case 4:
-		return &FormError{fault, Part(said.part), said.signature}
+		return &FormError{fault, Part(said.part), said.signature}, nil
 	case 5:
-		return &CeilingError{fault, said.signature, said.key}
+		return &CeilingError{fault, said.signature, said.key}, nil
 	case 6:
-		return &SignatureError{fault, said.signature}
-	default:
-		return &ClaimsError{fault, v.claim(said.claim)}
+		return &SignatureError{fault, said.signature}, nil
 	}
+	claim, err := s.claim(said.claim)
+	if err != nil {
+		return nil, err
+	}
+	return &ClaimsError{fault, claim}, nil
 }
 
 // claim is the name of the claim that is refused.
-func (v *Validator) claim(number int) string {
+func (s *seat) claim(number int) (string, error) {
 	if number == claimByName {
-		return v.held.refusedClaim()
+		return s.held.refusedClaim()
 	}
-	return registeredName(number)
+	return registeredName(number), nil
 }
 
 // registeredName is the name of a registered claim by its number, and empty for another number.
 func registeredName(number int) string {
 	names := []string{"", "iss", "sub", "aud", "exp", "nbf", "iat", "jti"}
-	if number >= len(names) {
+	if number < 0 || number >= len(names) {
 		return ""
 	}
 	return names[number]
 }
 
-func (v *Validator) states() []SignatureState {
+func (s *seat) states() []SignatureState {
 	var states []SignatureState
 	for {
-		state, found := v.held.state(len(states))
+		state, found := s.held.state(len(states))
 		if !found {
 			return states
 		}
@@ -177,10 +193,10 @@ func (v *Validator) states() []SignatureState {
 	}
 }
 
-func (v *Validator) tries(count uint64) []Try {
+func (s *seat) tries(count uint64) []Try {
 	tries := make([]Try, 0, count)
 	for number := uint64(0); number < count; number++ {
-		if tried, found := v.held.try(number); found {
+		if tried, found := s.held.try(number); found {
 			tries = append(tries, tried)
 		}
 	}

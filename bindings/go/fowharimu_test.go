@@ -3,6 +3,7 @@ package fowharimu_test
 import (
 	"errors"
 	"fmt"
+	"math"
 	"os"
 	"path/filepath"
 	"reflect"
@@ -18,6 +19,9 @@ import (
 const hmac = "../../examples/rfc7515-a1"
 
 var now = time.Unix(1300819379, 0)
+
+// wrapped is a number that 32 bits don't have, and that is 0 where it is cut to them.
+const wrapped = math.MaxUint32 + 1
 
 // octets is what a file holds.
 func octets(t testing.TB, name string) []byte {
@@ -218,7 +222,15 @@ func TestWhatIsNotIssued(t *testing.T) {
 	}{
 		{struct{}{}, fowharimu.Issuing{Key: 7}, &fowharimu.IssueError{Fault: "NoKey"}},
 		{map[string]any{"exp": "soon"}, fowharimu.Issuing{}, &fowharimu.IssueError{Fault: "ClaimKind", Claim: "exp"}},
+		{struct{}{}, fowharimu.Issuing{Key: wrapped}, &fowharimu.IssueError{Fault: "NoKey"}},
+		{struct{}{}, fowharimu.Issuing{Key: -1}, &fowharimu.IssueError{Fault: "NoKey"}},
+		{struct{}{}, fowharimu.Issuing{Key: math.MinInt}, &fowharimu.IssueError{Fault: "NoKey"}},
 		{struct{}{}, fowharimu.Issuing{Algorithm: 3}, fowharimu.ErrIssuing},
+		{struct{}{}, fowharimu.Issuing{Algorithm: fowharimu.Algorithm(wrapped)}, fowharimu.ErrIssuing},
+		{struct{}{}, fowharimu.Issuing{Algorithm: -1}, fowharimu.ErrIssuing},
+		{struct{}{}, fowharimu.Issuing{Form: 3}, fowharimu.ErrIssuing},
+		{struct{}{}, fowharimu.Issuing{Form: fowharimu.Form(wrapped)}, fowharimu.ErrIssuing},
+		{struct{}{}, fowharimu.Issuing{Form: math.MinInt}, fowharimu.ErrIssuing},
 		{struct{}{}, fowharimu.Issuing{Type: "\xff"}, fowharimu.ErrIssuing},
 	}
 	for _, it := range cases {
@@ -236,7 +248,7 @@ func TestThereIsNoHeader(t *testing.T) {
 	for _, it := range []struct {
 		token     string
 		signature int
-	}{{token, 1}, {token, -1}, {"a.b", 0}, {"", 0}} {
+	}{{token, 1}, {token, -1}, {token, wrapped}, {token, math.MinInt}, {"a.b", 0}, {"", 0}} {
 		if header, found, err := validator.UnverifiedHeader(it.token, it.signature); found || err != nil {
 			t.Errorf("%s, %v, %v", header, found, err)
 		}
@@ -288,6 +300,19 @@ func TestAClosedValidatorRefuses(t *testing.T) {
 		t.Error(err)
 	}
 	if _, err := validator.Issue(struct{}{}, fowharimu.Issuing{}); !errors.Is(err, fowharimu.ErrClosed) {
+		t.Error(err)
+	}
+}
+
+func TestAValidatorThatWasNeverOpenedRefuses(t *testing.T) {
+	var validator fowharimu.Validator
+	if _, err := validator.ValidateAt("a.b.c", now); !errors.Is(err, fowharimu.ErrClosed) {
+		t.Error(err)
+	}
+	if _, err := validator.Issue(struct{}{}, fowharimu.Issuing{}); !errors.Is(err, fowharimu.ErrClosed) {
+		t.Error(err)
+	}
+	if err := validator.Close(); err != nil {
 		t.Error(err)
 	}
 }

@@ -51,19 +51,20 @@ func (e *IssueError) Error() string {
 	return fmt.Sprintf("fowharimu: nothing is issued: %s, claim %q", e.Fault, e.Claim)
 }
 
-// Issue gives the claims, as json.Marshal writes them, as a token that is signed by HMAC. The error is an *IssueError, ErrIssuing,
+// Issue gives the claims, as json.Marshal writes them, as a token that is signed by HMAC. A number in how is never wrapped: one that is no
+// algorithm, form or key of the set issues nothing. The error is an *IssueError, ErrIssuing,
 // ErrOutOfMemory, ErrClosed, or that of json.Marshal.
 func (v *Validator) Issue(claims any, how Issuing) (string, error) {
 	text, err := json.Marshal(claims)
 	if err != nil {
 		return "", err
 	}
-	v.mutex.Lock()
-	defer v.mutex.Unlock()
-	if v.held.at == nil {
-		return "", ErrClosed
+	s, err := v.take()
+	if err != nil {
+		return "", err
 	}
-	token, status, said := v.held.issue(how, string(text))
+	defer v.give(s)
+	token, status, said := s.held.issue(how, string(text))
 	switch status {
 	case statusOK:
 		return string(token), nil

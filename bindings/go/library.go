@@ -22,6 +22,11 @@ static uint32_t held_open(held *it, _GoString_ policy, _GoString_ keys, uint32_t
 	return fow_open(&it->validator, at(policy), _GoStringLen(policy), at(keys), _GoStringLen(keys), fault);
 }
 
+static uint32_t held_open_beside(held *it, held *another)
+{
+	return fow_open_beside(&it->validator, &another->validator);
+}
+
 static fow_report held_judge(held *it, _GoString_ token, int64_t now)
 {
 	fow_report report = { 0 };
@@ -60,7 +65,10 @@ static void held_free(held *it)
 */
 import "C"
 
-import "unsafe"
+import (
+	"math"
+	"unsafe"
+)
 
 // What a call of the library answers.
 const (
@@ -97,6 +105,15 @@ func (h *held) open(policy, keys []byte) (status, fault int) {
 	return status, int(number)
 }
 
+// openBeside holds the documents of another, without reading them again, and answers the status.
+func (h *held) openBeside(another *held) (status int) {
+	h.at = (*C.held)(C.calloc(1, C.sizeof_held))
+	if h.at == nil {
+		return statusOutOfMemory
+	}
+	return int(C.held_open_beside(h.at, another.at))
+}
+
 func (h *held) judge(token string, now int64) verdict {
 	return verdictOf(C.held_judge(h.at, token, C.int64_t(now)))
 }
@@ -121,15 +138,25 @@ func (h *held) payload(token string) ([]byte, int) {
 	})
 }
 
-// header gives the octets of a protected header that nobody vouches for, and the status.
+// header gives the octets of a protected header that nobody vouches for, and the status. No signature has a number that 32 bits don't have.
 func (h *held) header(token string, signature int) ([]byte, int) {
+	if !has32Bits(signature) {
+		return nil, statusAbsent
+	}
 	return writtenTo(len(token)+1, func(out *C.uint8_t, room C.size_t, written *C.size_t) C.uint32_t {
 		return C.held_header(h.at, token, C.uint32_t(signature), out, room, written)
 	})
 }
 
-// issue gives a token, the status, and what is said where it is refused.
+// issue gives a token, the status, and what is said where it is refused. An algorithm or a form that isn't one of the constants is absent, and no
+// key has a number that 32 bits don't have.
 func (h *held) issue(how Issuing, claims string) (token []byte, status int, said verdict) {
+	if how.Algorithm < HS256 || how.Algorithm > HS512 || how.Form < Compact || how.Form > Flattened {
+		return nil, statusAbsent, verdict{}
+	}
+	if !has32Bits(how.Key) {
+		return nil, statusRefused, verdict{fault: C.FOW_ISSUE_NO_KEY}
+	}
 	var report C.fow_report
 	token, status = writtenTo(2*len(claims)+1024, func(out *C.uint8_t, room C.size_t, written *C.size_t) C.uint32_t {
 		return C.held_issue(h.at, C.uint32_t(how.Algorithm+1), C.uint32_t(how.Form+1), C.uint32_t(how.Key), how.Type, claims, out, room,
@@ -138,20 +165,32 @@ func (h *held) issue(how Issuing, claims string) (token []byte, status int, said
 	return token, status, verdictOf(report)
 }
 
-// refusedClaim gives the name of the claim that was found missing; it is empty where none was.
-func (h *held) refusedClaim() string {
-	name, _ := writtenTo(256, func(out *C.uint8_t, room C.size_t, written *C.size_t) C.uint32_t {
-		return C.fow_refused_claim(&h.at.validator, out, room, written)
-	})
-	return string(name)
+// has32Bits says whether a number is one that the library takes, and isn't wrapped.
+func has32Bits(number int) bool {
+	return number >= 0 && uint64(number) <= math.MaxUint32
 }
 
-// refusedMember gives the name of the member for which a policy is refused; it is empty where it is refused for none.
-func refusedMember(policy []byte) string {
-	name, _ := writtenTo(256, func(out *C.uint8_t, room C.size_t, written *C.size_t) C.uint32_t {
+// refusedClaim gives the name of the claim that was found missing; it is empty where none was. The error is ErrOutOfMemory.
+func (h *held) refusedClaim() (string, error) {
+	return textOf(writtenTo(256, func(out *C.uint8_t, room C.size_t, written *C.size_t) C.uint32_t {
+		return C.fow_refused_claim(&h.at.validator, out, room, written)
+	}))
+}
+
+// refusedMember gives the name of the member for which a policy is refused; it is empty where it is refused for none. The error is
+// ErrOutOfMemory.
+func refusedMember(policy []byte) (string, error) {
+	return textOf(writtenTo(256, func(out *C.uint8_t, room C.size_t, written *C.size_t) C.uint32_t {
 		return C.refused_member(string(policy), out, room, written)
-	})
-	return string(name)
+	}))
+}
+
+// textOf gives a text that was written, which is empty where there is none. Want of memory isn't told as an empty text.
+func textOf(octets []byte, status int) (string, error) {
+	if status != statusOK && status != statusAbsent {
+		return "", ErrOutOfMemory
+	}
+	return string(octets), nil
 }
 
 // state gives what became of a signature, and whether there is one of this number.
