@@ -53,6 +53,8 @@ extern "C" {
         fault: *mut u32,
     ) -> u32;
 
+    pub fn fow_open_beside(validator: *mut fow_validator, another: *mut fow_validator) -> u32;
+
     pub fn fow_refused_member(
         policy: *const u8,
         policy_len: usize,

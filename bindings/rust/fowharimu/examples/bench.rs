@@ -21,7 +21,7 @@ fn main() -> Result<(), Box<dyn error::Error>> {
 /// Prints the least time of a call on the token of this name, taken over so many calls.
 fn measure(label: &str, name: &str, calls: u32) -> Result<(), Box<dyn error::Error>> {
     let policy = fs::read(format!("{name}.policy"))?;
-    let mut validator = Validator::open(&policy, &fs::read(format!("{name}.keys"))?)?;
+    let validator = Validator::open(&policy, &fs::read(format!("{name}.keys"))?)?;
     let token = fs::read(format!("{name}.jwt"))?;
     let mut least = Duration::MAX;
     for _ in 0..ROUNDS {

@@ -51,6 +51,8 @@ pub enum Error {
     Undecided { signature: u32, key: u32 },
     /// An allocation was refused.
     OutOfMemory,
+    /// The library wrote octets that are no text in UTF-8, so that nothing can be shown of them.
+    NotUtf8,
 }
 
 impl fmt::Display for Error {
@@ -83,6 +85,7 @@ impl fmt::Display for Error {
                 "the token isn't accepted: signature {signature} couldn't be tried with key {key}"
             ),
             Error::OutOfMemory => write!(f, "an allocation was refused"),
+            Error::NotUtf8 => write!(f, "what is to be shown is no text in UTF-8"),
         }
     }
 }

@@ -4,7 +4,7 @@
 //! # fn main() -> Result<(), Box<dyn std::error::Error>> {
 //! use fowharimu::Validator;
 //!
-//! let mut validator = Validator::open(&std::fs::read("policy.json")?, &std::fs::read("keys.json")?)?;
+//! let validator = Validator::open(&std::fs::read("policy.json")?, &std::fs::read("keys.json")?)?;
 //! let claims = validator.validate(b"eyJ..")?;
 //! println!("{}", claims.json());
 //! # Ok(())
@@ -12,19 +12,13 @@
 //! ```
 
 mod error;
+mod seat;
 
 pub use error::{Error, Part};
 
-use fowharimu_sys as sys;
-use std::ffi::CStr;
-use std::ptr;
+use seat::Seat;
+use std::sync::{Mutex, MutexGuard, PoisonError};
 use std::time::{SystemTime, UNIX_EPOCH};
-
-/// The names of the claims, by the numbers from 1 that the library gives them.
-const CLAIMS: [&str; 7] = ["iss", "sub", "aud", "exp", "nbf", "iat", "jti"];
-
-/// The most octets that a claim's name has: those of the longest policy document.
-const WORD_ROOM: usize = 65_536;
 
 /// The claims of an accepted token.
 #[derive(Clone, Debug, PartialEq, Eq)]
@@ -39,15 +33,20 @@ impl Claims {
     }
 }
 
-/// A policy and a key set, by which tokens are judged. Another thread may have it; two can't use it at once.
+/// A policy and a key set, by which tokens are judged. Threads share it, and judge side by side.
 #[derive(Debug)]
 pub struct Validator {
-    held: sys::fow_validator,
-    crypto: sys::fow_openssl,
+    seats: Mutex<Seats>,
 }
 
-// SAFETY: what is held is owned by the validator alone, and no function keeps anything for a thread.
-unsafe impl Send for Validator {}
+/// What is held where no call is under way. It is locked to take a seat and to give it back.
+#[derive(Debug)]
+struct Seats {
+    /// The policy and the key set, which every seat holds too.
+    documents: Seat,
+    /// Those that were given back: at most as many as calls were under way at once.
+    free: Vec<Seat>,
+}
 
 impl Validator {
     /// Reads a policy and a key set.
@@ -55,42 +54,19 @@ impl Validator {
     /// # Errors
     /// `Policy`, `Keys` or `OutOfMemory`.
     pub fn open(policy: &[u8], keys: &[u8]) -> Result<Validator, Error> {
-        let mut validator = Validator {
-            held: sys::fow_validator {
-                at: ptr::null_mut(),
-                held: false,
-            },
-            crypto: sys::fow_openssl {
-                keys: ptr::null_mut(),
-                count: 0,
-                room: ptr::null_mut(),
-                size: 0,
-            },
-        };
-        let mut fault = 0;
-        // SAFETY: the slices are as long as their lengths say, and aren't null.
-        let status = unsafe {
-            sys::fow_open(
-                &mut validator.held,
-                policy.as_ptr(),
-                policy.len(),
-                keys.as_ptr(),
-                keys.len(),
-                &mut fault,
-            )
-        };
-        match status {
-            sys::FOW_OK => Ok(validator),
-            sys::FOW_REFUSED => Err(document_refused(fault, policy)),
-            _ => Err(Error::OutOfMemory),
-        }
+        Ok(Validator {
+            seats: Mutex::new(Seats {
+                documents: Seat::open(policy, keys)?,
+                free: Vec::new(),
+            }),
+        })
     }
 
     /// The claims of a token that is accepted at the clock's moment.
     ///
     /// # Errors
     /// Each but `Policy` and `Keys`.
-    pub fn validate(&mut self, token: &[u8]) -> Result<Claims, Error> {
+    pub fn validate(&self, token: &[u8]) -> Result<Claims, Error> {
         let now = match SystemTime::now().duration_since(UNIX_EPOCH) {
             Ok(since) => i64::try_from(since.as_secs()).unwrap_or(i64::MAX),
             Err(before) => i64::try_from(before.duration().as_secs()).map_or(i64::MIN, |it| -it),
@@ -102,123 +78,25 @@ impl Validator {
     ///
     /// # Errors
     /// Each but `Policy` and `Keys`.
-    pub fn validate_at(&mut self, token: &[u8], now: i64) -> Result<Claims, Error> {
-        let report = self.judge(token, now);
-        if report.verdict != sys::FOW_OK {
-            return Err(self.refusal(&report));
-        }
-        let held = &mut self.held;
-        // SAFETY: the slices are as long as their lengths say, and aren't null.
-        let payload = written(token.len() + 1, |out, room, len| unsafe {
-            sys::fow_payload(held, token.as_ptr(), token.len(), out, room, len)
-        });
-        match payload {
-            Some(json) => Ok(Claims { json }),
-            None => Err(Error::OutOfMemory),
-        }
+    pub fn validate_at(&self, token: &[u8], now: i64) -> Result<Claims, Error> {
+        let mut seat = self.take()?;
+        let claims = seat.claims(token, now);
+        // Where a call panics, its seat is closed in place of being given back.
+        self.seats().free.push(seat);
+        claims
     }
 
-    fn judge(&mut self, token: &[u8], now: i64) -> sys::fow_report {
-        let mut report = sys::fow_report::default();
-        // SAFETY: the slice is as long as its length says, and isn't null.
-        unsafe {
-            sys::fow_openssl_judge(
-                &mut self.crypto,
-                &mut self.held,
-                token.as_ptr(),
-                token.len(),
-                now,
-                &mut report,
-            );
-        }
-        report
-    }
-
-    fn refusal(&mut self, report: &sys::fow_report) -> Error {
-        let (signature, key) = (report.signature, report.key);
-        match report.verdict {
-            sys::FOW_ASKS => return Error::Undecided { signature, key },
-            sys::FOW_REFUSED => {}
-            _ => return Error::OutOfMemory,
-        }
-        let fault = fault_name(report.fault);
-        match report.fault / 100 {
-            3 => Error::TooLong,
-            4 => Error::Form {
-                fault,
-                part: part_of(report.part),
-                signature,
-            },
-            5 => Error::Ceiling {
-                fault,
-                signature,
-                key,
-            },
-            6 => Error::Signature { fault, signature },
-            _ => Error::Claims {
-                fault,
-                claim: self.refused_claim(report.claim),
-            },
+    /// A seat that no other call has.
+    fn take(&self) -> Result<Seat, Error> {
+        let mut seats = self.seats();
+        match seats.free.pop() {
+            Some(seat) => Ok(seat),
+            None => seats.documents.open_beside(),
         }
     }
 
-    fn refused_claim(&mut self, number: u32) -> Option<String> {
-        let place = usize::try_from(number).ok()?.checked_sub(1)?;
-        if let Some(name) = CLAIMS.get(place) {
-            return Some((*name).to_owned());
-        }
-        let held = &mut self.held;
-        // SAFETY: the octets are as many as their length says.
-        written(WORD_ROOM, |out, room, len| unsafe {
-            sys::fow_refused_claim(held, out, room, len)
-        })
+    /// Nothing that is done under the lock leaves the seats half written, so a panic in another thread is no reason to stop.
+    fn seats(&self) -> MutexGuard<'_, Seats> {
+        self.seats.lock().unwrap_or_else(PoisonError::into_inner)
     }
-}
-
-impl Drop for Validator {
-    fn drop(&mut self) {
-        // SAFETY: both are those that the other calls had.
-        unsafe {
-            sys::fow_openssl_clear(&mut self.crypto);
-            sys::fow_close(&mut self.held);
-        }
-    }
-}
-
-fn part_of(part: u32) -> Option<Part> {
-    match part {
-        1 => Some(Part::Payload),
-        2 => Some(Part::Protected),
-        3 => Some(Part::Signature),
-        _ => None,
-    }
-}
-
-fn fault_name(fault: u32) -> String {
-    // SAFETY: the name is a C string that is never freed.
-    let name = unsafe { CStr::from_ptr(sys::fow_fault_name(fault)) };
-    name.to_string_lossy().into_owned()
-}
-
-fn document_refused(number: u32, policy: &[u8]) -> Error {
-    let fault = fault_name(number);
-    if number / 100 == 2 {
-        return Error::Keys { fault };
-    }
-    // SAFETY: the slices are as long as their lengths say, and aren't null.
-    let member = written(policy.len() + 1, |out, room, len| unsafe {
-        sys::fow_refused_member(policy.as_ptr(), policy.len(), out, room, len)
-    });
-    Error::Policy { fault, member }
-}
-
-/// What a call writes into so many octets; nothing where it writes none, or no UTF-8.
-fn written(room: usize, call: impl FnOnce(*mut u8, usize, *mut usize) -> u32) -> Option<String> {
-    let mut out = vec![0; room];
-    let mut len = 0;
-    if call(out.as_mut_ptr(), room, &mut len) != sys::FOW_OK {
-        return None;
-    }
-    out.truncate(len);
-    String::from_utf8(out).ok()
 }

@@ -37,7 +37,7 @@ fn each_token_is_accepted_and_refused_where_it_is_changed() {
     assert!(names.len() >= 15);
     for name in names {
         let mut token = fs::read(&name).unwrap();
-        let mut validator = open(&name);
+        let validator = open(&name);
         let verdict = validator.validate_at(&token, NOW);
         if name.ends_with("rfc8037-a4.jwt") {
             assert!(matches!(verdict, Err(Error::Claims { .. })), "{name:?}");
@@ -59,7 +59,7 @@ fn each_kind_of_refusal() {
     let token = fs::read(top().join("examples/rfc7515-a1.jwt")).unwrap();
     let keys = fs::read(top().join("examples/rfc7515-a1.keys")).unwrap();
     let refused = |policy: &str, token: &[u8]| {
-        let mut validator = Validator::open(policy.as_bytes(), &keys).unwrap();
+        let validator = Validator::open(policy.as_bytes(), &keys).unwrap();
         validator.validate_at(token, NOW).unwrap_err()
     };
     let named = |fault: &str| fault.to_owned();
@@ -101,12 +101,58 @@ fn each_kind_of_refusal() {
 }
 
 #[test]
+fn a_name_of_any_length_is_told() {
+    let token = fs::read(top().join("examples/rfc7515-a1.jwt")).unwrap();
+    let keys = fs::read(top().join("examples/rfc7515-a1.keys")).unwrap();
+    let name = "x".repeat(5_000);
+    let policy = format!(r#"{{"algs":["HS256"],"required":["{name}"]}}"#);
+    let validator = Validator::open(policy.as_bytes(), &keys).unwrap();
+    assert_eq!(
+        validator.validate_at(&token, NOW),
+        Err(Error::Claims {
+            fault: "ClaimMissing".to_owned(),
+            claim: Some(name.clone())
+        })
+    );
+    let policy = format!(r#"{{"algs":["HS256"],"{name}":1}}"#);
+    assert_eq!(
+        Validator::open(policy.as_bytes(), &keys).unwrap_err(),
+        Error::Policy {
+            fault: "Member".to_owned(),
+            member: Some(name)
+        }
+    );
+}
+
+#[test]
 fn another_thread_may_have_it() {
     let name = top().join("bindings/tokens/RS256.jwt");
     let token = fs::read(&name).unwrap();
-    let mut validator = open(&name);
+    let validator = open(&name);
     let claims = thread::spawn(move || validator.validate_at(&token, NOW)).join();
     assert!(claims.unwrap().is_ok());
+}
+
+#[test]
+fn threads_share_it() {
+    for name in ["examples/rfc7515-a1.jwt", "bindings/tokens/RS256.jwt"] {
+        let name = top().join(name);
+        let token = fs::read(&name).unwrap();
+        let mut forged = token.clone();
+        let place = forged.len() - 10;
+        forged[place] ^= 1;
+        let validator = open(&name);
+        thread::scope(|threads| {
+            for _ in 0..16 {
+                threads.spawn(|| {
+                    for _ in 0..50 {
+                        assert!(validator.validate_at(&token, NOW).is_ok());
+                        assert!(validator.validate_at(&forged, NOW).is_err());
+                    }
+                });
+            }
+        });
+    }
 }
 
 #[test]

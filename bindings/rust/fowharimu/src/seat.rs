@@ -1,0 +1,263 @@
+//! What one call at a time judges with.
+
+use crate::{Claims, Error, Part};
+use fowharimu_sys as sys;
+use std::ffi::CStr;
+use std::ptr;
+
+/// The names of the claims, by the numbers from 1 that the library gives them.
+const CLAIMS: [&str; 7] = ["iss", "sub", "aud", "exp", "nbf", "iat", "jti"];
+
+/// The octets of room that a name is first given. A longer one gets more.
+const NAME_ROOM: usize = 256;
+
+/// A validator of the library, and what OpenSSL made of its keys.
+#[derive(Debug)]
+pub(crate) struct Seat {
+    held: sys::fow_validator,
+    crypto: sys::fow_openssl,
+}
+
+// SAFETY: what is written is owned by the seat alone, the documents that it shares with others are only read, and no function keeps
+// anything for a thread.
+unsafe impl Send for Seat {}
+
+impl Seat {
+    fn new() -> Seat {
+        Seat {
+            held: sys::fow_validator {
+                at: ptr::null_mut(),
+                held: false,
+            },
+            crypto: sys::fow_openssl {
+                keys: ptr::null_mut(),
+                count: 0,
+                room: ptr::null_mut(),
+                size: 0,
+            },
+        }
+    }
+
+    /// Reads a policy and a key set.
+    pub(crate) fn open(policy: &[u8], keys: &[u8]) -> Result<Seat, Error> {
+        let mut seat = Seat::new();
+        let mut fault = 0;
+        // SAFETY: the slices are as long as their lengths say, and aren't null.
+        let status = unsafe {
+            sys::fow_open(
+                &mut seat.held,
+                policy.as_ptr(),
+                policy.len(),
+                keys.as_ptr(),
+                keys.len(),
+                &mut fault,
+            )
+        };
+        match status {
+            sys::FOW_OK => Ok(seat),
+            sys::FOW_REFUSED => Err(document_refused(fault, policy)),
+            _ => Err(Error::OutOfMemory),
+        }
+    }
+
+    /// A seat with the same documents, which aren't read again.
+    pub(crate) fn open_beside(&mut self) -> Result<Seat, Error> {
+        let mut seat = Seat::new();
+        // SAFETY: both are those that the other calls had, and this one has them to itself.
+        match unsafe { sys::fow_open_beside(&mut seat.held, &mut self.held) } {
+            sys::FOW_OK => Ok(seat),
+            _ => Err(Error::OutOfMemory),
+        }
+    }
+
+    /// The claims of a token that is accepted at a moment.
+    pub(crate) fn claims(&mut self, token: &[u8], now: i64) -> Result<Claims, Error> {
+        let report = self.judge(token, now);
+        if report.verdict != sys::FOW_OK {
+            return Err(self.refusal(&report));
+        }
+        let held = &mut self.held;
+        // SAFETY: the slices are as long as their lengths say, and aren't null.
+        let payload = written(token.len() + 1, |out, room, len| unsafe {
+            sys::fow_payload(held, token.as_ptr(), token.len(), out, room, len)
+        })?;
+        // An accepted token has a payload: where there is none, nothing is known.
+        payload
+            .map(|json| Claims { json })
+            .ok_or(Error::OutOfMemory)
+    }
+
+    fn judge(&mut self, token: &[u8], now: i64) -> sys::fow_report {
+        let mut report = sys::fow_report::default();
+        // SAFETY: the slice is as long as its length says, and isn't null.
+        unsafe {
+            sys::fow_openssl_judge(
+                &mut self.crypto,
+                &mut self.held,
+                token.as_ptr(),
+                token.len(),
+                now,
+                &mut report,
+            );
+        }
+        report
+    }
+
+    fn refusal(&mut self, report: &sys::fow_report) -> Error {
+        let (signature, key) = (report.signature, report.key);
+        match report.verdict {
+            sys::FOW_ASKS => return Error::Undecided { signature, key },
+            sys::FOW_REFUSED => {}
+            _ => return Error::OutOfMemory,
+        }
+        let fault = fault_name(report.fault);
+        match report.fault / 100 {
+            3 => Error::TooLong,
+            4 => Error::Form {
+                fault,
+                part: part_of(report.part),
+                signature,
+            },
+            5 => Error::Ceiling {
+                fault,
+                signature,
+                key,
+            },
+            6 => Error::Signature { fault, signature },
+            _ => match self.refused_claim(report.claim) {
+                Ok(claim) => Error::Claims { fault, claim },
+                Err(error) => error,
+            },
+        }
+    }
+
+    /// The name of the claim of this number, where there is one.
+    fn refused_claim(&mut self, number: u32) -> Result<Option<String>, Error> {
+        let place = usize::try_from(number)
+            .ok()
+            .and_then(|it| it.checked_sub(1));
+        let Some(place) = place else {
+            return Ok(None);
+        };
+        if let Some(name) = CLAIMS.get(place) {
+            return Ok(Some((*name).to_owned()));
+        }
+        let held = &mut self.held;
+        // SAFETY: the octets are as many as their length says.
+        written(NAME_ROOM, |out, room, len| unsafe {
+            sys::fow_refused_claim(held, out, room, len)
+        })
+    }
+}
+
+impl Drop for Seat {
+    fn drop(&mut self) {
+        // SAFETY: both are those that the other calls had.
+        unsafe {
+            sys::fow_openssl_clear(&mut self.crypto);
+            sys::fow_close(&mut self.held);
+        }
+    }
+}
+
+fn part_of(part: u32) -> Option<Part> {
+    match part {
+        1 => Some(Part::Payload),
+        2 => Some(Part::Protected),
+        3 => Some(Part::Signature),
+        _ => None,
+    }
+}
+
+fn fault_name(fault: u32) -> String {
+    // SAFETY: the name is a C string that is never freed.
+    let name = unsafe { CStr::from_ptr(sys::fow_fault_name(fault)) };
+    name.to_string_lossy().into_owned()
+}
+
+fn document_refused(number: u32, policy: &[u8]) -> Error {
+    let fault = fault_name(number);
+    if number / 100 == 2 {
+        return Error::Keys { fault };
+    }
+    // SAFETY: the slices are as long as their lengths say, and aren't null.
+    let member = written(NAME_ROOM, |out, room, len| unsafe {
+        sys::fow_refused_member(policy.as_ptr(), policy.len(), out, room, len)
+    });
+    match member {
+        Ok(member) => Error::Policy { fault, member },
+        Err(error) => error,
+    }
+}
+
+/// The text that a call writes, in as much room as it needs and at least this; nothing where there is nothing to write.
+///
+/// # Errors
+/// `OutOfMemory`, also where there is no such room, and `NotUtf8`.
+fn written(
+    mut room: usize,
+    mut call: impl FnMut(*mut u8, usize, *mut usize) -> u32,
+) -> Result<Option<String>, Error> {
+    loop {
+        let mut out = Vec::new();
+        out.try_reserve_exact(room)
+            .map_err(|_| Error::OutOfMemory)?;
+        out.resize(room, 0);
+        let mut len = 0;
+        match call(out.as_mut_ptr(), room, &mut len) {
+            sys::FOW_OK => {
+                out.truncate(len);
+                return String::from_utf8(out).map(Some).map_err(|_| Error::NotUtf8);
+            }
+            sys::FOW_ABSENT => return Ok(None),
+            sys::FOW_TOO_SHORT => room = room.checked_mul(2).ok_or(Error::OutOfMemory)?,
+            _ => return Err(Error::OutOfMemory),
+        }
+    }
+}
+
+#[cfg(test)]
+mod tests {
+    use super::*;
+
+    /// What is written by a call that writes these octets where there is room for them.
+    fn written_of(octets: &[u8], room: usize) -> Result<Option<String>, Error> {
+        written(room, |out, room, len| {
+            if room < octets.len() {
+                return sys::FOW_TOO_SHORT;
+            }
+            // SAFETY: there is as much room.
+            unsafe {
+                ptr::copy_nonoverlapping(octets.as_ptr(), out, octets.len());
+                *len = octets.len();
+            }
+            sys::FOW_OK
+        })
+    }
+
+    #[test]
+    fn it_asks_again_with_more_room() {
+        assert_eq!(written_of(b"role", 1), Ok(Some("role".to_owned())));
+        assert_eq!(written_of(b"", 1), Ok(Some(String::new())));
+        let long = "x".repeat(100_000);
+        assert_eq!(written_of(long.as_bytes(), 1), Ok(Some(long)));
+    }
+
+    #[test]
+    fn no_answer_is_taken_for_another() {
+        assert_eq!(written_of(b"\xff", 8), Err(Error::NotUtf8));
+        assert_eq!(written(8, |_, _, _| sys::FOW_ABSENT), Ok(None));
+        assert_eq!(
+            written(8, |_, _, _| sys::FOW_OUT_OF_MEMORY),
+            Err(Error::OutOfMemory)
+        );
+        assert_eq!(
+            written(8, |_, _, _| sys::FOW_NOT_OPEN),
+            Err(Error::OutOfMemory)
+        );
+        assert_eq!(
+            written(usize::MAX, |_, _, _| sys::FOW_OK),
+            Err(Error::OutOfMemory)
+        );
+    }
+}
