@@ -47,11 +47,13 @@ typedef struct {
 
 typedef struct {
     ngx_flag_t                       enable;
+    ngx_uint_t                       open;      /* a "return" answers before */
     u_char                          *file;      /* where it was enabled */
     ngx_uint_t                       line;
     ngx_str_t                        policy;    /* the document's octets */
     ngx_str_t                        keys;
     ngx_int_t                        token;
+    ngx_str_t                        argument;  /* that the token is */
     ngx_array_t                     *demands;
     ngx_http_fowharimu_validator_t  *validator;
 } ngx_http_fowharimu_loc_conf_t;
@@ -72,6 +74,10 @@ static ngx_int_t ngx_http_fowharimu_access_handler(ngx_http_request_t *r);
 static ngx_int_t ngx_http_fowharimu_subrequest_handler(ngx_http_request_t *r);
 static ngx_int_t ngx_http_fowharimu_token(ngx_http_request_t *r,
     ngx_http_fowharimu_loc_conf_t *lcf, ngx_str_t *token);
+static ngx_int_t ngx_http_fowharimu_is_twice(ngx_http_request_t *r,
+    ngx_str_t *argument);
+static ngx_int_t ngx_http_fowharimu_is_named(u_char *p, u_char *last,
+    ngx_str_t *argument);
 static ngx_int_t ngx_http_fowharimu_bearer(ngx_http_request_t *r,
     ngx_str_t *token);
 static ngx_int_t ngx_http_fowharimu_judge(ngx_http_request_t *r,
@@ -126,6 +132,9 @@ static void *ngx_http_fowharimu_create_main_conf(ngx_conf_t *cf);
 static void *ngx_http_fowharimu_create_loc_conf(ngx_conf_t *cf);
 static char *ngx_http_fowharimu_merge_loc_conf(ngx_conf_t *cf, void *parent,
     void *child);
+static ngx_uint_t ngx_http_fowharimu_is_open(ngx_conf_t *cf);
+static ngx_uint_t ngx_http_fowharimu_is_answered(void *conf);
+static size_t ngx_http_fowharimu_code_size(u_char *p, size_t rest);
 static ngx_int_t ngx_http_fowharimu_open(ngx_conf_t *cf,
     ngx_http_fowharimu_loc_conf_t *lcf);
 static void ngx_http_fowharimu_close(void *data);
@@ -139,6 +148,8 @@ static ngx_int_t ngx_http_fowharimu_read_file(ngx_conf_t *cf, ngx_str_t *name,
     size_t max, ngx_str_t *document);
 static char *ngx_http_fowharimu_check(ngx_conf_t *cf, ngx_str_t *name,
     ngx_str_t *policy, ngx_str_t *keys);
+static char *ngx_http_fowharimu_refuse_member(ngx_conf_t *cf, ngx_str_t *name,
+    ngx_str_t *policy, uint32_t fault);
 static char *ngx_http_fowharimu_set_token(ngx_conf_t *cf, ngx_command_t *cmd,
     void *conf);
 static char *ngx_http_fowharimu_require(ngx_conf_t *cf, ngx_command_t *cmd,
@@ -298,7 +309,9 @@ ngx_http_fowharimu_access_handler(ngx_http_request_t *r)
 
     if (rc == NGX_ABORT) {
         ngx_str_set(&ctx->verdict, "refused");
-        ngx_str_set(&ctx->fault, "HeaderTwice");
+        ngx_http_fowharimu_set_text(&ctx->fault,
+                                    lcf->token == NGX_HTTP_FOWHARIMU_BEARER
+                                    ? "HeaderTwice" : "ArgumentTwice");
         return ngx_http_fowharimu_refuse(r, NGX_HTTP_BAD_REQUEST,
                                          "Bearer error=\"invalid_request\"");
     }
@@ -327,7 +340,7 @@ ngx_http_fowharimu_subrequest_handler(ngx_http_request_t *r)
 }
 
 
-/* NGX_DECLINED: there is no token; NGX_ABORT: the header stands twice */
+/* NGX_DECLINED: there is no token; NGX_ABORT: it stands twice */
 
 static ngx_int_t
 ngx_http_fowharimu_token(ngx_http_request_t *r,
@@ -337,6 +350,12 @@ ngx_http_fowharimu_token(ngx_http_request_t *r,
 
     if (lcf->token == NGX_HTTP_FOWHARIMU_BEARER) {
         return ngx_http_fowharimu_bearer(r, token);
+    }
+
+    if (lcf->argument.len
+        && ngx_http_fowharimu_is_twice(r, &lcf->argument))
+    {
+        return NGX_ABORT;
     }
 
     v = ngx_http_get_flushed_variable(r, lcf->token);
@@ -353,6 +372,76 @@ ngx_http_fowharimu_token(ngx_http_request_t *r,
     token->data = v->data;
 
     return NGX_OK;
+}
+
+
+/*
+ * Whether more than one argument of the request has that name: then nginx and
+ * what is behind it may each take another one for the token.
+ */
+
+static ngx_int_t
+ngx_http_fowharimu_is_twice(ngx_http_request_t *r, ngx_str_t *argument)
+{
+    u_char      *p, *last, *end;
+    ngx_uint_t   count;
+
+    count = 0;
+    p = r->args.data;
+    last = p + r->args.len;
+
+    while (p < last) {
+        end = ngx_strlchr(p, last, '&');
+
+        if (end == NULL) {
+            end = last;
+        }
+
+        count += ngx_http_fowharimu_is_named(p, end, argument);
+
+        if (end == last) {
+            break;
+        }
+
+        p = end + 1;
+    }
+
+    return count > 1;
+}
+
+
+/*
+ * Whether an argument has that name, in any case of its letters, as nginx
+ * looks for it, and by its octets or escaped.
+ */
+
+static ngx_int_t
+ngx_http_fowharimu_is_named(u_char *p, u_char *last, ngx_str_t *argument)
+{
+    size_t     n;
+    u_char     c;
+    ngx_int_t  value;
+
+    for (n = 0; p < last && *p != '='; n++) {
+        c = *p++;
+
+        if (c == '%' && last - p >= 2) {
+            value = ngx_hextoi(p, 2);
+
+            if (value != NGX_ERROR) {
+                c = (u_char) value;
+                p += 2;
+            }
+        }
+
+        if (n >= argument->len
+            || ngx_tolower(c) != ngx_tolower(argument->data[n]))
+        {
+            return 0;
+        }
+    }
+
+    return n == argument->len;
 }
 
 
@@ -674,6 +763,10 @@ ngx_http_fowharimu_meets_text(ngx_http_fowharimu_demand_t *demand,
             return 1;
         }
 
+        if (end == last) {
+            break;
+        }
+
         p = end + 1;
     }
 
@@ -769,7 +862,7 @@ ngx_http_fowharimu_read_text(u_char **p, u_char *last, ngx_str_t *text)
     }
 
     text->len = dst - text->data;
-    *p = src + 1;
+    *p = src < last ? src + 1 : last;
 
     return rc;
 }
@@ -1178,10 +1271,12 @@ ngx_http_fowharimu_create_loc_conf(ngx_conf_t *cf)
     /*
      * set by ngx_pcalloc():
      *
+     *     lcf->open = 0;
      *     lcf->file = NULL;
      *     lcf->line = 0;
      *     lcf->policy = { 0, NULL };
      *     lcf->keys = { 0, NULL };
+     *     lcf->argument = { 0, NULL };
      *     lcf->validator = NULL;
      */
 
@@ -1199,7 +1294,14 @@ ngx_http_fowharimu_merge_loc_conf(ngx_conf_t *cf, void *parent, void *child)
     ngx_http_fowharimu_loc_conf_t *prev = parent;
     ngx_http_fowharimu_loc_conf_t *conf = child;
 
+    ngx_http_core_loc_conf_t        *clcf;
     ngx_http_fowharimu_main_conf_t  *mcf;
+
+    /* a "return" beside "limit_except" answers each method */
+
+    clcf = ngx_http_conf_get_module_loc_conf(cf, ngx_http_core_module);
+    conf->open = ngx_http_fowharimu_is_open(cf)
+                 || (clcf->lmt_excpt && prev->open);
 
     /* the documents of a level are opened once for all that inherit them */
 
@@ -1228,6 +1330,10 @@ ngx_http_fowharimu_merge_loc_conf(ngx_conf_t *cf, void *parent, void *child)
         conf->line = prev->line;
     }
 
+    if (conf->token == NGX_CONF_UNSET) {
+        conf->argument = prev->argument;
+    }
+
     ngx_conf_merge_value(conf->enable, prev->enable, 0);
     ngx_conf_merge_value(conf->token, prev->token, NGX_HTTP_FOWHARIMU_BEARER);
     ngx_conf_merge_ptr_value(conf->demands, prev->demands, NULL);
@@ -1245,10 +1351,177 @@ ngx_http_fowharimu_merge_loc_conf(ngx_conf_t *cf, void *parent, void *child)
         return NGX_CONF_ERROR;
     }
 
+    if (conf->open) {
+        ngx_log_error(NGX_LOG_EMERG, cf->log, 0,
+                      "a \"return\" answers before \"jwt\" is asked, which "
+                      "is on by %s:%ui: say \"jwt off\" beside it",
+                      conf->file, conf->line);
+        return NGX_CONF_ERROR;
+    }
+
     mcf = ngx_http_conf_get_module_main_conf(cf, ngx_http_fowharimu_module);
     mcf->enabled = 1;
 
     return NGX_CONF_OK;
+}
+
+
+/*
+ * Whether each request here is answered by a "return" of a success, of this
+ * level or of the server: nginx does so in phases before this module is asked.
+ */
+
+static ngx_uint_t
+ngx_http_fowharimu_is_open(ngx_conf_t *cf)
+{
+    ngx_uint_t                  i;
+    ngx_module_t              **modules;
+    ngx_http_conf_ctx_t        *ctx;
+    ngx_http_core_srv_conf_t   *cscf;
+
+    ctx = cf->ctx;
+    cscf = ngx_http_conf_get_module_srv_conf(cf, ngx_http_core_module);
+    modules = cf->cycle->modules;
+
+    for (i = 0; modules[i]; i++) {
+
+        if (ngx_strcmp(modules[i]->name, "ngx_http_rewrite_module") != 0) {
+            continue;
+        }
+
+        return ngx_http_fowharimu_is_answered(
+                                     ctx->loc_conf[modules[i]->ctx_index])
+               || (cscf->ctx && ngx_http_fowharimu_is_answered(
+                              cscf->ctx->loc_conf[modules[i]->ctx_index]));
+    }
+
+    return 0;
+}
+
+
+/*
+ * Walks over what ngx_http_rewrite_module does here, whose configuration begins
+ * with the array of its codes, to a "return" that each request comes to.  What
+ * stands within an "if" is left out, and behind a "rewrite" or "break" nothing
+ * is looked at.
+ */
+
+static ngx_uint_t
+ngx_http_fowharimu_is_answered(void *conf)
+{
+    size_t                          size;
+    u_char                         *p, *last;
+    ngx_array_t                    *codes;
+    ngx_http_script_return_code_t  *code;
+
+    codes = conf ? *(ngx_array_t **) conf : NULL;
+
+    if (codes == NULL) {
+        return 0;
+    }
+
+    p = codes->elts;
+    last = p + codes->nelts;
+
+    while ((size_t) (last - p) >= sizeof(ngx_http_script_code_pt)) {
+
+        if (*(ngx_http_script_code_pt *) p == ngx_http_script_return_code) {
+
+            if ((size_t) (last - p) < sizeof(ngx_http_script_return_code_t)) {
+                return 0;
+            }
+
+            code = (ngx_http_script_return_code_t *) p;
+
+            return code->status >= NGX_HTTP_OK
+                   && code->status < NGX_HTTP_SPECIAL_RESPONSE;
+        }
+
+        size = ngx_http_fowharimu_code_size(p, last - p);
+
+        if (size == 0 || size > (size_t) (last - p)) {
+            return 0;
+        }
+
+        p += size;
+    }
+
+    return 0;
+}
+
+
+/*
+ * The octets of a code behind which the next is run, of an "if" its block too;
+ * 0 where none is.  A code that isn't known here has no more than its function,
+ * as the end of a value that nginx 1.22.1 of Debian has beside its header.
+ */
+
+static size_t
+ngx_http_fowharimu_code_size(u_char *p, size_t rest)
+{
+    ngx_uint_t                    i;
+    ngx_http_script_code_pt       code;
+    ngx_http_script_copy_code_t  *copy;
+
+    static const struct {
+        ngx_http_script_code_pt   code;
+        size_t                    size;
+    } sizes[] = {
+        { ngx_http_script_value_code, sizeof(ngx_http_script_value_code_t) },
+        { ngx_http_script_complex_value_code,
+          sizeof(ngx_http_script_complex_value_code_t) },
+        { ngx_http_script_copy_var_code, sizeof(ngx_http_script_var_code_t) },
+        { ngx_http_script_copy_capture_code,
+          sizeof(ngx_http_script_copy_capture_code_t) },
+        { ngx_http_script_set_var_code, sizeof(ngx_http_script_var_code_t) },
+        { ngx_http_script_var_set_handler_code,
+          sizeof(ngx_http_script_var_handler_code_t) },
+        { ngx_http_script_var_code, sizeof(ngx_http_script_var_code_t) },
+        { ngx_http_script_file_code, sizeof(ngx_http_script_file_code_t) },
+    };
+
+    code = *(ngx_http_script_code_pt *) p;
+
+    if (code == ngx_http_script_if_code) {
+        return rest < sizeof(ngx_http_script_if_code_t)
+               ? 0 : ((ngx_http_script_if_code_t *) p)->next;
+    }
+
+    if (code == ngx_http_script_copy_code) {
+
+        if (rest < sizeof(ngx_http_script_copy_code_t)) {
+            return 0;
+        }
+
+        copy = (ngx_http_script_copy_code_t *) p;
+
+        return ngx_align(sizeof(ngx_http_script_copy_code_t) + copy->len,
+                         sizeof(uintptr_t));
+    }
+
+#if (NGX_PCRE)
+
+    /* (one that isn't the condition of an "if" is a "rewrite") */
+
+    if (code == ngx_http_script_regex_start_code) {
+        return rest >= sizeof(ngx_http_script_regex_code_t)
+               && ((ngx_http_script_regex_code_t *) p)->test
+               ? sizeof(ngx_http_script_regex_code_t) : 0;
+    }
+
+#endif
+
+    if (code == NULL || code == ngx_http_script_break_code) {
+        return 0;
+    }
+
+    for (i = 0; i < sizeof(sizes) / sizeof(sizes[0]); i++) {
+        if (code == sizes[i].code) {
+            return sizes[i].size;
+        }
+    }
+
+    return sizeof(ngx_http_script_code_pt);
 }
 
 
@@ -1468,9 +1741,41 @@ ngx_http_fowharimu_check(ngx_conf_t *cf, ngx_str_t *name, ngx_str_t *policy,
         return NGX_CONF_OK;
     }
 
+    if (fault == FOW_POLICY_MEMBER || fault == FOW_POLICY_RANGE) {
+        return ngx_http_fowharimu_refuse_member(cf, name, policy, fault);
+    }
+
     ngx_conf_log_error(NGX_LOG_EMERG, cf, 0, "\"%V\" is refused: %s", name,
                        status == FOW_REFUSED ? fow_fault_name(fault)
                                              : "OutOfMemory");
+
+    return NGX_CONF_ERROR;
+}
+
+
+/* a member's name is no longer than the document that it is in */
+
+static char *
+ngx_http_fowharimu_refuse_member(ngx_conf_t *cf, ngx_str_t *name,
+    ngx_str_t *policy, uint32_t fault)
+{
+    ngx_str_t  member;
+
+    member.len = 0;
+    member.data = ngx_pnalloc(cf->temp_pool, policy->len + 1);
+
+    if (member.data == NULL
+        || fow_refused_member(policy->data, policy->len, member.data,
+                              policy->len + 1, &member.len)
+           != FOW_OK)
+    {
+        ngx_conf_log_error(NGX_LOG_EMERG, cf, 0, "\"%V\" is refused: %s",
+                           name, fow_fault_name(fault));
+        return NGX_CONF_ERROR;
+    }
+
+    ngx_conf_log_error(NGX_LOG_EMERG, cf, 0, "\"%V\" is refused: %s of \"%V\"",
+                       name, fow_fault_name(fault), &member);
 
     return NGX_CONF_ERROR;
 }
@@ -1506,6 +1811,15 @@ ngx_http_fowharimu_set_token(ngx_conf_t *cf, ngx_command_t *cmd, void *conf)
     lcf->token = ngx_http_get_variable_index(cf, &value[1]);
     if (lcf->token == NGX_ERROR) {
         return NGX_CONF_ERROR;
+    }
+
+    if (value[1].len > sizeof("arg_") - 1
+        && ngx_strncasecmp(value[1].data, (u_char *) "arg_",
+                           sizeof("arg_") - 1)
+           == 0)
+    {
+        lcf->argument.len = value[1].len - (sizeof("arg_") - 1);
+        lcf->argument.data = value[1].data + sizeof("arg_") - 1;
     }
 
     return NGX_CONF_OK;
