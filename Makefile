@@ -1,6 +1,6 @@
 # The library for C, its part over OpenSSL, and the program, from what rt proves and builds.
 #
-#   make                             builds all in build/
+#   make                             proves and builds the program, and the libraries in build/
 #   make test                        runs the tests of each language that is installed
 #   make install PREFIX= DESTDIR=    installs libraries, headers, pkg-config, the manual page and the program
 #   make deb                         makes build/fowharimu_VERSION_ARCHITECTURE.deb
@@ -20,10 +20,13 @@ PROGRAM = crates/jwt_tool/out/jwt_tool
 LIBRARIES = $(BUILD)/libfowharimu.a $(BUILD)/libfowharimu.so.0 $(BUILD)/libfowharimu_openssl.a $(BUILD)/libfowharimu_openssl.so.0
 PACKAGES = $(BUILD)/fowharimu.pc $(BUILD)/fowharimu_openssl.pc
 
-all: $(LIBRARIES) $(PACKAGES)
+all: libraries $(PROGRAM)
+
+libraries: $(LIBRARIES) $(PACKAGES)
 
 $(ARCHIVE): $(CRATES)
-	cd crates/jwt_c && rt lib
+	mkdir -p $(BUILD)
+	cd crates/jwt_c && python3 ../../gate/progress.py $(abspath $(BUILD))/archive.log rt lib || { tail $(abspath $(BUILD))/archive.log; false; }
 
 $(BUILD)/fault_name.o: bindings/c/fault_name.c include/fowharimu.h
 	mkdir -p $(BUILD)
@@ -34,11 +37,12 @@ $(BUILD)/libfowharimu.a: $(ARCHIVE) $(BUILD)/fault_name.o
 	cd $(BUILD)/objects && ar x $(abspath $(ARCHIVE)) && ar x $(LIBC)
 	ar rcs $@ $(BUILD)/objects/*.o $(BUILD)/fault_name.o
 
-# Only the names of the headers are seen from outside.
+# Only the names of the headers are seen from outside. The name without a number, by which a linker looks for a library, is the same
+# file here: `rt ci` stops at symbolic links, and install makes one.
 $(BUILD)/libfowharimu.so.0: $(BUILD)/libfowharimu.a bindings/c/fowharimu.map
 	$(CC) -shared -o $@ -Wl,-soname,libfowharimu.so.0 -Wl,--version-script,bindings/c/fowharimu.map -Wl,-z,relro,-z,now \
 	    -Wl,--whole-archive $(BUILD)/libfowharimu.a -Wl,--no-whole-archive
-	ln -sf libfowharimu.so.0 $(BUILD)/libfowharimu.so
+	ln -f $@ $(BUILD)/libfowharimu.so
 
 $(BUILD)/fowharimu_openssl.o: bindings/openssl/fowharimu_openssl.c include/fowharimu.h include/fowharimu_openssl.h
 	mkdir -p $(BUILD)
@@ -49,8 +53,8 @@ $(BUILD)/libfowharimu_openssl.a: $(BUILD)/fowharimu_openssl.o
 
 $(BUILD)/libfowharimu_openssl.so.0: $(BUILD)/fowharimu_openssl.o $(BUILD)/libfowharimu.so.0 bindings/c/fowharimu.map
 	$(CC) -shared -o $@ -Wl,-soname,libfowharimu_openssl.so.0 -Wl,--version-script,bindings/c/fowharimu.map -Wl,-z,relro,-z,now \
-	    $(BUILD)/fowharimu_openssl.o -L$(BUILD) -lfowharimu -lcrypto
-	ln -sf libfowharimu_openssl.so.0 $(BUILD)/libfowharimu_openssl.so
+	    $(BUILD)/fowharimu_openssl.o $(BUILD)/libfowharimu.so.0 -lcrypto
+	ln -f $@ $(BUILD)/libfowharimu_openssl.so
 
 # The prefix may be another than that of the last call.
 $(BUILD)/%.pc: bindings/c/%.pc.in FORCE
@@ -58,7 +62,7 @@ $(BUILD)/%.pc: bindings/c/%.pc.in FORCE
 	sed 's|@PREFIX@|$(PREFIX)|; s|@LIBDIR@|$(LIBDIR)|; s|@VERSION@|$(VERSION)|' $< > $@
 
 $(PROGRAM): $(CRATES)
-	./jwt > $(BUILD)/usage || test $$? = 2
+	./jwt --build-program
 
 $(BUILD)/fowharimu.1: docs/jwt.1
 	mkdir -p $(BUILD)
@@ -75,13 +79,13 @@ install: all $(PROGRAM) $(BUILD)/fowharimu.1
 	install -m 755 $(PROGRAM) $(DESTDIR)$(PREFIX)/bin/fowharimu
 	install -m 644 $(BUILD)/fowharimu.1 $(DESTDIR)$(PREFIX)/share/man/man1
 
-# The package holds what install installs; it is made in a folder of its own.
+# The package holds what install installs; it is made in a folder outside the repository, since it has symbolic links.
 deb:
-	rm -rf $(BUILD)/deb
-	$(MAKE) install PREFIX=/usr DESTDIR=$(BUILD)/deb
-	install -d $(BUILD)/deb/DEBIAN
-	sed 's|@VERSION@|$(VERSION)|; s|@ARCHITECTURE@|$(shell dpkg --print-architecture)|' debian/control > $(BUILD)/deb/DEBIAN/control
-	dpkg-deb --root-owner-group --build $(BUILD)/deb $(BUILD)
+	mkdir -p $(BUILD)
+	room=$$(mktemp -d) && trap 'rm -rf "$$room"' EXIT && chmod 755 "$$room" && \
+	$(MAKE) install PREFIX=/usr DESTDIR="$$room" && install -d "$$room/DEBIAN" && \
+	sed 's|@VERSION@|$(VERSION)|; s|@ARCHITECTURE@|$(shell dpkg --print-architecture)|' debian/control > "$$room/DEBIAN/control" && \
+	dpkg-deb --root-owner-group --build "$$room" $(BUILD)
 
 # nginx's own configure, with the flags of Debian's nginx, writes the Makefile for the module.
 NGINX = /usr/share/nginx/src
@@ -105,7 +109,7 @@ nginx-install: nginx
 	echo 'load_module modules/$(MODULE).so;' > $(DESTDIR)/usr/share/nginx/modules-available/mod-http-fowharimu.conf
 	ln -sf /usr/share/nginx/modules-available/mod-http-fowharimu.conf $(DESTDIR)/etc/nginx/modules-enabled/50-mod-http-fowharimu.conf
 
-test: all
+test: libraries
 	bindings/run
 
 clean:
@@ -113,4 +117,4 @@ clean:
 
 FORCE:
 
-.PHONY: all install deb nginx nginx-install test clean FORCE
+.PHONY: all libraries install deb nginx nginx-install test clean FORCE

@@ -6,7 +6,7 @@ set -eu -o pipefail
 cd "$(dirname -- "$(readlink -f -- "${BASH_SOURCE[0]}")")"
 
 now=1300819379
-coproc GATE { exec ../jwt verify --lines --now "$now" --policy rfc7515-a1.policy --keys rfc7515-a1.keys; }
+coproc GATE { exec ../jwt --proved verify --lines --now "$now" --policy rfc7515-a1.policy --keys rfc7515-a1.keys; }
 
 # Sends a token, and waits for its line.
 asked() {

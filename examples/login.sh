@@ -14,11 +14,11 @@ esac
 
 now=$(date +%s)
 claims=$(printf '{"iss":"https://login.example","sub":"%s","aud":"shop","iat":%d,"exp":%d}' "$name" "$now" "$((now + 600))")
-token=$(printf '%s' "$claims" | cat rfc7515-a1.keys - | ../jwt issue --alg HS256 --typ at+jwt)
+token=$(printf '%s' "$claims" | cat rfc7515-a1.keys - | ../jwt --proved issue --alg HS256 --typ at+jwt)
 
 # What the shop says of the token; its status says whether it takes it.
 verdict() {
-    printf '%s' "$token" | cat login.policy rfc7515-a1.keys - | ../jwt verify "$@"
+    printf '%s' "$token" | cat login.policy rfc7515-a1.keys - | ../jwt --proved verify "$@"
 }
 
 if verdict; then

@@ -13,7 +13,7 @@ from socketserver import ThreadingMixIn
 from typing import Any, Callable, Dict, Iterable, Optional
 from wsgiref.simple_server import WSGIServer, make_server
 
-from fowharimu import TokenRefused, Validator
+from fowharimu import TokenRefused, Undecided, Validator
 
 Environ = Dict[str, Any]
 StartResponse = Callable[..., Any]
@@ -22,7 +22,8 @@ Application = Callable[[Environ, StartResponse], Iterable[bytes]]
 
 class Guard:
     """Lets a request through to an application where its token is accepted now, with its claims as `fowharimu.claims`. Else it
-    answers 401 (RFC 6750, section 3). Want of memory is an exception, which the server answers by 500."""
+    answers 401 (RFC 6750, section 3). Want of memory, and a signature of which OpenSSL can't say anything, is an exception, which the
+    server answers by 500."""
 
     def __init__(self, application: Application, validator: Validator) -> None:
         self._application = application
@@ -34,6 +35,8 @@ class Guard:
             return refuse(start_response, 'Bearer realm="gateway"')
         try:
             claims = self._validator.validate(token)
+        except Undecided:
+            raise
         except TokenRefused as refusal:
             print(refusal, file=environ["wsgi.errors"])
             return refuse(start_response, 'Bearer error="invalid_token"')

@@ -31,10 +31,11 @@ func guard(validator *fowharimu.Validator, next http.Handler) http.Handler {
 		}
 		claims, err := validator.Validate(token)
 		var refusal fowharimu.Refusal
+		var undecided *fowharimu.UndecidedError
 		switch {
 		case err == nil:
 			next.ServeHTTP(w, r.WithContext(context.WithValue(r.Context(), claimsKey{}, claims)))
-		case errors.As(err, &refusal):
+		case errors.As(err, &refusal) && !errors.As(err, &undecided):
 			log.Print(refusal)
 			refuse(w, `Bearer error="invalid_token"`)
 		default:

@@ -6,7 +6,7 @@
 use fowharimu::{Claims, Error, Validator};
 use std::io::{self, BufRead, BufReader, Read, Write};
 use std::net::{TcpListener, TcpStream};
-use std::sync::{Arc, Mutex};
+use std::sync::Arc;
 use std::time::Duration;
 use std::{env, error, fs, thread};
 
@@ -24,18 +24,14 @@ enum Decision {
 }
 
 /// Lets a request through where its token is accepted now.
-fn decide(validator: &Mutex<Validator>, head: &[String]) -> Decision {
+fn decide(validator: &Validator, head: &[String]) -> Decision {
     let token = match bearer(head) {
         Some(token) => token,
         None => return Decision::Refused("Bearer realm=\"gateway\""),
     };
-    let verdict = match validator.lock() {
-        Ok(mut validator) => validator.validate(token.as_bytes()),
-        Err(_) => return Decision::Failed,
-    };
-    match verdict {
+    match validator.validate(token.as_bytes()) {
         Ok(claims) => Decision::Through(claims),
-        Err(Error::OutOfMemory) => Decision::Failed,
+        Err(Error::OutOfMemory | Error::NotUtf8 | Error::Undecided { .. }) => Decision::Failed,
         Err(refusal) => {
             eprintln!("{refusal}");
             Decision::Refused("Bearer error=\"invalid_token\"")
@@ -70,7 +66,7 @@ fn read_head(stream: &TcpStream) -> io::Result<Vec<String>> {
 }
 
 /// Reads a request, and answers it.
-fn serve(validator: &Mutex<Validator>, mut stream: TcpStream) -> io::Result<()> {
+fn serve(validator: &Validator, mut stream: TcpStream) -> io::Result<()> {
     stream.set_read_timeout(Some(Duration::from_secs(10)))?;
     let head = read_head(&stream)?;
     let (status, more, body) = match decide(validator, &head) {
@@ -103,8 +99,7 @@ fn main() -> Result<(), Box<dyn error::Error>> {
         [address, policy, keys] => (address, policy, keys),
         _ => return Err("usage: gateway ADDRESS POLICY KEYS".into()),
     };
-    let opened = Validator::open(&fs::read(policy)?, &fs::read(keys)?)?;
-    let validator = Arc::new(Mutex::new(opened));
+    let validator = Arc::new(Validator::open(&fs::read(policy)?, &fs::read(keys)?)?);
     let listener = TcpListener::bind(address)?;
     println!("listening on {}", listener.local_addr()?);
     for stream in listener.incoming().flatten() {
