@@ -1,0 +1,81 @@
+#!/usr/bin/env python3
+"""Holds what wrong_bodies.py makes of the prover's words to words that it has said, and to those words changed; runs no prover.
+
+`words.txt` is what the prover said of a copy of rsa_number with eleven wrong bodies and a control. Of each change it is known how many
+of the eleven are clearly refused. It ends with 'N passed, M failed'.
+"""
+import pathlib, sys, types
+
+sys.dont_write_bytecode = True
+HERE = pathlib.Path(__file__).resolve().parent
+sys.path.insert(0, str(HERE))
+import wrong_bodies
+
+# The control, and the functions that the wrong bodies change.
+EDITED = """octets without_zeros
+montgomery multiply
+modulus bits
+montgomery step
+modulus is_taken
+octets number
+modulus power_of_octets
+montgomery negative_inverse
+modulus has_size
+power raise
+octets write_limb
+power first_forms"""
+CONTROL = "fn rsa_number::octets::without_zeros: proved"
+OTHER = "fn rsa_number::limbs::is_less: "
+STEP = "fn rsa_number::montgomery::step: not proved"
+BITS = "; `search` did not prove `returns-clause-is`"
+CALLS = "no proof: it calls `rsa_number::limbs::subtract`, which is not proved"
+PASSES = "no proof: it passes the block `rsa_number::limbs::LimbsShown`, which is not proved"
+GOAL = "`returns`: `omega`: the goal does not follow from what it read. All of that holds, and the goal fails, at `mir"
+# What is changed in the words, the status, and how many are then refused together.
+CASES = [
+    ("nothing", "", "", 1, 11),
+    ("the control isn't proved", CONTROL, CONTROL.replace("proved", "not proved"), 1, 0),
+    ("the control calls what is refused", CONTROL, CONTROL.replace("proved", CALLS), 1, 0),
+    ("the control has no line", CONTROL, "", 1, 0),
+    ("an unedited function has a fault", OTHER + "proved", OTHER + "no proof: `search` did not prove `returns`", 1, 0),
+    ("an unedited function has other words", OTHER + "proved", OTHER + "could not tell", 1, 0),
+    ("an unedited function hands on what is refused", OTHER + "proved", OTHER + PASSES, 1, 11),
+    ("an edited function only hands on what is refused", STEP, STEP.replace("not proved", PASSES), 1, 10),
+    ("no verdict", "", "", 3, 0),
+    ("all is proved", "logic=not-proved", "logic=proved", 0, 0),
+    ("another last line", "logic=not-proved", "logic=unknown", 1, 0),
+    ("an edited function has other words", STEP, STEP.replace("not proved", "declined"), 1, 10),
+    ("an edited function only calls what is refused", STEP, STEP.replace("not proved", CALLS), 1, 10),
+    ("an edited function is proved", STEP, STEP.replace("not proved", "proved"), 1, 10),
+    ("an edited function has no line", STEP, "", 1, 10),
+    ("its error names what is gone", GOAL, "`returns`: no field `x`", 1, 10),
+    ("its proof lacks a file, and no goal is named", BITS, "", 1, 10),
+]
+
+
+def group():
+    """The control and the wrong bodies, with what the reading needs to know of them."""
+    edits = []
+    for line in EDITED.splitlines():
+        module, name = line.split()
+        path = f"src/{module}.rt"
+        function = wrong_bodies.Function(path, name, 0, 0, 0, False)
+        edits.append(wrong_bodies.Edit(pathlib.Path(f"{module}_{name}.edit"), path, {}, function))
+    return wrong_bodies.Group(edits, {})
+
+
+def main():
+    crate = object.__new__(wrong_bodies.Crate)
+    crate.name, crate.folder = "rsa_number", wrong_bodies.TOP / "crates/rsa_number"
+    words, failed = (HERE / "words.txt").read_text(), 0
+    for name, old, new, status, wanted in CASES:
+        is_there = old in words
+        refused, others = crate.judged(group(), types.SimpleNamespace(stdout=words.replace(old, new), returncode=status))
+        is_right = is_there and len(refused) == wanted
+        failed += not is_right
+        print(f"the prover's words, {name}: {len(refused)} refused{'' if is_right else f', where {wanted} have to be: {sorted(set(others.values()))}'}")
+    print(f"{len(CASES) - failed} passed, {failed} failed")
+    return 1 if failed else 0
+
+
+sys.exit(main())

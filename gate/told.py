@@ -1,0 +1,65 @@
+#!/usr/bin/env python3
+"""Holds what progress.py tells to a run of which the times are known: one crate is done, one is under way, one is to come. It ends with
+'N passed, M failed'."""
+import io, pathlib, sys, time
+
+sys.dont_write_bytecode = True
+sys.path.insert(0, str(pathlib.Path(__file__).resolve().parent))
+import progress
+
+DONE, UNDER_WAY, TO_COME = (("jwt_mac", "proofs"), ("jwt_text", "proofs"), ("jwt_jws", "tests"))
+WANTED = {DONE: 2.0, UNDER_WAY: 6.0, TO_COME: 5.0}
+
+
+class Sampled:
+    """The times of a run that began ten minutes ago."""
+
+    def __init__(self):
+        self.begun = time.time() - 600
+        self.last = {DONE: time.time() - 60, UNDER_WAY: time.time() + 60}
+
+    def minutes(self):
+        return {DONE: 3.0, UNDER_WAY: 2.0}
+
+
+class Screen(io.StringIO):
+    """What is written, to a terminal or not."""
+
+    def __init__(self, is_terminal):
+        super().__init__()
+        self.is_terminal = is_terminal
+
+    def isatty(self):
+        return self.is_terminal
+
+
+def told(is_terminal, wanted):
+    """What is told of that run."""
+    screen = Screen(is_terminal)
+    telling = progress.Progress(Sampled(), wanted, screen)
+    time.sleep(2.5)
+    telling.stop()
+    return screen.getvalue()
+
+
+def main():
+    """Runs the rows, and gives the status."""
+    progress.processors = lambda: 2
+    there = "1 of 3 done, 10 minutes so far, about 4 minutes left"
+    line = f"\r\x1b[K{there}: jwt_text (proofs)"
+    rows = [
+        ("at a terminal", told(True, WANTED), lambda it: it.startswith(line) and it.endswith("\r\x1b[K")),
+        ("without one", told(False, WANTED), lambda it: it == f"jwt_mac: proofs done; {there}\n"),
+        ("with no table", told(False, {}), lambda it: it == "jwt_mac: proofs done; 1 of 2 done, 10 minutes so far\n"),
+        ("in words", progress.in_words(0.2), lambda it: it == "about 1 minute"),
+        ("in words, where nothing is known", progress.in_words(None), lambda it: it == "some minutes"),
+    ]
+    failed = 0
+    for what, said, is_right in rows:
+        failed += not is_right(said)
+        print(f"progress, {what}: {'as it must be' if is_right(said) else repr(said)}")
+    print(f"{len(rows) - failed} passed, {failed} failed")
+    return 1 if failed else 0
+
+
+sys.exit(main())

@@ -1,0 +1,510 @@
+#!/usr/bin/env python3
+"""Tries the wrong bodies in crates/CRATE/wrong/ together: see README.md beside this file.
+
+    gate/wrong_bodies.py CRATE ..                 over what `rt check` kept in crates/CRATE/out, where it did, else from nothing
+    gate/wrong_bodies.py --from-nothing CRATE ..  from nothing, as ./check has it behind `rt ci`, which leaves no kept work
+    gate/wrong_bodies.py --anew CRATE ..          tries also what an earlier run has refused
+    gate/wrong_bodies.py --groups CRATE ..        prints which would be tried together, and tries none
+
+crates/CRATE/wrong/*.edit are the wrong bodies. Beside them stand `control`, an edit that means the same as what stands there, and
+so has to be proved, and `alone`, with the names of those that are tried one by one, a line each. The libraries below have to be
+proved and built, as they are behind `rt ci`, `rt check` or `rt all check`. It ends with 'N passed, M failed'; one that is tried alone
+and that `alone` doesn't name has failed, since the gate would else grow slow unseen.
+"""
+import dataclasses, fcntl, hashlib, importlib.machinery, importlib.util, json, os, pathlib, re, resource, shutil, subprocess, sys
+import tempfile, time
+
+sys.dont_write_bytecode = True
+
+TOP = pathlib.Path(__file__).resolve().parent.parent
+# What earlier runs have refused, by checksums; nothing that is committed.
+KEPT = TOP / "build/wrong-bodies.json"
+# How a line of `rt must-fail` goes on of one that the prover refuses.
+REFUSED = "refused, as it must be"
+# A function's first line, and the name that it has; its end is a line of its own, `}`, as far in (rt fmt lays out so).
+CLAUSE = re.compile(r"^ *(?:requires|ensures|ghost)\b", re.MULTILINE)
+HEAD = re.compile(r"( *)(?:pub(?:\([a-z ]+\))? )?((?:const |unsafe |extern \"C\" )*)fn (\w+)")
+
+
+@dataclasses.dataclass(frozen=True)
+class Function:
+    """A function of a file: its name, and the lines of its body, counted from 0."""
+
+    path: str
+    name: str
+    first: int
+    last: int
+    indent: int
+    is_const: bool
+
+
+@dataclasses.dataclass
+class Edit:
+    """A wrong body: the lines that it changes, and the function whose body they stand in; or why it is tried alone."""
+
+    file: pathlib.Path
+    path: str = ""
+    lines: dict = dataclasses.field(default_factory=dict)
+    function: Function = None
+    alone: str = ""
+
+
+@dataclasses.dataclass
+class Group:
+    """Edits in different functions, with the control, which is the first, and the texts that have them all."""
+
+    edits: list
+    texts: dict
+
+
+def functions_of(path, text):
+    """The functions of a file in rt fmt's layout."""
+    lines, found = text.split("\n"), []
+    for at, line in enumerate(lines):
+        head = HEAD.match(line)
+        if not head:
+            continue
+        ends = next((i for i in range(at, len(lines)) if lines[i] == head[1] + "}"), None)
+        # Behind clauses the body's bracket stands alone, as far in as the function; else at the end of the signature.
+        begins = next((i for i in range(at, ends or at) if lines[i] == head[1] + "{"), None)
+        if ends is not None and begins is None and not CLAUSE.search("\n".join(lines[at:ends])):
+            begins = next((i for i in range(at, ends) if lines[i].endswith("{")), None)
+        # (a method with no body ends before the next one's head)
+        if begins is not None and not any(HEAD.match(it) for it in lines[at + 1 : begins]):
+            found.append(Function(path, head[3], begins + 1, ends - 1, len(head[1]), "const" in head[2]))
+    return found
+
+
+def read_edit(file, folder):
+    """Reads an edit, and says where it stands."""
+    edit, path, old, was, texts = Edit(file), "", None, {}, {}
+    for line in file.read_text().split("\n"):
+        if line.startswith("file: "):
+            path = line.removeprefix("file: ").strip()
+        elif line.startswith("old: "):
+            old = line.removeprefix("old: ")
+        elif line.startswith("new:") and path and old:
+            if path not in texts:
+                if not re.fullmatch(r"(src|specs|proofs)/[\w/.]+", path) or not (folder / path).is_file():
+                    edit.alone = f"there is no file {path}"
+                    return edit
+                texts[path] = was[path] = (folder / path).read_text()
+            if texts[path].count(old) != 1:
+                edit.alone = f"an 'old:' text is in {path} {texts[path].count(old)} times"
+                return edit
+            texts[path], old = texts[path].replace(old, line.removeprefix("new:").removeprefix(" ")), None
+    place(edit, was, texts)
+    return edit
+
+
+def place(edit, was, texts):
+    """Finds the one function whose body an edit changes, beside lines that bring names in."""
+    changed = [it for it in texts if texts[it] != was[it]]
+    if len(changed) != 1 or not changed[0].endswith(".rt"):
+        edit.alone = "it changes a file of specs or proofs, several files, or nothing"
+        return
+    edit.path = changed[0]
+    before, after = was[edit.path].split("\n"), texts[edit.path].split("\n")
+    edit.lines = {i: now for i, (old, now) in enumerate(zip(before, after)) if old != now}
+    # (a line that is brought in beside the body, which the others don't see)
+    inside = [i for i in edit.lines if not (before[i].startswith("use ") and after[i].startswith("use "))]
+    found = {f for i in inside for f in functions_of(edit.path, was[edit.path]) if f.first <= i <= f.last}
+    covered = all(any(f.first <= i <= f.last for f in found) for i in inside)
+    if len(found) != 1 or not covered:
+        edit.alone = "it doesn't stand in the body of one function"
+    elif next(iter(found)).is_const:
+        edit.alone = "a const function may be run by the definitions of others"
+    else:
+        (edit.function,) = found
+
+
+def grouped(edits, control, folder):
+    """Puts edits that stand in different functions, and at different lines, together. Gives the groups, and the other edits."""
+    groups, alone = [], [it for it in edits if it.alone]
+    for edit in [] if control is None else [it for it in edits if not it.alone]:
+        group = next((it for it in groups if has_room(it, edit)), None)
+        if group is None:
+            group = Group([], {})
+            put(group, control, folder)
+            if not has_room(group, edit):
+                edit.alone = "it stands in the control's function"
+                alone.append(edit)
+                continue
+            groups.append(group)
+        put(group, edit, folder)
+    if control is None:
+        for edit in [it for it in edits if not it.alone]:
+            edit.alone = "the crate has no control"
+            alone.append(edit)
+    return groups, alone
+
+
+def has_room(group, edit):
+    """Whether an edit can join: no other one is in its function, or in one of that name in its module, or changes its lines."""
+    for other in group.edits:
+        if other.path == edit.path and (other.function.name == edit.function.name or set(other.lines) & set(edit.lines)):
+            return False
+    return True
+
+
+def put(group, edit, folder):
+    """Adds an edit to a group's texts, by its lines: each pair of an edit is a line each, so that no line moves."""
+    text = group.texts.get(edit.path) or (folder / edit.path).read_text()
+    lines = text.split("\n")
+    for at, now in edit.lines.items():
+        lines[at] = now
+    group.texts[edit.path] = "\n".join(lines)
+    group.edits.append(edit)
+
+
+# What a function's line says behind its name, piece by piece: it calls what is refused, or hands on an `impl` with such a method; a
+# file that it hasn't; an open goal.
+CALLS = re.compile(r"it (?:calls|passes the block) `[^`]+`(?:(?:,| and) `[^`]+`)*, which (?:is|are) not proved")
+EXPECTED = re.compile(r"expected answers in \./proofs/\S+")
+UNSHOWN = re.compile(r"`search` did not prove `[^`]+`(?:(?:,| and) `[^`]+`)*")
+# What an error in a function's own proof says where a goal isn't shown. What isn't listed says nothing: a name that is gone, a
+# declaration that wasn't admitted, a file that can't be read.
+SHOWS_NOT = re.compile(r"`[^`]+`: (?:(?:as printed|computed as far as they go), the two types (?:first )?differ |"
+                       r"`omega`: the goal does not follow )")
+# Before a piece that is of another function, with which this one is proved in one: nothing behind it counts as its own.
+CYCLE = re.compile(r"in `[^`]+`, of this cycle of calls: ")
+PROVED, OWN, INFECTED, UNKNOWN = "proved", "a fault of its own", "it only calls what is refused", "words that aren't known"
+
+
+def verdicts(said, crate):
+    """Reads the prover's words: what each function comes to, by its name. This is the one place that reads them."""
+    errors = re.findall(r"^(?:\./)?proofs/(\S+)/(?:Answers|Invariants|Proof)\.antt:\d+:\d+: error: (.*)$", said, re.MULTILINE)
+    found = {}
+    for name, words in re.findall(r"^fn (.+?): (.*)$", said, re.MULTILINE):
+        if words == "proved":
+            found[name] = PROVED
+            continue
+        head, *pieces = re.split(r"; ", re.sub(r"^no proof: ", "; ", words))
+        in_cycle = CYCLE.search(words)
+        pieces = [CYCLE.sub("", it) for it in pieces if it]
+        folder = name.removeprefix(f"{crate}::").replace("::", "/")
+        owns = head == "not proved" and any(at == folder and SHOWS_NOT.match(error) for at, error in errors)
+        owns = owns or head == "" and any(map(UNSHOWN.fullmatch, pieces))
+        known = all(any(form.fullmatch(it) for form in (CALLS, EXPECTED, UNSHOWN)) for it in pieces)
+        if not known or head not in ("", "not proved"):
+            found[name] = UNKNOWN
+        elif owns and not in_cycle:
+            found[name] = OWN
+        else:
+            found[name] = INFECTED if head == "" and any(map(CALLS.fullmatch, pieces)) else UNKNOWN
+    return found
+
+
+OWNER = re.compile(r"(?:pub(?:\([a-z ]+\))? )?(?:impl|trait)\b")
+
+
+def names_of(edit, found, crate, folder):
+    """The names that the prover may give to the function that an edit stands in; it is told only where that is one."""
+    parts = edit.path.removeprefix("src/").removesuffix(".rt").split("/")
+    module = [crate, *(it for it in parts if it not in ("lib", "main", "mod"))]
+    lines = (folder / edit.path).read_text().split("\n")
+    owner = []
+    if edit.function.indent:
+        above = next((it for it in reversed(lines[: edit.function.first]) if OWNER.match(it)), "")
+        # (a method of a trait's impl is named by the type and the trait in one word)
+        of = re.match(r"impl(?:<.*?>)? (?:(\w+)(?:<.*>)? for )?&?(?:'\w+ )?(\w+)", above) or re.match(r".*()\btrait (\w+)", above)
+        owner = [of[2] + (of[1] or "")] if of else [""]
+    whole = "::".join([*module, *owner, edit.function.name])
+    if whole in found:
+        return [whole]
+    start, end = "::".join(module) + "::", f"::{edit.function.name}"
+    return [it for it in found if it.startswith(start) and it.endswith(end)]
+
+
+class Crate:
+    """A crate whose wrong bodies are tried, in a copy of the repository that is thrown away."""
+
+    def __init__(self, kit, name, room, from_nothing, jobs):
+        """`room` is the folder of the copy, `jobs` how many processes a check has. Ends the script where what is below can't be built."""
+        self.kit, self.name, self.folder, self.jobs = kit, name, TOP / "crates" / name, jobs
+        self.made = next(it for it in kit.rtlib.crates_below(str(TOP)) if it.name == name)
+        self.build_below()
+        self.room = pathlib.Path(room)
+        self.kept = self.room / "crates" / name / "out/incremental"
+        self.copy()
+        self.is_warm = (self.folder / "out/incremental").is_dir() and not from_nothing
+        if self.is_warm:
+            kit.linked(str(self.folder / "out/incremental"), str(self.kept))
+        else:
+            self.kept.mkdir(parents=True)
+
+    def build_below(self):
+        """Has the libraries below this crate proved and built, where they aren't. Ends the script where that fails."""
+        missing = [it.name for it in self.made.below() if not it.is_built()]
+        if not missing:
+            return
+        print(f"{self.name}: {', '.join(missing)}: not built, and so proved now", flush=True)
+        said = subprocess.run(["rt", "check"], cwd=self.folder, stdout=subprocess.PIPE, stderr=subprocess.STDOUT, text=True, errors="replace")
+        if any(not it.is_built() for it in self.made.below()):
+            sys.exit(f"wrong_bodies: the libraries below {self.name} can't be built\n{said.stdout[-2000:]}")
+
+    def copy(self):
+        """Copies the repository's crates without their wrong bodies, and links the libraries below this one."""
+        listed = subprocess.run(["git", "ls-files", "-co", "--exclude-standard", "crates", "crates.txt", "HANDLES"],
+                                cwd=TOP, capture_output=True, text=True, check=True).stdout.splitlines()
+        for path in listed:
+            if (TOP / path).is_file() and "/must-fail/" not in path and "/wrong/" not in path:
+                (self.room / path).parent.mkdir(parents=True, exist_ok=True)
+                shutil.copy(TOP / path, self.room / path)
+        subprocess.run(["git", "init", "-q"], cwd=self.room, check=True)
+        for it in self.made.below():
+            rlib = self.room / "crates" / it.name / "out/rlib"
+            shutil.copytree(os.path.dirname(it.rlib), rlib, copy_function=self.kit.link_or_copy)
+
+    def together(self, group):
+        """Tries a group. Gives the files of those that are refused, and why each of the others isn't clearly so."""
+        while True:
+            run = self.check_of(group)
+            errors = re.findall(r"^\S*?(src/\S+?\.rt):(\d+):\d+: error", run.stdout, re.MULTILINE)
+            bad = {(path, int(line) - 1) for path, line in errors}
+            lost = [it for it in group.edits[1:] if any((it.path, at) in bad for at in it.lines)]
+            if not lost or run.stdout.rstrip().split("\n")[-1].startswith("logic="):
+                break
+            # (without those that don't compile)
+            left = Group([], {})
+            for edit in [it for it in group.edits if it not in lost]:
+                put(left, edit, self.folder)
+            for it in lost:
+                it.alone = "it doesn't compile"
+            if len(left.edits) < 2:
+                return [], {it.file: it.alone for it in lost}
+            refused, others = self.together(left)
+            return refused, {**others, **{it.file: it.alone for it in lost}}
+        return self.judged(group, run)
+
+    def check_of(self, group):
+        """Runs the prover on a group: over links of what `rt check` kept, or else over what the groups before it have left."""
+        if not self.is_warm:
+            return self.kit.checked(self.made, group.texts, ["--jobs", str(self.jobs)], str(self.kept))
+        with tempfile.TemporaryDirectory(dir=self.room) as over:
+            self.kit.linked(str(self.kept), f"{over}/kept")
+            return self.kit.checked(self.made, group.texts, ["--jobs", str(self.jobs)], f"{over}/kept")
+
+    def judged(self, group, run):
+        """What a group's check comes to, if its control is proved and no function has a fault that isn't edited."""
+        found = verdicts(run.stdout, self.name)
+        meant = {id(it): names_of(it, found, self.name, self.folder) for it in group.edits}
+        names = {it: of[0] if len(of) == 1 else None for it, of in meant.items()}
+        control, worthless = group.edits[0], ""
+        strangers = [it for it, came in found.items() if came in (OWN, UNKNOWN) and not any(it in of for of in meant.values())]
+        if run.returncode != 1 or not run.stdout.rstrip().split("\n")[-1].startswith("logic=not-proved"):
+            worthless = f"the check of all ended with {run.returncode}, and didn't refuse them"
+        elif found.get(names[id(control)]) != PROVED:
+            worthless = f"the control isn't proved ({found.get(names[id(control)])})"
+        elif strangers:
+            worthless = f"{strangers[0]}, which isn't edited, has {found[strangers[0]]}"
+        if worthless:
+            return [], {it.file: worthless for it in group.edits[1:]}
+        unnamed = "the prover has no line that is surely its function's"
+        came = {it.file: found.get(names[id(it)], unnamed) for it in group.edits[1:]}
+        return [it for it in came if came[it] == OWN], {it: what for it, what in came.items() if what != OWN}
+
+    def alone(self, files, anew):
+        """Tries edits one by one, by `rt must-fail`. Gives what it said of each, by its file."""
+        if not files:
+            return {}
+        folder = self.room / "crates" / self.name / "must-fail"
+        folder.mkdir()
+        # (rt keeps what it has tried by the name of its file, too)
+        fresh = f"{time.time_ns()}-" if anew else ""
+        for file in files:
+            shutil.copy(file, folder / f"{fresh}{file.name}")
+        said = subprocess.run(["rt", "must-fail", self.name], cwd=self.room, stdout=subprocess.PIPE, stderr=subprocess.STDOUT,
+                              text=True, errors="replace").stdout
+        shutil.rmtree(folder)
+        lines = {it: "NOT TRIED: rt says nothing of it" for it in files}
+        of = {it.name: it for it in files}
+        for name, words in re.findall(rf"^(?:rt: )?must-fail {self.name}/{fresh}([\w.-]+?\.edit): (.*)$", said, re.MULTILINE):
+            lines[of[name]] = words
+        return lines
+
+
+def kit():
+    """The kit's command as a module."""
+    folder = pathlib.Path(subprocess.run(["rt", "doc"], capture_output=True, text=True, check=True).stdout.strip()).parent
+    loader = importlib.machinery.SourceFileLoader("kit_rt", str(folder / "bin/rt"))
+    module = importlib.util.module_from_spec(importlib.util.spec_from_loader("kit_rt", loader))
+    loader.exec_module(module)
+    module.rtlib.guarded()
+    return module
+
+
+def sum_of(made):
+    """A sum of what a refusal rests on beside the edit: the kit, this judge, HANDLES, the control, the crate and those below."""
+    sum = hashlib.sha256(subprocess.run(["rt", "version"], capture_output=True, check=True).stdout)
+    sum.update(pathlib.Path(__file__).read_bytes())
+    for file in [TOP / "HANDLES", TOP / "crates" / made.name / "wrong/control", TOP / "crates" / made.name / "wrong/alone"]:
+        sum.update(file.read_bytes() if file.is_file() else b"")
+    for it in [made, *made.below()]:
+        folder = TOP / "crates" / it.name
+        files = sorted(file for part in ("src", "specs", "proofs") for file in (folder / part).rglob("*") if file.is_file())
+        sum.update(repr((it.name, it.said, [(str(file.relative_to(folder)), file.read_bytes()) for file in files])).encode())
+    return sum.hexdigest()
+
+
+def key_of(file, sum):
+    """The name under which it is kept that an edit was refused, by the sum of what that rests on."""
+    return hashlib.sha256(repr((sum, file.name, file.read_bytes())).encode()).hexdigest()
+
+
+def read_kept():
+    """What earlier runs have refused; nothing where that can't be read."""
+    try:
+        return json.loads(KEPT.read_text())
+    except (OSError, ValueError):
+        return {}
+
+
+def keep(refused):
+    """Notes what was refused, beside what other runs have noted; written apart and renamed, so that no run meets half of it."""
+    KEPT.parent.mkdir(exist_ok=True)
+    with open(KEPT.with_suffix(".lock"), "w") as lock:
+        fcntl.flock(lock, fcntl.LOCK_EX)
+        with tempfile.NamedTemporaryFile("w", dir=KEPT.parent, prefix="wrong-bodies-", delete=False) as new:
+            json.dump({**read_kept(), **refused}, new, indent=0)
+        os.replace(new.name, KEPT)
+
+
+def used():
+    """The processor seconds of all processes below this one that have ended."""
+    usage = resource.getrusage(resource.RUSAGE_CHILDREN)
+    return usage.ru_utime + usage.ru_stime
+
+
+def files_in(name, folder):
+    """A crate's edits in one of its folders, by their names."""
+    return sorted((TOP / "crates" / name / folder).glob("*.edit"))
+
+
+def crates_with_any():
+    """The crates with wrong bodies that are tried together; those with most source first, since they take longest."""
+    names = {it.parent.parent.name for it in (TOP / "crates").glob("*/wrong/*.edit")}
+    return sorted(names, key=lambda name: -sum(it.stat().st_size for it in (TOP / "crates" / name / "src").rglob("*.rt")))
+
+
+class Trial:
+    """The wrong bodies of a crate, and what became of them."""
+
+    def __init__(self, name, kit, flags):
+        """`kit` is the kit's command as a module, `flags` are the script's."""
+        self.name, self.kit, self.flags, self.folder = name, kit, flags, TOP / "crates" / name
+        self.files, self.control = files_in(name, "wrong"), self.read_control()
+        self.listed = self.read_listed()
+        self.sum, kept = self.sum_now(), read_kept()
+        self.left = [it for it in self.files if "--anew" in flags or key_of(it, self.sum) not in kept]
+        self.refused, self.failed, self.why = {}, 0, {}
+
+    def say(self, file, words):
+        """Prints what became of a wrong body."""
+        print(f"must-fail {self.name}/{file.name}: {words}", flush=True)
+
+    def read_control(self):
+        """The control, where it is there and can be used."""
+        file = self.folder / "wrong/control"
+        control = read_edit(file, self.folder) if file.is_file() else None
+        if control is not None and control.alone:
+            print(f"{self.name}: the control can't be used: {control.alone}")
+            return None
+        return control
+
+    def read_listed(self):
+        """The names of those that are tried alone."""
+        file = self.folder / "wrong/alone"
+        return file.read_text().split() if file.is_file() else []
+
+    def sum_now(self):
+        """The sum of what a refusal rests on, as it is now."""
+        return sum_of(next(it for it in self.kit.rtlib.crates_below(str(TOP)) if it.name == self.name))
+
+    def groups(self):
+        """The groups of what is left to try; the others are noted with why they are tried alone."""
+        edits = [read_edit(it, self.folder) for it in self.left]
+        for edit in edits:
+            if edit.file.stem in self.listed and not edit.alone:
+                edit.alone = "it is listed so"
+        groups, alone = grouped(edits, self.control, self.folder)
+        self.why = {it.file: it.alone for it in alone}
+        return groups
+
+    def take(self, file, words):
+        """Notes and says that a wrong body was refused."""
+        self.refused[key_of(file, self.sum)] = f"{self.name}/{file.name}"
+        self.say(file, words)
+
+    def try_groups(self, crate, groups):
+        """Tries the groups."""
+        for group in groups:
+            start, (good, others) = used(), crate.together(group)
+            for file in good:
+                self.take(file, "refused, as it must be: its function has a fault of its own")
+            self.why.update(others)
+            print(f"{self.name}: together: {len(good)} of {len(group.edits) - 1} refused, {used() - start:.0f} processor seconds", flush=True)
+
+    def try_alone(self, crate):
+        """Tries what wasn't refused in a group, one by one."""
+        start, rest = used(), [it for it in self.left if key_of(it, self.sum) not in self.refused]
+        for file in rest:
+            print(f"{self.name}: {file.stem} is tried alone: {self.why[file]}", flush=True)
+        for file, said in crate.alone(rest, "--anew" in self.flags).items():
+            if not said.startswith(REFUSED):
+                self.failed += 1
+                self.say(file, said)
+                continue
+            self.take(file, said)
+            if file.stem not in self.listed:
+                self.failed += 1
+                print(f"{self.name}: {file.stem} was tried alone, and wrong/alone doesn't list it: FAILED", flush=True)
+        if rest:
+            print(f"{self.name}: alone: {len(rest)} tried, {used() - start:.0f} processor seconds", flush=True)
+
+    def run(self):
+        """Tries what no earlier run has refused. Gives how many are refused, and what failed."""
+        begun, before = time.time(), used()
+        for file in [it for it in self.files if it not in self.left]:
+            self.say(file, "refused, as it must be (kept from an earlier run)")
+        if self.left:
+            with tempfile.TemporaryDirectory(prefix="together-") as room:
+                crate = Crate(self.kit, self.name, room, "--from-nothing" in self.flags, 1)
+                self.try_groups(crate, self.groups())
+                self.try_alone(crate)
+        # (nothing is kept of a crate that was changed meanwhile)
+        if self.refused and self.sum == self.sum_now():
+            keep(self.refused)
+        good = len(self.files) - len(self.left) + len(self.refused)
+        print(f"{self.name}: {good} refused, {self.failed} failed, {time.time() - begun:.0f} seconds, {used() - before:.0f} of a processor", flush=True)
+        return good, self.failed
+
+    def show_groups(self):
+        """Prints what would be tried together."""
+        for group in self.groups():
+            print(f"{self.name}: together: " + ", ".join(f"{it.file.stem} ({it.path} {it.function.name})" for it in group.edits))
+        for file, said in self.why.items():
+            print(f"{self.name}: alone: {file.stem}: {said}")
+
+
+def main():
+    """Tries the crates that the words name, and gives the status."""
+    flags = [it for it in sys.argv[1:] if it in ("--from-nothing", "--anew", "--groups")]
+    names = [it for it in sys.argv[1:] if it not in flags]
+    unknown = [it for it in names if not (TOP / "crates" / it / "src").is_dir()]
+    if unknown or not names:
+        sys.exit(f"wrong_bodies: no crate {', '.join(unknown)}\n{__doc__}")
+    module, passed, failed = kit(), 0, 0
+    for name in names:
+        trial = Trial(name, module, flags)
+        if "--groups" in flags:
+            trial.show_groups()
+            continue
+        good, lost = trial.run()
+        passed, failed = passed + good, failed + lost
+    print(f"{passed} passed, {failed} failed")
+    return 1 if failed else 0
+
+
+if __name__ == "__main__":
+    sys.exit(main())
