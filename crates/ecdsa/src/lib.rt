@@ -12,6 +12,7 @@
 //! has no secret: the time that a call takes tells its arguments. Nothing here allocates.
 #![tactic(auto)]
 
+pub use keys::{is_p256_key, is_p384_key, is_p521_key};
 pub use verifying::{verifies_p256, verifies_p384, verifies_p521};
 
 mod constants;
@@ -19,6 +20,7 @@ mod curve;
 mod euclid;
 mod field;
 mod formulas;
+mod keys;
 pub mod laws;
 mod limbs;
 mod multiples;
