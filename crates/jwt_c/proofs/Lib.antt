@@ -1,4 +1,3 @@
 pub mod Handles
-mod PairLemmas
 pub mod Telling
 pub mod Values

@@ -557,8 +557,9 @@ pub extern "C" fn fow_issue(
     ensures typ { IfSome validator.old.desk (λ d. ¬ IsUtf8 typ.now → result ≡ 6) }
     ensures token { IfSome validator.old.desk (λ d. IfSome (hmac_at alg) (λ a.
         IfSome (form_at form) (λ f. IsUtf8 typ.now
-        → PutsIssued f a (typ_of typ.now) key (key_set (documents d).keys).keys
-        (claim_set_of claims.now) result report.new written.new out.old out.new))) }
+        → PutsIssued (record { alg = a; typ = typ_of typ.now; form = f; key = key })
+        (key_set (documents d).keys).keys (claim_set_of claims.now)
+        result report.new written.new out.old out.new))) }
 {
     let Some(desk) = take(validator, alloc) else {
         return 4;

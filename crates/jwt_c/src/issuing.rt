@@ -1,21 +1,20 @@
 //! Issues tokens.
 
-ghost use Rattle.std.specs.Prelude.{◌≡◌, map, option_map, None, IfSome, IfOk};
-ghost use Rattle.jwt_text.specs.Answers.{Answers};
+ghost use Rattle.std.specs.Prelude.{◌≡◌, None, IfSome};
 ghost use Rattle.jwt_keys.specs.KeySets.{key_set};
 ghost use Rattle.jwt_issue.specs.ClaimSets.{claim_set_of};
-ghost use Rattle.jwt_issue.specs.Views.{pair_parts, text_of};
-ghost use Rattle.jwt_issue.specs.Issued.{pair};
-ghost use Rattle.jwt_c.specs.Issuing.{hmac_at, form_at, typ_of, issued, PutsToken, PutsIssued};
+ghost use Rattle.jwt_issue.specs.Options.{issued_by};
+ghost use Rattle.jwt_issue.specs.Views.{options_parts, text_of};
+ghost use Rattle.jwt_c.specs.Issuing.{hmac_at, form_at, typ_of, PutsToken, PutsIssued};
 
 use crate::report::FowReport;
 use crate::writing::put;
-use jwt_issue::{ClaimSet, IssueFault, issue_compact, issue_flat, issue_json};
+use jwt_issue::{ClaimSet, IssueFault, IssueOptions, issue_by};
 use jwt_jws::Form;
-use jwt_keys::{Key, KeySet};
-use jwt_mac::{Alg, CountDown};
+use jwt_keys::KeySet;
+use jwt_mac::Alg;
 use jwt_policy::ClaimFault;
-use std::alloc::{AllocError, Global};
+use std::alloc::Global;
 
 /// The HMAC algorithm of a number.
 fn hmac_at(number: u32) -> Option<Alg>
@@ -47,15 +46,6 @@ fn form_at(number: u32) -> Option<Form>
     }
 }
 
-/// How a token is to be issued.
-#[derive(Clone, Copy)]
-struct Wanted<'a> {
-    alg: Alg,
-    typ: Option<&'a str>,
-    form: Form,
-    key: u32,
-}
-
 /// The type that is asked for: none where it has no octets.
 fn typ_of(typ: &str) -> Option<&str>
     ensures { text_of result ≡ typ_of typ.now }
@@ -63,66 +53,22 @@ fn typ_of(typ: &str) -> Option<&str>
     if typ.is_empty() { None } else { Some(typ) }
 }
 
-/// Each key, for one algorithm.
-fn pairs<'k>(alloc: Global, alg: Alg, keys: &'k KeySet) -> Result<Vec<(Alg, &'k Key)>, AllocError>
-    ensures { IfOk result (λ v. map pair_parts v.items ≡ map (pair alg) (key_set keys.now).keys) }
-{
-    let mut pairs = Vec::new(alloc);
-    'keys: for j in 0..keys.len() {
-        if let Some(key) = keys.key(j) {
-            pairs.push((alg, key))?;
-        }
-    }
-    Ok(pairs)
-}
-
-/// The token of some claims.
-fn issued(
-    alloc: Global,
-    wanted: Wanted<'_>,
-    keys: &KeySet,
-    claims: &ClaimSet,
-) -> Result<Vec<u8>, IssueFault>
-    ensures { Answers IssueFault.OutOfMemory (λ v. v.items) result (issued wanted.entry.form
-        wanted.entry.alg (text_of wanted.entry.typ) wanted.entry.key (key_set keys.now).keys
-        claims.now) }
-{
-    let mut budget = CountDown::new(1_000_000_000_000);
-    match wanted.form {
-        Form::Compact => match keys.key(wanted.key) {
-            Some(key) => issue_compact(alloc, &mut budget, wanted.alg, key, wanted.typ, claims),
-            None => Err(IssueFault::NoKey),
-        },
-        Form::Flattened => match keys.key(wanted.key) {
-            Some(key) => issue_flat(alloc, &mut budget, wanted.alg, key, wanted.typ, claims),
-            None => Err(IssueFault::NoKey),
-        },
-        Form::General => {
-            let pairs = match pairs(alloc, wanted.alg, keys) {
-                Ok(pairs) => pairs,
-                Err(_) => return Err(IssueFault::OutOfMemory),
-            };
-            issue_json(alloc, &mut budget, pairs.as_slice(), wanted.typ, claims)
-        }
-    }
-}
-
 /// Writes the token of some claims at the front of `out`. 0; 1: it is refused, as the report says; 3: memory was refused; 5: `out` is
 /// too short.
 fn put_token(
     alloc: Global,
-    wanted: Wanted<'_>,
+    options: IssueOptions<'_>,
     keys: &KeySet,
     claims: &ClaimSet,
     out: &mut [u8],
     written: &mut usize,
     report: &mut FowReport,
 ) -> u32
-    ensures { PutsToken (issued wanted.entry.form wanted.entry.alg (text_of wanted.entry.typ)
-        wanted.entry.key (key_set keys.now).keys claims.now)
+    ensures { PutsToken
+        (issued_by (options_parts options.entry) (key_set keys.now).keys claims.now)
         result report.new written.new out.old out.new }
 {
-    match issued(alloc, wanted, keys, claims) {
+    match issue_by(alloc, options, keys, claims) {
         Ok(token) => put(&token, out, written),
         Err(IssueFault::OutOfMemory) => 3,
         Err(fault) => {
@@ -135,22 +81,21 @@ fn put_token(
 /// The same of claims as they stand.
 fn put_issued(
     alloc: Global,
-    wanted: Wanted<'_>,
+    options: IssueOptions<'_>,
     keys: &KeySet,
     claims: &[u8],
     out: &mut [u8],
     written: &mut usize,
     report: &mut FowReport,
 ) -> u32
-    ensures { PutsIssued wanted.entry.form wanted.entry.alg (text_of wanted.entry.typ)
-        wanted.entry.key (key_set keys.now).keys (claim_set_of claims.now)
-        result report.new written.new out.old out.new }
+    ensures { PutsIssued (options_parts options.entry) (key_set keys.now).keys
+        (claim_set_of claims.now) result report.new written.new out.old out.new }
 {
     let Ok(octets) = claims.to_vec(alloc) else {
         return 3;
     };
     match ClaimSet::from_octets(alloc, octets) {
-        Ok(claims) => put_token(alloc, wanted, keys, &claims, out, written, report),
+        Ok(claims) => put_token(alloc, options, keys, &claims, out, written, report),
         Err(ClaimFault::OutOfMemory) => 3,
         Err(fault) => {
             *report = FowReport::of_claims(&fault);
@@ -175,20 +120,20 @@ pub(crate) fn put_numbered(
     ensures alg { hmac_at alg ≡ None → result ≡ 6 }
     ensures form { form_at form ≡ None → result ≡ 6 }
     ensures token { IfSome (hmac_at alg)
-        (λ a. IfSome (form_at form) (λ f. PutsIssued f a (typ_of typ.now)
-        key (key_set keys.now).keys (claim_set_of claims.now)
-        result report.new written.new out.old out.new)) }
+        (λ a. IfSome (form_at form) (λ f. PutsIssued
+        (record { alg = a; typ = typ_of typ.now; form = f; key = key }) (key_set keys.now).keys
+        (claim_set_of claims.now) result report.new written.new out.old out.new)) }
 {
     match hmac_at(alg) {
         Some(alg) => match form_at(form) {
             Some(form) => {
-                let wanted = Wanted {
+                let options = IssueOptions {
                     alg,
                     typ: typ_of(typ),
                     form,
                     key,
                 };
-                put_issued(alloc, wanted, keys, claims, out, written, report)
+                put_issued(alloc, options, keys, claims, out, written, report)
             }
             None => 6,
         },

@@ -2,7 +2,6 @@ pub mod AnsweredLines
 pub mod CostLemmas
 pub mod InputLemmas
 pub mod LineLemmas
-pub mod PairLemmas
 pub mod Printing
 pub mod RunningLines
 pub mod Verifying

@@ -27,7 +27,8 @@ use Rattle.jwt_policy.specs.Settings.{Settings}
 use Rattle.jwt_words.specs.InHand.{Held}
 use Rattle.jwt_command.specs.Documents.{TakesDocument, behind, document, document_most, last_document, last_most}
 use Rattle.jwt_text.specs.Intake.{TakesAtMost}
-use Rattle.jwt_command.specs.Issue.{TokenAsked, issue_answer, issue_under}
+use Rattle.jwt_command.specs.Issue.{issue_answer, issue_under}
+use Rattle.jwt_issue.specs.Options.{OptionParts}
 use Rattle.jwt_printing.specs.Json.{verdict_json, token_json, payload_of}
 use Rattle.jwt_printing.specs.Printer.{Printer, in_lines, unless_read_failed, printer}
 use Rattle.jwt_command.specs.Verify.{keys_answer, payload_in, under_keys, under_policy, verify_answer}
@@ -127,10 +128,10 @@ pub set_too_long : (printing : Printing) (x : List ℕ) (failed : Bool) → fail
 set_too_long printing x failed works long =
     sym (ap (λ f. list_answer printing f x) works ∙ ap (listed printing) (keys_too_long x long))
 
-pub issue_line_too_long : (asked : TokenAsked) (held : Option (List ℕ)) (x : List ℕ) (failed : Bool) → failed ≡ false → 4194304 < length (document held x)
-    → keys_refused keys.TooLong ≡ issue_answer asked held failed x
-issue_line_too_long asked held x failed works long =
-    sym (ap (λ f. issue_answer asked held f x) works ∙ ap (λ k. issue_under asked k (behind held x)) (keys_too_long (document held x) long))
+pub issue_line_too_long : (options : OptionParts) (held : Option (List ℕ)) (x : List ℕ) (failed : Bool) → failed ≡ false → 4194304 < length (document held x)
+    → keys_refused keys.TooLong ≡ issue_answer options held failed x
+issue_line_too_long options held x failed works long =
+    sym (ap (λ f. issue_answer options held f x) works ∙ ap (λ k. issue_under options k (behind held x)) (keys_too_long (document held x) long))
 
 -- ---- the line of a verdict
 

@@ -23,7 +23,7 @@ answer_in_hand printing built_in held (MacFile name limit) failed x = mac_in_han
 answer_in_hand printing built_in held Keys failed x = list_answer printing failed x
 answer_in_hand printing built_in held (Show limit) failed x = show_answer printing limit failed x
 answer_in_hand printing built_in held (Verify now public_keys files) failed x = verify_answer (printer printing) (asked_for public_keys built_in) now held failed x
-answer_in_hand printing built_in held (Issue alg typ form files) failed x = issue_answer (record { alg = alg; typ = typ; form = form }) held.keys failed x
+answer_in_hand printing built_in held (Issue alg typ form files) failed x = issue_answer (record { alg = alg; typ = typ; form = form; key = 0 }) held.keys failed x
 answer_in_hand printing built_in held Version failed x = version_answer
 
 -- the same, where a file that is named may not be in hand

@@ -1,5 +1,5 @@
 -- How a run of the command ends.
-use Rattle.std.specs.Prelude.{ℕ, Bool, true, false, List, Option, Some, None}
+use Rattle.std.specs.Prelude.{◌≡◌, ℕ, Bool, true, false, List, Option, Some, None, Result, Ok, Err}
 use Rattle.std.specs.Option.{is_none}
 use Rattle.jwt_mac.specs.Verifying.{Meaning}
 use Rattle.jwt_command.specs.Answered.{answer_of}
@@ -8,6 +8,10 @@ use Rattle.jwt_command.specs.Mac.{key_spelled}
 use Rattle.jwt_printing.specs.Printed.{Gives, GivesWrongWords}
 use Rattle.jwt_command.specs.RunLines.{Outcome, RunsLines}
 use Rattle.jwt_words.specs.Words.{EachLine, Mac, Once, Request, Version}
+use Rattle.jwt_words.specs.Seen.{requested}
+use Rattle.jwt_words.specs.declared.words.Request.{Request as CodeRequest}
+use Rattle.jwt_words.specs.declared.words.WordsFault.{WordsFault}
+use Rattle.jwt_words.specs.declared.words.WordsFault.TheVariants.{OutOfMemory, Wrong}
 
 -- What the words ask for is answered, or each line of x is, by what a clock says; where they ask for nothing, some text says so. With
 -- these verifiers at hand and these documents in hand, of an input x, by a reader that has failed or not.
@@ -15,6 +19,12 @@ abbrev pub Runs : List Meaning → (ℕ → List ℕ → ℕ → Type 0) → Hel
 Runs built_in says held (Some (Once printing order)) x fails o = Gives (answer_of printing built_in held order fails x) o.before o.after o.failed o.status
 Runs built_in says held (Some (EachLine order)) x fails o = RunsLines built_in says order held x fails o
 Runs built_in says held None x fails o = GivesWrongWords o.before o.after o.failed o.status
+
+-- what was read of words that ask for this, or for nothing; where memory was refused, they may ask for anything
+abbrev pub IsReading : Result CodeRequest WordsFault → Option Request → Type 0
+IsReading (Ok request) asked = asked ≡ Some (requested request)
+IsReading (Err (Wrong text)) asked = asked ≡ None
+IsReading (Err OutOfMemory) asked = Unit {0}
 
 -- nothing is read for words that ask for nothing, for the version, and for a key of `mac` that is refused
 abbrev pub reads_nothing : Option Request → Bool

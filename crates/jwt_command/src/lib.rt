@@ -1,8 +1,9 @@
 //! The command `jwt`, over any source and sink: its words, one input, one answer.
 //!
 //! [`run_with`](run::run_with) is the whole of it; the program gives it the process's words, standard input and standard output, its
-//! clock, the verifiers for public keys, and the documents of the files that [`files_named`] names, which
-//! [`read_document`](documents::read_document) reads. [`run`](run::run) is the same with none of these at hand.
+//! clock, the verifiers for public keys, and the documents of the files that the words name, which
+//! [`read_document`](documents::read_document) reads. [`run_read`](run::run_read) is the same of words that were read, and
+//! [`run`](run::run) with none of these at hand.
 //! [`line`](input::line::line) takes one line of an input, and nothing behind it.
 //!
 //! What the words ask for is read in `jwt_words`, what is printed is written in `jwt_printing`; here stands what is answered.
@@ -18,4 +19,4 @@ mod show;
 mod verify;
 pub mod verify_lines;
 
-pub use jwt_words::{Files, Moment, files_named};
+pub use jwt_words::{Files, Moment, Request, WordsFault, files_in_request, read_words};

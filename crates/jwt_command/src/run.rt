@@ -1,21 +1,22 @@
 //! The command, over any source and sink.
-ghost use Rattle.std.specs.Prelude.{◌≡◌, ◌⊎◌, [], None, Some, is_some, map, true, false, IfOk, IfSome};
+ghost use Rattle.std.specs.Prelude.{◌≡◌, ◌⊎◌, [], None, Option, Some, is_some, map, true, false, IfOk, IfSome};
 ghost use Rattle.jwt_command.specs.Answered.{answer_in_hand, answer_of, version_answer};
 ghost use Rattle.jwt_words.specs.InHand.{none_held, unread};
 ghost use Rattle.jwt_text.specs.Intake.{TakesAtMost};
-ghost use Rattle.jwt_command.specs.Runs.{Runs, reads_nothing};
-ghost use Rattle.jwt_words.specs.Seen.{held_view, seconds_of, seen};
+ghost use Rattle.jwt_command.specs.Runs.{IsReading, Runs, reads_nothing};
+ghost use Rattle.jwt_words.specs.Seen.{HasRange, held_view, requested, seconds_of, seen};
 ghost use Rattle.jwt_printing.specs.Views.{reply_view};
 ghost use Rattle.jwt_command.specs.Stops.{most_in_hand, most_taken};
 ghost use Rattle.jwt_command.specs.Verify.{asked_for};
-ghost use Rattle.jwt_words.specs.Words.{HasLimits, Once, Order as Asked, files_in_order, request_of};
+ghost use Rattle.jwt_words.specs.Words.{HasLimits, Once, Order as Asked, Request as Wanted, files_in_order, request_of};
 
-use crate::issue::{Wanted, issue};
+use crate::issue::issue;
 use crate::keys::keys;
 use crate::mac::{mac, mac_in_hand};
 use crate::show::show;
 use crate::verify::verify;
 use crate::verify_lines::{Clock, NoClock, run_lines};
+use jwt_issue::IssueOptions;
 use jwt_mac::Verifier;
 pub use jwt_printing::lack_memory;
 use jwt_printing::{Reply, give, printed_file_fault, send};
@@ -134,7 +135,65 @@ pub fn run_with<R: Source, W: Sink, C: Clock>(
         → result ≡ 3 → (R.failed r.new ≡ true) ⊎ ((W.failed w.new ≡ true)
         ⊎ (is_some (unread (files_in_order order) (held_view held.entry)) ≡ true)) }
 {
-    match read_words(alloc, words, clock) {
+    run_read(
+        alloc,
+        read_words(alloc, words, clock),
+        built_in,
+        moments,
+        held,
+        r,
+        w,
+    )
+}
+
+/// The same as [`run_with`], of words that [`read_words`] has read: a program reads them once, and the files that they name before it
+/// runs.
+pub fn run_read<R: Source, W: Sink, C: Clock>(
+    alloc: Global,
+    words: Result<Request<'_>, WordsFault>,
+    built_in: &[Box<dyn Verifier>],
+    moments: &mut C,
+    held: Held<'_>,
+    r: &mut R,
+    w: &mut W,
+) -> u8
+    requires { IfOk words (λ request. HasRange (requested request)) }
+
+    // What the words ask for is answered.
+    ensures answer { (asked : Option Wanted) → IsReading words.entry asked
+        → IfSome (R.remaining r.old) (λ x.
+        Runs (map meaning built_in.now) C.says (held_view held.entry) asked x (R.failed r.new)
+        (record {
+          before = W.contents w.old;
+          after = W.contents w.new;
+          failed = W.failed w.new;
+          status = result;
+        })) }
+
+    // At most one octet past the limit is taken, and nothing behind a line that is refused.
+    ensures stops { (printing : Printing) (order : Asked)
+        → IsReading words.entry (Some (Once printing order))
+        → IfSome (R.remaining r.old) (λ x. (R.failed r.new ≡ true)
+        ⊎ TakesAtMost (most_taken (held_view held.entry) order x) x (R.remaining r.new)) }
+
+    // Of every source: what is answered without reading, and where the status is 3.
+    ensures unread { (asked : Option Wanted) → IsReading words.entry asked
+        → reads_nothing asked ≡ true → r.new ≡ r.old }
+    ensures known { (asked : Option Wanted) → IsReading words.entry asked
+        → reads_nothing asked ≡ true
+        → Runs (map meaning built_in.now) C.says (held_view held.entry) asked [] false
+        (record {
+          before = W.contents w.old;
+          after = W.contents w.new;
+          failed = W.failed w.new;
+          status = result;
+        }) }
+    ensures failed { (printing : Printing) (order : Asked)
+        → IsReading words.entry (Some (Once printing order))
+        → result ≡ 3 → (R.failed r.new ≡ true) ⊎ ((W.failed w.new ≡ true)
+        ⊎ (is_some (unread (files_in_order order) (held_view held.entry)) ≡ true)) }
+{
+    match words {
         Ok(Request::Once { printing, order }) => {
             give(w, reply_of(alloc, printing, order, built_in, held, r))
         }
@@ -206,7 +265,13 @@ fn reply_in_hand<R: Source>(
             verify(alloc, printing, verifiers, now, held, r)
         }
         Order::Issue { alg, typ, form, .. } => {
-            issue(alloc, Wanted { alg, typ, form }, held.keys, r)
+            let options = IssueOptions {
+                alg,
+                typ,
+                form,
+                key: 0,
+            };
+            issue(alloc, options, held.keys, r)
         }
         Order::Version => version_line(alloc),
     }

@@ -5,6 +5,8 @@ use Rattle.jwt_keys.specs.Views.{key_parts}
 use Rattle.jwt_keys.specs.declared.key.Key.{Key}
 use Rattle.jwt_mac.specs.declared.algorithm.Alg.{Alg}
 use Rattle.jwt_issue.specs.Issued.{PairParts, SignerParts}
+use Rattle.jwt_issue.specs.Options.{OptionParts}
+use Rattle.jwt_issue.specs.declared.options.IssueOptions.{IssueOptions}
 use Rattle.jwt_issue.specs.declared.signer.Signer.{Signer}
 
 abbrev pub pair_of : Alg → Key → PairParts
@@ -19,3 +21,6 @@ text_of text = option_map (λ s. s.now) text
 
 abbrev pub signer_parts : Signer → SignerParts
 signer_parts s = record { alg = s.alg; secret = s.secret.now; protected = s.protected.items }
+
+abbrev pub options_parts : IssueOptions → OptionParts
+options_parts options = record { alg = options.alg; typ = text_of options.typ; form = options.form; key = options.key }

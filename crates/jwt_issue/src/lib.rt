@@ -2,7 +2,8 @@
 //! flattened JSON form (RFC 7515, section 7).
 //!
 //! [`Builder`] gathers claims by name, and [`ClaimSet::from_octets`] takes claims as they stand; both refuse what
-//! `jwt_policy::Claims::read` refuses. [`issue_compact`], [`issue_flat`] and [`issue_json`] sign them.
+//! `jwt_policy::Claims::read` refuses. [`issue_compact`], [`issue_flat`] and [`issue_json`] sign them, and [`issue_by`] signs them with the
+//! keys of a set.
 //!
 //! ```rust
 //! use jwt_issue::{Builder, issue_compact};
@@ -26,6 +27,7 @@ mod fitness;
 mod general;
 mod header;
 pub mod laws;
+mod options;
 mod signer;
 mod single;
 mod size;
@@ -35,4 +37,5 @@ pub use builder::Builder;
 pub use claim_set::ClaimSet;
 pub use fault::{BuildFault, IssueFault};
 pub use general::issue_json;
+pub use options::{IssueOptions, issue_by};
 pub use single::{issue_compact, issue_flat};

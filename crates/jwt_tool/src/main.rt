@@ -4,9 +4,9 @@
 ghost use Rattle.std.specs.Prelude.{◌≤◌};
 
 use jwt_command::documents::{Held, read_document};
-use jwt_command::run::{lack_memory, run_with};
+use jwt_command::run::{lack_memory, run_read};
 use jwt_command::verify_lines::Clock;
-use jwt_command::{Moment, files_named};
+use jwt_command::{Files, Moment, files_in_request, read_words};
 use jwt_ecdsa::Ecdsa;
 use jwt_ed25519::Ed25519;
 use jwt_mac::Verifier;
@@ -18,7 +18,7 @@ use std::time::{SystemTime, UNIX_EPOCH};
 use std::{env, io};
 
 // The clock is read once, before anything else, and by `verify --lines` for each line. Standard input is read without a buffer, so
-// that exactly what the contract of `run_with` names is taken, and standard output is written without one, so that an answer is
+// that exactly what the contract of `run_read` names is taken, and standard output is written without one, so that an answer is
 // out before the next line is waited for.
 fn main(rt: HostRuntime) -> ExitCode {
     let clock = moment(&rt);
@@ -92,7 +92,11 @@ fn run_words<R: Source, W: Sink>(
         Box::new(rt.alloc(), Ed25519)?,
         Box::new(rt.alloc(), Ecdsa)?,
     ];
-    let files = files_named(rt.alloc(), words.as_slice(), clock)?;
+    let request = read_words(rt.alloc(), words.as_slice(), clock);
+    let files = match &request {
+        Ok(request) => files_in_request(*request),
+        Err(_) => Files::none(),
+    };
     let policy = document(rt, files.policy, 65_536)?;
     let keys = document(rt, files.keys, 4_194_304)?;
     let token = document(rt, files.token, 1_048_576)?;
@@ -104,11 +108,10 @@ fn run_words<R: Source, W: Sink>(
         key: octets(&key),
     };
     let mut moments = System { rt };
-    Ok(run_with(
+    Ok(run_read(
         rt.alloc(),
-        words.as_slice(),
+        request,
         &built_in,
-        clock,
         &mut moments,
         held,
         r,

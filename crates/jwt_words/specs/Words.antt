@@ -268,7 +268,3 @@ files_in_order order = no_files
 abbrev pub files_in_request : Request → Files
 files_in_request (Once printing order) = files_in_order order
 files_in_request (EachLine order) = order.files
-
--- the files that words name
-abbrev pub files_of : Option ℕ → List Text → Files
-files_of clock words = option_map_or files_in_request (request_of clock words) no_files

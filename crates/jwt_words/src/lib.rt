@@ -1,6 +1,6 @@
 //! The words of the command `jwt`: what they ask for, which files they name, and what is said of wrong ones.
 //!
-//! [`read_words`] reads them by `clap`; [`files_named`] are the files alone, and [`unread`] the first of them that wasn't read.
+//! [`read_words`] reads them by `clap`; [`files_in_request`] are the files that they name, and [`unread`] the first of them that wasn't read.
 #![tactic(auto)]
 
 mod in_hand;
@@ -13,5 +13,5 @@ pub use in_hand::{Held, unread};
 pub use moment::Moment;
 pub use printing::Printing;
 pub use words::{
-    Files, LinesOrder, Order, Request, WordsFault, files_in_order, files_named, read_words,
+    Files, LinesOrder, Order, Request, WordsFault, files_in_order, files_in_request, read_words,
 };

@@ -4,7 +4,7 @@ ghost use Rattle.clap.specs.Words.{app_of, found_of, new_rule, one_of, rows_of, 
 ghost use Rattle.clap.specs.declared.builder.action.ArgAction.TheVariants.{SetTrue};
 ghost use Rattle.clap.specs.declared.builder.command.Command.TheViews.{out-Command as fields_of};
 ghost use Rattle.clap.specs.declared.builder.ValueParser.TheVariants.{Unsigned};
-ghost use Rattle.jwt_words.specs.Words.{HasLimits, alg_in, alg_rule, asks_version, clap_request, files_in, files_in_order, files_in_request, files_of, form_in, form_named, form_rule, is_named, is_set, issue_app, issue_order, json_rule, jwt_app, keyed, keys_app, keys_file_in, keys_rule, limit_rule, lines_order, mac_app, mac_order, moment_in, named_moment, no_files, now_range, now_rule, number_in, option, order_in, printing_in, public_keys_rule, request_in, request_of, show_app, show_order, verify_app, verify_on_files, verify_on_input, verify_order};
+ghost use Rattle.jwt_words.specs.Words.{HasLimits, alg_in, alg_rule, asks_version, clap_request, files_in, files_in_order, files_in_request, form_in, form_named, form_rule, is_named, is_set, issue_app, issue_order, json_rule, jwt_app, keyed, keys_app, keys_file_in, keys_rule, limit_rule, lines_order, mac_app, mac_order, moment_in, named_moment, no_files, now_range, now_rule, number_in, option, order_in, printing_in, public_keys_rule, request_in, request_of, show_app, show_order, verify_app, verify_on_files, verify_on_input, verify_order};
 ghost use Rattle.jwt_words.specs.Examples.{Examples};
 ghost use Rattle.jwt_words.specs.Seen.{IsWrong, files_view, HasRange, lines_view, requested, seconds_of, seen};
 
@@ -702,30 +702,13 @@ pub fn files_in_order<'a>(order: Order<'a>) -> Files<'a>
     }
 }
 
-// The files that a request names.
-fn files_in_request<'a>(request: Request<'a>) -> Files<'a>
+/// The files that a request names.
+pub fn files_in_request<'a>(request: Request<'a>) -> Files<'a>
     ensures { files_view result ≡ files_in_request (requested request.entry) }
 {
     match request {
         Request::Once { order, .. } => files_in_order(order),
         Request::EachLine(lines) => lines.files,
-    }
-}
-
-/// The files that the words name, at the moment that a clock says or without a clock. Where the words are wrong, they name none.
-/// `AllocError` comes where an allocation was refused.
-pub fn files_named<'a>(
-    alloc: Global,
-    words: &'a [&'a str],
-    clock: Option<Moment>,
-) -> Result<Files<'a>, AllocError>
-    ensures { IfOk result
-        (λ f. files_view f ≡ files_of (seconds_of clock) (map (λ w. w.now) words.now)) }
-{
-    match read_words(alloc, words, clock) {
-        Ok(request) => Ok(files_in_request(request)),
-        Err(WordsFault::Wrong(_)) => Ok(Files::none()),
-        Err(WordsFault::OutOfMemory) => Err(AllocError),
     }
 }
 

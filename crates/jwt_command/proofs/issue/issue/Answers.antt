@@ -5,7 +5,7 @@ use Rattle.jwt_keys.specs.KeySets.{key_set, key_set_of}
 use Rattle.jwt_command.specs.Documents.{document}
 use Rattle.jwt_command.specs.Stops.{behind_keys}
 use Rattle.jwt_printing.specs.Views.{reply_view}
-use Rattle.jwt_command.specs.Views.{wanted_view}
+use Rattle.jwt_issue.specs.Views.{options_parts}
 use Rattle.jwt_command.proofs.Verifying.{behind_keys_taken, document_stops, issue_line_too_long}
 use Rattle.jwt_command.proofs.issue.issue.Goals as goal
 
@@ -13,7 +13,7 @@ pub returns-in-Err-TooLong-clause-line : goal.returns-in-Err-TooLong-clause-line
 returns-in-Err-TooLong-clause-line g c =
     IfSome_then (g.R.Source.remaining c.args.r.now) c.in-Err-TooLong.ensures.fails
     (λ x h. let long = rw c.in-Err-TooLong.field-0-is at h in
-    subst (λ (a : Answer). IfOk c.refused_keys.result (λ r. reply_view r ≡ a)) (issue_line_too_long (wanted_view c.args.wanted) (option_map (λ t. t.now) c.args.keys) x _ long.1 long.0) c.refused_keys.ensures)
+    subst (λ (a : Answer). IfOk c.refused_keys.result (λ r. reply_view r ≡ a)) (issue_line_too_long (options_parts c.args.options) (option_map (λ t. t.now) c.args.keys) x _ long.1 long.0) c.refused_keys.ensures)
 
 pub returns-in-Err-TooLong-clause-stops : goal.returns-in-Err-TooLong-clause-stops
 returns-in-Err-TooLong-clause-stops g c = IfSome_then (g.R.Source.remaining c.args.r.now) c.in-Err-TooLong.ensures.taken (λ x h. document_stops 4194304 (behind_keys 1048577 (key_set_of (document (option_map (λ t. t.now) c.args.keys) x))) (option_map (λ t. t.now) c.args.keys) x _ _ h)

@@ -4,9 +4,9 @@ use Rattle.jwt_issue.specs.Views.{pair_parts}
 use Rattle.jwt_keys.specs.KeySets.{key_set}
 use Rattle.jwt_keys.specs.Views.{key_parts}
 use Rattle.jwt_issue.specs.Issued.{pair}
-use Rattle.jwt_c.proofs.PairLemmas.{map_more, slice_within}
-use Rattle.jwt_c.proofs.issuing.pairs.Goals.{in-Some+in_ok-push, in_default}
-use Rattle.jwt_c.proofs.issuing.pairs.Goals as goal
+use Rattle.jwt_issue.proofs.Lists.{map_more, slice_within}
+use Rattle.jwt_issue.proofs.options.pairs.Goals.{in-Some+in_ok-push, in_default}
+use Rattle.jwt_issue.proofs.options.pairs.Goals as goal
 
 pub keys-preserved : goal.keys-preserved
 keys-preserved c =

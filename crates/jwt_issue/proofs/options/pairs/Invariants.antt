@@ -2,7 +2,7 @@ use Rattle.std.proofs.Common.{◌≡◌, map, take}
 use Rattle.jwt_keys.specs.KeySets.{key_set}
 use Rattle.jwt_issue.specs.Views.{pair_parts}
 use Rattle.jwt_issue.specs.Issued.{pair}
-use Rattle.jwt_command.proofs.issue.pairs.Given as goal
+use Rattle.jwt_issue.proofs.options.pairs.Given as goal
 
 abbrev pub invariant-keys : goal.invariant-keys
 invariant-keys l = map pair_parts l.pairs.items ≡ map (pair l.alg) (take l.j (key_set l.keys).keys)
