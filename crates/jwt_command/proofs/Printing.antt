@@ -4,7 +4,11 @@ use Rattle.jwt_mac.specs.Verifying.{Meaning}
 use Rattle.jwt_words.specs.InHand.{Held}
 use Rattle.jwt_printing.specs.Printed.{Answer, Gives, out_of_memory}
 use Rattle.jwt_command.specs.RunLines.{Outcome, Printed}
-use Rattle.jwt_command.specs.Runs.{Runs}
+use Rattle.jwt_command.specs.Runs.{IsReading, Runs}
+use Rattle.jwt_words.specs.Seen.{IsWrong, requested}
+use Rattle.jwt_words.specs.declared.words.Request.{Request as CodeRequest}
+use Rattle.jwt_words.specs.declared.words.WordsFault.{WordsFault}
+use Rattle.jwt_words.specs.declared.words.WordsFault.TheVariants.{OutOfMemory as NoMemory, Wrong}
 use Rattle.jwt_words.specs.Words.{EachLine, Once, Request}
 
 pub gives_reply : {A E : Type 0} (view : A → Answer) (reply : Result A E) (a : Answer) (o : Outcome) → IfOk reply (λ r. view r ≡ a)
@@ -44,3 +48,11 @@ three view (Ok r) P Q o is p (inl printed) lacks = either (p (sym printed.2 ∙ 
     either (inr h) = inr (inr h)
 three view (Ok r) P Q o is p (inr cut) lacks = inr (inl cut.0)
 three view (Err e) P Q o is p printed lacks = inr (inl (memory_three o is lacks))
+
+-- ---- words that were read
+
+pub reading_of : (result : Result CodeRequest WordsFault) (asked : Option Request) → IfOk result (λ request. asked ≡ Some (requested request)) → IfErr result (λ fault. IsWrong fault → asked ≡ None)
+    → IsReading result asked
+reading_of (Ok request) asked ok err = ok
+reading_of (Err (Wrong text)) asked ok err = err tt
+reading_of (Err NoMemory) asked ok err = tt

@@ -1,0 +1,23 @@
+use Rattle.std.proofs.Common.{map, ℕ, List}
+use Rattle.std.specs.Borrow.{Bor}
+use Rattle.jwt_words.specs.Seen.{seconds_of}
+use Rattle.jwt_words.specs.Words.{request_of}
+use Rattle.jwt_command.proofs.Printing.{reading_of}
+use Rattle.jwt_command.proofs.run.run_with.Goals as goal
+
+pub returns-clause-answer : goal.returns-clause-answer
+returns-clause-answer g c =
+    let asked = request_of (seconds_of c.args.clock) (map (λ (w : Bor (List ℕ)). w.now) c.args.words.now) in
+    c.run_read.ensures.answer asked (reading_of c.read_words.result asked c.read_words.ensures.ok c.read_words.ensures.err)
+
+pub returns-clause-stops : goal.returns-clause-stops
+returns-clause-stops g c = λ printing order is.
+    let asked = request_of (seconds_of c.args.clock) (map (λ (w : Bor (List ℕ)). w.now) c.args.words.now) in
+    let reading = reading_of c.read_words.result asked c.read_words.ensures.ok c.read_words.ensures.err in
+    c.run_read.ensures.stops printing order (rw is at reading)
+
+pub returns-clause-failed : goal.returns-clause-failed
+returns-clause-failed g c = λ printing order is.
+    let asked = request_of (seconds_of c.args.clock) (map (λ (w : Bor (List ℕ)). w.now) c.args.words.now) in
+    let reading = reading_of c.read_words.result asked c.read_words.ensures.ok c.read_words.ensures.err in
+    c.run_read.ensures.failed printing order (rw is at reading)
