@@ -108,13 +108,5 @@ fn run_words<R: Source, W: Sink>(
         key: octets(&key),
     };
     let mut moments = System { rt };
-    Ok(run_read(
-        rt.alloc(),
-        request,
-        &built_in,
-        &mut moments,
-        held,
-        r,
-        w,
-    ))
+    Ok(run_read(rt.alloc(), request, &built_in, &mut moments, held, r, w))
 }
