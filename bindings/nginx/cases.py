@@ -1,12 +1,14 @@
 """The cases of bindings/cases that a request can carry, asked of nginx: what the module says has to be the stored answer.
 
-A request carries a token in its header Authorization: one without NUL, line feeds and carriage returns, and without a space at either end. A policy
-or a key set that is refused has no location. The moment is the same for all, that of most cases, by moment.c, which is preloaded.
+A request carries a token in a header, for `jwt_token $http_token`, and where it is of the characters of a b64token (RFC 6750, section 2.1) in the
+header Authorization too; there each other one is refused as Form. It is one without NUL, line feeds and carriage returns, and without a space at
+either end. A policy or a key set that is refused has no location. The moment is the same for all, that of most cases, by moment.c, which is preloaded.
 """
 import http.client
 import json
 import os
 import pathlib
+import re
 import subprocess
 import tempfile
 from typing import Callable, Iterator, NamedTuple
@@ -17,6 +19,9 @@ TABLE = TOP / "build/cases"
 NOW = "1300819379"
 SHOWN = "".join(f"add_header X-{it.title()} $jwt_{it} always;" for it in ("verdict", "fault", "tries", "work", "claim_iss"))
 HEADERS = ("x-verdict", "x-fault", "x-tries", "x-work", "x-claim_iss")
+# (of no octets the module leaves the answer to the library)
+B64TOKEN = re.compile(rb"([A-Za-z0-9._~+/-]+=*)?")
+NO_TOKEN = {"x-verdict": "refused", "x-fault": "Form", "x-tries": "0", "x-work": "0", "x-claim_iss": ""}
 
 
 class Asked(NamedTuple):
@@ -83,16 +88,16 @@ def expected(case: Asked) -> dict[str, str]:
 def differences(nginx: Nginx, cases: list[Asked]) -> Iterator[str]:
     """Each case to which nginx answers otherwise. Connections are kept open."""
     connection = http.client.HTTPConnection("127.0.0.1", nginx.port, timeout=20)
-    for case in cases:
-        connection.putrequest("GET", f"/{case.place}", skip_accept_encoding=True)
-        connection.putheader("Authorization", b"Bearer " + case.token)
+    for case, is_bearer in ((case, it) for case in cases for it in (True, False) if it or case.token):
+        connection.putrequest("GET", f"/{case.place}{'' if is_bearer else '-variable'}", skip_accept_encoding=True)
+        connection.putheader("Authorization" if is_bearer else "Token", b"Bearer " * is_bearer + case.token)
         connection.endheaders()
         answer = connection.getresponse()
         answer.read()
-        wanted = expected(case)
+        wanted = NO_TOKEN if is_bearer and not B64TOKEN.fullmatch(case.token) else expected(case)
         said = {name: (answer.getheader(name) or "").encode("latin-1").decode("utf-8", "replace") for name in wanted}
         if said != wanted or answer.status != (200 if wanted["x-verdict"] == "accepted" else 401):
-            yield f"{case.name}: {answer.status} {said}, and not {wanted}"
+            yield f"{case.name}, {'Bearer' if is_bearer else 'a variable'}: {answer.status} {said}, and not {wanted}"
     connection.close()
 
 
@@ -113,7 +118,9 @@ def run(check: Callable[..., None]) -> None:
             nginx.write(f"{place}.policy", policy)
             nginx.write(f"{place}.keys", keys)
         locations = "\n".join(
-            f"location = /{place} {{ jwt on; jwt_policy {place}.policy; jwt_keys {place}.keys; try_files /page =404; }}" for place in range(len(documents))
+            f"location = /{place}{name} {{ jwt on; jwt_policy {place}.policy; jwt_keys {place}.keys; {token} try_files /page =404; }}"
+            for place in range(len(documents))
+            for name, token in (("", ""), ("-variable", "jwt_token $http_token;"))
         )
         nginx.configure(f"server {{ listen 127.0.0.1:{{port}}; {SHOWN} {locations} }}")
         with nginx.running():

@@ -42,12 +42,14 @@ typedef struct {
     ngx_array_t                      indexes;   /* ngx_uint_t: of variables */
     unsigned                         named:1;   /* some document is */
     unsigned                         enabled:1;
+    unsigned                         payload:1; /* a variable names it */
 } ngx_http_fowharimu_main_conf_t;
 
 
 typedef struct {
     ngx_flag_t                       enable;
     ngx_uint_t                       open;      /* a "return" answers before */
+    ngx_uint_t                       answer;    /* the status of "jwt_answer" */
     u_char                          *file;      /* where it was enabled */
     ngx_uint_t                       line;
     ngx_str_t                        policy;    /* the document's octets */
@@ -64,6 +66,7 @@ typedef struct {
     ngx_http_request_t              *request;
     ngx_str_t                        verdict;
     ngx_str_t                        fault;
+    ngx_str_t                        payload;   /* in base64url */
     uint64_t                         tries;
     uint64_t                         work;
     ngx_str_t                       *claims;    /* in the order of the names */
@@ -72,6 +75,8 @@ typedef struct {
 
 static ngx_int_t ngx_http_fowharimu_access_handler(ngx_http_request_t *r);
 static ngx_int_t ngx_http_fowharimu_subrequest_handler(ngx_http_request_t *r);
+static ngx_int_t ngx_http_fowharimu_answer_handler(ngx_http_request_t *r);
+static ngx_int_t ngx_http_fowharimu_is_accepted(ngx_http_request_t *r);
 static ngx_int_t ngx_http_fowharimu_token(ngx_http_request_t *r,
     ngx_http_fowharimu_loc_conf_t *lcf, ngx_str_t *token);
 static ngx_int_t ngx_http_fowharimu_is_twice(ngx_http_request_t *r,
@@ -80,17 +85,21 @@ static ngx_int_t ngx_http_fowharimu_is_named(u_char *p, u_char *last,
     ngx_str_t *argument);
 static ngx_int_t ngx_http_fowharimu_bearer(ngx_http_request_t *r,
     ngx_str_t *token);
+static ngx_int_t ngx_http_fowharimu_is_b64token(ngx_str_t *token);
 static ngx_int_t ngx_http_fowharimu_judge(ngx_http_request_t *r,
     ngx_http_fowharimu_loc_conf_t *lcf, ngx_http_fowharimu_ctx_t *ctx,
     ngx_str_t *token);
 static ngx_int_t ngx_http_fowharimu_accepted(ngx_http_request_t *r,
     ngx_http_fowharimu_loc_conf_t *lcf, ngx_http_fowharimu_ctx_t *ctx,
-    size_t size);
+    ngx_str_t *token);
 static ngx_int_t ngx_http_fowharimu_keep_claims(ngx_http_request_t *r,
     ngx_http_fowharimu_loc_conf_t *lcf, ngx_http_fowharimu_ctx_t *ctx,
     ngx_str_t *room);
 static ngx_int_t ngx_http_fowharimu_keep_claim(ngx_http_request_t *r,
     ngx_str_t *claim, ngx_str_t *kept);
+static ngx_int_t ngx_http_fowharimu_keep_payload(ngx_http_request_t *r,
+    ngx_http_fowharimu_loc_conf_t *lcf, ngx_http_fowharimu_ctx_t *ctx,
+    ngx_str_t *token, ngx_str_t *room);
 static ngx_int_t ngx_http_fowharimu_meets(ngx_http_fowharimu_demand_t *demand,
     ngx_str_t *claim);
 static ngx_int_t ngx_http_fowharimu_meets_text(
@@ -102,6 +111,8 @@ static ngx_int_t ngx_http_fowharimu_claim(
     ngx_str_t *claim);
 static ngx_int_t ngx_http_fowharimu_read_text(u_char **p, u_char *last,
     ngx_str_t *text);
+static ngx_int_t ngx_http_fowharimu_refuse_token(ngx_http_request_t *r,
+    ngx_http_fowharimu_ctx_t *ctx, const char *fault);
 static ngx_int_t ngx_http_fowharimu_refuse(ngx_http_request_t *r,
     ngx_int_t status, char *challenge);
 static ngx_int_t ngx_http_fowharimu_fail(ngx_http_request_t *r,
@@ -156,6 +167,8 @@ static char *ngx_http_fowharimu_require(ngx_conf_t *cf, ngx_command_t *cmd,
     void *conf);
 static char *ngx_http_fowharimu_claim_set(ngx_conf_t *cf, ngx_command_t *cmd,
     void *conf);
+static char *ngx_http_fowharimu_set_answer(ngx_conf_t *cf, ngx_command_t *cmd,
+    void *conf);
 
 
 #define NGX_HTTP_FOWHARIMU_CONF                                              \
@@ -207,6 +220,13 @@ static ngx_command_t  ngx_http_fowharimu_commands[] = {
       0,
       NULL },
 
+    { ngx_string("jwt_answer"),
+      NGX_HTTP_LOC_CONF|NGX_CONF_NOARGS|NGX_CONF_TAKE1,
+      ngx_http_fowharimu_set_answer,
+      NGX_HTTP_LOC_CONF_OFFSET,
+      0,
+      NULL },
+
       ngx_null_command
 };
 
@@ -254,6 +274,10 @@ static ngx_http_variable_t  ngx_http_fowharimu_vars[] = {
       offsetof(ngx_http_fowharimu_ctx_t, fault),
       NGX_HTTP_VAR_NOCACHEABLE, 0 },
 
+    { ngx_string("jwt_payload"), NULL, ngx_http_fowharimu_text_variable,
+      offsetof(ngx_http_fowharimu_ctx_t, payload),
+      NGX_HTTP_VAR_NOCACHEABLE, 0 },
+
     { ngx_string("jwt_tries"), NULL, ngx_http_fowharimu_number_variable,
       offsetof(ngx_http_fowharimu_ctx_t, tries),
       NGX_HTTP_VAR_NOCACHEABLE, 0 },
@@ -298,6 +322,13 @@ ngx_http_fowharimu_access_handler(ngx_http_request_t *r)
     rc = ngx_http_fowharimu_token(r, lcf, &token);
 
     if (rc == NGX_OK) {
+
+        if (lcf->token == NGX_HTTP_FOWHARIMU_BEARER
+            && !ngx_http_fowharimu_is_b64token(&token))
+        {
+            return ngx_http_fowharimu_refuse_token(r, ctx, "Form");
+        }
+
         return ngx_http_fowharimu_judge(r, lcf, ctx, &token);
     }
 
@@ -337,6 +368,56 @@ ngx_http_fowharimu_subrequest_handler(ngx_http_request_t *r)
     rc = ngx_http_fowharimu_access_handler(r);
 
     return rc == NGX_OK ? NGX_DECLINED : rc;
+}
+
+
+/* the content of a location with "jwt_answer", for every method */
+
+static ngx_int_t
+ngx_http_fowharimu_answer_handler(ngx_http_request_t *r)
+{
+    ngx_int_t                       rc;
+    ngx_str_t                       type;
+    ngx_http_complex_value_t        nothing;
+    ngx_http_fowharimu_loc_conf_t  *lcf;
+
+    if (!ngx_http_fowharimu_is_accepted(r)) {
+
+        ngx_log_error(NGX_LOG_ERR, r->connection->log, 0,
+                      "jwt: \"jwt_answer\" refuses: no token was accepted "
+                      "here");
+
+        rc = ngx_http_discard_request_body(r);
+
+        return rc == NGX_OK ? NGX_HTTP_FORBIDDEN : rc;
+    }
+
+    lcf = ngx_http_get_module_loc_conf(r, ngx_http_fowharimu_module);
+
+    ngx_str_null(&type);
+    ngx_memzero(&nothing, sizeof(ngx_http_complex_value_t));
+
+    return ngx_http_send_response(r, lcf->answer, &type, &nothing);
+}
+
+
+/*
+ * Whether the location that answers has accepted the token of this request
+ * itself: the module's context is another one for each subrequest, and nginx
+ * clears it where a request is redirected within it.
+ */
+
+static ngx_int_t
+ngx_http_fowharimu_is_accepted(ngx_http_request_t *r)
+{
+    ngx_http_fowharimu_ctx_t  *ctx;
+
+    ctx = ngx_http_get_module_ctx(r, ngx_http_fowharimu_module);
+
+    return ctx
+           && ctx->verdict.len == sizeof("accepted") - 1
+           && ngx_memcmp(ctx->verdict.data, "accepted", sizeof("accepted") - 1)
+              == 0;
 }
 
 
@@ -514,6 +595,40 @@ ngx_http_fowharimu_bearer(ngx_http_request_t *r, ngx_str_t *token)
 }
 
 
+/*
+ * Whether it is spelled as the header has it, RFC 6750, section 2.1.  That of
+ * no octets is left to the library, which says that it is empty.
+ */
+
+static ngx_int_t
+ngx_http_fowharimu_is_b64token(ngx_str_t *token)
+{
+    u_char  *p, *last;
+
+    p = token->data;
+    last = p + token->len;
+
+    while (p < last
+           && ((*p >= 'A' && *p <= 'Z') || (*p >= 'a' && *p <= 'z')
+               || (*p >= '0' && *p <= '9')
+               || *p == '-' || *p == '.' || *p == '_' || *p == '~'
+               || *p == '+' || *p == '/'))
+    {
+        p++;
+    }
+
+    if (p == token->data) {
+        return p == last;
+    }
+
+    while (p < last && *p == '=') {
+        p++;
+    }
+
+    return p == last;
+}
+
+
 static ngx_int_t
 ngx_http_fowharimu_judge(ngx_http_request_t *r,
     ngx_http_fowharimu_loc_conf_t *lcf, ngx_http_fowharimu_ctx_t *ctx,
@@ -535,18 +650,11 @@ ngx_http_fowharimu_judge(ngx_http_request_t *r,
     switch (report.verdict) {
 
     case FOW_OK:
-        return ngx_http_fowharimu_accepted(r, lcf, ctx, token->len);
+        return ngx_http_fowharimu_accepted(r, lcf, ctx, token);
 
     case FOW_REFUSED:
-        ngx_str_set(&ctx->verdict, "refused");
-        ngx_http_fowharimu_set_text(&ctx->fault,
-                                    fow_fault_name(report.fault));
-
-        ngx_log_error(NGX_LOG_INFO, r->connection->log, 0,
-                      "jwt: the token is refused: %V", &ctx->fault);
-
-        return ngx_http_fowharimu_refuse(r, NGX_HTTP_UNAUTHORIZED,
-                                         "Bearer error=\"invalid_token\"");
+        return ngx_http_fowharimu_refuse_token(r, ctx,
+                                               fow_fault_name(report.fault));
 
     case FOW_ASKS:
         return ngx_http_fowharimu_fail(r, ctx, "Unanswered");
@@ -560,12 +668,12 @@ ngx_http_fowharimu_judge(ngx_http_request_t *r,
 }
 
 
-/* of a token of that size, which the validator has accepted just now */
+/* of a token that the validator has accepted just now */
 
 static ngx_int_t
 ngx_http_fowharimu_accepted(ngx_http_request_t *r,
     ngx_http_fowharimu_loc_conf_t *lcf, ngx_http_fowharimu_ctx_t *ctx,
-    size_t size)
+    ngx_str_t *token)
 {
     ngx_int_t                        rc;
     ngx_str_t                        room, claim;
@@ -575,16 +683,16 @@ ngx_http_fowharimu_accepted(ngx_http_request_t *r,
 
     mcf = ngx_http_get_module_main_conf(r, ngx_http_fowharimu_module);
 
-    /* without room where no claim is asked for */
+    /* without room where no claim is asked for, nor the payload */
 
-    if (lcf->demands == NULL && mcf->claims.nelts == 0) {
+    if (lcf->demands == NULL && mcf->claims.nelts == 0 && !mcf->payload) {
         ngx_str_set(&ctx->verdict, "accepted");
         return NGX_OK;
     }
 
     /* a claim's compact text is no longer than the payload that it is in */
 
-    room.len = size + NGX_INT64_LEN;
+    room.len = token->len + NGX_INT64_LEN;
     room.data = ngx_pnalloc(r->pool, room.len);
     if (room.data == NULL) {
         return ngx_http_fowharimu_fail(r, ctx, "OutOfMemory");
@@ -615,7 +723,9 @@ ngx_http_fowharimu_accepted(ngx_http_request_t *r,
         }
     }
 
-    if (ngx_http_fowharimu_keep_claims(r, lcf, ctx, &room) != NGX_OK) {
+    if (ngx_http_fowharimu_keep_claims(r, lcf, ctx, &room) != NGX_OK
+        || ngx_http_fowharimu_keep_payload(r, lcf, ctx, token, &room) != NGX_OK)
+    {
         return ngx_http_fowharimu_fail(r, ctx, "OutOfMemory");
     }
 
@@ -700,6 +810,46 @@ ngx_http_fowharimu_keep_claim(ngx_http_request_t *r, ngx_str_t *claim,
     }
 
     kept->len = text.len;
+
+    return NGX_OK;
+}
+
+
+/* the octets of the payload, which the token may spell otherwise */
+
+static ngx_int_t
+ngx_http_fowharimu_keep_payload(ngx_http_request_t *r,
+    ngx_http_fowharimu_loc_conf_t *lcf, ngx_http_fowharimu_ctx_t *ctx,
+    ngx_str_t *token, ngx_str_t *room)
+{
+    size_t                           len;
+    ngx_str_t                        payload, kept;
+    ngx_http_fowharimu_main_conf_t  *mcf;
+
+    mcf = ngx_http_get_module_main_conf(r, ngx_http_fowharimu_module);
+
+    if (!mcf->payload) {
+        return NGX_OK;
+    }
+
+    if (fow_payload(&lcf->validator->handle, token->data, token->len,
+                    room->data, room->len, &len)
+        != FOW_OK)
+    {
+        return NGX_ERROR;
+    }
+
+    payload.len = len;
+    payload.data = room->data;
+
+    kept.data = ngx_pnalloc(r->pool, ngx_base64_encoded_length(len));
+    if (kept.data == NULL) {
+        return NGX_ERROR;
+    }
+
+    ngx_encode_base64url(&kept, &payload);
+
+    ctx->payload = kept;
 
     return NGX_OK;
 }
@@ -865,6 +1015,21 @@ ngx_http_fowharimu_read_text(u_char **p, u_char *last, ngx_str_t *text)
     *p = src < last ? src + 1 : last;
 
     return rc;
+}
+
+
+static ngx_int_t
+ngx_http_fowharimu_refuse_token(ngx_http_request_t *r,
+    ngx_http_fowharimu_ctx_t *ctx, const char *fault)
+{
+    ngx_str_set(&ctx->verdict, "refused");
+    ngx_http_fowharimu_set_text(&ctx->fault, fault);
+
+    ngx_log_error(NGX_LOG_INFO, r->connection->log, 0,
+                  "jwt: the token is refused: %V", &ctx->fault);
+
+    return ngx_http_fowharimu_refuse(r, NGX_HTTP_UNAUTHORIZED,
+                                     "Bearer error=\"invalid_token\"");
 }
 
 
@@ -1225,6 +1390,12 @@ ngx_http_fowharimu_init_module(ngx_cycle_t *cycle)
             continue;
         }
 
+        if (v[i].get_handler == ngx_http_fowharimu_text_variable
+            && v[i].data == offsetof(ngx_http_fowharimu_ctx_t, payload))
+        {
+            mcf->payload = 1;
+        }
+
         index = ngx_array_push(&mcf->indexes);
         if (index == NULL) {
             return NGX_ERROR;
@@ -1272,6 +1443,7 @@ ngx_http_fowharimu_create_loc_conf(ngx_conf_t *cf)
      * set by ngx_pcalloc():
      *
      *     lcf->open = 0;
+     *     lcf->answer = 0;
      *     lcf->file = NULL;
      *     lcf->line = 0;
      *     lcf->policy = { 0, NULL };
@@ -1302,6 +1474,23 @@ ngx_http_fowharimu_merge_loc_conf(ngx_conf_t *cf, void *parent, void *child)
     clcf = ngx_http_conf_get_module_loc_conf(cf, ngx_http_core_module);
     conf->open = ngx_http_fowharimu_is_open(cf)
                  || (clcf->lmt_excpt && prev->open);
+
+    if (conf->answer && clcf->handler != ngx_http_fowharimu_answer_handler) {
+        ngx_log_error(NGX_LOG_EMERG, cf->log, 0,
+                      "\"jwt_answer\" stands beside another directive that "
+                      "answers in location \"%V\"", &clcf->name);
+        return NGX_CONF_ERROR;
+    }
+
+    /* an "if" or "limit_except" answers as its location does */
+
+    if (clcf->noname && conf->answer == 0) {
+        conf->answer = prev->answer;
+
+        if (clcf->lmt_excpt && clcf->handler == NULL && conf->answer) {
+            clcf->handler = ngx_http_fowharimu_answer_handler;
+        }
+    }
 
     /* the documents of a level are opened once for all that inherit them */
 
@@ -1354,8 +1543,8 @@ ngx_http_fowharimu_merge_loc_conf(ngx_conf_t *cf, void *parent, void *child)
     if (conf->open) {
         ngx_log_error(NGX_LOG_EMERG, cf->log, 0,
                       "a \"return\" answers before \"jwt\" is asked, which "
-                      "is on by %s:%ui: say \"jwt off\" beside it",
-                      conf->file, conf->line);
+                      "is on by %s:%ui: say \"jwt_answer\" in its place, or "
+                      "\"jwt off\" beside it", conf->file, conf->line);
         return NGX_CONF_ERROR;
     }
 
@@ -1908,6 +2097,45 @@ ngx_http_fowharimu_claim_set(ngx_conf_t *cf, ngx_command_t *cmd, void *conf)
 
     v->get_handler = ngx_http_fowharimu_set_variable;
     v->data = mcf->claims.nelts - 1;
+
+    return NGX_CONF_OK;
+}
+
+
+static char *
+ngx_http_fowharimu_set_answer(ngx_conf_t *cf, ngx_command_t *cmd, void *conf)
+{
+    ngx_http_fowharimu_loc_conf_t *lcf = conf;
+
+    ngx_str_t                 *value;
+    ngx_http_core_loc_conf_t  *clcf;
+
+    if (lcf->answer) {
+        return "is duplicate";
+    }
+
+    clcf = ngx_http_conf_get_module_loc_conf(cf, ngx_http_core_module);
+
+    if (clcf->handler) {
+        return "stands beside another directive that answers";
+    }
+
+    value = cf->args->elts;
+
+    if (cf->args->nelts == 1 || ngx_strcmp(value[1].data, "204") == 0) {
+        lcf->answer = NGX_HTTP_NO_CONTENT;
+
+    } else if (ngx_strcmp(value[1].data, "200") == 0) {
+        lcf->answer = NGX_HTTP_OK;
+
+    } else {
+        ngx_conf_log_error(NGX_LOG_EMERG, cf, 0,
+                           "invalid value \"%V\" in \"jwt_answer\" directive, "
+                           "it must be \"200\" or \"204\"", &value[1]);
+        return NGX_CONF_ERROR;
+    }
+
+    clcf->handler = ngx_http_fowharimu_answer_handler;
 
     return NGX_CONF_OK;
 }

@@ -130,15 +130,24 @@ class Nginx:
         command = ["curl", "-s", "-S", "-i", "--max-time", "20", *words, f"http://127.0.0.1:{self.port}{path}"]
         return answer_of(subprocess.run(command, capture_output=True).stdout)
 
-    def send(self, octets: bytes) -> Answer:
-        """What is answered to these very octets."""
-        with socket.create_connection(("127.0.0.1", self.port), 20) as connection:
+    def send(self, octets: bytes, path: pathlib.Path | None = None) -> Answer:
+        """What is answered to exactly these octets, at the port or at a socket of that path."""
+        with connected(self.port, path) as connection:
             connection.sendall(octets)
             connection.shutdown(socket.SHUT_WR)
             got = b""
             while piece := connection.recv(65536):
                 got += piece
         return answer_of(got)
+
+
+def connected(port: int, path: pathlib.Path | None) -> socket.socket:
+    if path is None:
+        return socket.create_connection(("127.0.0.1", port), 20)
+    connection = socket.socket(socket.AF_UNIX)
+    connection.settimeout(20)
+    connection.connect(str(path))
+    return connection
 
 
 def resident(pid: int) -> int:
