@@ -5,7 +5,7 @@
 #   make install PREFIX= DESTDIR=    installs libraries, headers, pkg-config, the manual page and the program
 #   make deb                         makes build/fowharimu_VERSION_ARCHITECTURE.deb
 #   make nginx                       builds build/nginx/ngx_http_fowharimu_module.so (Debian: nginx-dev)
-#   make nginx-install DESTDIR=      installs it where Debian's nginx looks for modules
+#   make nginx-install DESTDIR=      installs it where Debian's nginx looks for modules, with the endpoint for other gateways
 PREFIX ?= /usr/local
 LIBDIR ?= $(PREFIX)/lib
 VERSION = 0.1.0
@@ -79,11 +79,14 @@ install: all $(PROGRAM) $(BUILD)/fowharimu.1
 	install -m 755 $(PROGRAM) $(DESTDIR)$(PREFIX)/bin/fowharimu
 	install -m 644 $(BUILD)/fowharimu.1 $(DESTDIR)$(PREFIX)/share/man/man1
 
-# The package holds what install installs; it is made in a folder outside the repository, since it has symbolic links.
+# The package holds what install installs, and, where nginx-dev is there, the module and the endpoint; in it the module isn't enabled. It is
+# made in a folder outside the repository, since it has symbolic links.
 deb:
 	mkdir -p $(BUILD)
 	room=$$(mktemp -d) && trap 'rm -rf "$$room"' EXIT && chmod 755 "$$room" && \
 	$(MAKE) install PREFIX=/usr DESTDIR="$$room" && install -d "$$room/DEBIAN" && \
+	if [ -e $(NGINX)/configure ]; then $(MAKE) nginx-files DESTDIR="$$room" && install -m 644 debian/conffiles "$$room/DEBIAN"; \
+	else echo "left out, since nginx-dev isn't here: the module for nginx, and the endpoint"; fi && \
 	sed 's|@VERSION@|$(VERSION)|; s|@ARCHITECTURE@|$(shell dpkg --print-architecture)|' debian/control > "$$room/DEBIAN/control" && \
 	dpkg-deb --root-owner-group --build "$$room" $(BUILD)
 
@@ -103,10 +106,17 @@ $(BUILD)/nginx/$(MODULE).so: $(BUILD)/nginx/Makefile bindings/nginx/$(MODULE).c 
 
 nginx: $(BUILD)/nginx/$(MODULE).so
 
-nginx-install: nginx
-	install -d $(DESTDIR)/usr/lib/nginx/modules $(DESTDIR)/usr/share/nginx/modules-available $(DESTDIR)/etc/nginx/modules-enabled
+# The module, and the endpoint that other gateways ask: its configuration, which stays where there is one, and its service, which isn't enabled.
+nginx-files: nginx
+	install -d $(DESTDIR)/usr/lib/nginx/modules $(DESTDIR)/usr/share/nginx/modules-available
 	install -m 644 $(BUILD)/nginx/$(MODULE).so $(DESTDIR)/usr/lib/nginx/modules
 	echo 'load_module modules/$(MODULE).so;' > $(DESTDIR)/usr/share/nginx/modules-available/mod-http-fowharimu.conf
+	test -e $(DESTDIR)/etc/fowharimu/verify.conf || install -D -m 644 -t $(DESTDIR)/etc/fowharimu bindings/nginx/verify.conf
+	install -D -m 644 -t $(DESTDIR)/lib/systemd/system bindings/nginx/fowharimu-verify.service
+	install -D -m 644 bindings/nginx/fowharimu-verify.logrotate $(DESTDIR)/etc/logrotate.d/fowharimu-verify
+
+nginx-install: nginx-files
+	install -d $(DESTDIR)/etc/nginx/modules-enabled
 	ln -sf /usr/share/nginx/modules-available/mod-http-fowharimu.conf $(DESTDIR)/etc/nginx/modules-enabled/50-mod-http-fowharimu.conf
 
 test: libraries
@@ -117,4 +127,4 @@ clean:
 
 FORCE:
 
-.PHONY: all libraries install deb nginx nginx-install test clean FORCE
+.PHONY: all libraries install deb nginx nginx-files nginx-install test clean FORCE
