@@ -1,0 +1,39 @@
+use Rattle.std.proofs.Common.{◌≡◌, ◌==◌, ℕ, List, [], length, ap, ◌∙◌}
+use Rattle.std.proofs.lemmas.Bool.{both_ways}
+use Rattle.key_pem.specs.declared.text.Block.{Block}
+use Rattle.key_pem.specs.declared.fault.PemFault.TheVariants as pem
+use Rattle.jwt_jwk.specs.Jwk.{text_of}
+use Rattle.jwt_jwk.specs.Converted.{Adds, kid_of}
+use Rattle.jwt_jwk.specs.declared.fault.JwkFault.TheVariants.{OutOfMemory}
+use Rattle.jwt_jwk.proofs.Files.{first_key, next_keys, no_first, on_ok, one_more}
+use Rattle.jwt_jwk.proofs.Refused.{for_memory, value_is_no_fault}
+use Rattle.jwt_jwk.proofs.set.+add_jwks.Goals as goal
+
+pub returns-in-Err-clause-only : goal.returns-in-Err-clause-only
+returns-in-Err-clause-only depth c = λ keys file few.
+    no_first keys c.args.text.now (c.pem_fault.result ≡ OutOfMemory) file
+    (λ e. both_ways c.is_empty.result c.if-is_empty.false (c.is_empty.ensures ∙ ap (λ (t : List ℕ). length t == 0) (c.trim.ensures ∙ e)))
+    (λ label octets rest are block. c.pem_fault.ensures ∙ for_memory {T = Block} c.in-Err.fault (c.in-Err.ensures.only label octets rest are block))
+
+pub returns-in-Ok-push_jwk-clause-ok : goal.returns-in-Ok-push_jwk-clause-ok
+returns-in-Ok-push_jwk-clause-ok depth c =
+    let kid = kid_of c.args.kid in
+    let alg = text_of c.args.alg in
+    on_ok c.add_jwks.result (Adds _ kid alg c.in-Ok.block.rest.now c.push_jwk.new.set.items c.add_jwks.new.set.items) (Adds c.args.later kid alg c.args.text.now c.args.set.now.items c.add_jwks.new.set.items)
+    (one_more c.args.later kid alg c.in-Ok.block.label c.in-Ok.block.octets.items c.deref.result.now c.args.text.now c.in-Ok.block.rest.now c.in-Ok-jwk_of_block.jwk.items c.deref-in-Ok-jwk_of_block.result.now
+    c.args.set.now.items c.push_jwk.new.set.items c.add_jwks.new.set.items c.in-Ok.ensures.octets c.in-Ok.ensures.found c.deref.ensures.value c.in-Ok-jwk_of_block.ensures.ok c.deref-in-Ok-jwk_of_block.ensures.value
+    c.in-Ok-push_jwk.ensures) c.add_jwks.ensures.ok
+
+pub returns-in-Ok-push_jwk-clause-only : goal.returns-in-Ok-push_jwk-clause-only
+returns-in-Ok-push_jwk-clause-only depth c = λ keys file few.
+    next_keys keys c.args.text.now c.in-Ok.block.label c.in-Ok.block.octets.items c.in-Ok.block.rest.now c.args.left _ file few
+    (λ e. both_ways c.is_empty.result c.if-is_empty.false (c.is_empty.ensures ∙ ap (λ (t : List ℕ). length t == 0) (c.trim.ensures ∙ e)))
+    (λ label octets rest are block. c.in-Ok.ensures.only label octets rest are block (value_is_no_fault c.in-Ok.block pem.OutOfMemory))
+    c.add_jwks.ensures.only
+
+pub returns-clause-only : goal.returns-clause-only
+returns-clause-only depth c = λ keys file few.
+    first_key keys c.args.text.now c.deref.result.now c.in-Ok.block.label c.in-Ok.block.octets.items c.in-Ok.block.rest.now (c.in-Err-jwk_of_block.fault ≡ OutOfMemory) file
+    (λ e. both_ways c.is_empty.result c.if-is_empty.false (c.is_empty.ensures ∙ ap (λ (t : List ℕ). length t == 0) (c.trim.ensures ∙ e)))
+    (λ label octets rest are block. c.in-Ok.ensures.only label octets rest are block (value_is_no_fault c.in-Ok.block pem.OutOfMemory))
+    c.deref.ensures.value c.in-Err-jwk_of_block.ensures.only

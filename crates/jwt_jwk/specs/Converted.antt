@@ -1,0 +1,95 @@
+-- What a text is that a public key is turned into.
+use Rattle.std.specs.Prelude.{◌≡◌, ℕ, Bool, true, false, List, [], ◌∷◌, ◌++◌, Option, Some, None, codes}
+use Rattle.jwt_mac.specs.Verifying.{KeyOctets}
+use Rattle.key_der.specs.Der.{AreOctets, IsPublicKey, IsRsaText, spki}
+use Rattle.key_pem.specs.Pem.{IsBlock, IsOneBlock, trimmed}
+use Rattle.key_pem.specs.declared.label.Label.{Label}
+use Rattle.key_pem.specs.declared.label.Label.TheVariants.{PublicKey, RsaPublicKey}
+use Rattle.jwt_jwk.specs.Jwk.{ReadsBack, thumbprint_of_key}
+use Rattle.jwt_jwk.specs.declared.kid.Kid.{Kid}
+use Rattle.jwt_jwk.specs.declared.kid.Kid.TheVariants.{Absent, Name, Thumbprint}
+
+-- the `kid` of a key
+abbrev pub kid_of : Kid → KeyOctets → Option (List ℕ)
+kid_of Absent = λ key. None
+kid_of (Name text) = λ key. Some text.now
+kid_of Thumbprint = λ key. Some (thumbprint_of_key key)
+
+-- the octets are the encoding of the key that the label announces
+abbrev pub IsEncoding : Label → KeyOctets → List ℕ → Type 0
+IsEncoding PublicKey key octets = octets ≡ spki key
+IsEncoding RsaPublicKey key octets = IsRsaText key octets
+
+-- the octets are this encoding of a public key, and the text is read as that key
+pub record IsJwkOfBlock (label : Label) (octets : List ℕ) (kid : KeyOctets → Option (List ℕ)) (alg : Option (List ℕ)) (text : List ℕ) : Type 0 where
+  pub key : KeyOctets
+  pub public : IsPublicKey key
+  pub encoded : IsEncoding label key octets
+  pub read : ReadsBack (kid key) alg key text
+
+-- the octets are an encoding of a public key, and the text is read as that key
+pub record IsJwkOf (octets : List ℕ) (kid : KeyOctets → Option (List ℕ)) (alg : Option (List ℕ)) (text : List ℕ) : Type 0 where
+  pub label : Label
+  pub jwk : IsJwkOfBlock label octets kid alg text
+
+-- the text is a PEM file of this one public key
+pub record IsPemOf (k : KeyOctets) (text : List ℕ) : Type 0 where
+  pub label : Label
+  pub octets : List ℕ
+  pub are : AreOctets octets
+  pub public : IsPublicKey k
+  pub encoded : IsEncoding label k octets
+  pub block : IsOneBlock label octets text
+
+-- a PEM file of a public key, and a text that is read as that key
+pub record IsJwkOfPem (pem : List ℕ) (kid : KeyOctets → Option (List ℕ)) (alg : Option (List ℕ)) (text : List ℕ) : Type 0 where
+  pub key : KeyOctets
+  pub written : IsPemOf key pem
+  pub read : ReadsBack (kid key) alg key text
+
+-- ---- several keys
+
+-- the text begins, behind blanks, with the block of this public key, and this follows
+pub record IsFirst (key : KeyOctets) (text rest : List ℕ) : Type 0 where
+  pub label : Label
+  pub octets : List ℕ
+  pub are : AreOctets octets
+  pub public : IsPublicKey key
+  pub encoded : IsEncoding label key octets
+  pub block : IsBlock label octets (trimmed text) rest
+
+-- the text is a PEM file of these public keys: their blocks in this order, with blanks before, between and behind
+abbrev pub IsFileOf : List KeyOctets → List ℕ → Type 0
+IsFileOf [] text = trimmed text ≡ []
+IsFileOf (key ∷ keys) text = (rest : List ℕ) × IsFirst key text rest × IsFileOf keys rest
+
+-- a comma, where something stands before
+abbrev pub comma : Bool → List ℕ
+comma true = codes ","
+comma false = []
+
+-- the text is that of JWKs with commas between, each of which is read as its key
+abbrev pub AreJwks : Bool → (KeyOctets → Option (List ℕ)) → Option (List ℕ) → List KeyOctets → List ℕ → Type 0
+AreJwks later kid alg [] text = text ≡ []
+AreJwks later kid alg (key ∷ keys) text =
+    (jwk rest : List ℕ) × ReadsBack (kid key) alg key jwk × AreJwks true kid alg keys rest × (text ≡ comma later ++ (jwk ++ rest))
+
+-- from these octets to those, the JWKs of the keys of a file are appended
+pub record Adds (later : Bool) (kid : KeyOctets → Option (List ℕ)) (alg : Option (List ℕ)) (text before after : List ℕ) : Type 0 where
+  pub keys : List KeyOctets
+  pub added : List ℕ
+  pub file : IsFileOf keys text
+  pub jwks : AreJwks later kid alg keys added
+  pub appended : after ≡ before ++ added
+
+-- a key set around the texts of its JWKs (RFC 7517, section 5)
+abbrev pub set_text : List ℕ → List ℕ
+set_text jwks = codes "{\"keys\":[" ++ (jwks ++ codes "]}")
+
+-- the text is the key set of the keys that a PEM file has
+pub record IsSetOf (pem : List ℕ) (kid : KeyOctets → Option (List ℕ)) (alg : Option (List ℕ)) (text : List ℕ) : Type 0 where
+  pub keys : List KeyOctets
+  pub jwks : List ℕ
+  pub file : IsFileOf keys pem
+  pub are : AreJwks false kid alg keys jwks
+  pub set : text ≡ set_text jwks

@@ -1,0 +1,26 @@
+//! The JWK of a key (RFC 7517, section 4), and public keys in PEM and DER as JWKs and key sets.
+//!
+//! ```rust
+//! use jwt_jwk::{Kid, jwk_set_of_pem};
+//!
+//! // The key set of the public keys of a file, each with its thumbprint as `kid`.
+//! let set = jwk_set_of_pem(alloc, &file, Kid::Thumbprint, Some("RS256"))?;
+//! ```
+//!
+//! What is written is read, by `jwt_keys`, as exactly the key that stands in the file.
+#![tactic(auto)]
+
+mod fault;
+mod kid;
+mod pem;
+mod public_key;
+mod set;
+mod writing;
+mod written;
+
+pub use fault::JwkFault;
+pub use kid::Kid;
+pub use pem::jwk_of_pem;
+pub use public_key::jwk_of_der;
+pub use set::{jwk_set_of_pem, set_of_jwk};
+pub use writing::{thumbprint, write_jwk};

@@ -1,0 +1,51 @@
+//! The JWK of a public key in DER.
+
+ghost use Rattle.std.specs.Prelude.{◌≡◌, IfOk, IsOkUnless};
+ghost use Rattle.jwt_mac.specs.Verifying.{KeyOctets};
+ghost use Rattle.key_der.specs.Der.{IsPublicKey};
+ghost use Rattle.jwt_jwk.specs.Jwk.{text_of};
+ghost use Rattle.jwt_jwk.specs.Converted.{IsEncoding, IsJwkOf, kid_of};
+ghost use Rattle.jwt_jwk.specs.Faults.{of_both};
+ghost use Rattle.key_pem.specs.declared.label.Label.{Label as AnyLabel};
+
+use crate::fault::JwkFault;
+use crate::kid::Kid;
+use crate::pem::jwk_of_block;
+use key_pem::Label;
+use std::alloc::Global;
+
+/// Why octets are no key in either encoding: want of memory, else why they aren't in the first.
+fn of_both(first: JwkFault, second: JwkFault) -> JwkFault
+    ensures { result ≡ of_both first second }
+{
+    match second {
+        JwkFault::OutOfMemory => JwkFault::OutOfMemory,
+        _ => first,
+    }
+}
+
+/// The JWK of the public key whose SubjectPublicKeyInfo, or RSAPublicKey, these octets are, in DER, with this `kid`, and this `alg`
+/// where it is given.
+///
+/// # Errors
+/// Why the octets are no SubjectPublicKeyInfo, and `OutOfMemory`.
+pub fn jwk_of_der(
+    alloc: Global,
+    octets: &[u8],
+    kid: Kid<'_>,
+    alg: Option<&str>,
+) -> Result<Vec<u8>, JwkFault>
+    // What is printed is read as exactly the key of which the octets are the encoding.
+    ensures ok { IfOk result (λ v. IsJwkOf octets.now (kid_of kid.entry) (text_of alg.entry) v.items) }
+    // The encoding of a key is never refused but for want of memory.
+    ensures only { (label : AnyLabel) (key : KeyOctets) → IsPublicKey key → IsEncoding label key octets.now
+        → IsOkUnless result JwkFault.OutOfMemory }
+{
+    match jwk_of_block(alloc, Label::PublicKey, octets, kid, alg) {
+        Ok(jwk) => Ok(jwk),
+        Err(first) => match jwk_of_block(alloc, Label::RsaPublicKey, octets, kid, alg) {
+            Ok(jwk) => Ok(jwk),
+            Err(second) => Err(of_both(first, second)),
+        },
+    }
+}

@@ -1,0 +1,98 @@
+//! The key set of a file with public keys in PEM.
+
+ghost use Rattle.std.specs.Prelude.{◌≡◌, ◌≤◌, ◌∷◌, ◌++◌, List, codes, length, IfOk, OnOk, IsOkUnless};
+ghost use Rattle.jwt_mac.specs.Verifying.{KeyOctets};
+ghost use Rattle.jwt_jwk.specs.Jwk.{text_of};
+ghost use Rattle.jwt_jwk.specs.Converted.{Adds, IsFileOf, IsSetOf, comma, set_text, kid_of};
+
+use crate::fault::JwkFault;
+use crate::kid::Kid;
+use crate::pem::{jwk_of_block, pem_fault};
+use key_pem::{PemFault, first_block, trim};
+use std::alloc::{AllocError, Global};
+
+/// Appends a JWK, after a comma where it isn't the first.
+fn push_jwk(set: &mut Vec<u8>, later: bool, jwk: &[u8]) -> Result<(), AllocError>
+    ensures { OnOk result (set.new.items ≡ set.old.items ++ (comma later ++ jwk.now)) }
+{
+    if later {
+        set.push(b',')?;
+    }
+    set.extend_from_slice(jwk)
+}
+
+/// Appends the JWKs of the keys of a file, of so many at most.
+fn add_jwks(
+    alloc: Global,
+    text: &[u8],
+    kid: Kid<'_>,
+    alg: Option<&str>,
+    later: bool,
+    left: u32,
+    set: &mut Vec<u8>,
+) -> Result<(), JwkFault>
+    ensures ok { OnOk result (Adds later (kid_of kid.entry) (text_of alg.entry) text.now set.old.items set.new.items) }
+    ensures only { (keys : List KeyOctets) → IsFileOf keys text.now → length keys ≤ left
+        → IsOkUnless result JwkFault.OutOfMemory }
+{
+    if trim(text).is_empty() {
+        return Ok(());
+    }
+    if left == 0 {
+        return Err(JwkFault::TooManyKeys);
+    }
+    let block = match first_block(alloc, text) {
+        Ok(block) => block,
+        Err(fault) => return Err(pem_fault(fault)),
+    };
+    match jwk_of_block(alloc, block.label, &block.octets, kid, alg) {
+        Ok(jwk) => match push_jwk(set, later, &jwk) {
+            Ok(()) => add_jwks(alloc, block.rest, kid, alg, true, left - 1, set),
+            Err(_) => Err(JwkFault::OutOfMemory),
+        },
+        Err(fault) => Err(fault),
+    }
+}
+
+/// The key set of the public keys that a PEM file has, one or more, in their order, on one line: each with this `kid`, and this `alg`
+/// where it is given (RFC 7517, section 5).
+///
+/// # Errors
+/// Why the text isn't made of blocks, or has none (`Line`), why the octets of the first bad one are no public key, `TooManyKeys` with
+/// more than 1,024, and `OutOfMemory`.
+pub fn jwk_set_of_pem(
+    alloc: Global,
+    text: &[u8],
+    kid: Kid<'_>,
+    alg: Option<&str>,
+) -> Result<Vec<u8>, JwkFault>
+    // What is printed has, one by one, what is read as exactly the keys that the file has.
+    ensures ok { IfOk result (λ v. IsSetOf text.now (kid_of kid.entry) (text_of alg.entry) v.items) }
+    // A PEM file of at most 1,024 public keys is never refused but for want of memory.
+    ensures only { (key : KeyOctets) (keys : List KeyOctets) → IsFileOf (key ∷ keys) text.now → length keys ≤ 1023
+        → IsOkUnless result JwkFault.OutOfMemory }
+{
+    if trim(text).is_empty() {
+        return Err(JwkFault::Pem(PemFault::Line));
+    }
+    let Ok(mut set) = b"{\"keys\":[".to_vec(alloc) else {
+        return Err(JwkFault::OutOfMemory);
+    };
+    match add_jwks(alloc, text, kid, alg, false, 1024, &mut set) {
+        Ok(()) => match set.extend_from_slice(b"]}") {
+            Ok(()) => Ok(set),
+            Err(_) => Err(JwkFault::OutOfMemory),
+        },
+        Err(fault) => Err(fault),
+    }
+}
+
+/// The key set of one JWK, on one line.
+pub fn set_of_jwk(alloc: Global, jwk: &[u8]) -> Result<Vec<u8>, AllocError>
+    ensures { IfOk result (λ v. v.items ≡ set_text jwk.now) }
+{
+    let mut set = b"{\"keys\":[".to_vec(alloc)?;
+    set.extend_from_slice(jwk)?;
+    set.extend_from_slice(b"]}")?;
+    Ok(set)
+}

@@ -1,0 +1,71 @@
+//! Which keys a verifier takes.
+
+ghost use Rattle.std.specs.Prelude.{◌≡◌, ◌^◌, ◌%◌, ◌==◌, ◌&&◌, nat_le, nat_lt};
+ghost use Rattle.jwt_mac.specs.Verifying.{key_octets};
+ghost use Rattle.jwt_rsa.specs.PublicKey.{is_key};
+ghost use Rattle.key_der.specs.Der.{is_fit, is_on_curve};
+ghost use Rattle.key_der.specs.Reading.{Gives, fitting, unfit};
+ghost use Rattle.rsa_number.specs.Octets.{os2ip};
+
+use crate::refusal::Refusal;
+use ecdsa::{is_p256_key, is_p384_key, is_p521_key};
+use jwt_mac::{Curve, KeyView};
+use rsa_number::{Modulus, number};
+
+/// Whether an RSA key has the sizes that the verifiers take.
+fn is_rsa_fit(n: &[u8], e: &[u8]) -> bool
+    ensures { result ≡ is_key (os2ip n.now) (os2ip e.now) }
+{
+    if Modulus::of(n).is_none() {
+        return false;
+    }
+    match number(e) {
+        Some(e) => e >= 3 && e % 2 == 1,
+        None => false,
+    }
+}
+
+/// Whether a point is on its curve.
+fn is_on_curve(curve: Curve, x: &[u8], y: &[u8]) -> bool
+    ensures { result ≡ is_on_curve curve x.now y.now }
+{
+    match curve {
+        Curve::P256 => is_p256_key(x, y),
+        Curve::P384 => is_p384_key(x, y),
+        Curve::P521 => is_p521_key(x, y),
+    }
+}
+
+/// Whether a verifier takes such a key.
+fn is_fit(key: &KeyView<'_>) -> bool
+    ensures { result ≡ is_fit (key_octets key.now) }
+{
+    match key {
+        KeyView::Oct { .. } => false,
+        KeyView::Rsa { n, e } => is_rsa_fit(n, e),
+        KeyView::Ec { curve, x, y } => is_on_curve(*curve, x, y),
+        KeyView::Okp { .. } => true,
+    }
+}
+
+/// Why no verifier takes such a key.
+fn unfit(key: &KeyView<'_>) -> Refusal
+    ensures { result ≡ unfit (key_octets key.now) }
+{
+    match key {
+        KeyView::Ec { .. } | KeyView::Okp { .. } => Refusal::OffCurve,
+        KeyView::Oct { .. } | KeyView::Rsa { .. } => Refusal::KeySize,
+    }
+}
+
+/// The key, if a verifier takes it.
+#[tactic(auto, unfolding(crate::specs::Reading::fitting))]
+pub fn fitting(key: KeyView<'_>) -> Result<KeyView<'_>, Refusal>
+    ensures { Gives key_octets result (fitting (key_octets key.entry)) }
+{
+    if is_fit(&key) {
+        Ok(key)
+    } else {
+        Err(unfit(&key))
+    }
+}

@@ -1,0 +1,96 @@
+//! Public keys.
+
+ghost use Rattle.std.specs.Prelude.{◌≡◌, IfOk, IsOkAnd};
+ghost use Rattle.jwt_mac.specs.Verifying.{KeyOctets, key_octets};
+ghost use Rattle.key_der.specs.Der.{IsPublicKey, IsRsaText, spki};
+ghost use Rattle.key_der.specs.Reading.{Gives, encoded, fitting, key_of, read, read_rsa};
+
+use crate::element::parts_of;
+use crate::fit::fitting;
+use crate::kind::{Kind, kind_of};
+use crate::point::{ec_of, okp_of};
+use crate::refusal::Refusal;
+use crate::rsa::rsa_of;
+use jwt_mac::KeyView;
+
+/// The key of this kind.
+#[tactic(auto, unfolding(crate::specs::Reading::key_of))]
+fn key_of(kind: Kind, octets: &[u8]) -> Result<KeyView<'_>, Refusal>
+    ensures { Gives key_octets result (key_of kind octets.now) }
+{
+    match kind {
+        Kind::Rsa => {
+            let (n, e) = rsa_of(octets)?;
+            Ok(KeyView::Rsa { n, e })
+        }
+        Kind::Ec(curve) => {
+            let (x, y) = ec_of(curve, octets)?;
+            Ok(KeyView::Ec { curve, x, y })
+        }
+        Kind::Okp(curve) => {
+            let x = okp_of(curve, octets)?;
+            Ok(KeyView::Okp { curve, x })
+        }
+    }
+}
+
+/// The key of which octets are the encoding, or the first fault.
+#[tactic(auto, unfolding(crate::specs::Reading::encoded))]
+fn encoded(octets: &[u8]) -> Result<KeyView<'_>, Refusal>
+    ensures { Gives key_octets result (encoded octets.now) }
+{
+    let (algorithm, key) = parts_of(octets)?;
+    let kind = kind_of(algorithm)?;
+    key_of(kind, key)
+}
+
+/// The same, if a verifier takes the key.
+#[tactic(auto, unfolding(crate::specs::Reading::read))]
+fn read(octets: &[u8]) -> Result<KeyView<'_>, Refusal>
+    ensures { Gives key_octets result (read octets.now) }
+{
+    let key = encoded(octets)?;
+    fitting(key)
+}
+
+/// The RSA key of which octets are the RSAPublicKey, if a verifier takes it.
+#[tactic(auto, unfolding(crate::specs::Reading::read_rsa))]
+fn read_rsa(octets: &[u8]) -> Result<KeyView<'_>, Refusal>
+    ensures { Gives key_octets result (read_rsa octets.now) }
+{
+    let (n, e) = rsa_of(octets)?;
+    fitting(KeyView::Rsa { n, e })
+}
+
+/// The public key whose SubjectPublicKeyInfo (RFC 5280, section 4.1.2.7) these octets are, in DER, lent: an RSA key (RFC 3279), an
+/// uncompressed point of P-256, P-384 or P-521 (RFC 5480), a key of Ed25519 or Ed448 (RFC 8410).
+///
+/// # Errors
+/// The first fault from left to right, then whether a verifier takes such a key.
+pub fn read_public_key(octets: &[u8]) -> Result<KeyView<'_>, Refusal>
+    // What is read is a key, and the octets are its encoding.
+    ensures found { IfOk result (λ v. IsPublicKey (key_octets v) × (octets.now ≡ spki (key_octets v))) }
+    // What is the encoding of a key is read, as that key.
+    ensures only { (key : KeyOctets) → IsPublicKey key → octets.now ≡ spki key
+        → IsOkAnd result (λ v. key_octets v ≡ key) }
+    // Which fault it is.
+    ensures exact { Gives key_octets result (read octets.now) }
+{
+    read(octets)
+}
+
+/// The RSA key whose RSAPublicKey (RFC 8017, appendix A.1.1) these octets are, in DER, lent.
+///
+/// # Errors
+/// The first fault from left to right, then whether a verifier takes such a key.
+pub fn read_rsa_public_key(octets: &[u8]) -> Result<KeyView<'_>, Refusal>
+    // What is read is a key, and the octets are its encoding.
+    ensures found { IfOk result (λ v. IsPublicKey (key_octets v) × IsRsaText (key_octets v) octets.now) }
+    // What is the encoding of a key is read, as that key.
+    ensures only { (key : KeyOctets) → IsPublicKey key → IsRsaText key octets.now
+        → IsOkAnd result (λ v. key_octets v ≡ key) }
+    // Which fault it is.
+    ensures exact { Gives key_octets result (read_rsa octets.now) }
+{
+    read_rsa(octets)
+}
