@@ -6,7 +6,7 @@ ghost use Rattle.std.specs.Prelude.{◌≤◌};
 use jwt_command::documents::{Held, read_document};
 use jwt_command::run::{lack_memory, run_read};
 use jwt_command::verify_lines::Clock;
-use jwt_command::{Files, Moment, files_in_request, read_words};
+use jwt_command::{Files, Moment, Request, WordsFault, files_in_request, read_words};
 use jwt_ecdsa::Ecdsa;
 use jwt_ed25519::Ed25519;
 use jwt_mac::Verifier;
@@ -78,6 +78,14 @@ fn octets(document: &Option<Intake>) -> Option<&[u8]> {
     }
 }
 
+// The files that the words name; wrong words name none.
+fn files_to_read<'a>(request: &Result<Request<'a>, WordsFault>) -> Files<'a> {
+    match request {
+        Ok(request) => files_in_request(*request),
+        Err(_) => Files::none(),
+    }
+}
+
 // Reads the files that the words name, and runs the command with what they hold.
 fn run_words<R: Source, W: Sink>(
     rt: &HostRuntime,
@@ -93,10 +101,7 @@ fn run_words<R: Source, W: Sink>(
         Box::new(rt.alloc(), Ecdsa)?,
     ];
     let request = read_words(rt.alloc(), words.as_slice(), clock);
-    let files = match &request {
-        Ok(request) => files_in_request(*request),
-        Err(_) => Files::none(),
-    };
+    let files = files_to_read(&request);
     let policy = document(rt, files.policy, 65_536)?;
     let keys = document(rt, files.keys, 4_194_304)?;
     let token = document(rt, files.token, 1_048_576)?;
