@@ -6,6 +6,7 @@ use Rattle.jwt_mac.specs.declared.message.Curve.{Curve}
 use Rattle.jwt_mac.specs.declared.message.Curve.TheVariants.{P256, P384, P521}
 use Rattle.jwt_mac.specs.declared.message.EdCurve.{EdCurve}
 use Rattle.jwt_mac.specs.declared.message.EdCurve.TheVariants.{Ed25519, Ed448}
+use Rattle.jwt_mac.specs.Algorithm.{is_hmac_alg}
 use Rattle.jwt_mac.specs.Verifying.{KeyOctets, OctKey, RsaKey, EcKey, OkpKey, signing_input}
 use Rattle.jwt_ecdsa.specs.Meanings.{ecdsa_meaning}
 use Rattle.jwt_ed25519.specs.Meanings.{ed25519_meaning}
@@ -66,6 +67,16 @@ key_second (OkpKey c x) = []
 -- what a question is written as: the signing input, the signature, the key's two members
 abbrev pub question_octets : QuestionParts → List ℕ
 question_octets q = signing_input q.message ++ q.signature ++ key_first q.key ++ key_second q.key
+
+-- a shared secret
+abbrev pub is_secret : KeyOctets → Bool
+is_secret (OctKey k) = true
+is_secret _ = false
+
+-- the question, where its algorithm isn't HMAC and its key is no secret: no other is written
+abbrev pub public_asked : Option QuestionParts → Option QuestionParts
+public_asked None = None
+public_asked (Some q) = if is_hmac_alg q.alg || is_secret q.key then None else Some q
 
 -- the numbers and sizes of a question
 pub record IsSized (q : QuestionParts) (a : FowQuestion) : Type 0 where

@@ -3,6 +3,7 @@ pub mod Documents
 pub mod Faults
 pub mod Handles
 pub mod Issuing
+pub mod MostQuestions
 pub mod Proving
 pub mod Reports
 pub mod Written

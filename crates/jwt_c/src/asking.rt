@@ -8,7 +8,7 @@ ghost use Rattle.jwt_told.specs.Questions.{kept_parts, question_parts};
 ghost use Rattle.jwt_told.specs.Told.{told};
 ghost use Rattle.jwt_c.specs.Documents.{documents};
 ghost use Rattle.jwt_c.specs.Reports.{asked_at};
-ghost use Rattle.jwt_c.specs.Asking.{alg_number, kind_number, key_first, key_second, question_octets, PutsQuestion, TellsOne, TellsDesk, is_ed25519, rsa_asked, rsa_says, ecdsa_asked, ecdsa_says, ed25519_asked, ed25519_says, proved_asked, proved_says, asked_of, said_by};
+ghost use Rattle.jwt_c.specs.Asking.{alg_number, kind_number, key_first, key_second, question_octets, PutsQuestion, TellsOne, TellsDesk, is_ed25519, is_secret, public_asked, rsa_asked, rsa_says, ecdsa_asked, ecdsa_says, ed25519_asked, ed25519_says, proved_asked, proved_says, asked_of, said_by};
 
 use crate::desk::{Desk, Last};
 use crate::report::FowQuestion;
@@ -133,7 +133,29 @@ fn write_question(alloc: Global, asked: &Asked<'_>, out: &mut [u8], into: &mut F
     0
 }
 
-/// Writes the question about a pair at the front of `out`. 0; 3: memory was refused; 5: `out` is too short; 6: there is none.
+/// Whether a key is a shared secret.
+fn is_secret(key: &KeyView) -> bool
+    ensures { result ≡ is_secret (key_octets key.now) }
+{
+    match key {
+        KeyView::Oct { .. } => true,
+        _ => false,
+    }
+}
+
+/// Writes a question at the front of `out`, unless it is about HMAC or a secret. 0; 3: memory was refused; 5: `out` is too short; 6: it
+/// isn't written.
+fn write_public(alloc: Global, asked: &Asked<'_>, out: &mut [u8], into: &mut FowQuestion) -> u32
+    ensures { PutsQuestion (public_asked (Some (question_parts asked.now))) result into.new out.old out.new }
+{
+    if asked.alg.is_hmac() || is_secret(&asked.key) {
+        return 6;
+    }
+    write_question(alloc, asked, out, into)
+}
+
+/// Writes the question about a pair at the front of `out`. 0; 3: memory was refused; 5: `out` is too short; 6: there is none, or its
+/// algorithm is HMAC, or its key is a secret.
 pub(crate) fn ask_about(
     alloc: Global,
     desk: &Desk,
@@ -144,13 +166,13 @@ pub(crate) fn ask_about(
     into: &mut FowQuestion,
 ) -> u32
     ensures { PutsQuestion
-        (asked_at (token_of (documents desk.now).policy token.now)
-        (key_set (documents desk.now).keys).keys signature key)
+        (public_asked (asked_at (token_of (documents desk.now).policy token.now)
+        (key_set (documents desk.now).keys).keys signature key))
         result into.new out.old out.new }
 {
     match read_token(alloc, token, &desk.shared.policy) {
         Ok(Some(signed)) => match (Question { signature, key }).about(&signed, &desk.shared.keys) {
-            Some(asked) => write_question(alloc, &asked, out, into),
+            Some(asked) => write_public(alloc, &asked, out, into),
             None => 6,
         },
         Ok(None) => 6,

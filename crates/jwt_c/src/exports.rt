@@ -10,7 +10,8 @@ ghost use Rattle.jwt_c.specs.Documents.{documents};
 ghost use Rattle.jwt_c.specs.Reports.{asked_at, IsBeside, IsFresh, IsOpened, IsRead, IsRefused, IsAlike, IsForgotten, IsAskedBy, IsJudgedBy, report_numbers};
 ghost use Rattle.jwt_c.specs.Faults.{bare};
 ghost use Rattle.jwt_c.specs.Written.{PutsPayload, PutsName, IsState, IsTry, PutsSome, PutsNumber, claim_at, header_at, number_at, refused_member};
-ghost use Rattle.jwt_c.specs.Asking.{PutsQuestion, IsTold, rsa_asked, rsa_says, ed25519_asked, ed25519_says, proved_asked, proved_says};
+ghost use Rattle.jwt_c.specs.Asking.{PutsQuestion, IsTold, public_asked, rsa_asked, rsa_says, ed25519_asked, ed25519_says, proved_asked, proved_says};
+ghost use Rattle.jwt_c.specs.MostQuestions.{most_questions};
 ghost use Rattle.jwt_c.specs.Proving.{IsProvedBy};
 ghost use Rattle.jwt_c.specs.Issuing.{hmac_at, form_at, typ_of, PutsIssued};
 ghost use Rattle.jwt_issue.specs.ClaimSets.{claim_set_of};
@@ -21,6 +22,7 @@ use crate::faults::{keys_number, policy_number};
 use crate::handle::{Handle, take};
 use crate::issuing::put_numbered;
 use crate::judging::judge_desk;
+use crate::most_questions::most_of;
 use crate::proving::prove_desk;
 use crate::report::{FowQuestion, FowReport, FowState, FowTry};
 use crate::writing::{number_at, payload_of, put, put_claim, put_header};
@@ -131,6 +133,22 @@ pub extern "C" fn fow_open_beside(
         }
         Err(_) => 3,
     }
+}
+
+/// The most questions that one token can raise. 0; 4: nothing is held.
+#[unsafe(no_mangle)]
+pub extern "C" fn fow_most_questions(validator: &mut Handle, alloc: Global, most: &mut u32) -> u32
+    ensures same { validator.new.desk ≡ validator.old.desk }
+    ensures none { validator.old.desk ≡ None → result ≡ 4 }
+    ensures most { IfSome validator.old.desk (λ d. (result ≡ 0)
+        × (most.new ≡ most_questions (documents d).policy (key_set (documents d).keys).keys)) }
+{
+    let Some(desk) = take(validator, alloc) else {
+        return 4;
+    };
+    *most = most_of(&desk);
+    *validator = Handle::of(desk);
+    0
 }
 
 /// Writes the name of the member for which a policy is refused at the front of `out`. 0; 3: memory was refused; 5: `out` is too short; 6:
@@ -282,7 +300,7 @@ pub extern "C" fn fow_try_of(
 }
 
 /// Writes a question at the front of `out`. 0; 3: memory was refused; 4: nothing is held; 5: `out` is too short; 6: there is no such
-/// pair.
+/// pair, its algorithm is HMAC, or its key is a secret.
 #[unsafe(no_mangle)]
 pub extern "C" fn fow_ask(
     validator: &mut Handle,
@@ -296,8 +314,8 @@ pub extern "C" fn fow_ask(
     ensures same { validator.new.desk ≡ validator.old.desk }
     ensures none { validator.old.desk ≡ None → result ≡ 4 }
     ensures question { IfSome validator.old.desk (λ d. PutsQuestion
-        (asked_at (token_of (documents d).policy token.now)
-        (key_set (documents d).keys).keys signature key)
+        (public_asked (asked_at (token_of (documents d).policy token.now)
+        (key_set (documents d).keys).keys signature key))
         result asked.new out.old out.new) }
 {
     let Some(desk) = take(validator, alloc) else {

@@ -12,6 +12,7 @@ pub mod handle;
 mod issuing;
 mod judging;
 mod loose;
+mod most_questions;
 mod proving;
 pub mod report;
 mod writing;

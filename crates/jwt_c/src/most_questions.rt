@@ -1,0 +1,109 @@
+//! How many questions one token can raise.
+
+ghost use Rattle.std.specs.Prelude.{◌≡◌, ◌≤◌, ◌&&◌, false, not, slice_get};
+ghost use Rattle.std.specs.List.{count_by, list_any};
+ghost use Rattle.std.specs.Option.{option_map_or};
+ghost use Rattle.jwt_mac.specs.Algorithm.{is_hmac_alg};
+ghost use Rattle.jwt_mac.specs.Verifying.{key_octets};
+ghost use Rattle.jwt_keys.specs.KeySets.{key_set};
+ghost use Rattle.jwt_keys.specs.Views.{key_parts};
+ghost use Rattle.jwt_policy.specs.Eligible.{suits};
+ghost use Rattle.jwt_c.specs.Documents.{documents};
+ghost use Rattle.jwt_c.specs.MostQuestions.{is_public_for, may_be_asked, most_questions};
+
+use crate::desk::Desk;
+use jwt_keys::{Key, KeySet};
+use jwt_mac::{Alg, Curve, KeyView};
+use jwt_policy::Policy;
+
+/// Whether the algorithm is one of public keys that asks for a key of this kind and curve (RFC 7518, sections 3.3 to 3.5; RFC 8037,
+/// section 3.1).
+fn suits_public(alg: Alg, key: KeyView<'_>) -> bool
+    ensures { result ≡ (not (is_hmac_alg alg) && suits alg (key_octets key.entry)) }
+{
+    match key {
+        KeyView::Oct { k: _ } => false,
+        KeyView::Rsa { n: _, e: _ } => match alg {
+            Alg::RS256 | Alg::RS384 | Alg::RS512 | Alg::PS256 | Alg::PS384 | Alg::PS512 => true,
+            _ => false,
+        },
+        KeyView::Ec { curve, x: _, y: _ } => match (alg, curve) {
+            (Alg::ES256, Curve::P256) | (Alg::ES384, Curve::P384) | (Alg::ES512, Curve::P521) =>
+                true,
+            _ => false,
+        },
+        KeyView::Okp { curve: _, x: _ } => match alg {
+            Alg::EdDSA => true,
+            _ => false,
+        },
+    }
+}
+
+/// Whether the algorithm is one of public keys, and fits the key.
+fn is_public_for(key: &Key, alg: Alg) -> bool
+    ensures { result ≡ is_public_for (key_parts key.now) alg }
+{
+    suits_public(alg, key.view())
+        && match key.alg_text() {
+            Some(text) => alg.text() == text,
+            None => true,
+        }
+}
+
+/// Whether one of the algorithms is one of public keys, and fits the key.
+#[tactic(auto, using(std::proofs::lemmas::List::at_drop_more, std::proofs::lemmas::List::at_drop_all))]
+fn fits_some(algs: &[Alg], key: &Key) -> bool
+    ensures { result ≡ list_any (is_public_for (key_parts key.now)) algs.now }
+{
+    for alg in algs {
+        if is_public_for(key, *alg) {
+            return true;
+        }
+    }
+    false
+}
+
+/// Whether a question can be about the key of this number; false where there is none.
+fn may_be_asked_at(policy: &Policy, keys: &KeySet, number: u32) -> bool
+    ensures { result ≡ option_map_or (may_be_asked policy.now)
+        (slice_get (key_set keys.now).keys number) false }
+{
+    match keys.key(number) {
+        Some(key) => key.permits("verify") && fits_some(policy.algs(), key),
+        None => false,
+    }
+}
+
+/// The number of keys that a question can be about, at most 1,024.
+fn asked_keys(policy: &Policy, keys: &KeySet) -> u32
+    ensures count { result ≡ count_by (may_be_asked policy.now) (key_set keys.now).keys }
+    ensures few { result ≤ 1024 }
+{
+    let mut count = 0;
+    for number in 0..keys.len() {
+        if may_be_asked_at(policy, keys, number) {
+            count += 1;
+        }
+    }
+    count
+}
+
+/// The most questions that one token can raise, at most 32,768: as many signatures as the policy allows, each with each key that an
+/// algorithm of public keys of the policy fits, and no more than its `max_calls`. It takes no memory.
+fn most_questions(policy: &Policy, keys: &KeySet) -> u32
+    ensures { result ≡ most_questions policy.now (key_set keys.now).keys }
+{
+    let pairs = policy.max_signatures() * asked_keys(policy, keys);
+    match policy.max_calls() {
+        Some(ceiling) => if ceiling < pairs { ceiling } else { pairs },
+        None => pairs,
+    }
+}
+
+/// The same under the documents of a desk.
+pub(crate) fn most_of(desk: &Desk) -> u32
+    ensures { result
+        ≡ most_questions (documents desk.now).policy (key_set (documents desk.now).keys).keys }
+{
+    most_questions(&desk.shared.policy, &desk.shared.keys)
+}
