@@ -3,6 +3,7 @@
 #   make                             proves and builds the program, and the libraries in build/
 #   make test                        runs the tests of each language that is installed
 #   make install PREFIX= DESTDIR=    installs libraries, headers, pkg-config, the manual page and the program
+#   make fuzz SECONDS=               attacks the library for C, each way for so many seconds (Debian: clang, libclang-rt-14-dev)
 #   make deb                         makes build/fowharimu_VERSION_ARCHITECTURE.deb
 #   make nginx                       builds build/nginx/ngx_http_fowharimu_module.so (Debian: nginx-dev)
 #   make nginx-install DESTDIR=      installs it where Debian's nginx looks for modules, with the endpoint for other gateways
@@ -32,10 +33,14 @@ $(BUILD)/fault_name.o: bindings/c/fault_name.c include/fowharimu.h
 	mkdir -p $(BUILD)
 	$(CC) $(CFLAGS) $(WARNINGS) -fPIC -Iinclude -c -o $@ bindings/c/fault_name.c
 
-$(BUILD)/libfowharimu.a: $(ARCHIVE) $(BUILD)/fault_name.o
+$(BUILD)/version.o: bindings/c/version.c include/fowharimu.h Makefile
+	mkdir -p $(BUILD)
+	$(CC) $(CFLAGS) $(WARNINGS) -fPIC -Iinclude -DVERSION='"$(VERSION)"' -c -o $@ bindings/c/version.c
+
+$(BUILD)/libfowharimu.a: $(ARCHIVE) $(BUILD)/fault_name.o $(BUILD)/version.o
 	rm -rf $(BUILD)/objects $@ && mkdir -p $(BUILD)/objects
 	cd $(BUILD)/objects && ar x $(abspath $(ARCHIVE)) && ar x $(LIBC)
-	ar rcs $@ $(BUILD)/objects/*.o $(BUILD)/fault_name.o
+	ar rcs $@ $(BUILD)/objects/*.o $(BUILD)/fault_name.o $(BUILD)/version.o
 
 # Only the names of the headers are seen from outside. The name without a number, by which a linker looks for a library, is the same
 # file here: `rt ci` stops at symbolic links, and install makes one.
@@ -122,9 +127,14 @@ nginx-install: nginx-files
 test: libraries
 	bindings/run
 
+SECONDS = 20
+
+fuzz: libraries
+	bindings/fuzz/run $(SECONDS)
+
 clean:
 	rm -rf $(BUILD)
 
 FORCE:
 
-.PHONY: all libraries install deb nginx nginx-files nginx-install test clean FORCE
+.PHONY: all libraries install deb nginx nginx-files nginx-install test fuzz clean FORCE

@@ -2,8 +2,10 @@
  *
  *     fow_validator validator = FOW_VALIDATOR_INIT;
  *     fow_report report;
- *     uint32_t fault;
+ *     uint32_t fault, most;
+ *     if (fow_abi() != FOW_ABI) { ... another library was loaded than this header is of: fow_abi() and FOW_ABI name both }
  *     if (fow_open(&validator, policy, policy_len, keys, keys_len, &fault) != FOW_OK) { ... }
+ *     if (fow_most_questions(&validator, &most) != FOW_OK || most > FOW_MOST_QUESTIONS) { ... set `max_calls` in the policy }
  *     while (fow_judge(&validator, token, token_len, now, &report) == FOW_ASKS) {
  *         if (fow_asked(&validator, out, out_len, &asked) != FOW_OK) break;
  *         bool valid = (your own cryptography on asked and out);
@@ -29,7 +31,10 @@
  *
  * A validator that was never opened, or was closed, is no error: a call answers FOW_NOT_OPEN then. Nothing is leaked where
  * memory is refused. Each call ends. Nothing is promised of time, or of keys that are left in memory. An open validator keeps
- * what reading a token needs from one fow_judge to the next: 16 KiB, and room that grows with the longest token that was judged. */
+ * what reading a token needs from one fow_judge to the next: 16 KiB, and room that grows with the longest token that was judged.
+ *
+ * A thread that calls these functions has at least 128 KiB of stack, what OpenSSL needs aside: JSON may nest 127 levels deep in a token, a
+ * policy, a key set and claims, and who reads it calls itself for each. (Tested: bindings/c/stack.c.) */
 #ifndef FOWHARIMU_H
 #define FOWHARIMU_H
 
@@ -40,6 +45,20 @@
 #ifdef __cplusplus
 extern "C" {
 #endif
+
+/* The number of this interface. It grows with each change of a struct, of a number, or of what a call means: so a program that was compiled
+ * with this header asks whether the library that it loaded has the same. */
+#define FOW_ABI 1
+
+/* The number of the interface that the library has: FOW_ABI of the header that it was built with. It needs no validator. It is C, and tested. */
+uint32_t fow_abi(void);
+
+/* The library's version, such as "0.1.0". It isn't to be freed. It is C, and tested. */
+const char *fow_version(void);
+
+/* The most questions of one token that the callers in Python, Go and Rust let a policy and a key set raise, unless they are told of more
+ * (fow_most_questions). */
+#define FOW_MOST_QUESTIONS 64
 
 /* A policy, a key set, what was told of signatures, and the last report. The members are private. */
 typedef struct fow_validator {
@@ -143,7 +162,8 @@ enum fow_fault {
 /* The part of a token of which FOW_FORM_BASE64 speaks. */
 enum fow_part { FOW_NO_PART = 0, FOW_PART_PAYLOAD = 1, FOW_PART_PROTECTED = 2, FOW_PART_SIGNATURE = 3 };
 
-/* The claim of which FOW_CLAIM_KIND, FOW_CLAIM_DATE and FOW_CLAIM_MISSING speak. */
+/* The claim of which FOW_CLAIM_KIND and FOW_CLAIM_DATE speak, which is a registered one. FOW_CLAIM_MISSING always has FOW_CLAIM_BY_NAME,
+ * also where a registered claim such as `exp` is missing: fow_refused_claim gives the name. */
 enum fow_claim_number {
     FOW_NO_CLAIM = 0,
     FOW_ISS = 1,
@@ -153,12 +173,12 @@ enum fow_claim_number {
     FOW_NBF = 5,
     FOW_IAT = 6,
     FOW_JTI = 7,
-    FOW_CLAIM_BY_NAME = 8 /* of FOW_CLAIM_MISSING: fow_refused_claim gives the name */
+    FOW_CLAIM_BY_NAME = 8
 };
 
 /* What is said of a token. A number that the verdict or the fault doesn't speak of is 0. */
 typedef struct fow_report {
-    uint64_t work;      /* the octets that were fed to HMAC */
+    uint64_t work;      /* the octets that were fed to HMAC; 0 of FOW_ASKS, though the tries, each with its cost, are there then too */
     uint64_t tries;     /* the tries of a key on a signature that were made; fow_try_of gives each */
     uint32_t verdict;   /* enum fow_status: FOW_OK accepted, FOW_REFUSED, FOW_ASKS, FOW_OUT_OF_MEMORY, FOW_NOT_OPEN */
     uint32_t fault;     /* enum fow_fault: of FOW_REFUSED why */
@@ -241,7 +261,9 @@ enum fow_form { FOW_COMPACT = 1, FOW_GENERAL = 2, FOW_FLATTENED = 3 };
  * isn't FOW_OK, the validator holds what it held. The octets aren't needed any more after the call.
  *
  * A caller who answers questions sets `max_calls` in the policy: each question is a try, so `max_calls` bounds how many are
- * asked of one token. Without it a token of 32 signatures may raise a question for each of them and each key of the set. */
+ * asked of one token. Without it a token of 32 signatures may raise a question for each of them and each key of the set.
+ * fow_most_questions says how many it can be: ask it once after this call, and close the validator where it is more than the service can
+ * answer for a stranger. More than FOW_MOST_QUESTIONS are seldom meant. */
 uint32_t fow_open(fow_validator *validator, const uint8_t *policy, size_t policy_len, const uint8_t *keys, size_t keys_len,
     uint32_t *fault);
 
@@ -254,6 +276,13 @@ uint32_t fow_open(fow_validator *validator, const uint8_t *policy, size_t policy
  * holds nothing. FOW_OUT_OF_MEMORY: memory was refused. Where the answer isn't FOW_OK, the validator holds what it held. The other
  * holds what it held in each case. */
 uint32_t fow_open_beside(fow_validator *validator, fow_validator *another);
+
+/* How many questions one token can raise: the product of the policy's `max_signatures` and of the keys that an algorithm of public keys in
+ * `algs` fits, by kind, curve, `alg`, `use` and `key_ops`; and no more than `max_calls`. It is at most 32,768, and 0 where HMAC alone is
+ * verified. Each question costs a verification, some 40 us with RSA of 2,048 bits, and up to 5 ms with 8,192.
+ *
+ * Proved: FOW_OK: *most is that number. FOW_NOT_OPEN: nothing is held. The validator holds what it held. */
+uint32_t fow_most_questions(fow_validator *validator, uint32_t *most);
 
 /* Writes the name of the member for which a policy is refused (FOW_POLICY_MEMBER, FOW_POLICY_RANGE), in UTF-8, with JSON escapes undone.
  * It reads the policy's octets again, and needs no validator.
@@ -311,10 +340,11 @@ uint32_t fow_asked(fow_validator *validator, uint8_t *out, size_t out_len, fow_q
  * asked nothing, or that is answered. After each of them nothing is asked. */
 uint32_t fow_answer_asked(fow_validator *validator, bool valid);
 
-/* Writes a question at the front of `out`. The token's length and 16,384 octets are always enough.
+/* Writes a question at the front of `out`. The token's length and 16,384 octets are always enough. A secret is never written: no question is
+ * about HMAC or about a key of kind `oct`.
  *
  * Proved: FOW_OK: `out` begins with the question whether key `key` of the set made signature `signature` of the token, and
- * *asked has its sizes. FOW_ABSENT: the octets are no token, or there is no such pair. */
+ * *asked has its sizes. FOW_ABSENT: the octets are no token, there is no such pair, its algorithm is HMAC, or its key is a secret. */
 uint32_t fow_ask(fow_validator *validator, const uint8_t *token, size_t token_len, uint32_t signature, uint32_t key, uint8_t *out,
     size_t out_len, fow_question *asked);
 

@@ -180,7 +180,7 @@ static void refuse_on(const char *name, uint32_t verdict, uint32_t (*answer)(voi
     refuse_each("fow_asked", asked_of_it, verdict == FOW_ASKS ? FOW_OK : FOW_ABSENT);
     refuse_each("fow_payload", payload_of_it, FOW_OK);
     refuse_each("fow_unverified_header", header_of_it, FOW_OK);
-    refuse_each("fow_ask", ask_it, FOW_OK);
+    refuse_each("fow_ask", ask_it, verdict == FOW_ASKS ? FOW_OK : FOW_ABSENT);
     refuse_each("fow_answer", answer_it, FOW_OK);
     refuse_each("fow_judge, told", judge_it, FOW_OK);
     refuse_each("fow_claim", claim_of_it, FOW_OK);

@@ -44,6 +44,8 @@ static void check_unopened(fow_validator *validator)
     CHECK(fow_number(validator, (const uint8_t *)"exp", 3, &number) == FOW_NOT_OPEN);
     CHECK(fow_issue(validator, FOW_HS256, FOW_COMPACT, 0, out, 0, (const uint8_t *)"{}", 2, out, sizeof out, &written, &report)
         == FOW_NOT_OPEN);
+    uint32_t most = 7;
+    CHECK(fow_most_questions(validator, &most) == FOW_NOT_OPEN && most == 7);
     fow_validator second = FOW_VALIDATOR_INIT;
     CHECK(fow_open_beside(&second, validator) == FOW_NOT_OPEN);
     CHECK(fow_judge(&second, out, 0, NOW, &report) == FOW_NOT_OPEN);
@@ -124,6 +126,58 @@ static void check_members(void)
         CHECK(written == strlen(cases[i].name) && memcmp(out, cases[i].name, written) == 0);
         CHECK(fow_refused_member(at, len, out, written - 1, &written) == FOW_TOO_SHORT);
     }
+}
+
+/* How many questions one token can raise, by a policy and keys of each kind: two secrets, three keys of RSA of which one says its algorithm
+ * and one is for encryption, one on P-256. */
+static void check_questions(void)
+{
+    static const char set[] = "{\"keys\":[{\"kty\":\"oct\",\"k\":\"AyM1SysPpbyDfgZld3umj1qzKObwVMkoqQ-EstJQLr_T-1qS0gZH75aKtMN3Yj0iPS4hcgUuTwjAzZr1Z9CAow\"},"
+        "{\"kty\":\"oct\",\"k\":\"AyM1SysPpbyDfgZld3umj1qzKObwVMkoqQ-EstJQLr8\"},{\"kty\":\"RSA\",\"n\":\"sXch\",\"e\":\"AQAB\"},"
+        "{\"kty\":\"RSA\",\"n\":\"sXci\",\"e\":\"AQAB\",\"alg\":\"PS256\"},{\"kty\":\"RSA\",\"n\":\"sXcj\",\"e\":\"AQAB\",\"use\":\"enc\"},"
+        "{\"kty\":\"EC\",\"crv\":\"P-256\",\"x\":\"f83OJ3D2xF1Bg8vub9tLe1gHMzV76e8Tus9uPHvRVEU\",\"y\":\"x_FEzRu9m36HLN_tue659LNpXW6pCyStikYjKIWI5a0\"}]}";
+    static const struct {
+        const char *policy;
+        uint32_t most;
+    } cases[] = {
+        { "{\"algs\":[\"HS256\",\"HS512\"]}", 0 },
+        { "{\"algs\":[\"RS256\"]}", 8 },
+        { "{\"algs\":[\"RS256\",\"PS256\",\"RS256\"]}", 16 },
+        { "{\"algs\":[\"HS256\",\"RS256\",\"PS256\",\"ES256\"],\"max_signatures\":32}", 96 },
+        { "{\"algs\":[\"ES384\",\"EdDSA\"]}", 0 },
+        { "{\"version\":2,\"algs\":[\"PS256\"],\"max_calls\":17}", 16 },
+        { "{\"version\":2,\"algs\":[\"PS256\"],\"max_calls\":15}", 15 },
+        { "{\"version\":2,\"algs\":[\"PS256\"],\"max_calls\":0}", 0 },
+    };
+    fow_validator validator = FOW_VALIDATOR_INIT;
+    uint32_t fault, most;
+    for (size_t i = 0; i < sizeof cases / sizeof *cases; i++) {
+        const uint8_t *policy_at = (const uint8_t *)cases[i].policy;
+        CHECK(fow_open(&validator, policy_at, strlen(cases[i].policy), (const uint8_t *)set, sizeof set - 1, &fault) == FOW_OK);
+        CHECK(fow_most_questions(&validator, &most) == FOW_OK && most == cases[i].most);
+    }
+    fow_close(&validator);
+    CHECK(fow_abi() == FOW_ABI && strchr(fow_version(), '.') != NULL);
+}
+
+/* No question is written that is about HMAC or about a secret, also where a stranger names an algorithm of public keys. */
+static void check_secrets(const char *name)
+{
+    static const char algs[] = "{\"algs\":[\"HS256\",\"RS256\"]}", rs256[] = "eyJhbGciOiJSUzI1NiJ9.e30.AAAA";
+    uint8_t out[MOST];
+    fow_validator validator = FOW_VALIDATOR_INIT;
+    fow_question asked;
+    fow_report report;
+    uint32_t fault;
+    open_named(&validator, name);
+    memset(out, 7, sizeof out);
+    CHECK(fow_open(&validator, (const uint8_t *)algs, sizeof algs - 1, keys.at, keys.len, &fault) == FOW_OK);
+    CHECK(fow_judge(&validator, token.at, token.len, NOW, &report) == FOW_OK && report.key == 0);
+    CHECK(fow_ask(&validator, token.at, token.len, 0, 0, out, sizeof out, &asked) == FOW_ABSENT);
+    CHECK(fow_ask(&validator, (const uint8_t *)rs256, sizeof rs256 - 1, 0, 0, out, sizeof out, &asked) == FOW_ABSENT);
+    for (size_t i = 0; i < sizeof out; i++)
+        CHECK(out[i] == 7);
+    fow_close(&validator);
 }
 
 /* Octets that are no token; a token that is too long. */
@@ -267,6 +321,8 @@ int main(int argc, char **argv)
     check_unopened(&never);
     check_refused_documents(argv[1]);
     check_members();
+    check_questions();
+    check_secrets(argv[1]);
     check_no_token(argv[1]);
     check_answers(argv[1], argv[2]);
     check_tries(argv[2]);

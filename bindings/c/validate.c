@@ -2,7 +2,7 @@
  *
  * POLICY, KEYS and TOKEN are files; NOW is in seconds since 1970-01-01T00:00:00Z, and the clock's moment where it is left out. Prints
  * the claims, or why the token is refused. Ends with 0 where it is accepted, 1 where it isn't, 2 for wrong words, 3 for a file that
- * can't be read. */
+ * can't be read, 4 where another library was loaded than the program was compiled for. */
 #include <errno.h>
 #include <fowharimu_openssl.h>
 #include <inttypes.h>
@@ -67,15 +67,23 @@ int main(int argc, char **argv)
         fprintf(stderr, "usage: validate POLICY KEYS TOKEN [NOW]\n");
         return 2;
     }
+    if (fow_abi() != FOW_ABI) {
+        fprintf(stderr, "validate: the library %s has interface %" PRIu32 ", and this program was compiled for %d\n", fow_version(), fow_abi(),
+            FOW_ABI);
+        return 4;
+    }
     octets policy = read_file(argv[1]), keys = read_file(argv[2]), token = read_file(argv[3]);
     int64_t now = argc == 5 ? moment_of(argv[4]) : (int64_t)time(NULL);
     fow_validator validator = FOW_VALIDATOR_INIT;
     fow_openssl crypto = FOW_OPENSSL_INIT;
     fow_report report = { 0 };
 
-    uint32_t verdict = fow_open(&validator, policy.at, policy.len, keys.at, keys.len, &report.fault);
+    uint32_t most = 0, verdict = fow_open(&validator, policy.at, policy.len, keys.at, keys.len, &report.fault);
     if (verdict != FOW_OK) {
         print_refusal("not opened", &report);
+    } else if (fow_most_questions(&validator, &most) != FOW_OK || most > FOW_MOST_QUESTIONS) {
+        fprintf(stderr, "validate: one token could raise %" PRIu32 " questions about public keys: set max_calls in the policy\n", most);
+        verdict = FOW_REFUSED;
     } else {
         verdict = fow_openssl_judge(&crypto, &validator, token.at, token.len, now, &report);
         if (verdict == FOW_OK)

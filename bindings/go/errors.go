@@ -11,6 +11,28 @@ var ErrClosed = errors.New("fowharimu: the validator is closed")
 // ErrOutOfMemory says that the library was refused an allocation, and that nothing is said of the token.
 var ErrOutOfMemory = errors.New("fowharimu: an allocation was refused")
 
+// LibraryError says that the library that was loaded has another interface than this package was compiled for: FOW_ABI in fowharimu.h.
+type LibraryError struct {
+	MadeFor int
+	Loaded  int
+	Version string // the library's
+}
+
+func (e *LibraryError) Error() string {
+	return fmt.Sprintf("fowharimu: the library %s has interface %d, and this package was compiled for %d", e.Version, e.Loaded, e.MadeFor)
+}
+
+// QuestionsError says that one token could have OpenSSL asked Most times under the policy and its keys, and that Allowed are taken. A
+// smaller max_calls in the policy bounds it, or fewer keys do.
+type QuestionsError struct {
+	Most    int
+	Allowed int
+}
+
+func (e *QuestionsError) Error() string {
+	return fmt.Sprintf("fowharimu: one token could raise %d questions about public keys, and %d are taken: set max_calls in the policy", e.Most, e.Allowed)
+}
+
 // PolicyError says why a policy is refused.
 type PolicyError struct {
 	Fault  string // the name that the program jwt prints, such as Range

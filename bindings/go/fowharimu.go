@@ -28,19 +28,55 @@ type Validator struct {
 	closed    bool
 }
 
-// Open reads a policy and a key set. The error is a *PolicyError, a *KeysError or ErrOutOfMemory.
-func Open(policy, keys []byte) (*Validator, error) {
+// Option says how a validator is opened.
+type Option func(*options)
+
+type options struct {
+	questions int
+}
+
+// MostQuestions has Open take a policy and a key set under which OpenSSL may be asked so often for one token. Without it that is 64; it is
+// never more than 32,768. More than 64 are seldom meant: max_calls in the policy bounds them.
+func MostQuestions(most int) Option {
+	return func(o *options) { o.questions = most }
+}
+
+// Open reads a policy and a key set. The error is a *PolicyError, a *KeysError, a *QuestionsError, ErrOutOfMemory, or a *LibraryError where
+// another library was loaded than this package was compiled for.
+func Open(policy, keys []byte, how ...Option) (*Validator, error) {
+	if err := compare(); err != nil {
+		return nil, err
+	}
+	chosen := options{questions: defaultQuestions}
+	for _, choose := range how {
+		choose(&chosen)
+	}
 	v := new(Validator)
-	status, fault := v.documents.open(policy, keys)
-	if status == statusOK {
-		runtime.SetFinalizer(v, (*Validator).Close)
-		return v, nil
+	if err := v.documents.openWithin(policy, keys, chosen.questions); err != nil {
+		v.documents.close()
+		return nil, err
 	}
-	v.documents.close()
+	runtime.SetFinalizer(v, (*Validator).Close)
+	return v, nil
+}
+
+// openWithin reads a policy and a key set under which one token raises so many questions at most. The errors are those of Open.
+func (h *held) openWithin(policy, keys []byte, allowed int) error {
+	status, fault := h.open(policy, keys)
 	if status == statusRefused {
-		return nil, documentError(fault, policy)
+		return documentError(fault, policy)
 	}
-	return nil, ErrOutOfMemory
+	if status != statusOK {
+		return ErrOutOfMemory
+	}
+	most, status := h.mostQuestions()
+	if status != statusOK {
+		return ErrClosed
+	}
+	if most > allowed {
+		return &QuestionsError{most, allowed}
+	}
+	return nil
 }
 
 // Validate gives the claims of a token that is accepted at the clock's moment. The error is a Refusal, ErrOutOfMemory or ErrClosed.

@@ -388,3 +388,52 @@ func TestAValidatorIsClosedUnderCallers(t *testing.T) {
 	validator.Close()
 	group.Wait()
 }
+
+func TestAPolicyWithoutABoundIsRefusedUnlessItIsAskedFor(t *testing.T) {
+	one := strings.TrimSuffix(strings.TrimPrefix(strings.TrimSpace(string(octets(t, "../../examples/rfc7515-a2.keys"))), `{"keys":[`), "]}")
+	keys := []byte(`{"keys":[` + strings.TrimSuffix(strings.Repeat(one+",", 9), ",") + "]}")
+	for policy, most := range map[string]int{
+		`{"algs":["RS256"]}`:                                   72,
+		`{"algs":["RS256","PS256"],"max_signatures":32}`:       288,
+		`{"version":2,"algs":["RS256"],"max_calls":64}`:        64,
+		`{"algs":["HS256","ES256"]}`:                           0,
+		`{"version":2,"algs":["HS256","RS256"],"max_calls":0}`: 0,
+	} {
+		validator, err := fowharimu.Open([]byte(policy), keys)
+		var questions *fowharimu.QuestionsError
+		if most <= 64 {
+			if err != nil {
+				t.Fatal(policy, err)
+			}
+			validator.Close()
+			continue
+		}
+		if !errors.As(err, &questions) || questions.Most != most || questions.Allowed != 64 {
+			t.Error(policy, err)
+		}
+		if _, err := fowharimu.Open([]byte(policy), keys, fowharimu.MostQuestions(most-1)); !errors.As(err, &questions) {
+			t.Error(policy, err)
+		}
+		validator, err = fowharimu.Open([]byte(policy), keys, fowharimu.MostQuestions(most))
+		if err != nil {
+			t.Fatal(policy, err)
+		}
+		validator.Close()
+	}
+}
+
+func TestAnotherLibraryIsRefused(t *testing.T) {
+	another := os.Getenv("FOWHARIMU_ANOTHER")
+	if another == "" {
+		t.Skip("bindings/run names a library of another interface")
+	}
+	_, err := fowharimu.Open([]byte(`{"algs":["HS256"]}`), []byte(`{"keys":[]}`))
+	var library *fowharimu.LibraryError
+	if !errors.As(err, &library) || fmt.Sprint(library.Loaded) != another || library.MadeFor == library.Loaded {
+		t.Fatal(err)
+	}
+	said := fmt.Sprintf("fowharimu: the library another has interface %s, and this package was compiled for %d", another, library.MadeFor)
+	if err.Error() != said {
+		t.Error(err)
+	}
+}

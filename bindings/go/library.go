@@ -22,6 +22,11 @@ static uint32_t held_open(held *it, _GoString_ policy, _GoString_ keys, uint32_t
 	return fow_open(&it->validator, at(policy), _GoStringLen(policy), at(keys), _GoStringLen(keys), fault);
 }
 
+static uint32_t held_most_questions(held *it, uint32_t *most)
+{
+	return fow_most_questions(&it->validator, most);
+}
+
 static uint32_t held_open_beside(held *it, held *another)
 {
 	return fow_open_beside(&it->validator, &another->validator);
@@ -80,6 +85,9 @@ const (
 	statusAbsent      = C.FOW_ABSENT
 )
 
+// defaultQuestions is how many questions one token may raise where no option says it.
+const defaultQuestions = C.FOW_MOST_QUESTIONS
+
 // claimByName is the number of a claim that has no number of its own.
 const claimByName = C.FOW_CLAIM_BY_NAME
 
@@ -103,6 +111,21 @@ func (h *held) open(policy, keys []byte) (status, fault int) {
 	var number C.uint32_t
 	status = int(C.held_open(h.at, string(policy), string(keys), &number))
 	return status, int(number)
+}
+
+// mostQuestions gives how many questions one token can raise, and the status.
+func (h *held) mostQuestions() (most, status int) {
+	var number C.uint32_t
+	status = int(C.held_most_questions(h.at, &number))
+	return int(number), status
+}
+
+// compare gives a *LibraryError where the library that was loaded has another interface than this package was compiled for, and else nil.
+func compare() error {
+	if loaded := C.fow_abi(); loaded != C.FOW_ABI {
+		return &LibraryError{MadeFor: C.FOW_ABI, Loaded: int(loaded), Version: C.GoString(C.fow_version())}
+	}
+	return nil
 }
 
 // openBeside holds the documents of another, without reading them again, and answers the status.

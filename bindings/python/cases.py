@@ -65,7 +65,7 @@ def issued(validator: Validator, alg: str, form: str, key: str, typ: bytes, clai
 def opened(policy: str, keys: str) -> Union[Validator, FowharimuError]:
     """A validator, or why there is none."""
     try:
-        return Validator(octets_of(policy), octets_of(keys))
+        return Validator(octets_of(policy), octets_of(keys), most_questions=None)
     except (PolicyRefused, KeysRefused) as refusal:
         return refusal
 

@@ -10,6 +10,7 @@ import (
 	"fmt"
 	"io"
 	"log"
+	"math"
 	"os"
 	"strconv"
 	"strings"
@@ -42,7 +43,7 @@ func main() {
 		fatal(err)
 		words := strings.Fields(line)
 		if words[0] == "open" {
-			validator, refused = fowharimu.Open(octetsOf(words[1]), octetsOf(words[2]))
+			validator, refused = fowharimu.Open(octetsOf(words[1]), octetsOf(words[2]), fowharimu.MostQuestions(math.MaxInt))
 		} else if answer, isAsked := answered(validator, refused, words); isAsked {
 			fmt.Fprintf(out, "%s\t%s\n", words[1], answer)
 		}

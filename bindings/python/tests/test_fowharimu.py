@@ -17,6 +17,7 @@ import unittest
 from typing import Any, Callable, Iterator, List
 
 from fowharimu import (
+    AnotherLibrary,
     CeilingReached,
     ClaimsRefused,
     Closed,
@@ -28,6 +29,7 @@ from fowharimu import (
     SignatureRefused,
     TokenRefused,
     TooLong,
+    TooManyQuestions,
     Undecided,
     Unreadable,
     Validator,
@@ -49,6 +51,30 @@ def validator_of(name: pathlib.Path) -> Validator:
 def token_of(name: pathlib.Path) -> str:
     """The token of that name."""
     return name.with_suffix(".jwt").read_text()
+
+
+class Opening(unittest.TestCase):
+    def test_a_policy_without_a_bound_is_refused_unless_it_is_asked_for(self) -> None:
+        keys = {"keys": [json.loads((TOP / "examples/rfc7515-a2.keys").read_bytes())["keys"][0]] * 9}
+        for policy, most in (({"algs": ["RS256"]}, 72), ({"algs": ["RS256", "PS256"], "max_signatures": 32}, 288)):
+            with self.subTest(most), self.assertRaises(TooManyQuestions) as caught:
+                Validator(policy, keys)
+            self.assertEqual((caught.exception.most, caught.exception.allowed), (most, 64))
+            self.assertIn(f"{most} questions", str(caught.exception))
+            with self.assertRaises(TooManyQuestions):
+                Validator(policy, keys, most_questions=most - 1)
+            Validator(policy, keys, most_questions=most).close()
+            Validator(policy, keys, most_questions=None).close()
+        for policy in ({"version": 2, "algs": ["RS256"], "max_calls": 64}, {"algs": ["HS256", "ES256"]}, {"algs": ["RS256"], "max_signatures": 7}):
+            Validator(policy, keys).close()
+
+    @unittest.skipUnless("FOWHARIMU_ANOTHER" in os.environ, "bindings/run names a library of another interface")
+    def test_another_library_is_refused(self) -> None:
+        with self.assertRaises(AnotherLibrary) as caught:
+            Validator({"algs": ["HS256"]}, {"keys": []})
+        number = int(os.environ["FOWHARIMU_ANOTHER"])
+        self.assertEqual((caught.exception.made_for, caught.exception.loaded), (_library.ABI, number))
+        self.assertEqual(str(caught.exception), f"the library another has interface {number}, and this package was made for {_library.ABI}")
 
 
 class Tokens(unittest.TestCase):

@@ -21,6 +21,7 @@ from typing import Any, Dict, List, NoReturn, Optional, SupportsIndex, Type, Uni
 
 from . import _library
 from ._faults import (
+    AnotherLibrary,
     CeilingReached,
     ClaimsRefused,
     Closed,
@@ -32,12 +33,14 @@ from ._faults import (
     SignatureRefused,
     TokenRefused,
     TooLong,
+    TooManyQuestions,
     Undecided,
     Unreadable,
 )
 from ._seats import Seat, Seats, written
 
 __all__ = [
+    "AnotherLibrary",
     "CeilingReached",
     "Claims",
     "ClaimsRefused",
@@ -52,6 +55,7 @@ __all__ = [
     "SignatureState",
     "TokenRefused",
     "TooLong",
+    "TooManyQuestions",
     "Try",
     "Undecided",
     "Unreadable",
@@ -149,10 +153,16 @@ class Validator:
     fork, parent and child each go on with their own. It isn't copied. It is closed by `close` or at the end of `with`: calls that are
     under way end, and later ones raise Closed. What a validator holds that is never closed is freed with it.
 
-    Raises PolicyRefused or KeysRefused, and MemoryError where memory is refused.
+    `most_questions` is how often OpenSSL may be asked for one token; None takes whatever the policy and the keys allow, up to 32,768. More
+    than 64 are seldom meant: `max_calls` in the policy bounds them.
+
+    Raises PolicyRefused, KeysRefused or TooManyQuestions, AnotherLibrary where another library was loaded than this package is made for,
+    and MemoryError where memory is refused.
     """
 
-    def __init__(self, policy: Document, keys: Document) -> None:
+    def __init__(
+        self, policy: Document, keys: Document, *, most_questions: Optional[int] = _library.MOST_QUESTIONS
+    ) -> None:
         self._library = _library.load()
         policy_octets, key_octets = _document(policy, "a policy"), _document(keys, "a key set")
         documents = Seat()
@@ -164,6 +174,7 @@ class Validator:
             raise MemoryError
         if status != _library.OK:
             raise self._document_refused(fault.value, policy_octets)
+        self._check_questions(documents, most_questions)
         self._seats = Seats(documents)
 
     def validate(self, token: Text, now: Optional[SupportsIndex] = None) -> Claims:
@@ -274,6 +285,14 @@ class Validator:
 
     def __reduce_ex__(self, protocol: SupportsIndex) -> NoReturn:
         raise TypeError("a Validator isn't copied or pickled: what it holds belongs to it alone")
+
+    def _check_questions(self, documents: Seat, allowed: Optional[int]) -> None:
+        """Raises TooManyQuestions where one token could raise more than are allowed."""
+        most = ctypes.c_uint32()
+        if self._library.fow_most_questions(documents.held, most) != _library.OK:
+            raise Closed
+        if allowed is not None and most.value > allowed:
+            raise TooManyQuestions(most.value, allowed)
 
     def _judge(self, seat: Seat, octets: bytes, moment: int) -> _library.CReport:
         report = _library.CReport()

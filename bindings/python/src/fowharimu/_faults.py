@@ -20,6 +20,35 @@ class Closed(FowharimuError):
         return "the validator is closed"
 
 
+class AnotherLibrary(FowharimuError):
+    """The library that was loaded has another interface than this package was made for. `made_for` and `loaded` are the numbers of the two,
+    FOW_ABI in fowharimu.h; `loaded` is None of a library that has no number yet. `version` is the library's, where it tells one."""
+
+    def __init__(self, made_for: int, loaded: Optional[int], version: Optional[str] = None) -> None:
+        super().__init__(made_for, loaded, version)
+        self.made_for = made_for
+        self.loaded = loaded
+        self.version = version
+
+    def __str__(self) -> str:
+        if self.loaded is None:
+            return f"the library has no number of its interface yet, and this package was made for {self.made_for}"
+        return f"the library {self.version} has interface {self.loaded}, and this package was made for {self.made_for}"
+
+
+class TooManyQuestions(FowharimuError):
+    """One token could have OpenSSL asked `most` times under the policy and its keys, and `allowed` are taken. A smaller `max_calls` in the
+    policy bounds it, or fewer keys do."""
+
+    def __init__(self, most: int, allowed: int) -> None:
+        super().__init__(most, allowed)
+        self.most = most
+        self.allowed = allowed
+
+    def __str__(self) -> str:
+        return f"one token could raise {self.most} questions about public keys, and {self.allowed} are taken: set max_calls in the policy"
+
+
 class PolicyRefused(FowharimuError):
     """The policy is refused. `fault` is the name that the program `jwt` prints, such as `Member`; `member` the name of the member that it
     speaks of, where it speaks of one."""

@@ -7,6 +7,12 @@ import functools
 import os
 from ctypes.util import find_library
 
+from ._faults import AnotherLibrary
+
+# The number of the interface that this package is made for, and the most questions of one token that are taken as a rule: FOW_ABI and
+# FOW_MOST_QUESTIONS of fowharimu.h.
+ABI, MOST_QUESTIONS = 1, 64
+
 OK, REFUSED, ASKS, OUT_OF_MEMORY, NOT_OPEN, TOO_SHORT, ABSENT = range(7)
 
 
@@ -63,6 +69,7 @@ _REPORT = ctypes.POINTER(CReport)
 _SIGNATURES = {
     "fow_open": (_U32, [_VALIDATOR, *_IN, *_IN, ctypes.POINTER(_U32)]),
     "fow_open_beside": (_U32, [_VALIDATOR, _VALIDATOR]),
+    "fow_most_questions": (_U32, [_VALIDATOR, ctypes.POINTER(_U32)]),
     "fow_close": (None, [_VALIDATOR]),
     "fow_refused_member": (_U32, [*_IN, *_OUT]),
     "fow_state_of": (_U32, [_VALIDATOR, _U32, ctypes.POINTER(CState)]),
@@ -79,10 +86,23 @@ _SIGNATURES = {
 
 @functools.lru_cache(maxsize=None)
 def load() -> ctypes.CDLL:
-    """The library: the one that FOWHARIMU_LIBRARY names, or the installed one. It is looked for once."""
+    """The library: the one that FOWHARIMU_LIBRARY names, or the installed one. It is looked for once. Raises AnotherLibrary where it has
+    another interface."""
     name = os.environ.get("FOWHARIMU_LIBRARY") or find_library("fowharimu_openssl") or "libfowharimu_openssl.so.0"
     library = ctypes.CDLL(name)
+    _compare(library)
     for function, (result, arguments) in _SIGNATURES.items():
         getattr(library, function).restype = result
         getattr(library, function).argtypes = arguments
     return library
+
+
+def _compare(library: ctypes.CDLL) -> None:
+    """Raises AnotherLibrary where the library has another interface than this package is made for."""
+    # (a library that was built before there were numbers has neither function)
+    if not hasattr(library, "fow_abi"):
+        raise AnotherLibrary(ABI, None)
+    library.fow_abi.restype, library.fow_abi.argtypes = _U32, []
+    library.fow_version.restype, library.fow_version.argtypes = ctypes.c_char_p, []
+    if library.fow_abi() != ABI:
+        raise AnotherLibrary(ABI, library.fow_abi(), library.fow_version().decode())

@@ -3,6 +3,10 @@
 
 use std::os::raw::{c_char, c_void};
 
+/// The number of the interface that stands here.
+pub const FOW_ABI: u32 = 1;
+pub const FOW_MOST_QUESTIONS: u32 = 64;
+
 pub const FOW_OK: u32 = 0;
 pub const FOW_REFUSED: u32 = 1;
 pub const FOW_ASKS: u32 = 2;
@@ -44,6 +48,10 @@ pub struct fow_openssl {
 }
 
 extern "C" {
+    pub fn fow_abi() -> u32;
+
+    pub fn fow_version() -> *const c_char;
+
     pub fn fow_open(
         validator: *mut fow_validator,
         policy: *const u8,
@@ -54,6 +62,8 @@ extern "C" {
     ) -> u32;
 
     pub fn fow_open_beside(validator: *mut fow_validator, another: *mut fow_validator) -> u32;
+
+    pub fn fow_most_questions(validator: *mut fow_validator, most: *mut u32) -> u32;
 
     pub fn fow_refused_member(
         policy: *const u8,

@@ -128,7 +128,11 @@ fn main() -> Result<(), Failure> {
         let words: Vec<&str> = line.split(' ').collect();
         match (words.as_slice(), &opened) {
             (["open", policy, keys], _) => {
-                opened = Some(Validator::open(&octets_of(policy)?, &octets_of(keys)?));
+                opened = Some(Validator::open_within(
+                    &octets_of(policy)?,
+                    &octets_of(keys)?,
+                    u32::MAX,
+                ));
             }
             (["judge", name, now, token], Some(opened)) => {
                 writeln!(out, "{name}\t{}", judged(opened, now, token)?)?

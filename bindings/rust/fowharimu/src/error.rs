@@ -19,6 +19,15 @@ pub enum Part {
 #[derive(Clone, Debug, PartialEq, Eq)]
 #[non_exhaustive]
 pub enum Error {
+    /// The library that was linked or loaded has another interface than this crate was made for: `FOW_ABI` in `fowharimu.h`.
+    AnotherLibrary {
+        made_for: u32,
+        loaded: u32,
+        version: String,
+    },
+    /// One token could have OpenSSL asked `most` times under the policy and its keys, and `allowed` are taken. A smaller `max_calls` in
+    /// the policy bounds it, or fewer keys do.
+    TooManyQuestions { most: u32, allowed: u32 },
     /// The policy is refused, for this member where the fault speaks of one.
     Policy {
         fault: String,
@@ -58,6 +67,18 @@ pub enum Error {
 impl fmt::Display for Error {
     fn fmt(&self, f: &mut fmt::Formatter<'_>) -> fmt::Result {
         match self {
+            Error::AnotherLibrary {
+                made_for,
+                loaded,
+                version,
+            } => write!(
+                f,
+                "the library {version} has interface {loaded}, and this crate was made for {made_for}"
+            ),
+            Error::TooManyQuestions { most, allowed } => write!(
+                f,
+                "one token could raise {most} questions about public keys, and {allowed} are taken: set max_calls in the policy"
+            ),
             Error::Policy { fault, member } => {
                 write!(f, "the policy is refused: {fault}")?;
                 member.iter().try_for_each(|it| write!(f, " {it:?}"))

@@ -49,14 +49,38 @@ struct Seats {
 }
 
 impl Validator {
-    /// Reads a policy and a key set.
+    /// The most questions of one token that [`open`](Validator::open) takes.
+    pub const MOST_QUESTIONS: u32 = fowharimu_sys::FOW_MOST_QUESTIONS;
+
+    /// Reads a policy and a key set under which OpenSSL is asked at most 64 times for one token.
     ///
     /// # Errors
-    /// `Policy`, `Keys` or `OutOfMemory`.
+    /// `Policy`, `Keys`, `TooManyQuestions`, `OutOfMemory`, and `AnotherLibrary`.
     pub fn open(policy: &[u8], keys: &[u8]) -> Result<Validator, Error> {
+        Validator::open_within(policy, keys, Validator::MOST_QUESTIONS)
+    }
+
+    /// Reads a policy and a key set under which OpenSSL is asked at most so many times for one token, up to 32,768. More than 64 are
+    /// seldom meant: `max_calls` in the policy bounds them.
+    ///
+    /// # Errors
+    /// As of [`open`](Validator::open).
+    pub fn open_within(
+        policy: &[u8],
+        keys: &[u8],
+        most_questions: u32,
+    ) -> Result<Validator, Error> {
+        let mut documents = Seat::open(policy, keys)?;
+        let most = documents.most_questions()?;
+        if most > most_questions {
+            return Err(Error::TooManyQuestions {
+                most,
+                allowed: most_questions,
+            });
+        }
         Ok(Validator {
             seats: Mutex::new(Seats {
-                documents: Seat::open(policy, keys)?,
+                documents,
                 free: Vec::new(),
             }),
         })

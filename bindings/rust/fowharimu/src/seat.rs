@@ -38,8 +38,9 @@ impl Seat {
         }
     }
 
-    /// Reads a policy and a key set.
+    /// Reads a policy and a key set, where the library has the interface that this crate is made for.
     pub(crate) fn open(policy: &[u8], keys: &[u8]) -> Result<Seat, Error> {
+        compare()?;
         let mut seat = Seat::new();
         let mut fault = 0;
         // SAFETY: the slices are as long as their lengths say, and aren't null.
@@ -56,6 +57,16 @@ impl Seat {
         match status {
             sys::FOW_OK => Ok(seat),
             sys::FOW_REFUSED => Err(document_refused(fault, policy)),
+            _ => Err(Error::OutOfMemory),
+        }
+    }
+
+    /// How many questions one token can raise.
+    pub(crate) fn most_questions(&mut self) -> Result<u32, Error> {
+        let mut most = 0;
+        // SAFETY: it is the one that the other calls had.
+        match unsafe { sys::fow_most_questions(&mut self.held, &mut most) } {
+            sys::FOW_OK => Ok(most),
             _ => Err(Error::OutOfMemory),
         }
     }
@@ -158,6 +169,25 @@ impl Drop for Seat {
             sys::fow_close(&mut self.held);
         }
     }
+}
+
+/// Whether the library has the interface that this crate is made for.
+///
+/// # Errors
+/// `AnotherLibrary`.
+fn compare() -> Result<(), Error> {
+    // SAFETY: it takes nothing.
+    let loaded = unsafe { sys::fow_abi() };
+    if loaded == sys::FOW_ABI {
+        return Ok(());
+    }
+    // SAFETY: the version is a C string that is never freed.
+    let version = unsafe { CStr::from_ptr(sys::fow_version()) };
+    Err(Error::AnotherLibrary {
+        made_for: sys::FOW_ABI,
+        loaded,
+        version: version.to_string_lossy().into_owned(),
+    })
 }
 
 fn part_of(part: u32) -> Option<Part> {
