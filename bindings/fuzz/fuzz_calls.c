@@ -1,0 +1,290 @@
+/* Calls in any order on two validators, four octets each, beside a model of what the two hold and were told. */
+#include "harness.h"
+
+enum { DOCUMENTS = 3, TOKENS = 7, BOTH = 2, HMAC_TOKEN = 5, CHANGED_TOKEN = 6, KEYS = 16, NONE = -1, TOKEN_ROOM = 4096 };
+
+/* What a validator is known to hold. */
+typedef struct model {
+    fow_validator validator;
+    fow_openssl crypto;
+    bool is_open;
+    int told[TOKENS][KEYS];       /* of signature 0 and this key: 0 nothing, 1 that it is invalid, 2 that it is valid */
+    int asked_token, asked_key;   /* what the last judging asks about, or NONE */
+    bool is_accepted;             /* whether the last judging accepted */
+} model;
+
+/* A call: what the four octets say. */
+typedef struct call {
+    uint8_t what, rest;
+    int token;
+    uint32_t signature, key;
+    bool is_valid;
+    const uint8_t *octets;
+    size_t len, room;
+    uint8_t *out;
+} call;
+
+static fixed *documents[DOCUMENTS];
+static struct {
+    uint8_t at[TOKEN_ROOM];
+    size_t len;
+} tokens[TOKENS];
+static area token_area, rooms;
+
+static void begin(void)
+{
+    static const char *const names[] = { "RS256", "ES256", "Ed25519", "Ed448", "PS256" };
+    static const char hs256[] = "eyJhbGciOiJIUzI1NiJ9.e30.AAAA";
+    open_fixed();
+    documents[0] = &table[8];
+    documents[1] = &table[4];
+    documents[2] = &table[0];
+    for (int i = 0; i < HMAC_TOKEN; i++)
+        tokens[i].len = read_file(names[i], "jwt", (char *)tokens[i].at, TOKEN_ROOM);
+    memcpy(tokens[HMAC_TOKEN].at, hs256, tokens[HMAC_TOKEN].len = sizeof hs256 - 1);
+    tokens[CHANGED_TOKEN] = tokens[0];
+    tokens[CHANGED_TOKEN].at[tokens[0].len - 20] ^= 1;
+}
+
+static void forget_all(model *it)
+{
+    memset(it->told, 0, sizeof it->told);
+    it->asked_token = NONE;
+    it->is_accepted = false;
+}
+
+static void open_it(model *it, const call *c)
+{
+    const fixed *d = documents[c->token % DOCUMENTS];
+    uint32_t fault;
+    CHECK(fow_open(&it->validator, at(d->policy), strlen(d->policy), at(d->keys_text), d->keys_len, &fault) == FOW_OK);
+    it->is_open = true;
+    forget_all(it);
+}
+
+static void open_refused(model *it, const call *c)
+{
+    const fixed *d = documents[c->token % DOCUMENTS];
+    uint32_t fault;
+    size_t cut = 3 + c->rest % 60;
+    CHECK(fow_open(&it->validator, at(d->policy), strlen(d->policy), at(d->keys_text), d->keys_len - cut, &fault) == FOW_REFUSED);
+}
+
+static void open_beside(model *it, model *another)
+{
+    uint32_t status = fow_open_beside(&it->validator, &another->validator);
+    CHECK(status == (another->is_open ? FOW_OK : FOW_NOT_OPEN));
+    if (status == FOW_OK) {
+        it->is_open = true;
+        forget_all(it);
+    }
+}
+
+static void close_it(model *it)
+{
+    fow_close(&it->validator);
+    it->is_open = false;
+    forget_all(it);
+}
+
+/* Judges a token, or octets that are none where `token` is NONE. An acceptance rests on an answer that was told, and what is asked wasn't. */
+static void judge(model *it, int token, const uint8_t *octets, size_t len)
+{
+    fow_report report;
+    uint32_t verdict = fow_judge(&it->validator, octets, len, NOW, &report);
+    it->asked_token = NONE;
+    it->is_accepted = verdict == FOW_OK;
+    if (!it->is_open) {
+        CHECK(verdict == FOW_NOT_OPEN && report.verdict == FOW_NOT_OPEN && report.fault == 0 && report.tries == 0 && report.work == 0);
+        return;
+    }
+    check_report(verdict, &report, KEYS);
+    check_states(&it->validator, &report);
+    check_tries(&it->validator, &report, KEYS);
+    CHECK(token != NONE || verdict == FOW_REFUSED);
+    if (verdict == FOW_OK)
+        CHECK(token != HMAC_TOKEN && report.signature == 0 && it->told[token][report.key] == 2);
+    if (verdict == FOW_ASKS) {
+        CHECK(it->told[token][report.key] == 0);
+        it->asked_token = token;
+        it->asked_key = (int)report.key;
+    }
+}
+
+static void judge_by(model *it, const call *c, bool by_openssl)
+{
+    fow_report report;
+    uint32_t verdict = by_openssl ? fow_openssl_judge(&it->crypto, &it->validator, c->octets, c->len, NOW, &report)
+                                  : fow_proved_judge(&it->validator, c->octets, c->len, NOW, &report);
+    CHECK(verdict == report.verdict && (it->is_open ? verdict == FOW_OK || verdict == FOW_REFUSED : verdict == FOW_NOT_OPEN));
+    CHECK(verdict != FOW_OK || (c->token != HMAC_TOKEN && c->token != CHANGED_TOKEN));
+    /* (what OpenSSL told stands until it is forgotten) */
+    if (by_openssl) {
+        fow_forget(&it->validator);
+        forget_all(it);
+    }
+    it->asked_token = NONE;
+    it->is_accepted = verdict == FOW_OK;
+}
+
+static void asked_of(model *it, const call *c)
+{
+    fow_question asked;
+    uint32_t status = fow_asked(&it->validator, c->out, c->room, &asked);
+    if (!it->is_open)
+        CHECK(status == FOW_NOT_OPEN);
+    else if (it->asked_token == NONE)
+        CHECK(status == FOW_ABSENT);
+    else
+        CHECK(status == FOW_OK || (status == FOW_TOO_SHORT && c->room < TOKEN_ROOM + QUESTION_ROOM));
+    if (status == FOW_OK)
+        CHECK(asked.input + asked.signature + asked.first + asked.second <= c->room && memcmp(c->out, tokens[it->asked_token].at, asked.input) == 0);
+}
+
+static void answer_asked(model *it, const call *c)
+{
+    uint32_t status = fow_answer_asked(&it->validator, c->is_valid);
+    CHECK(status == (!it->is_open ? FOW_NOT_OPEN : it->asked_token == NONE ? FOW_ABSENT : FOW_OK));
+    /* (it may have been told by fow_answer before, and the first answer counts) */
+    if (status == FOW_OK && it->told[it->asked_token][it->asked_key] == 0)
+        it->told[it->asked_token][it->asked_key] = c->is_valid ? 2 : 1;
+    it->asked_token = NONE;
+}
+
+static void ask(model *it, const call *c)
+{
+    fow_question asked;
+    uint32_t status = fow_ask(&it->validator, c->octets, c->len, c->signature, c->key, c->out, c->room, &asked);
+    CHECK(it->is_open ? status == FOW_OK || status == FOW_ABSENT || status == FOW_TOO_SHORT : status == FOW_NOT_OPEN);
+    CHECK(c->token != HMAC_TOKEN || status == FOW_ABSENT || status == FOW_NOT_OPEN);
+    if (status == FOW_OK) {
+        CHECK(asked.input + asked.signature + asked.first + asked.second <= c->room && memcmp(c->out, c->octets, asked.input) == 0);
+        CHECK(asked.kind != FOW_OCT && asked.alg > FOW_HS512);
+    }
+}
+
+/* Notes an answer to signature 0, of which the first counts. The question of the last judging, where it is the same, stands. */
+static void note(model *it, const call *c, uint32_t status, int answer)
+{
+    CHECK(it->is_open ? status == FOW_OK || status == FOW_ABSENT : status == FOW_NOT_OPEN);
+    if (status == FOW_OK && c->signature == 0 && it->told[c->token][c->key] == 0)
+        it->told[c->token][c->key] = answer;
+}
+
+static void answer(model *it, const call *c)
+{
+    note(it, c, fow_answer(&it->validator, c->octets, c->len, c->signature, c->key, c->is_valid), c->is_valid ? 2 : 1);
+}
+
+/* An answer of a proved verifier: only a token's own key makes a signature valid, and none the changed one. */
+static void answer_by(model *it, const call *c)
+{
+    fow_report report;
+    uint32_t status = c->rest & 8 ? fow_answer_proved(&it->validator, c->octets, c->len, 0, c->key)
+        : c->is_valid             ? fow_answer_rsa(&it->validator, c->octets, c->len, 0, c->key)
+                                  : fow_answer_ed25519(&it->validator, c->octets, c->len, 0, c->key);
+    CHECK(it->is_open ? status == FOW_OK || status == FOW_ABSENT : status == FOW_NOT_OPEN);
+    if (status != FOW_OK || it->told[c->token][c->key] != 0)
+        return;
+    CHECK(c->token != HMAC_TOKEN);
+    /* (which of the two it said shows in the next judging of that token, unless another key is valid too) */
+    uint32_t verdict = fow_judge(&it->validator, c->octets, c->len, NOW, &report);
+    it->told[c->token][c->key] = verdict == FOW_OK && report.key == c->key ? 2 : 1;
+    CHECK(c->token != CHANGED_TOKEN || it->told[c->token][c->key] == 1 || verdict != FOW_OK);
+    it->asked_token = verdict == FOW_ASKS ? c->token : NONE;
+    it->asked_key = (int)report.key;
+    it->is_accepted = verdict == FOW_OK;
+}
+
+static void forget(model *it)
+{
+    uint8_t out[TOKEN_ROOM + QUESTION_ROOM];
+    fow_question asked;
+    fow_forget(&it->validator);
+    memset(it->told, 0, sizeof it->told);
+    uint32_t status = fow_asked(&it->validator, out, sizeof out, &asked);
+    CHECK(status == (!it->is_open ? FOW_NOT_OPEN : it->asked_token == NONE ? FOW_ABSENT : FOW_OK));
+}
+
+static void get_claims(model *it, const call *c)
+{
+    int64_t number;
+    size_t written;
+    uint32_t status = fow_claim(&it->validator, at("iss"), 3, c->out, c->room, &written);
+    CHECK(status == (!it->is_open ? FOW_NOT_OPEN : !it->is_accepted ? FOW_ABSENT : c->room < 5 ? FOW_TOO_SHORT : FOW_OK));
+    status = fow_number(&it->validator, at("exp"), 3, &number);
+    CHECK(status == (!it->is_open ? FOW_NOT_OPEN : !it->is_accepted ? FOW_ABSENT : FOW_OK) && (status != FOW_OK || number == NOW + 1));
+}
+
+static void get_others(model *it, const call *c)
+{
+    size_t written;
+    uint32_t most;
+    fow_state state;
+    fow_try tried;
+    uint32_t status = fow_state_of(&it->validator, c->key, &state);
+    CHECK(it->is_open ? status == FOW_OK || status == FOW_ABSENT : status == FOW_NOT_OPEN);
+    status = fow_try_of(&it->validator, c->key, &tried);
+    CHECK(it->is_open ? status == FOW_OK || status == FOW_ABSENT : status == FOW_NOT_OPEN);
+    CHECK(fow_most_questions(&it->validator, &most) == (it->is_open ? FOW_OK : FOW_NOT_OPEN));
+    fow_payload(&it->validator, c->octets, c->len, c->out, c->room, &written);
+    fow_unverified_header(&it->validator, c->octets, c->len, c->signature, c->out, c->room, &written);
+}
+
+/* Judges a token that is cut at its last period or before, and so is none. */
+static void judge_cut(model *it, const call *c)
+{
+    const uint8_t *last = memrchr(c->octets, '.', c->len);
+    size_t cut = c->rest % (size_t)(last - c->octets + 1);
+    judge(it, NONE, area_put(&token_area, tokens[c->token].at, cut, c->rest & 4), cut);
+}
+
+static void run(model *it, model *another, const call *c)
+{
+    switch (c->what % 18) {
+    case 0: case 1: open_it(it, c); break;
+    case 2: open_refused(it, c); break;
+    case 3: open_beside(it, another); break;
+    case 4: if (c->rest & 1) close_it(it); break;
+    case 5: case 6: case 7: judge(it, c->token, c->octets, c->len); break;
+    case 8: asked_of(it, c); break;
+    case 9: case 10: answer_asked(it, c); break;
+    case 11: ask(it, c); break;
+    case 12: answer(it, c); break;
+    case 13: answer_by(it, c); break;
+    case 14: forget(it); break;
+    case 15: get_claims(it, c); break;
+    case 16: get_others(it, c); judge_cut(it, c); break;
+    case 17: judge_by(it, c, c->rest & 1); break;
+    }
+}
+
+static call call_of(const uint8_t *octets)
+{
+    call c = { .what = octets[0] & 127, .rest = octets[3], .token = octets[1] % TOKENS, .is_valid = octets[3] & 1 };
+    c.signature = octets[2] >> 6 ? 0 : octets[2] & 3;
+    c.key = octets[2] % 12;
+    c.len = tokens[c.token].len;
+    c.room = octets[3] & 2 ? octets[3] * 4u : TOKEN_ROOM + QUESTION_ROOM;
+    c.octets = area_put(&token_area, tokens[c.token].at, c.len, octets[3] & 4);
+    c.out = area_end(&rooms, c.room);
+    return c;
+}
+
+int LLVMFuzzerTestOneInput(const uint8_t *data, size_t size)
+{
+    static model both[BOTH];
+    if (documents[0] == NULL)
+        begin();
+    memset(both, 0, sizeof both);
+    both[0].asked_token = both[1].asked_token = NONE;
+    for (size_t i = 0; i + 3 < size; i += 4) {
+        call c = call_of(data + i);
+        run(&both[data[i] >> 7], &both[1 - (data[i] >> 7)], &c);
+    }
+    for (int i = 0; i < BOTH; i++) {
+        fow_close(&both[i].validator);
+        fow_openssl_clear(&both[i].crypto);
+    }
+    return 0;
+}
