@@ -1719,12 +1719,20 @@ ngx_http_fowharimu_code_size(u_char *p, size_t rest)
 static ngx_int_t
 ngx_http_fowharimu_open(ngx_conf_t *cf, ngx_http_fowharimu_loc_conf_t *lcf)
 {
-    uint32_t                         fault;
+    uint32_t                         fault, most;
     ngx_pool_cleanup_t              *cln;
     ngx_http_fowharimu_validator_t  *validator;
 
     if (lcf->validator || lcf->policy.data == NULL || lcf->keys.data == NULL) {
         return NGX_OK;
+    }
+
+    if (fow_abi() != FOW_ABI) {
+        ngx_conf_log_error(NGX_LOG_EMERG, cf, 0,
+                           "the library %s has interface %uD, and this module "
+                           "was compiled for %d", fow_version(), fow_abi(),
+                           FOW_ABI);
+        return NGX_ERROR;
     }
 
     cln = ngx_pool_cleanup_add(cf->pool,
@@ -1749,6 +1757,15 @@ ngx_http_fowharimu_open(ngx_conf_t *cf, ngx_http_fowharimu_loc_conf_t *lcf)
     }
 
     lcf->validator = validator;
+
+    if (fow_most_questions(&validator->handle, &most) == FOW_OK
+        && most > FOW_MOST_QUESTIONS)
+    {
+        ngx_conf_log_error(NGX_LOG_WARN, cf, 0,
+                           "one token can raise %uD questions about public "
+                           "keys: \"max_calls\" in the policy bounds them",
+                           most);
+    }
 
     return NGX_OK;
 }
