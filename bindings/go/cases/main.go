@@ -1,5 +1,5 @@
-// Command cases answers each case of a table that bindings/cases/make wrote, over OpenSSL: cases FILE. bindings/cases/README.md says what a
-// line is.
+// Command cases answers each case of a table that bindings/cases/make wrote, over OpenSSL: cases [-threads N] FILE. bindings/cases/README.md
+// says what a line is. With -threads so many goroutines judge each token on one validator, and all have to answer alike.
 package main
 
 import (
@@ -7,6 +7,7 @@ import (
 	"encoding/hex"
 	"encoding/json"
 	"errors"
+	"flag"
 	"fmt"
 	"io"
 	"log"
@@ -14,6 +15,7 @@ import (
 	"os"
 	"strconv"
 	"strings"
+	"sync"
 	"time"
 
 	"example.org/fowharimu"
@@ -27,10 +29,12 @@ type said struct {
 }
 
 func main() {
-	if len(os.Args) != 2 {
-		log.Fatal("usage: cases FILE")
+	threads := flag.Int("threads", 1, "how many goroutines judge each token")
+	flag.Parse()
+	if flag.NArg() != 1 || *threads < 1 {
+		log.Fatal("usage: cases [-threads N] FILE")
 	}
-	table, err := os.Open(os.Args[1])
+	table, err := os.Open(flag.Arg(0))
 	fatal(err)
 	lines, out := bufio.NewReader(table), bufio.NewWriter(os.Stdout)
 	var validator *fowharimu.Validator
@@ -44,7 +48,7 @@ func main() {
 		words := strings.Fields(line)
 		if words[0] == "open" {
 			validator, refused = fowharimu.Open(octetsOf(words[1]), octetsOf(words[2]), fowharimu.MostQuestions(math.MaxInt))
-		} else if answer, isAsked := answered(validator, refused, words); isAsked {
+		} else if answer, isAsked := answered(validator, refused, words, *threads); isAsked {
 			fmt.Fprintf(out, "%s\t%s\n", words[1], answer)
 		}
 	}
@@ -52,16 +56,36 @@ func main() {
 }
 
 // answered gives the answer to a case, and whether it could be asked.
-func answered(validator *fowharimu.Validator, refused error, words []string) (said, bool) {
+func answered(validator *fowharimu.Validator, refused error, words []string, threads int) (said, bool) {
 	if refused != nil {
 		return refusedFor(refused), true
 	}
 	if words[0] == "judge" {
 		now, err := strconv.ParseInt(words[2], 10, 64)
 		fatal(err)
-		return judged(validator, string(octetsOf(words[3])), time.Unix(now, 0)), true
+		return together(threads, func() said { return judged(validator, string(octetsOf(words[3])), time.Unix(now, 0)) }), true
 	}
 	return issued(validator, words[2:])
+}
+
+// together gives what so many goroutines answer at once. Answers that differ end the program.
+func together(threads int, answer func() said) said {
+	answers := make([]said, threads)
+	var workers sync.WaitGroup
+	for i := range answers {
+		workers.Add(1)
+		go func(i int) {
+			defer workers.Done()
+			answers[i] = answer()
+		}(i)
+	}
+	workers.Wait()
+	for _, it := range answers[1:] {
+		if it != answers[0] {
+			log.Fatalf("one goroutine answers %v, another %v", answers[0], it)
+		}
+	}
+	return answers[0]
 }
 
 // judged gives the report on a token, and its claims. What ValidateAt says has to be the same.

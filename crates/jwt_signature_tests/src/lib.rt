@@ -2,8 +2,8 @@
 #![tactic(auto)]
 
 #[cfg(test)]
-mod ecdsa;
-#[cfg(test)]
 mod ed25519;
+#[cfg(test)]
+mod elliptic;
 #[cfg(test)]
 mod rsa;
