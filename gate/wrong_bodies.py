@@ -223,7 +223,8 @@ class Crate:
         """`room` is the folder of the copy, `jobs` how many processes a check has. Ends the script where what is below can't be built."""
         self.kit, self.name, self.folder, self.jobs = kit, name, TOP / "crates" / name, jobs
         self.made = next(it for it in kit.rtlib.crates_below(str(TOP)) if it.name == name)
-        self.build_below()
+        if not (from_nothing and self.is_left_below()):
+            self.build_below()
         self.room = pathlib.Path(room)
         self.kept = self.room / "crates" / name / "out/incremental"
         self.copy()
@@ -232,6 +233,11 @@ class Crate:
             kit.linked(str(self.folder / "out/incremental"), str(self.kept))
         else:
             self.kept.mkdir(parents=True)
+
+    def is_left_below(self):
+        """Whether all libraries below this crate stand as one run of `rt ci` has left them: built, and with no stamp."""
+        folders = [os.path.dirname(it.rlib) for it in self.made.below()]
+        return all(os.path.isdir(it.rlib) for it in self.made.below()) and not any(os.path.exists(f"{it}/stamp") for it in folders)
 
     def build_below(self):
         """Has the libraries below this crate proved and built, where they aren't. Ends the script where that fails."""
@@ -255,6 +261,11 @@ class Crate:
         for it in self.made.below():
             rlib = self.room / "crates" / it.name / "out/rlib"
             shutil.copytree(os.path.dirname(it.rlib), rlib, copy_function=self.kit.link_or_copy)
+        # (without a stamp, rt would prove them once more for an edit that is tried alone)
+        for it in self.kit.rtlib.crates_below(str(self.room)):
+            rlib = pathlib.Path(os.path.dirname(it.rlib))
+            if rlib.is_dir() and not (rlib / "stamp").exists():
+                (rlib / "stamp").write_text(it.stamp())
 
     def together(self, group):
         """Tries a group. Gives the files of those that are refused, and why each of the others isn't clearly so."""
