@@ -47,7 +47,7 @@ int main(int count, char **words)
     CHECK(fow_open(&first, policy.at, policy.len, keys.at, keys.len, &fault) == FOW_OK);
     for (int i = 0; i < threads; i++) {
         tasks[i].validator = (fow_validator)FOW_VALIDATOR_INIT;
-        CHECK(fow_open_beside(&first, &tasks[i].validator) == FOW_OK);
+        CHECK(fow_open_beside(&tasks[i].validator, &first) == FOW_OK);
     }
     for (int i = 0; i < threads; i++)
         CHECK(pthread_create(&tasks[i].thread, NULL, judge, &tasks[i]) == 0);
