@@ -1,13 +1,10 @@
 //! The verifier of Ed25519 signatures.
 
+use crate::told::told_by;
 use hex::decode;
 use jwt_ed25519::{Ed25519, verifies};
-use jwt_keys::KeySet;
-use jwt_mac::{Alg, Answer, CountDown, EdCurve, KeyView, Message, Verifier};
-use jwt_policy::Policy;
-use jwt_support::examples::NOW;
-use jwt_text::Reader;
-use jwt_verify::{SigState, Verdict, validate};
+use jwt_mac::{Alg, Answer, EdCurve, KeyView, Message, Verifier};
+use jwt_verify::SigState;
 use std::alloc::{AllocError, Global};
 use std::process::Abort;
 use std::test::Fail;
@@ -383,27 +380,8 @@ const TOKEN_448: &str =
 
 /// The verdict on a token with [`Ed25519`] handed in, told in a word, and the state of its signature.
 fn told(alloc: Global, keys: &str, token: &str) -> Result<(&'static str, Option<SigState>), Fail> {
-    let policy = Policy::read(alloc, br#"{"algs":["EdDSA"]}"#)
-        .ok()
-        .ok_or("no policy")?;
-    let keys = KeySet::read(alloc, keys.as_bytes())?;
-    let mut verifiers: Vec<Box<dyn Verifier>> = Vec::new(alloc);
-    verifiers.push(Box::new(alloc, Ed25519)?)?;
-    let mut budget = CountDown::new(0);
-    let report = validate(
-        alloc,
-        &mut Reader::new(token.as_bytes()),
-        &keys,
-        &policy,
-        NOW,
-        &verifiers,
-        &mut budget,
-    );
-    let word = match report.verdict {
-        Verdict::Accepted { .. } => "accepted",
-        Verdict::Refused(_) => "refused",
-    };
-    Ok((word, report.states.first().copied()))
+    let policy = r#"{"algs":["EdDSA"]}"#;
+    told_by(alloc, Box::new(alloc, Ed25519)?, policy, keys, token)
 }
 
 #[test]

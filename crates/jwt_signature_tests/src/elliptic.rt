@@ -1,13 +1,10 @@
 //! The verifier of ECDSA signatures.
 
+use crate::told::told_by;
 use hex::decode;
 use jwt_ecdsa::{Ecdsa, verifies_es256, verifies_es384, verifies_es512};
-use jwt_keys::KeySet;
-use jwt_mac::{Alg, Answer, CountDown, Curve, KeyView, Message, Verifier};
-use jwt_policy::Policy;
-use jwt_support::examples::NOW;
-use jwt_text::Reader;
-use jwt_verify::{SigState, Verdict, validate};
+use jwt_mac::{Alg, Answer, Curve, KeyView, Message, Verifier};
+use jwt_verify::SigState;
 use std::alloc::{AllocError, Global};
 use std::process::Abort;
 use std::test::Fail;
@@ -1442,27 +1439,7 @@ fn told(
     keys: &str,
     token: &str,
 ) -> Result<(&'static str, Option<SigState>), Fail> {
-    let policy = Policy::read(alloc, policy.as_bytes())
-        .ok()
-        .ok_or("no policy")?;
-    let keys = KeySet::read(alloc, keys.as_bytes())?;
-    let mut verifiers: Vec<Box<dyn Verifier>> = Vec::new(alloc);
-    verifiers.push(Box::new(alloc, Ecdsa)?)?;
-    let mut budget = CountDown::new(0);
-    let report = validate(
-        alloc,
-        &mut Reader::new(token.as_bytes()),
-        &keys,
-        &policy,
-        NOW,
-        &verifiers,
-        &mut budget,
-    );
-    let word = match report.verdict {
-        Verdict::Accepted { .. } => "accepted",
-        Verdict::Refused(_) => "refused",
-    };
-    Ok((word, report.states.first().copied()))
+    told_by(alloc, Box::new(alloc, Ecdsa)?, policy, keys, token)
 }
 
 /// A policy, a key set, a token, and what is told of it.

@@ -7,3 +7,5 @@ mod ed25519;
 mod elliptic;
 #[cfg(test)]
 mod rsa;
+#[cfg(test)]
+mod told;

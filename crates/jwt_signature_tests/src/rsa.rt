@@ -1,12 +1,11 @@
 //! Verifiers of RSA signatures.
 
-use jwt_keys::KeySet;
-use jwt_mac::{Alg, Answer, CountDown, KeyView, Message, Verifier};
-use jwt_policy::Policy;
+use crate::told::told_by;
+use jwt_mac::{Alg, Answer, KeyView, Message, Verifier};
 use jwt_rsa::{Pkcs1, Pss, Rsa};
-use jwt_support::examples::{KEYS_A2, NOW, TOKEN_A2};
-use jwt_text::{Reader, decode};
-use jwt_verify::{SigState, Verdict, validate};
+use jwt_support::examples::{KEYS_A2, TOKEN_A2};
+use jwt_text::decode;
+use jwt_verify::SigState;
 use std::alloc::Global;
 use std::process::Abort;
 use std::test::Fail;
@@ -949,27 +948,7 @@ fn told(
     keys: &str,
     token: &str,
 ) -> Result<(&'static str, Option<SigState>), Fail> {
-    let policy = Policy::read(alloc, policy.as_bytes())
-        .ok()
-        .ok_or("no policy")?;
-    let keys = KeySet::read(alloc, keys.as_bytes())?;
-    let mut verifiers: Vec<Box<dyn Verifier>> = Vec::new(alloc);
-    verifiers.push(Box::new(alloc, Rsa)?)?;
-    let mut budget = CountDown::new(0);
-    let report = validate(
-        alloc,
-        &mut Reader::new(token.as_bytes()),
-        &keys,
-        &policy,
-        NOW,
-        &verifiers,
-        &mut budget,
-    );
-    let word = match report.verdict {
-        Verdict::Accepted { .. } => "accepted",
-        Verdict::Refused(_) => "refused",
-    };
-    Ok((word, report.states.first().copied()))
+    told_by(alloc, Box::new(alloc, Rsa)?, policy, keys, token)
 }
 
 #[test]

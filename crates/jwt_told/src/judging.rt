@@ -146,9 +146,9 @@ fn judge_by<'a, 'p>(
 /// among the answers. `now` is in seconds since 1970-01-01T00:00:00Z. The caller answers questions by [`Answers::tell`], and calls
 /// again with a new budget. Each question is a try that counts as a call, so the policy's `max_calls` bounds them.
 ///
-/// What wasn't told counts as invalid, and the run goes on to its end. So a caller may answer the tries that are listed one after
-/// another, from the question on, until an answer is that the signature is valid, and call again only then: that makes one call more
-/// than the token has signatures at most. The tries by HMAC among them, which cost octets, need no answer.
+/// A pair without an answer counts as invalid, and the run goes on to its end. So a caller may answer the listed tries one after another,
+/// from the question on, until an answer is that the signature is valid, and only then call again: at most one call more than there are
+/// signatures. The tries by HMAC among them cost octets, and need no answer.
 ///
 /// Where each answer that was told is true, the verdict is the one that a verifier who knows the truth would have led to, be it an
 /// acceptance or a refusal.

@@ -1,0 +1,12 @@
+use Rattle.std.proofs.Common.{sym, ap, ◌∙◌}
+use Rattle.std.specs.Prelude.{is_some}
+use Rattle.jwt_mac.specs.Verifying.{key_octets, message_octets}
+use Rattle.jwt_told.specs.Parts.{views}
+use Rattle.jwt_told.proofs.Telling.{found_is}
+use Rattle.jwt_told.proofs.table.Table.is_told_valid.Goals as goal
+
+pub returns : goal.returns
+returns c =
+    let asked = c.args.asked.now in let table = c.args.self.now in
+    c.is_ok.ensures.value ∙ found_is (views table.valid.answers.items) table.valid.rising asked.alg (key_octets asked.key) (message_octets asked.message) asked.signature.now c.place.result c.place.ensures.found c.place.ensures.absent
+    ∙ sym (table.holds asked.alg (key_octets asked.key) (message_octets asked.message) asked.signature.now)
