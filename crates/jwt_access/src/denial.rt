@@ -1,0 +1,162 @@
+//! Why claims don't meet a rule.
+
+ghost use Rattle.std.specs.Prelude.{◌≡◌, ◌↔◌, IsTrue, IsNone, IfSome, map, string_bytes};
+ghost use Rattle.jwt_text.specs.Rows.{first_row};
+ghost use Rattle.jwt_policy.specs.Texts.{some_passes};
+ghost use Rattle.jwt_access.specs.DenialWords.{IsDenial};
+ghost use Rattle.jwt_access.specs.Denials.{scope_row, demands_rows, denial_of};
+ghost use Rattle.jwt_access.specs.Granted.{HasScope, IsGranted};
+ghost use Rattle.jwt_access.specs.Pointers.{claim_at};
+ghost use Rattle.jwt_access.specs.Scopes.{grants};
+ghost use Rattle.jwt_access.specs.Views.{demand, name_of};
+
+use crate::claim_rule::ClaimRule;
+use crate::place::Place;
+use crate::rule::AccessRule;
+use jwt_policy::Claims;
+use std::marker::Model;
+use thiserror::Error;
+
+/// A scope, or the name of a claim, lent by the rule that asks for it.
+#[derive(Debug, Drop)]
+pub struct DeniedName<'a> {
+    text: &'a str,
+}
+
+impl<'a> Model for DeniedName<'a> {
+    ghost use Rattle.std.specs.Prelude.{ℕ, List};
+
+    ghost Value = { List ℕ };
+
+    ghost view = { λ n. n.text.now };
+}
+
+impl<'a> DeniedName<'a> {
+    /// This name.
+    pub(crate) fn new(text: &'a str) -> DeniedName<'a>
+        ensures { result ≡ text.entry.now }
+    {
+        DeniedName { text }
+    }
+
+    /// The text, as the rule has it, with JSON escapes undone.
+    pub fn text(&self) -> &'a str
+        ensures { result.now ≡ self.now }
+    {
+        self.text
+    }
+}
+
+/// What claims lack that a rule asks for.
+#[derive(Debug, Drop, Error)]
+pub enum Denial<'a> {
+    /// The scope isn't granted: the claim that carries scopes is absent, holds no scopes, or holds others.
+    #[error("the scope {:?} is not granted", .0.text())]
+    ScopeMissing(DeniedName<'a>),
+    /// The claim is absent, or an object that it would stand in is.
+    #[error("the claim {:?} is absent", .0.text())]
+    ClaimMissing(DeniedName<'a>),
+    /// The claim is there, and neither is it one of the values that the rule allows nor a list that holds one.
+    #[error("the claim {:?} has no value that is allowed", .0.text())]
+    ClaimNotAllowed(DeniedName<'a>),
+}
+
+impl<'a> Denial<'a> {
+    ghost use Rattle.jwt_access.specs.FaultNames.{denial_name, denied};
+
+    /// The name of the denial, that of its variant, as the program `jwt` prints it.
+    pub fn name(&self) -> &'static str
+        ensures { result.now ≡ denial_name self.now }
+    {
+        match self {
+            Denial::ScopeMissing(_) => "ScopeMissing",
+            Denial::ClaimMissing(_) => "ClaimMissing",
+            Denial::ClaimNotAllowed(_) => "ClaimNotAllowed",
+        }
+    }
+
+    /// The scope, or the name of the claim, that it speaks of.
+    pub fn denied(&self) -> &'a str
+        ensures { result.now ≡ denied self.now }
+    {
+        match self {
+            Denial::ScopeMissing(scope) => scope.text(),
+            Denial::ClaimMissing(name) => name.text(),
+            Denial::ClaimNotAllowed(name) => name.text(),
+        }
+    }
+}
+
+/// Whether the claim at this place grants the scope.
+fn is_granted(place: &Place, claims: &Claims, scope: &str) -> bool
+    ensures { result
+        ≡ some_passes (grants scope.now) (claim_at (name_of place.now) claims.now) }
+{
+    match place.spot(claims) {
+        Some(spot) => spot.grants(scope),
+        None => false,
+    }
+}
+
+/// The first of these scopes that the claim at this place doesn't grant.
+fn first_scope_missing<'a>(
+    place: &Place,
+    scopes: &'a [String],
+    claims: &Claims,
+) -> Option<Denial<'a>>
+    ensures { result ≡ first_row (map (scope_row (name_of place.now) claims.now)
+        (map string_bytes scopes.entry.now)) }
+{
+    for scope in scopes {
+        if !is_granted(place, claims, scope.as_str()) {
+            return Some(Denial::ScopeMissing(DeniedName::new(scope.as_str())));
+        }
+    }
+    None
+}
+
+/// The first of these demands that isn't met, where the claim of this name carries scopes.
+fn first_unmet<'a>(rules: &'a [ClaimRule], claims: &Claims, scope_claim: &str) -> Option<Denial<'a>>
+    ensures { result
+        ≡ first_row (demands_rows scope_claim.now claims.now (map demand rules.entry.now)) }
+{
+    for rule in rules {
+        let denial = rule.denial(claims, scope_claim);
+        if denial.is_some() {
+            return denial;
+        }
+    }
+    None
+}
+
+/// The first scope that isn't granted, else the first demand that isn't met.
+#[tactic(auto, unfolding(crate::specs::Denials::denial_of), using(crate::proofs::RowsLemmas::first_of_both))]
+fn first_denial<'a>(rule: &'a AccessRule, claims: &Claims) -> Option<Denial<'a>>
+    ensures { result ≡ denial_of rule.entry.now claims.now }
+{
+    match first_scope_missing(rule.scope_place(), rule.scopes(), claims) {
+        Some(denial) => Some(denial),
+        None => first_unmet(rule.claim_rules(), claims, rule.scope_claim()),
+    }
+}
+
+impl AccessRule {
+    /// Whether the claim that carries scopes grants this one, as a rule that asks for it would find.
+    pub fn has_scope(&self, claims: &Claims, scope: &str) -> bool
+        ensures { IsTrue result ↔ HasScope self.now.scope_claim claims.now scope.now }
+    {
+        is_granted(self.scope_place(), claims, scope)
+    }
+
+    /// Why the claims don't meet the rule: the first scope, in their order, that isn't granted; else the first claim, in ascending
+    /// octet order of their names, that is absent or has no value that is allowed. `None` exactly where they meet it. The claims are
+    /// those of a token that was accepted: nothing else of the token is looked at.
+    ///
+    /// It takes no memory. The rule lends the name in the answer.
+    pub fn denial<'a>(&'a self, claims: &Claims) -> Option<Denial<'a>>
+        ensures granted { IsNone result ↔ IsGranted self.now claims.now }
+        ensures first { IfSome result (IsDenial self.now claims.now) }
+    {
+        first_denial(self, claims)
+    }
+}

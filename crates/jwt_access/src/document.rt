@@ -1,0 +1,102 @@
+//! The document of an access rule.
+
+ghost use Rattle.std.specs.Prelude.{◌≡◌, ◌<◌, Err, IsErrOf, length, option_map};
+ghost use Rattle.jwt_access.specs.Document.{rule_of, rule_in, settings_of, is_known, first_unknown};
+
+use crate::access_fault::AccessFault;
+use crate::member_kinds::{claim_rules, scope_claim, scopes};
+use crate::rule::AccessRule;
+use jwt_text::{ObjectRef, TextFault, object};
+use std::alloc::Global;
+
+/// The greatest number of octets of a rule's document.
+const MAX_OCTETS: usize = 65_536;
+
+impl AccessRule {
+    /// The rule of a document in UTF-8, of at most 65,536 octets: an object with these members, all optional.
+    ///
+    /// | Member | Kind and range | Default |
+    /// |---|---|---|
+    /// | `scopes` | list of scope tokens (RFC 6749, section 3.3) | empty |
+    /// | `scope_claim` | name of the claim that carries scopes | `scope` |
+    /// | `claims` | object, from names of claims to lists, not empty, of texts, truth values and whole numbers of 64 signed bits | empty |
+    ///
+    /// The name of a claim that begins with `/` is a JSON Pointer (RFC 6901) through objects, as `/realm_access/roles`; any other
+    /// is the name of a member of the claims. The claim has to be one of the values of its list, or a list that holds one; of the
+    /// claim of this very name `scope_claim` a text is enough that it grants as a scope. A rule that asks for nothing is met by all
+    /// claims.
+    ///
+    /// # Errors
+    /// The first that holds of `TooLong`, more octets; `Json`, no JSON text or no object; `NameTwice`, a name that stands twice in
+    /// one object, at any depth; `Member` with the first name, in octet order, that isn't in this table; then, member by member in
+    /// the order of this table, `Member` where the kind is another, and `Range` where the value is out of its range, as a scope that
+    /// is no scope token or a `scope_claim` that begins with `/` and is no JSON Pointer; for `claims`, claim by claim in octet order
+    /// of their names, `ClaimRange` where the name begins with `/` and is no JSON Pointer, `Claim` where the list is of another
+    /// kind or holds a value of another, and `ClaimRange` where it is empty. `OutOfMemory` comes where an allocation was refused,
+    /// in place of any other answer but `TooLong`.
+    #[tactic(auto, unfolding(crate::specs::Document::rule_of))]
+    pub fn read(alloc: Global, document: &[u8]) -> Result<AccessRule, AccessFault>
+        ensures answer { ¬ IsErrOf result AccessFault.OutOfMemory → result ≡ rule_of document.now }
+        ensures too_long { 65536 < length document.now → result ≡ Err AccessFault.TooLong }
+    {
+        if document.len() > MAX_OCTETS {
+            return Err(AccessFault::TooLong);
+        }
+        match object(alloc, document) {
+            Ok(members) => rule(alloc, &members.lend()),
+            Err(TextFault::OutOfMemory) => Err(AccessFault::OutOfMemory),
+            Err(TextFault::NameTwice) => Err(AccessFault::NameTwice),
+            Err(_) => Err(AccessFault::Json),
+        }
+    }
+}
+
+/// The rule that these members say.
+#[tactic(auto, unfolding(crate::specs::Document::rule_in))]
+fn rule(alloc: Global, members: &ObjectRef<'_>) -> Result<AccessRule, AccessFault>
+    ensures { ¬ IsErrOf result AccessFault.OutOfMemory → result ≡ rule_in members.now }
+{
+    match first_unknown(members) {
+        Some(name) => Err(AccessFault::member(alloc, name)),
+        None => settings(alloc, members),
+    }
+}
+
+/// Whether this is the name of a member.
+fn is_known(name: &str) -> bool
+    ensures { result ≡ is_known name.now }
+{
+    matches!(name, "scopes" | "scope_claim" | "claims")
+}
+
+/// The first name, in octet order, that isn't one of the table.
+#[tactic(auto, using(crate::proofs::NamesLemmas::length_names, crate::proofs::NamesLemmas::unknown_here, crate::proofs::NamesLemmas::unknown_later, crate::proofs::NamesLemmas::unknown_end, crate::proofs::NamesLemmas::unknown_past))]
+fn first_unknown<'a>(members: &ObjectRef<'a>) -> Option<&'a str>
+    ensures { option_map (λ s. s.now) result ≡ first_unknown members.now }
+{
+    for place in 0..members.member_count() {
+        match members.name(place) {
+            Some(name) => {
+                if !is_known(name) {
+                    return Some(name);
+                }
+            }
+            None => return None,
+        }
+    }
+    None
+}
+
+/// The rule of members whose names are known.
+fn settings(alloc: Global, members: &ObjectRef<'_>) -> Result<AccessRule, AccessFault>
+    ensures { ¬ IsErrOf result AccessFault.OutOfMemory → result ≡ settings_of members.now }
+{
+    let scopes = scopes(alloc, members, "scopes")?;
+    let scope_claim = scope_claim(alloc, members, "scope_claim")?;
+    let claims = claim_rules(alloc, members, "claims")?;
+    Ok(AccessRule {
+        scopes,
+        scope_claim,
+        claims,
+    })
+}
