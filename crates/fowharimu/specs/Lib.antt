@@ -30,6 +30,13 @@ pub use Rattle.jwt_policy.specs.Document
 pub use Rattle.jwt_policy.specs.FaultNames as PolicyFaultNames
 pub use Rattle.jwt_policy.specs.Laws as PolicyLaws
 pub use Rattle.jwt_policy.specs.Settings
+pub use Rattle.jwt_access.specs.DenialWords
+pub use Rattle.jwt_access.specs.Document as AccessDocument
+pub use Rattle.jwt_access.specs.FaultNames as AccessFaultNames
+pub use Rattle.jwt_access.specs.Granted
+pub use Rattle.jwt_access.specs.RuleTexts
+pub use Rattle.jwt_access.specs.Rules
+pub use Rattle.jwt_access.specs.Scopes
 pub use Rattle.jwt_verify.specs.Accepted
 pub use Rattle.jwt_verify.specs.Asks
 pub use Rattle.jwt_verify.specs.FaultNames
@@ -43,9 +50,14 @@ pub use Rattle.jwt_verify.specs.Verdicts
 pub use Rattle.jwt_verify.specs.declared.report.Fault.TheVariants as FaultVariants
 pub use Rattle.jwt_verify.specs.declared.report.InputFault.TheVariants as InputFaultVariants
 pub use Rattle.jwt_verify.specs.declared.report.Verdict.TheVariants as VerdictVariants
+pub use Rattle.jwt_memory.specs.Kept
+pub use Rattle.jwt_memory.specs.Laws as MemoryLaws
+pub use Rattle.jwt_memory.specs.Outcomes
 pub use Rattle.jwt_issue.specs.ClaimSets
 pub use Rattle.jwt_issue.specs.FaultNames as IssueFaultNames
 pub use Rattle.jwt_issue.specs.Issued
 pub use Rattle.jwt_issue.specs.Paying as IssuePaying
 pub use Rattle.jwt_issue.specs.Signed as IssueSigned
 pub use Rattle.jwt_issue.specs.Views as IssueViews
+-- What a verdict with a memory rests on.
+pub mod Remembering

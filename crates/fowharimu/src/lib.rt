@@ -9,15 +9,19 @@
 //! let report = validator.validate(alloc, &mut Reader::new(stream), now, &mut validator.policy.budget());
 //! ```
 //!
-//! A [`Validator`] is made once and judges each token that comes. Its verifiers are for public keys: [`Rsa`], [`Ecdsa`] and
+//! A [`Validator`] is made once and judges each token that comes; a [`Remembering`] also keeps the tokens that it accepted, and answers the
+//! same of them at once. Its verifiers are for public keys: [`Rsa`], [`Ecdsa`] and
 //! [`Ed25519`] are three, and a caller's own is a [`Verifier`]. The [`Report`] has the [`Verdict`], what became of each signature, and each try of a
 //! key with its cost.
 //!
-//! Each other name here is that of one of the libraries below: `jwt_text`, `jwt_mac`, `jwt_keys`, `jwt_jws`, `jwt_policy`,
-//! `jwt_verify`, `jwt_issue`, `jwt_rsa`, `jwt_ecdsa` and `jwt_ed25519`. Their modules `laws` stand here as `token_laws`, of issuing, and
-//! `verdict_laws`.
+//! What an accepted token may do says an [`AccessRule`], by [`AccessRule::denial`] of its claims.
+//!
+//! Each other name here is that of one of the libraries below: `jwt_text`, `jwt_mac`, `jwt_keys`, `jwt_jws`, `jwt_policy`, `jwt_access`,
+//! `jwt_verify`, `jwt_memory`, `jwt_issue`, `jwt_rsa`, `jwt_ecdsa` and `jwt_ed25519`. Their modules `laws` stand here as `access_laws`,
+//! `token_laws`, of issuing, `memory_laws` and `verdict_laws`.
 #![tactic(auto)]
 
+mod remembering;
 mod validator;
 
 // Judging a token.
@@ -29,6 +33,13 @@ pub use jwt_policy::{
 pub use jwt_text::{List, Object, ObjectRef, Reader, Source, TextFault};
 pub use jwt_verify::{Fault, InputFault, Report, SigState, Try, Verdict, judge, validate};
 pub use validator::Validator;
+
+// What an accepted token may do.
+pub use jwt_access::{AccessFault, AccessRule, Denial, DeniedName, RuleMember, has_scope};
+
+// Judging the same token many times.
+pub use jwt_memory::{Basis, Outcome};
+pub use remembering::Remembering;
 
 // Verifiers of signatures by public keys.
 pub use jwt_ecdsa::Ecdsa;
@@ -45,5 +56,7 @@ pub use jwt_issue::{
 };
 
 // What follows from the definitions, to be called in a proof.
+pub use jwt_access::laws as access_laws;
 pub use jwt_issue::laws as token_laws;
+pub use jwt_memory::laws as memory_laws;
 pub use jwt_verify::laws as verdict_laws;

@@ -1,0 +1,17 @@
+-- What a verdict with a memory rests on.
+use Rattle.std.specs.Prelude.{ℤ, List, [], ◌∷◌}
+use Rattle.jwt_mac.specs.Verifying.{Meaning}
+use Rattle.jwt_rsa.specs.Meanings.{rsa_meaning}
+use Rattle.jwt_ecdsa.specs.Meanings.{ecdsa_meaning}
+use Rattle.jwt_ed25519.specs.Meanings.{ed25519_meaning}
+use Rattle.jwt_keys.specs.Keys.{KeyParts}
+use Rattle.jwt_policy.specs.Settings.{Settings}
+use Rattle.jwt_verify.specs.Verdict.{Terms}
+
+-- the verifiers that are built in
+abbrev pub built_in : List Meaning
+built_in = rsa_meaning ∷ ecdsa_meaning ∷ ed25519_meaning ∷ []
+
+-- a policy and its keys, at a moment, by the verifiers that are built in
+abbrev pub terms_by : Settings × List KeyParts → ℤ → Terms
+terms_by documents now = record { policy = documents.0; keys = documents.1; now = now; verifiers = built_in }

@@ -1,0 +1,230 @@
+//! A policy and keys with a memory of the tokens that they accept.
+
+ghost use Rattle.std.specs.Prelude.{◌≡◌, ◌≢◌, [], IfOk, length, map};
+ghost use Rattle.std.specs.List.{AllPairs};
+ghost use Rattle.jwt_keys.specs.KeySets.{key_set};
+ghost use Rattle.jwt_verify.specs.Table.{work};
+ghost use Rattle.jwt_verify.specs.Accepted.{IsVerdict};
+ghost use Rattle.jwt_verify.specs.Laws.{IsBefore};
+ghost use Rattle.jwt_verify.specs.Paying.{IsWithin};
+ghost use Rattle.jwt_verify.specs.Reports.{FoundMemory, IsReport, AreEligible, IsBounded, terms};
+ghost use Rattle.jwt_verify.specs.declared.report.InputFault.TheVariants.{Read};
+ghost use Rattle.jwt_verify.specs.declared.report.Fault.TheVariants.{OutOfMemory, Text};
+ghost use Rattle.jwt_verify.specs.declared.report.Verdict.TheVariants.{Refused};
+ghost use Rattle.jwt_memory.specs.Kept.{AreKept};
+ghost use Rattle.jwt_memory.specs.Outcomes.{report_in, paid_in};
+ghost use Rattle.fowharimu.specs.Remembering.{built_in, terms_by};
+
+use jwt_ecdsa::Ecdsa;
+use jwt_ed25519::Ed25519;
+use jwt_keys::KeySet;
+use jwt_mac::{Budget, Verifier};
+use jwt_memory::{Memory, Outcome};
+use jwt_policy::Policy;
+use jwt_rsa::Rsa;
+use jwt_verify::{Fault, Report, Verdict};
+use std::alloc::{AllocError, Global};
+use std::marker::Model;
+use std::num::NonZeroUsize;
+
+/// A policy and the keys of an issuer with a memory of the tokens that they accept, for a service that sees the same token many times.
+///
+/// Signatures are verified by HMAC, [`Rsa`], [`Ecdsa`] and [`Ed25519`]. A token that comes again is found by its octets, all of which are
+/// compared, and only its claims are looked at anew: the verdict and the report are those of
+/// [`Validator::judge`](crate::Validator::judge). The policy and the keys can't change while the memory lasts: new keys begin a new one.
+///
+/// Accepted tokens and their claims lie in the memory until they go, and aren't wiped. A kept token takes about four times its octets and
+/// some hundred octets beside.
+///
+/// ```rust
+/// let tokens = NonZeroUsize::new(1000).ok_or(NoRoom)?;
+/// let mut remembering = Remembering::new(alloc, &policy, &keys, tokens, 4096)?;
+/// let outcome = remembering.judge(alloc, octets, now, &mut policy.budget());
+/// ```
+///
+/// Contracts see the policy and the keys.
+#[derive(Drop)]
+pub struct Remembering<'p> {
+    policy: &'p Policy,
+    keys: &'p KeySet,
+    memory: Memory,
+}
+
+impl<'p> Model for Remembering<'p> {
+    ghost use Rattle.std.specs.Prelude.{List, map};
+    ghost use Rattle.jwt_policy.specs.Settings.{Settings};
+    ghost use Rattle.jwt_keys.specs.Keys.{KeyParts};
+
+    ghost Value = { Settings × List KeyParts };
+
+    ghost use Rattle.jwt_keys.specs.Views.{key_parts};
+    ghost use Rattle.jwt_memory.specs.Kept.{AreKept};
+    ghost use Rattle.fowharimu.specs.Remembering.{built_in};
+
+    ghost view = { λ r. (r.policy.now, map key_parts r.keys.now.keys.items) };
+
+    ghost invariant = { λ r. AreKept r.policy.now r.keys.now built_in r.memory };
+}
+
+/// The outcome where memory was refused before anything was tried.
+fn nothing_tried<'p>(alloc: Global) -> Outcome<'p>
+    ensures verdict { (report_in result).verdict ≡ Refused OutOfMemory }
+    ensures tries { (report_in result).tries.items ≡ [] }
+    ensures states { (report_in result).states.items ≡ [] }
+    ensures paid { paid_in result ≡ [] }
+{
+    Outcome::Judged(Report {
+        verdict: Verdict::Refused(Fault::OutOfMemory),
+        states: Vec::new(alloc),
+        tries: Vec::new(alloc),
+    })
+}
+
+/// The outcome by verifiers that mean what the built-in ones do.
+fn judge_under<'p, B: Budget>(
+    memory: &mut Memory,
+    alloc: Global,
+    octets: &[u8],
+    keys: &KeySet,
+    policy: &'p Policy,
+    now: i64,
+    verifiers: &[Box<dyn Verifier>],
+    budget: &mut B,
+) -> Outcome<'p>
+    requires three { map meaning verifiers.now ≡ built_in }
+    requires no_octets { B.octets budget.old ≡ 0 }
+    requires no_calls { B.calls budget.old ≡ 0 }
+    requires kept { AreKept policy.now keys.now built_in memory.old }
+    ensures verdict { FoundMemory (report_in result).verdict
+        → IsVerdict (terms policy.now keys.now now built_in)
+        octets.now (B.ceiling budget.old) (report_in result).verdict }
+    ensures report { IsReport (terms policy.now keys.now now built_in)
+        octets.now (B.ceiling budget.old) (report_in result) }
+    ensures read { (report_in result).verdict ≢ Refused (Text Read) }
+    ensures once { AllPairs IsBefore (paid_in result) }
+    ensures eligible { AreEligible (terms policy.now keys.now now built_in)
+        octets.now (paid_in result) }
+    ensures bound { IsBounded (terms policy.now keys.now now built_in)
+        octets.now (paid_in result) (B.octets budget.new) }
+    ensures within { IsWithin policy.now.max_calls (B.calls budget.new) }
+    ensures octets { B.octets budget.new ≡ work (paid_in result) }
+    ensures calls { B.calls budget.new ≡ length (paid_in result) }
+    ensures ceiling { B.ceiling budget.new ≡ B.ceiling budget.old }
+    ensures kept { AreKept policy.now keys.now built_in memory.new }
+{
+    jwt_memory::judge(memory, alloc, octets, keys, policy, now, verifiers, budget)
+}
+
+/// The outcome by the built-in verifiers.
+#[tactic(auto, unfolding(jwt_verify::specs::Table::work), using(jwt_told::proofs::Blank::nothing))]
+fn judge_built_in<'p, B: Budget>(
+    memory: &mut Memory,
+    alloc: Global,
+    octets: &[u8],
+    keys: &KeySet,
+    policy: &'p Policy,
+    now: i64,
+    budget: &mut B,
+) -> Outcome<'p>
+    requires no_octets { B.octets budget.old ≡ 0 }
+    requires no_calls { B.calls budget.old ≡ 0 }
+    requires kept { AreKept policy.now keys.now built_in memory.old }
+    ensures verdict { FoundMemory (report_in result).verdict
+        → IsVerdict (terms policy.now keys.now now built_in)
+        octets.now (B.ceiling budget.old) (report_in result).verdict }
+    ensures report { IsReport (terms policy.now keys.now now built_in)
+        octets.now (B.ceiling budget.old) (report_in result) }
+    ensures read { (report_in result).verdict ≢ Refused (Text Read) }
+    ensures once { AllPairs IsBefore (paid_in result) }
+    ensures eligible { AreEligible (terms policy.now keys.now now built_in)
+        octets.now (paid_in result) }
+    ensures bound { IsBounded (terms policy.now keys.now now built_in)
+        octets.now (paid_in result) (B.octets budget.new) }
+    ensures within { IsWithin policy.now.max_calls (B.calls budget.new) }
+    ensures octets { B.octets budget.new ≡ work (paid_in result) }
+    ensures calls { B.calls budget.new ≡ length (paid_in result) }
+    ensures ceiling { B.ceiling budget.new ≡ B.ceiling budget.old }
+    ensures kept { AreKept policy.now keys.now built_in memory.new }
+{
+    let Ok(rsa) = Box::new(alloc, Rsa) else {
+        return nothing_tried(alloc);
+    };
+    let Ok(ecdsa) = Box::new(alloc, Ecdsa) else {
+        return nothing_tried(alloc);
+    };
+    let Ok(ed25519) = Box::new(alloc, Ed25519) else {
+        return nothing_tried(alloc);
+    };
+    let verifiers: [Box<dyn Verifier>; 3] = [rsa, ecdsa, ed25519];
+    judge_under(memory, alloc, octets, keys, policy, now, &verifiers, budget)
+}
+
+impl<'p> Remembering<'p> {
+    /// With an empty memory, for at most so many tokens of at most so many octets each.
+    ///
+    /// # Errors
+    /// Where an allocation was refused.
+    pub fn new(
+        alloc: Global,
+        policy: &'p Policy,
+        keys: &'p KeySet,
+        tokens: NonZeroUsize,
+        longest: usize,
+    ) -> Result<Remembering<'p>, AllocError>
+        ensures policy { IfOk result (λ r. r.0 ≡ policy.now) }
+        ensures keys { IfOk result (λ r. r.1 ≡ (key_set keys.now).keys) }
+    {
+        let memory = Memory::new(alloc, tokens, longest)?;
+        Ok(Remembering {
+            policy,
+            keys,
+            memory,
+        })
+    }
+
+    /// The verdict on octets in hand, as [`Validator::judge`](crate::Validator::judge) gives it by this policy, these keys and the
+    /// built-in verifiers, with what was paid in this call: nothing, where the token was remembered.
+    ///
+    /// `now` is in seconds since 1970-01-01T00:00:00Z. The condition: the budget is new. Its ceiling alone is looked at, and
+    /// [`Policy::budget`] makes one with the policy's `work`.
+    ///
+    /// # Refused
+    /// As [`judge`](crate::judge) refuses.
+    pub fn judge<B: Budget>(
+        &mut self,
+        alloc: Global,
+        octets: &[u8],
+        now: i64,
+        budget: &mut B,
+    ) -> Outcome<'p>
+        requires no_octets { B.octets budget.old ≡ 0 }
+        requires no_calls { B.calls budget.old ≡ 0 }
+
+        // The verdict is that on the octets, unless memory was refused; and what else the report holds.
+        ensures verdict { FoundMemory (report_in result).verdict
+            → IsVerdict (terms_by self.old now)
+            octets.now (B.ceiling budget.old) (report_in result).verdict }
+        ensures report { IsReport (terms_by self.old now)
+            octets.now (B.ceiling budget.old) (report_in result) }
+        ensures read { (report_in result).verdict ≢ Refused (Text Read) }
+
+        // What was paid in this call: no pair is tried twice, and each is eligible; the octets are within the bound, the calls within the
+        // policy's ceiling.
+        ensures once { AllPairs IsBefore (paid_in result) }
+        ensures eligible { AreEligible (terms_by self.old now) octets.now (paid_in result) }
+        ensures bound { IsBounded (terms_by self.old now) octets.now (paid_in result) (B.octets budget.new) }
+        ensures within { IsWithin self.old.0.max_calls (B.calls budget.new) }
+
+        // The budget agrees with that.
+        ensures octets { B.octets budget.new ≡ work (paid_in result) }
+        ensures calls { B.calls budget.new ≡ length (paid_in result) }
+        ensures ceiling { B.ceiling budget.new ≡ B.ceiling budget.old }
+
+        // The policy and the keys stay.
+        ensures same { self.new ≡ self.old }
+    {
+        let policy = self.policy;
+        let keys = self.keys;
+        judge_built_in(&mut self.memory, alloc, octets, keys, policy, now, budget)
+    }
+}

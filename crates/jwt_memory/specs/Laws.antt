@@ -1,0 +1,35 @@
+-- What is accepted, at every moment.
+use Rattle.std.specs.Prelude.{ℕ, ℤ, List}
+use Rattle.serde_json.specs.Data.{Members}
+use Rattle.jwt_policy.specs.Checks.{check_of}
+use Rattle.jwt_verify.specs.declared.report.Report.{Report}
+use Rattle.jwt_verify.specs.declared.report.Verdict.{Verdict}
+use Rattle.jwt_verify.specs.declared.report.Verdict.TheVariants.{Accepted}
+use Rattle.jwt_verify.specs.Accepted.{IsVerdict}
+use Rattle.jwt_verify.specs.Reports.{IsReport}
+use Rattle.jwt_verify.specs.Verdict.{Terms, checked}
+
+-- the same terms, at another moment
+abbrev pub at : Terms → ℤ → Terms
+at terms now = record { policy = terms.policy; keys = terms.keys; now = now; verifiers = terms.verifiers }
+
+-- the verdict on a token that this signature and this key verify and that has these claims, at the moment of the terms: it is accepted, unless
+-- the policy refuses the claims (RFC 7519, section 7.2)
+abbrev pub verdict_on : Terms → (signature key : ℕ) → Members → Verdict
+verdict_on terms signature key claims = checked signature key claims (check_of terms.policy claims terms.now)
+
+-- the same report, with another verdict
+abbrev pub with_verdict : Report → Verdict → Report
+with_verdict report verdict = record { verdict = verdict; states = report.states; tries = report.tries }
+
+-- The report on an accepted token is at every moment the report on it, with what its claims come to then.
+abbrev pub AcceptedEver : Type 0
+AcceptedEver = (terms : Terms) (octets : List ℕ) (ceiling signature key : ℕ) (claims : Members) (report : Report)
+    → IsReport terms octets ceiling (with_verdict report (Accepted signature key claims))
+    → (now : ℤ) → IsReport (at terms now) octets ceiling (with_verdict report (verdict_on (at terms now) signature key claims))
+
+-- What is accepted at one moment has at every moment the verdict that its claims come to then.
+abbrev pub AcceptedVerdicts : Type 0
+AcceptedVerdicts = (terms : Terms) (octets : List ℕ) (ceiling signature key : ℕ) (claims : Members)
+    → IsVerdict terms octets ceiling (Accepted signature key claims)
+    → (now : ℤ) → IsVerdict (at terms now) octets ceiling (verdict_on (at terms now) signature key claims)

@@ -1,0 +1,30 @@
+-- What an outcome says.
+use Rattle.std.specs.Prelude.{List, []}
+use Rattle.std.specs.Arc.{arc_value}
+use Rattle.jwt_verify.specs.declared.report.Try.{Try}
+use Rattle.jwt_verify.specs.declared.report.Report.{Report}
+use Rattle.jwt_verify.specs.declared.report.Verdict.{Verdict}
+use Rattle.jwt_verify.specs.declared.report.Verdict.TheVariants as verdict
+use Rattle.jwt_verify.specs.Verdict.{checked}
+use Rattle.jwt_memory.specs.declared.memory.Basis.{Basis}
+use Rattle.jwt_memory.specs.declared.outcome.Outcome.{Outcome}
+use Rattle.jwt_memory.specs.declared.outcome.Outcome.TheVariants.{Judged, Accepted, Remembered}
+
+-- the report with this verdict, and the states and the tries of a basis
+abbrev pub report_of : Verdict → Basis → Report
+report_of verdict basis = record { verdict = verdict; states = basis.states; tries = basis.tries }
+
+abbrev pub accepted_by : Basis → Verdict
+accepted_by basis = verdict.Accepted basis.signature basis.key basis.claims
+
+-- the report that an outcome is
+abbrev pub report_in : Outcome → Report
+report_in (Judged report) = report
+report_in (Accepted basis) = report_of (accepted_by (arc_value basis)) (arc_value basis)
+report_in (Remembered basis fault) = report_of (checked (arc_value basis).signature (arc_value basis).key (arc_value basis).claims fault) (arc_value basis)
+
+-- the tries that were paid in this call
+abbrev pub paid_in : Outcome → List Try
+paid_in (Judged report) = report.tries.items
+paid_in (Accepted basis) = (arc_value basis).tries.items
+paid_in (Remembered basis fault) = []

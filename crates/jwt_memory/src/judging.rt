@@ -1,0 +1,157 @@
+//! Judges a token, by a memory or anew.
+
+ghost use Rattle.std.specs.Prelude.{◌≡◌, ◌≢◌, ◌⊎◌, length, map};
+ghost use Rattle.std.specs.Arc.{arc_value};
+ghost use Rattle.std.specs.List.{AllPairs};
+ghost use Rattle.jwt_verify.specs.Table.{work};
+ghost use Rattle.jwt_verify.specs.Accepted.{IsVerdict};
+ghost use Rattle.jwt_verify.specs.Laws.{IsBefore};
+ghost use Rattle.jwt_verify.specs.Paying.{IsWithin};
+ghost use Rattle.jwt_verify.specs.Reports.{FoundMemory, IsReport, AreEligible, IsBounded, TakesMemory, terms};
+ghost use Rattle.jwt_verify.specs.declared.report.InputFault.TheVariants.{Read};
+ghost use Rattle.jwt_verify.specs.declared.report.Fault.TheVariants.{OutOfMemory, Text};
+ghost use Rattle.jwt_verify.specs.declared.report.Verdict.TheVariants.{Refused};
+ghost use Rattle.jwt_memory.specs.Entries.{Holds, HasRoomOf};
+ghost use Rattle.jwt_memory.specs.Kept.{AreKept};
+ghost use Rattle.jwt_memory.specs.Outcomes.{report_in, paid_in, report_of, accepted_by};
+
+use crate::laws::accepted_ever;
+use crate::memory::{Basis, Memory};
+use crate::outcome::Outcome;
+use jwt_keys::KeySet;
+use jwt_mac::{Budget, Verifier};
+use jwt_policy::{Policy, check};
+use jwt_verify::{Report, Verdict};
+use std::alloc::Global;
+use std::sync::Arc;
+
+/// The outcome that a report on the octets is. The memory keeps an acceptance, where it may and memory is there.
+pub(crate) fn kept<'p>(
+    memory: &mut Memory,
+    alloc: Global,
+    octets: &[u8],
+    ceiling: u64,
+    report: Report<'p>,
+) -> Outcome<'p>
+    ensures report { report_in result ≡ report.entry }
+    ensures paid { paid_in result ≡ report.entry.tries.items }
+    ensures held { (entry : _) → Holds memory.new entry → Holds memory.old entry
+        ⊎ ((entry.octets.items ≡ octets.now) × (entry.ceiling ≡ ceiling)
+        × (report.entry ≡ report_of (accepted_by (arc_value entry.basis)) (arc_value entry.basis))) }
+    ensures room { HasRoomOf memory.new memory.old }
+{
+    let Report {
+        verdict,
+        states,
+        tries,
+    } = report;
+    match verdict {
+        Verdict::Accepted {
+            signature,
+            key,
+            claims,
+        } => {
+            let basis = Basis {
+                signature,
+                key,
+                claims,
+                states,
+                tries,
+            };
+            match Arc::new(alloc, basis) {
+                Ok(basis) => {
+                    memory.keep(alloc, octets, ceiling, &basis);
+                    Outcome::Accepted(basis)
+                }
+                Err(refused) => {
+                    let Basis {
+                        signature,
+                        key,
+                        claims,
+                        states,
+                        tries,
+                    } = refused.value;
+                    Outcome::Judged(Report {
+                        verdict: Verdict::Accepted {
+                            signature,
+                            key,
+                            claims,
+                        },
+                        states,
+                        tries,
+                    })
+                }
+            }
+        }
+        Verdict::Refused(fault) => Outcome::Judged(Report {
+            verdict: Verdict::Refused(fault),
+            states,
+            tries,
+        }),
+    }
+}
+
+/// The verdict on octets in hand, as [`jwt_verify::judge`] gives it. Where the memory holds the same octets, and they were accepted under
+/// this budget's ceiling, nothing is tried: the claims are held against the policy at the moment `now`, in seconds since
+/// 1970-01-01T00:00:00Z, and the report is the one that `judge` would give. What was paid in this call is then nothing.
+///
+/// The conditions: the budget is new, and the memory is of this policy, these keys and these verifiers.
+///
+/// # Refused
+/// As [`jwt_verify::judge`] refuses. An acceptance is kept where the token is in compact form, isn't too long for the memory, and memory
+/// is there; where none is, nothing is kept and the verdict is the same. A refused token is never kept.
+#[tactic(auto, unfolding(jwt_verify::specs::Table::work))]
+pub fn judge<'p, B: Budget>(
+    memory: &mut Memory,
+    alloc: Global,
+    octets: &[u8],
+    keys: &KeySet,
+    policy: &'p Policy,
+    now: i64,
+    verifiers: &[Box<dyn Verifier>],
+    budget: &mut B,
+) -> Outcome<'p>
+    requires no_octets { B.octets budget.old ≡ 0 }
+    requires no_calls { B.calls budget.old ≡ 0 }
+    requires kept { AreKept policy.now keys.now (map meaning verifiers.now) memory.old }
+
+    // The verdict is that on the octets, unless memory was refused; and what else the report holds.
+    ensures verdict { FoundMemory (report_in result).verdict
+        → IsVerdict (terms policy.now keys.now now (map meaning verifiers.now))
+        octets.now (B.ceiling budget.old) (report_in result).verdict }
+    ensures report { IsReport (terms policy.now keys.now now (map meaning verifiers.now))
+        octets.now (B.ceiling budget.old) (report_in result) }
+    ensures read { (report_in result).verdict ≢ Refused (Text Read) }
+    ensures memory { (report_in result).verdict ≡ Refused OutOfMemory → TakesMemory policy.now octets.now }
+
+    // Of what was paid in this call: no pair is tried twice, and each is eligible; the octets are within the bound, the calls within
+    // the policy's ceiling.
+    ensures once { AllPairs IsBefore (paid_in result) }
+    ensures eligible { AreEligible (terms policy.now keys.now now (map meaning verifiers.now))
+        octets.now (paid_in result) }
+    ensures bound { IsBounded (terms policy.now keys.now now (map meaning verifiers.now))
+        octets.now (paid_in result) (B.octets budget.new) }
+    ensures within { IsWithin policy.now.max_calls (B.calls budget.new) }
+
+    // The budget agrees with that.
+    ensures octets { B.octets budget.new ≡ work (paid_in result) }
+    ensures calls { B.calls budget.new ≡ length (paid_in result) }
+    ensures ceiling { B.ceiling budget.new ≡ B.ceiling budget.old }
+
+    // The memory is still of this policy, these keys and these verifiers.
+    ensures kept { AreKept policy.now keys.now (map meaning verifiers.now) memory.new }
+    ensures room { HasRoomOf memory.new memory.old }
+{
+    accepted_ever();
+    let ceiling = budget.left();
+    match memory.recall(octets, ceiling) {
+        Some(basis) => {
+            let fault = check(policy, &basis.claims, now);
+            Outcome::Remembered(basis, fault)
+        }
+        None => {
+            let report = jwt_verify::judge(alloc, octets, keys, policy, now, verifiers, budget);
+            kept(memory, alloc, octets, ceiling, report)
+        }
+    }
+}
