@@ -1,6 +1,7 @@
 pub mod AnsweredLines
 pub mod CostLemmas
 pub mod InputLemmas
+pub mod Jwks
 pub mod LineLemmas
 pub mod Printing
 pub mod RunningLines

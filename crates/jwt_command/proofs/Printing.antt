@@ -9,12 +9,24 @@ use Rattle.jwt_words.specs.Seen.{IsWrong, requested}
 use Rattle.jwt_words.specs.declared.words.Request.{Request as CodeRequest}
 use Rattle.jwt_words.specs.declared.words.WordsFault.{WordsFault}
 use Rattle.jwt_words.specs.declared.words.WordsFault.TheVariants.{OutOfMemory as NoMemory, Wrong}
-use Rattle.jwt_words.specs.Words.{EachLine, Once, Request}
+use Rattle.jwt_words.specs.Words.{EachLine, Jwk, NewSecret, Once, Request}
 
 pub gives_reply : {A E : Type 0} (view : A → Answer) (reply : Result A E) (a : Answer) (o : Outcome) → IfOk reply (λ r. view r ≡ a)
     → IfOk reply (λ r. Printed (view r) o) → IfErr reply (λ e. Printed out_of_memory o) → Gives a o.before o.after o.failed o.status
 gives_reply view (Ok r) a o is printed lacks = inl (subst (λ (b : Answer). Printed b o) is printed)
 gives_reply view (Err e) a o is printed lacks = inr lacks
+
+-- an answer that isn't the only one
+one_of_some : {A E : Type 0} (view : A → Answer) (reply : Result A E) (IsAnswer : Answer → Type 0) (o : Outcome) → IfOk reply (λ r. IsAnswer (view r))
+    → IfOk reply (λ r. Printed (view r) o) → IfErr reply (λ e. Printed out_of_memory o) → Printed out_of_memory o ⊎ ((a : Answer) × IsAnswer a × Printed a o)
+one_of_some view (Ok r) IsAnswer o is printed lacks = inr (view r, is, printed)
+one_of_some view (Err e) IsAnswer o is printed lacks = inl lacks
+
+pub some_known : {A E : Type 0} (view : A → Answer) (reply : Result A E) (known : Option (List ℕ)) (IsAnswer : List ℕ → Answer → Type 0) (o : Outcome)
+    → IfSome known (λ x. IfOk reply (λ r. IsAnswer x (view r))) → IfOk reply (λ r. Printed (view r) o) → IfErr reply (λ e. Printed out_of_memory o)
+    → IfSome known (λ x. Printed out_of_memory o ⊎ ((a : Answer) × IsAnswer x a × Printed a o))
+some_known view reply None IsAnswer o is printed lacks = tt
+some_known view reply (Some x) IsAnswer o is printed lacks = one_of_some view reply (IsAnswer x) o is printed lacks
 
 -- where the source tells its octets
 pub gives_known : {A E : Type 0} (view : A → Answer) (reply : Result A E) (known : Option (List ℕ)) (answer : List ℕ → Answer) (o : Outcome)
@@ -28,6 +40,8 @@ pub lacks_memory : (built_in : List Meaning) (says : ℕ → List ℕ → ℕ �
 lacks_memory built_in says held None x fails o printed = inr printed
 lacks_memory built_in says held (Some (Once printing order)) x fails o printed = inr printed
 lacks_memory built_in says held (Some (EachLine order)) x fails o printed = inl printed
+lacks_memory built_in says held (Some (Jwk order)) x fails o printed = inl printed
+lacks_memory built_in says held (Some (NewSecret order)) x fails o printed = inr printed
 
 pub lacks_known : (built_in : List Meaning) (says : ℕ → List ℕ → ℕ → Type 0) (held : Held) (q : Option Request) (known : Option (List ℕ)) (fails : Bool) (o : Outcome) → Printed out_of_memory o
     → IfSome known (λ x. Runs built_in says held q x fails o)

@@ -2,6 +2,7 @@ pub mod Answered
 pub mod Documents
 pub mod Input
 pub mod Issue
+pub mod Jwk
 pub mod Keys
 pub mod Lines
 pub mod Mac

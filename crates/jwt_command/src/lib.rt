@@ -12,6 +12,7 @@
 pub mod documents;
 pub mod input;
 mod issue;
+mod jwk;
 mod keys;
 mod mac;
 pub mod run;
@@ -19,4 +20,6 @@ mod show;
 mod verify;
 pub mod verify_lines;
 
-pub use jwt_words::{Files, Moment, Request, WordsFault, files_in_request, read_words};
+pub use jwt_words::{
+    Files, Moment, Request, WordsFault, files_in_request, octets_asked, read_words,
+};

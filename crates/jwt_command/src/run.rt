@@ -2,15 +2,17 @@
 ghost use Rattle.std.specs.Prelude.{◌≡◌, ◌⊎◌, [], None, Option, Some, is_some, map, true, false, IfOk, IfSome};
 ghost use Rattle.jwt_command.specs.Answered.{answer_in_hand, answer_of, version_answer};
 ghost use Rattle.jwt_words.specs.InHand.{none_held, unread};
+ghost use Rattle.jwt_command.specs.Jwk.{jwk_most};
 ghost use Rattle.jwt_text.specs.Intake.{TakesAtMost};
 ghost use Rattle.jwt_command.specs.Runs.{IsReading, Runs, reads_nothing};
 ghost use Rattle.jwt_words.specs.Seen.{HasRange, held_view, requested, seconds_of, seen};
 ghost use Rattle.jwt_printing.specs.Views.{reply_view};
 ghost use Rattle.jwt_command.specs.Stops.{most_in_hand, most_taken};
 ghost use Rattle.jwt_command.specs.Verify.{asked_for};
-ghost use Rattle.jwt_words.specs.Words.{HasLimits, Once, Order as Asked, Request as Wanted, files_in_order, request_of};
+ghost use Rattle.jwt_words.specs.Words.{HasLimits, Jwk, JwkOrder, Once, Order as Asked, Request as Wanted, files_in_order, request_of};
 
 use crate::issue::issue;
+use crate::jwk::{jwk, new_secret};
 use crate::keys::keys;
 use crate::mac::{mac, mac_in_hand};
 use crate::show::show;
@@ -50,6 +52,11 @@ pub fn run<R: Source, W: Sink>(alloc: Global, words: &[&str], r: &mut R, w: &mut
         → IfSome (R.remaining r.old) (λ x. (R.failed r.new ≡ true)
         ⊎ TakesAtMost (most_taken none_held order x) x (R.remaining r.new)) }
 
+    // At most one octet past the limit is taken, and nothing where public keys are in a file.
+    ensures jwk_stops { (order : JwkOrder) → request_of None (map (λ word. word.now) words.now) ≡ Some (Jwk order)
+        → IfSome (R.remaining r.old) (λ x. (R.failed r.new ≡ true)
+        ⊎ TakesAtMost (jwk_most none_held order) x (R.remaining r.new)) }
+
     // Of every source: what is answered without reading, and where the status is 3.
     ensures unread { reads_nothing (request_of None (map (λ word. word.now) words.now)) ≡ true
         → r.new ≡ r.old }
@@ -83,8 +90,8 @@ pub fn run<R: Source, W: Sink>(alloc: Global, words: &[&str], r: &mut R, w: &mut
 /// The same as [`run`], with what a program has at hand: verifiers for public keys, which `verify --public-keys` hands in; the moment
 /// that its clock says, if any, which `verify` takes where `--now` is left out, in seconds since 1970-01-01T00:00:00Z and at most
 /// 9,223,372,036,854,775,807; the clock that `verify --lines` asks for each line; and the documents that were read from files, which
-/// stand in the place of those in the input. Where a file is named and its document isn't in hand, the answer is that it can't be
-/// read, and nothing is read.
+/// stand in the place of those in the input, and octets of the system's random source. Where a file is named and its document isn't in
+/// hand, the answer is that it can't be read, and nothing is read.
 ///
 /// With `--lines` each line is answered before the next is waited for, and the status is 0 where each was answered.
 pub fn run_with<R: Source, W: Sink, C: Clock>(
@@ -114,6 +121,12 @@ pub fn run_with<R: Source, W: Sink, C: Clock>(
         ≡ Some (Once printing order)
         → IfSome (R.remaining r.old) (λ x. (R.failed r.new ≡ true)
         ⊎ TakesAtMost (most_taken (held_view held.entry) order x) x (R.remaining r.new)) }
+
+    // At most one octet past the limit is taken, and nothing where public keys are in a file.
+    ensures jwk_stops { (order : JwkOrder) → request_of (seconds_of clock) (map (λ word. word.now) words.now)
+        ≡ Some (Jwk order)
+        → IfSome (R.remaining r.old) (λ x. (R.failed r.new ≡ true)
+        ⊎ TakesAtMost (jwk_most (held_view held.entry) order) x (R.remaining r.new)) }
 
     // Of every source: what is answered without reading, and where the status is 3.
     ensures unread { reads_nothing
@@ -176,6 +189,11 @@ pub fn run_read<R: Source, W: Sink, C: Clock>(
         → IfSome (R.remaining r.old) (λ x. (R.failed r.new ≡ true)
         ⊎ TakesAtMost (most_taken (held_view held.entry) order x) x (R.remaining r.new)) }
 
+    // At most one octet past the limit is taken, and nothing where public keys are in a file.
+    ensures jwk_stops { (order : JwkOrder) → IsReading words.entry (Some (Jwk order))
+        → IfSome (R.remaining r.old) (λ x. (R.failed r.new ≡ true)
+        ⊎ TakesAtMost (jwk_most (held_view held.entry) order) x (R.remaining r.new)) }
+
     // Of every source: what is answered without reading, and where the status is 3.
     ensures unread { (asked : Option Wanted) → IsReading words.entry asked
         → reads_nothing asked ≡ true → r.new ≡ r.old }
@@ -198,6 +216,8 @@ pub fn run_read<R: Source, W: Sink, C: Clock>(
             give(w, reply_of(alloc, printing, order, built_in, held, r))
         }
         Ok(Request::EachLine(order)) => run_lines(alloc, order, built_in, moments, held, r, w),
+        Ok(Request::Jwk(order)) => give(w, jwk(alloc, order, held, r)),
+        Ok(Request::NewSecret(order)) => give(w, new_secret(alloc, order, held)),
         Err(WordsFault::Wrong(text)) => send(w, text.as_bytes(), 2),
         Err(WordsFault::OutOfMemory) => lack_memory(w),
     }

@@ -7,6 +7,8 @@ mod examples;
 #[cfg(test)]
 mod issue;
 #[cfg(test)]
+mod jwk;
+#[cfg(test)]
 mod keys;
 #[cfg(test)]
 mod lines;

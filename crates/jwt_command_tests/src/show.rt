@@ -114,7 +114,7 @@ fn show_prints_what_stands_in_a_token(rt: HostRuntime) -> Result<(), Fail> {
     assert_rows(&rt, rt.alloc(), &SHOWN)
 }
 
-static SHOWN_IN_JSON: [Row; 11] = [
+static SHOWN_IN_JSON: [Row; 12] = [
     Row {
         words: SHOW_JSON,
         input: &[TOKEN_A],
@@ -157,7 +157,15 @@ static SHOWN_IN_JSON: [Row; 11] = [
         words: SHOW_JSON,
         input: &["e30.AQAB."],
         prints: &[
-            r#"{"unverified":{"form":"compact","payload":null,"signatures":[{"protected":{},"octets":0}]}}"#,
+            r#"{"unverified":{"form":"compact","payload":null,"signatures":[{"protected":{},"octets":0}],"claims_refused":{"fault":"ClaimsShape"}}}"#,
+        ],
+        status: 0,
+    },
+    Row {
+        words: SHOW_JSON,
+        input: &["e30.eyJleHAiOiIxIn0."],
+        prints: &[
+            r#"{"unverified":{"form":"compact","payload":{"exp":"1"},"signatures":[{"protected":{},"octets":0}],"claims_refused":{"fault":"ClaimKind","claim":"exp"}}}"#,
         ],
         status: 0,
     },
@@ -165,7 +173,7 @@ static SHOWN_IN_JSON: [Row; 11] = [
         words: SHOW_JSON,
         input: &["e30.W10."],
         prints: &[
-            r#"{"unverified":{"form":"compact","payload":[],"signatures":[{"protected":{},"octets":0}]}}"#,
+            r#"{"unverified":{"form":"compact","payload":[],"signatures":[{"protected":{},"octets":0}],"claims_refused":{"fault":"ClaimsShape"}}}"#,
         ],
         status: 0,
     },

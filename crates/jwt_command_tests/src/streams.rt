@@ -102,7 +102,7 @@ static WRITING: [Streamed; 4] = [
     Streamed {
         words: &["jwt", "show", "--json"],
         input: &["e30.."],
-        prints: r#"{"unverified":{"form":"compact","payload":null,"signatures":[{"protected":{},"octets":0}]}}"#,
+        prints: r#"{"unverified":{"form":"compact","payload":null,"signatures":[{"protected":{},"octets":0}],"claims_refused":{"fault":"ClaimsShape"}}}"#,
     },
     Streamed {
         words: &["jwt", "mac", "--k", KEY_A],

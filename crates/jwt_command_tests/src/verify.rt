@@ -350,7 +350,7 @@ fn verify_takes_documents_in_hand(rt: HostRuntime) -> Result<(), Fail> {
     Ok(())
 }
 
-static VERDICTS_IN_JSON: [Row; 12] = [
+static VERDICTS_IN_JSON: [Row; 13] = [
     Row {
         words: VERIFY_JSON,
         input: &[HS256, KEYS_A, TOKEN_A],
@@ -427,6 +427,15 @@ static VERDICTS_IN_JSON: [Row; 12] = [
         input: &[r#"{"algs":["HS256"],"tipe":"JWT"}"#, "", ""],
         prints: &[
             r#"{"verdict":"refused","document":"policy","fault":"Member","member":"tipe","nearest":"typ"}"#,
+        ],
+        status: 1,
+    },
+    // One edit from "max_calls", which not every version has.
+    Row {
+        words: VERIFY_JSON,
+        input: &[r#"{"algs":["HS256"],"max_call":3}"#, "", ""],
+        prints: &[
+            r#"{"verdict":"refused","document":"policy","fault":"Member","member":"max_call"}"#,
         ],
         status: 1,
     },

@@ -11,7 +11,7 @@ static SAID: [Row; 3] = [
         input: &[],
         prints: &[
             "error: 'jwt' requires a subcommand but one was not provided",
-            "  [subcommands: mac, keys, show, verify, issue, help]",
+            "  [subcommands: mac, keys, show, verify, issue, jwk, help]",
             "",
             "Usage: jwt <COMMAND>",
             "",

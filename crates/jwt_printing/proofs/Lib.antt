@@ -1,7 +1,6 @@
 pub mod JsonLemmas
 pub mod Listing
 pub mod NearLemmas
-pub mod PairLemmas
 pub mod Showing
 pub mod ShowingJson
 pub mod SpelledLemmas

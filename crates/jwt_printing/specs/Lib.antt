@@ -1,6 +1,7 @@
 pub mod Faults
 pub mod Json
 pub mod JsonTokens
+pub mod Jwk
 pub mod Listed
 pub mod ListedJson
 pub mod Mac

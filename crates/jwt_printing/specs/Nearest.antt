@@ -1,5 +1,5 @@
 -- The member of a policy that is near to a name.
-use Rattle.std.specs.Prelude.{ℕ, List, [], ◌∷◌, ◌++◌, ◌==◌, length, nat_eq, Option, codes}
+use Rattle.std.specs.Prelude.{ℕ, List, ◌==◌, length, nat_eq, Option}
 use Rattle.std.specs.List.{find}
 use Rattle.std.specs.Option.{option_or}
 use Rattle.std.specs.Str.{chars}
@@ -14,10 +14,6 @@ edits a b = levenshtein_row nat_eq (chars a) (chars b) (length (chars b))
 abbrev pub at_edits : ℕ → List ℕ → List (List ℕ) → Option (List ℕ)
 at_edits n name known = find (λ k. edits name k == n) known
 
-abbrev pub policy_names : List (List ℕ)
-policy_names = names_of_version_one ++ codes "max_calls" ∷ []
-
--- one edit away, else two
+-- the member of every version of the policy that is one edit away, else two
 abbrev pub nearest_member : List ℕ → Option (List ℕ)
-nearest_member name =
-    option_or (at_edits 1 name policy_names) (at_edits 2 name policy_names)
+nearest_member name = option_or (at_edits 1 name names_of_version_one) (at_edits 2 name names_of_version_one)

@@ -1,5 +1,6 @@
 -- The object of a token, as `jwt show --json` prints it.
-use Rattle.std.specs.Prelude.{ℕ, suc, List, [], ◌∷◌, ◌++◌, length, Option, Some, None, unwrap_or, option_and_then, codes}
+use Rattle.std.specs.Prelude.{ℕ, suc, List, [], ◌∷◌, ◌++◌, length, Option, Some, None, Result, Ok, Err, unwrap_or, option_and_then, codes}
+use Rattle.serde_json.specs.Data.{Members}
 use Rattle.json.specs.Find.{at, get}
 use Rattle.json.specs.Json.{Json}
 use Rattle.jwt_text.specs.Base64url.{octets_of}
@@ -8,8 +9,11 @@ use Rattle.jwt_jws.specs.Token.{SignatureParts, Token}
 use Rattle.jwt_jws.specs.declared.fault.Form.{Form}
 use Rattle.jwt_jws.specs.declared.fault.Form.TheVariants.{Compact, General, Flattened}
 use Rattle.jwt_jws.specs.declared.fault.FormFault.{FormFault}
+use Rattle.jwt_policy.specs.ClaimKinds.{claims_of}
+use Rattle.jwt_policy.specs.FaultNames.{claim_fault_name}
+use Rattle.jwt_policy.specs.declared.claim_fault.ClaimFault.{ClaimFault}
 use Rattle.jwt_printing.specs.Faults.{form_fault_parts, joined_parts}
-use Rattle.jwt_printing.specs.Json.{Named, count, form_place, json_line, list, object_of_members, text, value_of}
+use Rattle.jwt_printing.specs.Json.{Named, claim_place, count, form_place, json_line, list, object_of_members, text, value_of}
 use Rattle.jwt_printing.specs.Printed.{Answer, refused}
 use Rattle.jwt_printing.specs.Shown.{form_name, token_lines}
 use Rattle.jwt_words.specs.declared.printing.Printing.{Printing}
@@ -55,12 +59,23 @@ signatures_json form doc i [] = []
 signatures_json form doc i (s ∷ ss) =
     signature_json form doc i s ∷ signatures_json form doc (suc i) ss
 
+-- ---- the claims
+
+-- the fault, and the claim that it names
+abbrev pub claim_fault_members : ClaimFault → List Named
+claim_fault_members fault = text (codes "fault") (claim_fault_name fault) ∷ claim_place fault
+
+-- why claims are refused before any policy is looked at, if they are
+abbrev pub claims_refused : Result Members ClaimFault → List Named
+claims_refused (Ok claims) = []
+claims_refused (Err fault) = (codes "claims_refused", object_of_members (claim_fault_members fault)) ∷ []
+
 -- ---- a token
 
 abbrev pub unverified : Json → Token → List Named
 unverified doc t =
-    text (codes "form") (form_name t.form) ∷ (codes "payload", value_of t.payload)
-    ∷ list (codes "signatures") (signatures_json t.form doc 0 t.signatures) ∷ []
+    (text (codes "form") (form_name t.form) ∷ (codes "payload", value_of t.payload)
+    ∷ list (codes "signatures") (signatures_json t.form doc 0 t.signatures) ∷ []) ++ claims_refused (claims_of t.payload)
 
 -- the token that stands in a document, where it has JSON form
 abbrev pub token_json : Json → Token → Answer

@@ -1,21 +1,23 @@
 //! What `show --json` prints.
-ghost use Rattle.std.specs.Prelude.{◌≡◌, ◌++◌, ◌∷◌, [], IfOk, IfSome, OnOk, option_map, codes};
+ghost use Rattle.std.specs.Prelude.{◌≡◌, ◌++◌, ◌∷◌, [], Err, IfOk, IfSome, OnOk, option_map, codes};
 ghost use Rattle.json.specs.Find.{at, get};
 ghost use Rattle.json.specs.Tree.{HasNumbers, json_tokens};
 ghost use Rattle.json.specs.Value.{value_view};
 ghost use Rattle.jwt_jws.specs.FaultNames.{form_fault_name};
 ghost use Rattle.jwt_jws.specs.Views.{parts, token};
+ghost use Rattle.jwt_policy.specs.ClaimKinds.{claims_of};
 ghost use Rattle.jwt_printing.specs.Json.{form_place, list, object_of_members, value_of};
 ghost use Rattle.jwt_printing.specs.JsonTokens.{named_tokens};
-ghost use Rattle.jwt_printing.specs.ShownJson.{header_at, header_json, protected_json, signature_at, signature_members, signatures_json, spelled_octets, token_json, token_refused_json, unverified};
+ghost use Rattle.jwt_printing.specs.ShownJson.{claim_fault_members, claims_refused, header_at, header_json, protected_json, signature_at, signature_members, signatures_json, spelled_octets, token_json, token_refused_json, unverified};
 ghost use Rattle.jwt_printing.specs.Views.{reply_view};
 
 use crate::json_out::{JsonOut, value_in};
-use crate::json_verdict::put_form_place;
+use crate::json_verdict::{put_claim_place, put_form_place};
 use crate::reply::Reply;
 use crate::show::form_name;
 use json::{Scratch, Value};
 use jwt_jws::{Form, FormFault, Signature, Signed};
+use jwt_policy::{ClaimFault, Claims};
 use jwt_text::{TextFault, decode};
 use std::alloc::{AllocError, Global};
 
@@ -147,6 +149,37 @@ fn put_signatures(
     out.end_list()
 }
 
+// The fault of some claims, and the claim that it names.
+fn put_claim_fault(out: &mut JsonOut, fault: &ClaimFault<'_>) -> Result<(), AllocError>
+    ensures { OnOk result (out.new ≡ out.old ++ named_tokens (claims_refused (Err fault.now))) }
+{
+    out.begin_named("claims_refused")?;
+    put_claim_fault_members(out, fault)?;
+    out.end_object()
+}
+
+fn put_claim_fault_members(out: &mut JsonOut, fault: &ClaimFault<'_>) -> Result<(), AllocError>
+    ensures { OnOk result (out.new ≡ out.old ++ named_tokens (claim_fault_members fault.now)) }
+{
+    out.text("fault", fault.name())?;
+    put_claim_place(out, fault)
+}
+
+// Why the claims of a payload are refused before any policy is looked at, if they are.
+fn put_claims_refused(alloc: Global, out: &mut JsonOut, payload: &[u8]) -> Result<(), AllocError>
+    ensures { OnOk result (out.new
+        ≡ out.old ++ named_tokens (claims_refused (claims_of payload.now))) }
+{
+    match Claims::read(alloc, payload) {
+        Ok(claims) => {
+            drop(claims);
+            Ok(())
+        }
+        Err(ClaimFault::OutOfMemory) => Err(AllocError),
+        Err(fault) => put_claim_fault(out, &fault),
+    }
+}
+
 // What stands in a token.
 fn put_unverified(
     alloc: Global,
@@ -160,7 +193,8 @@ fn put_unverified(
 {
     out.text("form", form_name(signed.form()))?;
     out.value(alloc, "payload", signed.payload())?;
-    put_signatures(alloc, out, signed, document)
+    put_signatures(alloc, out, signed, document)?;
+    put_claims_refused(alloc, out, signed.payload())
 }
 
 /// The line of a token that stands in these octets.

@@ -42,7 +42,7 @@ pub(crate) fn put_form_place(out: &mut JsonOut, fault: FormFault) -> Result<(), 
 }
 
 // The claim that a fault names.
-fn put_claim_place(out: &mut JsonOut, fault: &ClaimFault<'_>) -> Result<(), AllocError>
+pub(crate) fn put_claim_place(out: &mut JsonOut, fault: &ClaimFault<'_>) -> Result<(), AllocError>
     ensures { OnOk result (out.new ≡ out.old ++ named_tokens (claim_place fault.now)) }
 {
     match fault {

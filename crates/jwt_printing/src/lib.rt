@@ -1,5 +1,5 @@
-//! What the command `jwt` prints: lines and JSON of a verdict, of a key set, of a token that is shown, of a tag and of what is
-//! refused, and how they go out.
+//! What the command `jwt` prints: lines and JSON of a verdict, of a key set, of a token that is shown, of a tag, of a JWK and of what
+//! is refused, and how they go out.
 //!
 //! A [`Reply`] is a whole answer with its status; [`give`] and [`send`] send it.
 #![tactic(auto)]
@@ -9,6 +9,7 @@ mod json_keys;
 mod json_out;
 mod json_show;
 mod json_verdict;
+mod jwk;
 mod keys;
 mod mac;
 mod nearest;
@@ -21,6 +22,7 @@ mod verdict;
 
 pub use faults::issue_fault_text;
 pub use json_verdict::{read_failed_json, report_json};
+pub use jwk::{jwk_line, random_failed, refused_jwk};
 pub use keys::printed_set;
 pub use mac::{Digest, digest_line, refused_key};
 pub use refusals::{

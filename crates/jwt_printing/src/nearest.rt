@@ -23,7 +23,7 @@ fn at_edits(
     Ok(None)
 }
 
-/// The member of a policy to which one edit leads from a name, else one to which two do.
+/// The member that every version of the policy has to which one edit leads from a name, else one to which two do.
 pub(crate) fn nearest_member(alloc: Global, name: &str) -> Result<Option<&'static str>, AllocError>
     ensures { IfOk result (λ o. option_map (λ t. t.now) o ≡ nearest_member name.now) }
 {
@@ -44,7 +44,6 @@ pub(crate) fn nearest_member(alloc: Global, name: &str) -> Result<Option<&'stati
         "required",
         "leeway",
         "max_age",
-        "max_calls",
     ];
     match at_edits(alloc, 1, name, &known)? {
         Some(word) => Ok(Some(word)),

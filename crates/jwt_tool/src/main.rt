@@ -6,7 +6,7 @@ ghost use Rattle.std.specs.Prelude.{◌≤◌};
 use jwt_command::documents::{Held, read_document};
 use jwt_command::run::{lack_memory, run_read};
 use jwt_command::verify_lines::Clock;
-use jwt_command::{Files, Moment, Request, WordsFault, files_in_request, read_words};
+use jwt_command::{Files, Moment, Request, WordsFault, files_in_request, octets_asked, read_words};
 use jwt_ecdsa::Ecdsa;
 use jwt_ed25519::Ed25519;
 use jwt_mac::Verifier;
@@ -14,6 +14,7 @@ use jwt_rsa::Rsa;
 use jwt_text::{GREATEST_LIMIT, Intake, Reader, Sink, Source, Writer};
 use std::fs::File;
 use std::process::ExitCode;
+use std::random::RandomSource;
 use std::time::{SystemTime, UNIX_EPOCH};
 use std::{env, io};
 
@@ -86,6 +87,36 @@ fn files_to_read<'a>(request: &Result<Request<'a>, WordsFault>) -> Files<'a> {
     }
 }
 
+// How many octets of the file of a key are read: that of `mac`, or that of public keys of `jwk`.
+fn key_limit(request: &Result<Request<'_>, WordsFault>) -> u32
+    ensures least { 1 ≤ result }
+    ensures greatest { result ≤ GREATEST_LIMIT }
+{
+    match request {
+        Ok(Request::Jwk(_)) => GREATEST_LIMIT,
+        _ => 5_463,
+    }
+}
+
+// Fills the octets that the words ask for from the system's random source; none where it fails. Nothing is asked of it where they ask
+// for none.
+fn random<'a>(
+    rt: &HostRuntime,
+    request: &Result<Request<'_>, WordsFault>,
+    octets: &'a mut [u8; 64],
+) -> Option<&'a [u8]> {
+    let count = match request {
+        Ok(request) => octets_asked(*request) as usize,
+        Err(_) => 0,
+    };
+    if count == 0 {
+        return None;
+    }
+    let asked = octets.get_mut(..count)?;
+    rt.fill_bytes(asked).ok()?;
+    Some(asked)
+}
+
 // Reads the files that the words name, and runs the command with what they hold.
 fn run_words<R: Source, W: Sink>(
     rt: &HostRuntime,
@@ -105,12 +136,14 @@ fn run_words<R: Source, W: Sink>(
     let policy = document(rt, files.policy, 65_536)?;
     let keys = document(rt, files.keys, 4_194_304)?;
     let token = document(rt, files.token, 1_048_576)?;
-    let key = document(rt, files.key, 5_463)?;
+    let key = document(rt, files.key, key_limit(&request))?;
+    let mut fresh = [0; 64];
     let held = Held {
         policy: octets(&policy),
         keys: octets(&keys),
         token: octets(&token),
         key: octets(&key),
+        random: random(rt, &request, &mut fresh),
     };
     let mut moments = System { rt };
     Ok(run_read(rt.alloc(), request, &built_in, &mut moments, held, r, w))

@@ -2,7 +2,9 @@
 use Rattle.std.proofs.Common.{◌≡◌, [], ◌∷◌, None, Some, true, false, refl}
 use Rattle.std.specs.Prelude.{codes}
 use Rattle.clap.proofs.OnLiterals.{clap_on_literals}
-use Rattle.jwt_words.specs.Words.{EachLine, Keys, Mac, MacFile, Once, Show, Verify, Version, no_files, request_of}
+use Rattle.jwt_mac.specs.Algorithm.{alg_named}
+use Rattle.jwt_mac.specs.declared.algorithm.Alg.TheVariants.{HS384}
+use Rattle.jwt_words.specs.Words.{EachLine, Jwk, Keys, KidNamed, KidThumbprint, Mac, MacFile, NewSecret, NoKid, Once, Show, Verify, Version, no_files, request_of}
 use Rattle.jwt_words.specs.declared.printing.Printing.TheVariants.{Json, Lines}
 
 pub key_alone : request_of None (codes "jwt" ∷ codes "mac" ∷ codes "--k" ∷ codes "AA" ∷ []) ≡ Some (Once Lines (Mac (codes "AA") 8192))
@@ -152,3 +154,43 @@ lines_json = refl
 pub lines_token : request_of (Some 7) (codes "jwt" ∷ codes "verify" ∷ codes "--lines" ∷ codes "--policy=p" ∷ codes "--keys=k" ∷ codes "--token=t" ∷ []) ≡ None
 unfolding clap_on_literals
 lines_token = refl
+
+pub jwk_alone : request_of None (codes "jwt" ∷ codes "jwk" ∷ []) ≡ Some (Jwk (record { printing = Lines; der = false; bare = false; kid = NoKid; alg = None; files = no_files }))
+unfolding clap_on_literals
+jwk_alone = refl
+
+pub jwk_of_a_file : request_of None (codes "jwt" ∷ codes "jwk" ∷ codes "--file=k" ∷ codes "--alg" ∷ codes "RS256" ∷ codes "--kid-thumbprint" ∷ codes "--json" ∷ []) ≡ Some (Jwk (record { printing = Json; der = false; bare = false; kid = KidThumbprint; alg = Some (codes "RS256"); files = record no_files { key = Some (codes "k") } }))
+unfolding clap_on_literals alg_named
+jwk_of_a_file = refl
+
+pub jwk_in_der : request_of None (codes "jwt" ∷ codes "jwk" ∷ codes "--kid" ∷ codes "a" ∷ codes "--der" ∷ codes "--bare" ∷ []) ≡ Some (Jwk (record { printing = Lines; der = true; bare = true; kid = KidNamed (codes "a"); alg = None; files = no_files }))
+unfolding clap_on_literals
+jwk_in_der = refl
+
+pub jwk_two_kids : request_of None (codes "jwt" ∷ codes "jwk" ∷ codes "--kid" ∷ codes "a" ∷ codes "--kid-thumbprint" ∷ []) ≡ None
+unfolding clap_on_literals
+jwk_two_kids = refl
+
+pub jwk_alg_of_secrets : request_of None (codes "jwt" ∷ codes "jwk" ∷ codes "--alg" ∷ codes "HS256" ∷ []) ≡ None
+unfolding clap_on_literals alg_named
+jwk_alg_of_secrets = refl
+
+pub jwk_lines : request_of None (codes "jwt" ∷ codes "jwk" ∷ codes "--lines" ∷ []) ≡ None
+unfolding clap_on_literals
+jwk_lines = refl
+
+pub new_secret : request_of None (codes "jwt" ∷ codes "jwk" ∷ codes "--new" ∷ codes "HS384" ∷ codes "--bare" ∷ []) ≡ Some (NewSecret (record { printing = Lines; bare = true; alg = HS384 }))
+unfolding clap_on_literals alg_named
+new_secret = refl
+
+pub new_public_key : request_of None (codes "jwt" ∷ codes "jwk" ∷ codes "--new" ∷ codes "RS256" ∷ []) ≡ None
+unfolding clap_on_literals alg_named
+new_public_key = refl
+
+pub new_secret_of_a_file : request_of None (codes "jwt" ∷ codes "jwk" ∷ codes "--new" ∷ codes "HS256" ∷ codes "--file" ∷ codes "k" ∷ []) ≡ None
+unfolding clap_on_literals
+new_secret_of_a_file = refl
+
+pub new_secret_with_a_kid : request_of None (codes "jwt" ∷ codes "jwk" ∷ codes "--new" ∷ codes "HS256" ∷ codes "--kid" ∷ codes "k" ∷ []) ≡ None
+unfolding clap_on_literals
+new_secret_with_a_kid = refl

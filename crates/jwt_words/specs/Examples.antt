@@ -1,6 +1,7 @@
 -- What some words ask for.
 use Rattle.std.specs.Prelude.{◌≡◌, [], ◌∷◌, None, Some, true, false, codes}
-use Rattle.jwt_words.specs.Words.{EachLine, Keys, Mac, MacFile, Once, Show, Verify, Version, no_files, request_of}
+use Rattle.jwt_mac.specs.declared.algorithm.Alg.TheVariants.{HS384}
+use Rattle.jwt_words.specs.Words.{EachLine, Jwk, Keys, KidNamed, KidThumbprint, Mac, MacFile, NewSecret, NoKid, Once, Show, Verify, Version, no_files, request_of}
 use Rattle.jwt_words.specs.declared.printing.Printing.TheVariants.{Json, Lines}
 
 pub record Examples : Type 0 where
@@ -41,3 +42,13 @@ pub record Examples : Type 0 where
   pub lines_alone : request_of (Some 7) (codes "jwt" ∷ codes "verify" ∷ codes "--lines" ∷ []) ≡ None
   pub lines_json : request_of (Some 7) (codes "jwt" ∷ codes "verify" ∷ codes "--lines" ∷ codes "--json" ∷ codes "--policy=p" ∷ codes "--keys=k" ∷ []) ≡ Some (EachLine (record { now = None; public_keys = false; printing = Json; files = record { policy = Some (codes "p"); keys = Some (codes "k"); token = None; key = None } }))
   pub lines_token : request_of (Some 7) (codes "jwt" ∷ codes "verify" ∷ codes "--lines" ∷ codes "--policy=p" ∷ codes "--keys=k" ∷ codes "--token=t" ∷ []) ≡ None
+  pub jwk_alone : request_of None (codes "jwt" ∷ codes "jwk" ∷ []) ≡ Some (Jwk (record { printing = Lines; der = false; bare = false; kid = NoKid; alg = None; files = no_files }))
+  pub jwk_of_a_file : request_of None (codes "jwt" ∷ codes "jwk" ∷ codes "--file=k" ∷ codes "--alg" ∷ codes "RS256" ∷ codes "--kid-thumbprint" ∷ codes "--json" ∷ []) ≡ Some (Jwk (record { printing = Json; der = false; bare = false; kid = KidThumbprint; alg = Some (codes "RS256"); files = record no_files { key = Some (codes "k") } }))
+  pub jwk_in_der : request_of None (codes "jwt" ∷ codes "jwk" ∷ codes "--kid" ∷ codes "a" ∷ codes "--der" ∷ codes "--bare" ∷ []) ≡ Some (Jwk (record { printing = Lines; der = true; bare = true; kid = KidNamed (codes "a"); alg = None; files = no_files }))
+  pub jwk_two_kids : request_of None (codes "jwt" ∷ codes "jwk" ∷ codes "--kid" ∷ codes "a" ∷ codes "--kid-thumbprint" ∷ []) ≡ None
+  pub jwk_alg_of_secrets : request_of None (codes "jwt" ∷ codes "jwk" ∷ codes "--alg" ∷ codes "HS256" ∷ []) ≡ None
+  pub jwk_lines : request_of None (codes "jwt" ∷ codes "jwk" ∷ codes "--lines" ∷ []) ≡ None
+  pub new_secret : request_of None (codes "jwt" ∷ codes "jwk" ∷ codes "--new" ∷ codes "HS384" ∷ codes "--bare" ∷ []) ≡ Some (NewSecret (record { printing = Lines; bare = true; alg = HS384 }))
+  pub new_public_key : request_of None (codes "jwt" ∷ codes "jwk" ∷ codes "--new" ∷ codes "RS256" ∷ []) ≡ None
+  pub new_secret_of_a_file : request_of None (codes "jwt" ∷ codes "jwk" ∷ codes "--new" ∷ codes "HS256" ∷ codes "--file" ∷ codes "k" ∷ []) ≡ None
+  pub new_secret_with_a_kid : request_of None (codes "jwt" ∷ codes "jwk" ∷ codes "--new" ∷ codes "HS256" ∷ codes "--kid" ∷ codes "k" ∷ []) ≡ None

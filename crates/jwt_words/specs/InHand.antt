@@ -8,9 +8,11 @@ pub record Held : Type 0 where
   pub keys : Option (List ℕ)
   pub token : Option (List ℕ)
   pub key : Option (List ℕ)
+  -- and of the system's random source
+  pub random : Option (List ℕ)
 
 abbrev pub none_held : Held
-none_held = record { policy = None; keys = None; token = None; key = None }
+none_held = record { policy = None; keys = None; token = None; key = None; random = None }
 
 -- a file that is named and isn't in hand, else the next
 abbrev pub unread_or : Option (List ℕ) → Option (List ℕ) → Option (List ℕ) → Option (List ℕ)

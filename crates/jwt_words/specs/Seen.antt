@@ -1,6 +1,11 @@
 -- What a clause sees of the crate's own types.
-use Rattle.std.specs.Prelude.{ℕ, Option, option_map}
-use Rattle.jwt_words.specs.Words.{EachLine, Files, HasLimits, Issue, Keys, LinesOrder, Mac, MacFile, Once, Order, Request, Show, Verify, Version}
+use Rattle.std.specs.Prelude.{◌≡◌, ℕ, Option, option_map, true}
+use Rattle.jwt_mac.specs.Algorithm.{is_hmac_alg}
+use Rattle.jwt_words.specs.Words.{EachLine, Files, HasLimits, Issue, Jwk, JwkOrder, Keys, KidChoice, KidNamed, KidThumbprint, LinesOrder, Mac, MacFile, NewSecret, NoKid, Once, Order, Request, SecretOrder, Show, Verify, Version}
+use Rattle.jwt_words.specs.declared.jwk.JwkOrder.{JwkOrder as CodeJwk}
+use Rattle.jwt_words.specs.declared.jwk.KidChoice.{KidChoice as CodeKid}
+use Rattle.jwt_words.specs.declared.jwk.KidChoice.TheVariants as kid
+use Rattle.jwt_words.specs.declared.jwk.SecretOrder.{SecretOrder as CodeSecret}
 use Rattle.jwt_words.specs.declared.moment.Moment.{Moment}
 use Rattle.jwt_words.specs.declared.words.Order.{Order as Asked}
 use Rattle.jwt_words.specs.declared.words.Order.TheVariants as asked
@@ -32,14 +37,29 @@ seen asked.Version = Version
 abbrev pub lines_view : CodeLines → LinesOrder
 lines_view o = record { now = seconds_of o.now; public_keys = o.public_keys; printing = o.printing; files = files_view o.files }
 
+abbrev pub kid_view : CodeKid → KidChoice
+kid_view kid.Absent = NoKid
+kid_view (kid.Name text) = KidNamed text.now
+kid_view kid.Thumbprint = KidThumbprint
+
+abbrev pub jwk_view : CodeJwk → JwkOrder
+jwk_view o = record { printing = o.printing; der = o.der; bare = o.bare; kid = kid_view o.kid; alg = option_map (λ t. t.now) o.alg; files = files_view o.files }
+
+abbrev pub secret_view : CodeSecret → SecretOrder
+secret_view o = record { printing = o.printing; bare = o.bare; alg = o.alg }
+
 abbrev pub requested : CodeRequest → Request
 requested (request.Once printing order) = Once printing (seen order)
 requested (request.EachLine lines) = EachLine (lines_view lines)
+requested (request.Jwk order) = Jwk (jwk_view order)
+requested (request.NewSecret order) = NewSecret (secret_view order)
 
--- the numbers of a request are in their ranges
+-- the numbers of a request are in their ranges, and a new secret is for HMAC
 abbrev pub HasRange : Request → Type 0
 HasRange (Once printing order) = HasLimits order
 HasRange (EachLine order) = Unit {0}
+HasRange (Jwk order) = Unit {0}
+HasRange (NewSecret order) = is_hmac_alg order.alg ≡ true
 
 -- the words are wrong, and memory was there
 abbrev pub IsWrong : WordsFault → Type 0
@@ -47,4 +67,4 @@ IsWrong OutOfMemory = ⊥
 IsWrong (Wrong text) = Unit {0}
 
 abbrev pub held_view : CodeHeld → Held
-held_view h = record { policy = option_map (λ t. t.now) h.policy; keys = option_map (λ t. t.now) h.keys; token = option_map (λ t. t.now) h.token; key = option_map (λ t. t.now) h.key }
+held_view h = record { policy = option_map (λ t. t.now) h.policy; keys = option_map (λ t. t.now) h.keys; token = option_map (λ t. t.now) h.token; key = option_map (λ t. t.now) h.key; random = option_map (λ t. t.now) h.random }

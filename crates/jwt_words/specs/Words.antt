@@ -1,10 +1,10 @@
 -- The words of the command `jwt`, over `clap`'s own definitions of what a command takes.
-use Rattle.std.specs.Prelude.{◌≤◌, ℕ, Bool, true, false, not, List, [], ◌∷◌, Option, Some, None, is_some, if◌then◌else◌, codes, option_and_then, option_map}
+use Rattle.std.specs.Prelude.{◌≡◌, ◌≤◌, ℕ, Bool, ◌||◌, true, false, not, List, [], ◌∷◌, Option, Some, None, is_some, if◌then◌else◌, codes, option_and_then, option_map}
 use Rattle.std.specs.Option.{option_map_or}
 use Rattle.std.specs.Str.{bytes_eq}
 use Rattle.std.specs.Str.Parse.{digits_value, without_leading_plus}
 use Rattle.clap.specs.Words.{App, Kinds, Row, Rule, Text, fault_of, first_of, new_app, new_rule, one_of, subcommand_of, with_rule, with_subcommand}
-use Rattle.jwt_mac.specs.Algorithm.{alg_named}
+use Rattle.jwt_mac.specs.Algorithm.{alg_named, digest_size, is_hmac_alg}
 use Rattle.jwt_mac.specs.declared.algorithm.Alg.{Alg}
 use Rattle.jwt_jws.specs.declared.fault.Form.{Form}
 use Rattle.jwt_jws.specs.declared.fault.Form.TheVariants.{Compact, Flattened, General}
@@ -73,6 +73,36 @@ typ_rule = option (codes "typ")
 abbrev pub form_rule : Rule
 form_rule = record (option (codes "form")) { defaults = codes "compact" ∷ [] }
 
+-- a flag `--name`
+abbrev pub flag : Text → Rule
+flag name = record (new_rule name) { long = Some name; action = Some SetTrue }
+
+-- the file of public keys, in the place of standard input, in PEM, or in DER
+abbrev pub file_rule : Rule
+file_rule = option (codes "file")
+
+abbrev pub der_rule : Rule
+der_rule = flag (codes "der")
+
+-- the `kid` of each key: a name, or its thumbprint
+abbrev pub kid_rule : Rule
+kid_rule = option (codes "kid")
+
+abbrev pub kid_thumbprint_rule : Rule
+kid_thumbprint_rule = flag (codes "kid-thumbprint")
+
+-- the `alg` of each key
+abbrev pub public_alg_rule : Rule
+public_alg_rule = option (codes "alg")
+
+-- the JWK alone, without a key set round it
+abbrev pub bare_rule : Rule
+bare_rule = flag (codes "bare")
+
+-- the algorithm of a new secret
+abbrev pub secret_rule : Rule
+secret_rule = option (codes "new")
+
 -- ---- the command
 
 abbrev pub mac_app : App
@@ -97,11 +127,24 @@ verify_app has_clock = with_rule (with_rule (verify_on_files has_clock) lines_ru
 abbrev pub issue_app : App
 issue_app = with_rule (with_rule (with_rule (with_rule (new_app (codes "issue")) alg_rule) typ_rule) form_rule) keys_rule
 
+-- `jwk` with the options of its input, of the `kid`, of the other members, and all
+abbrev pub jwk_on_input : App
+jwk_on_input = with_rule (with_rule (new_app (codes "jwk")) file_rule) der_rule
+
+abbrev pub jwk_with_kid : App
+jwk_with_kid = with_rule (with_rule jwk_on_input kid_rule) kid_thumbprint_rule
+
+abbrev pub jwk_of_keys : App
+jwk_of_keys = with_rule (with_rule jwk_with_kid public_alg_rule) bare_rule
+
+abbrev pub jwk_app : App
+jwk_app = with_rule (with_rule jwk_of_keys secret_rule) json_rule
+
 abbrev pub top_app : App
 top_app = record (new_app (codes "jwt")) { top = record (new_app (codes "jwt")).top { subcommand_required = true } }
 
 abbrev pub jwt_app : Bool → App
-jwt_app has_clock = with_subcommand (with_subcommand (with_subcommand (with_subcommand (with_subcommand top_app mac_app.top) keys_app.top) show_app.top) (verify_app has_clock).top) issue_app.top
+jwt_app has_clock = with_subcommand (with_subcommand (with_subcommand (with_subcommand (with_subcommand (with_subcommand top_app mac_app.top) keys_app.top) show_app.top) (verify_app has_clock).top) issue_app.top) jwk_app.top
 
 -- ---- what the words ask for
 
@@ -224,16 +267,85 @@ lines_order rows =
     then option_map (λ now. record { now = now; public_keys = is_set (codes "public-keys") rows; printing = printing_in rows; files = files_in rows }) (named_moment rows)
     else None) else None)
 
+-- ---- JWKs
+
+-- the `kid` that each key gets: none, this name, or its thumbprint
+pub data KidChoice : Type 0 where
+  NoKid : KidChoice
+  KidNamed : Text → KidChoice
+  KidThumbprint : KidChoice
+
+-- what `jwk` asks for: the JWKs of public keys in PEM or in DER, in a key set, or one alone
+pub record JwkOrder : Type 0 where
+  pub printing : Printing
+  pub der : Bool
+  pub bare : Bool
+  pub kid : KidChoice
+  pub alg : Option Text
+  pub files : Files
+
+-- what `jwk --new` asks for: a new secret for this algorithm, in a key set, or its JWK alone
+pub record SecretOrder : Type 0 where
+  pub printing : Printing
+  pub bare : Bool
+  pub alg : Alg
+
+-- one of the two, or none
+abbrev pub kid_chosen : Option Text → Bool → Option KidChoice
+kid_chosen None false = Some NoKid
+kid_chosen None true = Some KidThumbprint
+kid_chosen (Some name) false = Some (KidNamed name)
+kid_chosen (Some name) true = None
+
+abbrev pub kid_in : List Row → Option KidChoice
+kid_in rows = kid_chosen (first_of (codes "kid") rows) (is_set (codes "kid-thumbprint") rows)
+
+-- an algorithm by public keys
+abbrev pub is_public_alg : Option Alg → Bool
+is_public_alg None = false
+is_public_alg (Some alg) = not (is_hmac_alg alg)
+
+-- no `alg`, or the name of an algorithm by public keys
+abbrev pub public_alg_chosen : Option Text → Option (Option Text)
+public_alg_chosen None = Some None
+public_alg_chosen (Some name) = if is_public_alg (alg_named name) then Some (Some name) else None
+
+abbrev pub key_file_in : Option Text → Files
+key_file_in name = record { policy = None; keys = None; token = None; key = name }
+
+abbrev pub jwk_order : List Row → Option JwkOrder
+jwk_order rows = option_and_then (λ alg. option_map (λ kid. record { printing = printing_in rows; der = is_set (codes "der") rows; bare = is_set (codes "bare") rows; kid = kid; alg = alg; files = key_file_in (first_of (codes "file") rows) }) (kid_in rows)) (public_alg_chosen (first_of (codes "alg") rows))
+
+-- HMAC alone has secrets
+abbrev pub secret_alg : Alg → Option Alg
+secret_alg alg = if is_hmac_alg alg then Some alg else None
+
+abbrev pub secret_alg_in : List Row → Option Alg
+secret_alg_in rows = option_and_then secret_alg (option_and_then alg_named (first_of (codes "new") rows))
+
+-- options that a new secret has no use for: those of an input, and of `kid` and `alg`, which are its own
+abbrev pub asks_of_public_keys : List Row → Bool
+asks_of_public_keys rows = is_named (codes "file") rows || (is_set (codes "der") rows || (is_named (codes "kid") rows || (is_set (codes "kid-thumbprint") rows || is_named (codes "alg") rows)))
+
+abbrev pub secret_order : List Row → Option SecretOrder
+secret_order rows = if asks_of_public_keys rows then None else option_map (λ alg. record { printing = printing_in rows; bare = is_set (codes "bare") rows; alg = alg }) (secret_alg_in rows)
+
 -- ---- the request
 
--- one answer, in JSON or in lines, or an answer to each line of the input
+-- one answer, in JSON or in lines; or an answer to each line of the input; or the JWKs of public keys, or of a new secret
 pub data Request : Type 0 where
   Once : Printing → Order → Request
   EachLine : LinesOrder → Request
+  Jwk : JwkOrder → Request
+  NewSecret : SecretOrder → Request
+
+abbrev pub jwk_request : List Row → Option Request
+jwk_request rows = if is_named (codes "new") rows then option_map (λ order. NewSecret order) (secret_order rows) else option_map (λ order. Jwk order) (jwk_order rows)
 
 abbrev pub request_in : Option ℕ → Text → List Row → Option Request
 request_in clock name rows =
     if is_set (codes "lines") rows then option_map (λ order. EachLine order) (lines_order rows)
+    else if bytes_eq name (codes "jwk") then jwk_request rows
     else option_map (λ order. Once (printing_in rows) order) (order_in clock name rows)
 
 -- what a subcommand with its matches asks for, where `clap` has no fault
@@ -268,3 +380,12 @@ files_in_order order = no_files
 abbrev pub files_in_request : Request → Files
 files_in_request (Once printing order) = files_in_order order
 files_in_request (EachLine order) = order.files
+files_in_request (Jwk order) = order.files
+files_in_request (NewSecret order) = no_files
+
+-- ---- the system's random source
+
+-- so many octets of it are asked for: those of a digest of the hash function of the algorithm (RFC 7518, section 3.2)
+abbrev pub octets_asked : Request → ℕ
+octets_asked (NewSecret order) = digest_size order.alg
+octets_asked request = 0

@@ -17,8 +17,12 @@ pub struct Held<'a> {
     /// The token's; more than the policy's limit are too many.
     pub token: Option<&'a [u8]>,
 
-    /// The text of the key of `mac`, and one line feed behind it or none; more than 5,463 are too many.
+    /// The text of the key of `mac`, and one line feed behind it or none; more than 5,463 are too many. Of `jwk`, public keys in PEM or
+    /// DER; more than 4,194,304 are too many.
     pub key: Option<&'a [u8]>,
+
+    /// Octets of the system's random source, as many as [`octets_asked`](crate::octets_asked) says; none where it gave fewer.
+    pub random: Option<&'a [u8]>,
 }
 
 impl<'a> Held<'a> {
@@ -31,6 +35,7 @@ impl<'a> Held<'a> {
             keys: None,
             token: None,
             key: None,
+            random: None,
         }
     }
 }

@@ -1,17 +1,21 @@
 //! The words of the command `jwt`: what they ask for, which files they name, and what is said of wrong ones.
 //!
-//! [`read_words`] reads them by `clap`; [`files_in_request`] are the files that they name, and [`unread`] the first of them that wasn't read.
+//! [`read_words`] reads them by `clap`; [`files_in_request`] are the files that they name, and [`unread`] the first of them that wasn't read;
+//! [`octets_asked`] is how many octets of the system's random source they ask for.
 #![tactic(auto)]
 
 mod in_hand;
+mod jwk;
 mod moment;
 mod nearest;
 mod printing;
 mod words;
 
 pub use in_hand::{Held, unread};
+pub use jwk::{JwkOrder, KidChoice, SecretOrder};
 pub use moment::Moment;
 pub use printing::Printing;
 pub use words::{
-    Files, LinesOrder, Order, Request, WordsFault, files_in_order, files_in_request, read_words,
+    Files, LinesOrder, Order, Request, WordsFault, files_in_order, files_in_request, octets_asked,
+    read_words,
 };

@@ -4,10 +4,11 @@ ghost use Rattle.clap.specs.Words.{app_of, found_of, new_rule, one_of, rows_of, 
 ghost use Rattle.clap.specs.declared.builder.action.ArgAction.TheVariants.{SetTrue};
 ghost use Rattle.clap.specs.declared.builder.command.Command.TheViews.{out-Command as fields_of};
 ghost use Rattle.clap.specs.declared.builder.ValueParser.TheVariants.{Unsigned};
-ghost use Rattle.jwt_words.specs.Words.{HasLimits, alg_in, alg_rule, asks_version, clap_request, files_in, files_in_order, files_in_request, form_in, form_named, form_rule, is_named, is_set, issue_app, issue_order, json_rule, jwt_app, keyed, keys_app, keys_file_in, keys_rule, limit_rule, lines_order, mac_app, mac_order, moment_in, named_moment, no_files, now_range, now_rule, number_in, option, order_in, printing_in, public_keys_rule, request_in, request_of, show_app, show_order, verify_app, verify_on_files, verify_on_input, verify_order};
+ghost use Rattle.jwt_words.specs.Words.{HasLimits, alg_in, alg_rule, asks_version, clap_request, files_in, files_in_order, files_in_request, flag, form_in, form_named, form_rule, is_named, is_set, issue_app, issue_order, json_rule, jwk_request, jwt_app, keyed, keys_app, keys_file_in, keys_rule, limit_rule, lines_order, mac_app, mac_order, moment_in, named_moment, no_files, now_range, now_rule, number_in, octets_asked, option, order_in, printing_in, public_keys_rule, request_in, request_of, show_app, show_order, top_app, verify_app, verify_on_files, verify_on_input, verify_order};
 ghost use Rattle.jwt_words.specs.Examples.{Examples};
 ghost use Rattle.jwt_words.specs.Seen.{IsWrong, files_view, HasRange, lines_view, requested, seconds_of, seen};
 
+use crate::jwk::{JwkOrder, SecretOrder, chosen_jwk, chosen_secret, jwk_command, wrong_jwk};
 use crate::moment::{LAST, Moment};
 use crate::nearest::nearest;
 use crate::printing::Printing;
@@ -30,7 +31,7 @@ pub struct Files<'a> {
     /// The file of the token.
     pub token: Option<&'a str>,
 
-    /// The file of the key of `mac`.
+    /// The file of the key of `mac`, or of the public keys of `jwk`.
     pub key: Option<&'a str>,
 }
 
@@ -78,7 +79,7 @@ pub enum Order<'a> {
 }
 
 // An option `--name VALUE`, which may be left out.
-fn option<'a>(alloc: Global, name: &'a str, value: &'a str, help: &'a str) -> Arg<'a>
+pub(crate) fn option<'a>(alloc: Global, name: &'a str, value: &'a str, help: &'a str) -> Arg<'a>
     ensures shape { rule_of result ≡ option name.now }
     ensures local { result.global ≡ false }
 {
@@ -89,9 +90,8 @@ fn option<'a>(alloc: Global, name: &'a str, value: &'a str, help: &'a str) -> Ar
 }
 
 // A flag `--name`.
-fn flag<'a>(alloc: Global, name: &'a str, help: &'a str) -> Arg<'a>
-    ensures shape { rule_of result
-        ≡ record (new_rule name.now) { long = Some name.now; action = Some SetTrue } }
+pub(crate) fn flag<'a>(alloc: Global, name: &'a str, help: &'a str) -> Arg<'a>
+    ensures shape { rule_of result ≡ flag name.now }
     ensures local { result.global ≡ false }
 {
     Arg::new(alloc, name)
@@ -135,7 +135,7 @@ fn public_keys_option<'a>(alloc: Global) -> Arg<'a>
     )
 }
 
-fn json_option<'a>(alloc: Global) -> Arg<'a>
+pub(crate) fn json_option<'a>(alloc: Global) -> Arg<'a>
     ensures shape { rule_of result ≡ json_rule }
     ensures local { result.global ≡ false }
 {
@@ -256,19 +256,27 @@ fn issue_command<'a>(alloc: Global) -> Result<Command<'a>, AllocError>
         .arg(keys_option(alloc))
 }
 
-/// The command line of the program, where there is a clock or none.
-pub fn command<'a>(alloc: Global, has_clock: bool) -> Result<Command<'a>, AllocError>
-    ensures { IfOk result (λ c. app_of c ≡ jwt_app has_clock) }
+// The command line without its subcommands.
+fn without_subcommands<'a>(alloc: Global) -> Command<'a>
+    ensures { app_of result ≡ top_app }
 {
     Command::new(alloc, "jwt")
         .about("Validates, issues and explains JSON Web Tokens")
         .after_help("'jwt --version' prints the version.")
         .subcommand_required(true)
+}
+
+/// The command line of the program, where there is a clock or none.
+pub fn command<'a>(alloc: Global, has_clock: bool) -> Result<Command<'a>, AllocError>
+    ensures { IfOk result (λ c. app_of c ≡ jwt_app has_clock) }
+{
+    without_subcommands(alloc)
         .subcommand(mac_command(alloc)?)?
         .subcommand(keys_command(alloc)?)?
         .subcommand(show_command(alloc)?)?
         .subcommand(verify_command(alloc, has_clock)?)?
-        .subcommand(issue_command(alloc)?)
+        .subcommand(issue_command(alloc)?)?
+        .subcommand(jwk_command(alloc)?)
 }
 
 /// What `verify --lines` asks for. With no moment, it is the clock's at each line.
@@ -280,7 +288,8 @@ pub struct LinesOrder<'a> {
     pub files: Files<'a>,
 }
 
-/// What the words ask for: one answer, in JSON or in lines, or an answer to each line of the input.
+/// What the words ask for: one answer, in JSON or in lines; or an answer to each line of the input; or the JWKs of public keys, or of a
+/// new secret.
 #[derive(Clone, Copy)]
 pub enum Request<'a> {
     Once {
@@ -288,6 +297,8 @@ pub enum Request<'a> {
         order: Order<'a>,
     },
     EachLine(LinesOrder<'a>),
+    Jwk(JwkOrder<'a>),
+    NewSecret(SecretOrder),
 }
 
 /// Why the words ask for nothing.
@@ -370,6 +381,7 @@ fn unknown_name(alloc: Global, matches: &ArgMatches<'_>) -> Result<String, Alloc
     match matches.subcommand() {
         Some(("mac", options)) => wrong_keys(alloc, options),
         Some(("verify", options)) => wrong_lines(alloc, options),
+        Some(("jwk", options)) => wrong_jwk(alloc, options),
         Some((_, options)) => unknown_option(alloc, options),
         None => unknown_option(alloc, matches),
     }
@@ -408,7 +420,7 @@ fn unknown_option(alloc: Global, options: &ArgMatches<'_>) -> Result<String, All
 }
 
 // The text of a value that an option doesn't know, as `clap` words it.
-fn unknown_value(
+pub(crate) fn unknown_value(
     alloc: Global,
     option: &str,
     value: &str,
@@ -449,9 +461,25 @@ fn chosen_request<'a>(
         let lines = chosen_lines(options)?;
         return Some(Request::EachLine(lines));
     }
+    if name == "jwk" {
+        return chosen_jwk_request(options);
+    }
     let printing = chosen_printing(options);
     let order = chosen_order(name, options, clock)?;
     Some(Request::Once { printing, order })
+}
+
+// What `jwk` asks for: a new secret with `--new`, and else the JWKs of public keys.
+fn chosen_jwk_request<'a>(options: &ArgMatches<'a>) -> Option<Request<'a>>
+    ensures limits { IfSome result (λ q. HasRange (requested q)) }
+    ensures request { option_map requested result ≡ jwk_request (rows_of (found_of options.now)) }
+{
+    if is_named(options, "new") {
+        let order = chosen_secret(options)?;
+        return Some(Request::NewSecret(order));
+    }
+    let order = chosen_jwk(options)?;
+    Some(Request::Jwk(order))
 }
 
 // What a subcommand asks for, where it asks for one answer.
@@ -508,7 +536,7 @@ fn chosen_show<'a>(options: &ArgMatches<'a>) -> Option<Order<'a>>
 }
 
 // Whether a flag is used.
-fn is_set(options: &ArgMatches<'_>, name: &str) -> bool
+pub(crate) fn is_set(options: &ArgMatches<'_>, name: &str) -> bool
     ensures { result ≡ is_set name.now (rows_of (found_of options.now)) }
 {
     match options.get_str(name) {
@@ -518,7 +546,7 @@ fn is_set(options: &ArgMatches<'_>, name: &str) -> bool
 }
 
 // How the answer is to be printed.
-fn chosen_printing(options: &ArgMatches<'_>) -> Printing
+pub(crate) fn chosen_printing(options: &ArgMatches<'_>) -> Printing
     ensures { result ≡ printing_in (rows_of (found_of options.now)) }
 {
     if is_set(options, "json") {
@@ -550,7 +578,7 @@ fn chosen_named_moment(options: &ArgMatches<'_>) -> Option<Option<Moment>>
 }
 
 // Whether an option has a value.
-fn is_named(options: &ArgMatches<'_>, name: &str) -> bool
+pub(crate) fn is_named(options: &ArgMatches<'_>, name: &str) -> bool
     ensures { result ≡ is_named name.now (rows_of (found_of options.now)) }
 {
     match options.get_str(name) {
@@ -709,6 +737,18 @@ pub fn files_in_request<'a>(request: Request<'a>) -> Files<'a>
     match request {
         Request::Once { order, .. } => files_in_order(order),
         Request::EachLine(lines) => lines.files,
+        Request::Jwk(order) => order.files,
+        Request::NewSecret(_) => Files::none(),
+    }
+}
+
+/// How many octets of the system's random source a request asks for: 32, 48 or 64 for a new secret, and else none.
+pub fn octets_asked(request: Request<'_>) -> u32
+    ensures { result ≡ octets_asked (requested request.entry) }
+{
+    match request {
+        Request::NewSecret(order) => order.alg.digest(),
+        _ => 0,
     }
 }
 

@@ -1,13 +1,14 @@
 use Rattle.std.proofs.Common.{rules, ◌≡◌, ◌∙◌, ◌⊎◌, ap, sym, subst, map, Option, Some, IfSome, true}
-use Rattle.jwt_words.specs.Seen.{requested, seen, held_view}
+use Rattle.jwt_words.specs.Seen.{requested, seen, held_view, jwk_view, secret_view}
+use Rattle.jwt_command.specs.Jwk.{JwkAnswer, jwk_most}
 use Rattle.jwt_command.specs.Answered.{answer_of}
 use Rattle.jwt_words.specs.declared.words.Request.TheVariants as request
 use Rattle.jwt_text.specs.Intake.{TakesAtMost}
 use Rattle.jwt_command.specs.Runs.{Runs}
 use Rattle.jwt_command.specs.Stops.{most_taken}
 use Rattle.jwt_printing.specs.Views.{reply_view}
-use Rattle.jwt_words.specs.Words.{Once, Order, Request}
-use Rattle.jwt_command.proofs.Printing.{gives_known}
+use Rattle.jwt_words.specs.Words.{Jwk, JwkOrder, NewSecret, Once, Order, Request}
+use Rattle.jwt_command.proofs.Printing.{gives_known, gives_reply, some_known}
 use Rattle.jwt_command.proofs.run.run_read.Goals as goal
 
 pub returns-in-Ok-Once-clause-answer : goal.returns-in-Ok-Once-clause-answer
@@ -25,3 +26,11 @@ returns-in-Ok-Once-clause-stops g c = λ printing order reading.
     let is : Some (Once printing order) ≡ Some (Once c.in-Ok-Once.printing (seen c.in-Ok-Once.order)) = read ∙ ap (λ q. Some (requested q)) whole in
     let same : seen c.in-Ok-Once.order ≡ order = cc is in
     subst (λ (o : Order). IfSome (g.R.Source.remaining c.args.r.now) (λ x. (g.R.Source.failed c.reply_of.new.r ≡ true) ⊎ TakesAtMost (most_taken (held_view c.args.held) o x) x (g.R.Source.remaining c.reply_of.new.r))) same c.reply_of.ensures.stops
+
+pub returns-in-Ok-Jwk-clause-answer : goal.returns-in-Ok-Jwk-clause-answer
+returns-in-Ok-Jwk-clause-answer g c = λ asked reading.
+    let vs = map (λ b. (goal.Verifier-dyn g (b.vtable, b.value)).meaning b.value) c.args.built_in.now in
+    let is : asked ≡ Some (Jwk (jwk_view c.in-Ok-Jwk.order)) = search rules in
+    subst (λ (q : Option Request). IfSome (g.R.Source.remaining c.args.r.now) (λ x. Runs vs g.C.Clock.says (held_view c.args.held) q x (g.R.Source.failed c.jwk.new.r) (record { before = g.W.Sink.contents c.args.w.now; after = g.W.Sink.contents c.give-in-Ok-Jwk.new.w; failed = g.W.Sink.failed c.give-in-Ok-Jwk.new.w; status = c.give-in-Ok-Jwk.result }))) (sym is)
+    (some_known reply_view c.jwk.result (g.R.Source.remaining c.args.r.now) (λ x a. JwkAnswer (jwk_view c.in-Ok-Jwk.order) (held_view c.args.held) (g.R.Source.failed c.jwk.new.r) x a) (record { before = g.W.Sink.contents c.args.w.now; after = g.W.Sink.contents c.give-in-Ok-Jwk.new.w; failed = g.W.Sink.failed c.give-in-Ok-Jwk.new.w; status = c.give-in-Ok-Jwk.result })
+    c.jwk.ensures.answer c.give-in-Ok-Jwk.ensures.ok c.give-in-Ok-Jwk.ensures.err)

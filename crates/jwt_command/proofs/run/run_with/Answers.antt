@@ -21,3 +21,9 @@ returns-clause-failed g c = λ printing order is.
     let asked = request_of (seconds_of c.args.clock) (map (λ (w : Bor (List ℕ)). w.now) c.args.words.now) in
     let reading = reading_of c.read_words.result asked c.read_words.ensures.ok c.read_words.ensures.err in
     c.run_read.ensures.failed printing order (rw is at reading)
+
+pub returns-clause-jwk_stops : goal.returns-clause-jwk_stops
+returns-clause-jwk_stops g c = λ order is.
+    let asked = request_of (seconds_of c.args.clock) (map (λ (w : Bor (List ℕ)). w.now) c.args.words.now) in
+    let reading = reading_of c.read_words.result asked c.read_words.ensures.ok c.read_words.ensures.err in
+    c.run_read.ensures.jwk_stops order (rw is at reading)

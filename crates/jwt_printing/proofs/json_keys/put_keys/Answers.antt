@@ -6,7 +6,7 @@ use Rattle.jwt_keys.specs.KeySets.{key_set}
 use Rattle.jwt_keys.specs.Views.{key_parts}
 use Rattle.jwt_printing.specs.ListedJson.{key_json}
 use Rattle.jwt_printing.proofs.JsonLemmas.{all_put, list_put, one_put}
-use Rattle.jwt_printing.proofs.PairLemmas.{slice_within}
+use Rattle.jwt_issue.proofs.Lists.{slice_within}
 use Rattle.jwt_printing.proofs.json_keys.put_keys.Goals.{in-Some+in_ok-put_key, in_default}
 use Rattle.jwt_printing.proofs.json_keys.put_keys.Goals as goal
 

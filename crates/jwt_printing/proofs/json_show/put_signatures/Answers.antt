@@ -3,7 +3,7 @@ use Rattle.std.specs.Prelude.{codes}
 use Rattle.std.proofs.lemmas.Result.{on_ok_weaker}
 use Rattle.json.specs.Value.{value_view}
 use Rattle.jwt_jws.specs.Views.{parts, token}
-use Rattle.jwt_printing.proofs.PairLemmas.{slice_within}
+use Rattle.jwt_issue.proofs.Lists.{slice_within}
 use Rattle.jwt_printing.proofs.ShowingJson.{signature_put, signatures_put}
 use Rattle.jwt_printing.proofs.json_show.put_signatures.Goals.{in-Some+in_ok-put_signature, in_default}
 use Rattle.jwt_printing.proofs.json_show.put_signatures.Goals as goal

@@ -2,7 +2,7 @@ use Rattle.std.proofs.Common.{◌<◌, arith, sym, length}
 use Rattle.jwt_keys.specs.KeySets.{key_set}
 use Rattle.jwt_keys.specs.Views.{key_parts}
 use Rattle.jwt_printing.proofs.Listing.{lines_more}
-use Rattle.jwt_printing.proofs.PairLemmas.{slice_within}
+use Rattle.jwt_issue.proofs.Lists.{slice_within}
 use Rattle.jwt_printing.proofs.keys.set_lines.Goals.{in-Some+in_ok-put_skips+in_ok-put_key, in_default}
 use Rattle.jwt_printing.proofs.keys.set_lines.Goals as goal
 

@@ -3,7 +3,7 @@ use Rattle.std.specs.Fmt.{decimal}
 use Rattle.jwt_jws.specs.Views.{parts, token}
 use Rattle.jwt_policy.specs.ClaimKinds.{claims_of}
 use Rattle.jwt_printing.specs.Shown.{claims_line, form_name}
-use Rattle.jwt_printing.proofs.PairLemmas.{slice_within}
+use Rattle.jwt_issue.proofs.Lists.{slice_within}
 use Rattle.jwt_printing.proofs.Showing.{lines_begin, signatures_more}
 use Rattle.jwt_printing.proofs.show.token_lines.Goals.{in-Some+in_ok-put_signature, in_default}
 use Rattle.jwt_printing.proofs.show.token_lines.Goals as goal

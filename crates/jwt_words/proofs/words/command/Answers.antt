@@ -1,7 +1,7 @@
-use Rattle.std.proofs.Common.{rules, ◌≡◌, ◌∙◌, ap₂}
+use Rattle.std.proofs.Common.{◌≡◌, ◌∙◌, ap₂}
 use Rattle.std.proofs.lemmas.Result.{IfOk-weaker}
 use Rattle.clap.specs.Words.{App, app_of, with_subcommand}
-use Rattle.jwt_words.specs.Words.{jwt_app, top_app}
+use Rattle.jwt_words.specs.Words.{jwt_app}
 use Rattle.jwt_words.proofs.words.command.Goals as goal
 
 -- a command with one more subcommand
@@ -10,10 +10,11 @@ more a s = with_subcommand a s.top
 
 pub returns : goal.returns
 returns c =
-    let top : app_of c.subcommand_required.result ≡ top_app = search rules in
+    let top = c.without_subcommands.ensures in
     let one = c.in_ok-subcommand.ensures.shape c.in_ok-mac_command.ensures.local ∙ ap₂ more top c.in_ok-mac_command.ensures.shape in
     let two = c.in_ok-subcommand-2.ensures.shape c.in_ok-keys_command.ensures.local ∙ ap₂ more one c.in_ok-keys_command.ensures.shape in
     let three = c.in_ok-subcommand-3.ensures.shape c.in_ok-show_command.ensures.local ∙ ap₂ more two c.in_ok-show_command.ensures.shape in
     let four = c.in_ok-subcommand-4.ensures.shape c.in_ok-verify_command.ensures.local ∙ ap₂ more three c.in_ok-verify_command.ensures.shape in
-    IfOk-weaker c.subcommand-5.result _ (λ r. app_of r ≡ jwt_app c.args.has_clock)
-    (λ r adds. adds.shape c.in_ok-issue_command.ensures.local ∙ ap₂ more four c.in_ok-issue_command.ensures.shape) c.subcommand-5.ensures
+    let five = c.in_ok-subcommand-5.ensures.shape c.in_ok-issue_command.ensures.local ∙ ap₂ more four c.in_ok-issue_command.ensures.shape in
+    IfOk-weaker c.subcommand-6.result _ (λ r. app_of r ≡ jwt_app c.args.has_clock)
+    (λ r adds. adds.shape c.in_ok-jwk_command.ensures.local ∙ ap₂ more five c.in_ok-jwk_command.ensures.shape) c.subcommand-6.ensures

@@ -1,0 +1,108 @@
+-- What `jwt jwk` answers.
+use Rattle.std.specs.Prelude.{◌≡◌, ◌≤◌, ◌<◌, ◌⊎◌, ℕ, ◌==◌, Bool, true, false, List, ◌∷◌, length, codes, Option, Some, None, option_and_then, if◌then◌else◌}
+use Rattle.serde_json.specs.Data.{object}
+use Rattle.serde_json.specs.Written.{compact_text}
+use Rattle.jwt_mac.specs.Algorithm.{digest_size, name_of}
+use Rattle.jwt_mac.specs.Verifying.{KeyOctets, OctKey}
+use Rattle.jwt_mac.specs.declared.algorithm.Alg.{Alg}
+use Rattle.key_der.specs.Der.{IsPublicKey}
+use Rattle.key_pem.specs.declared.label.Label.{Label}
+use Rattle.jwt_jwk.specs.Jwk.{jwk, thumbprint_of_key}
+use Rattle.jwt_jwk.specs.Converted.{IsEncoding, IsFileOf, IsJwkOf, IsJwkOfPem, IsPemOf, IsSetOf, set_text}
+use Rattle.jwt_words.specs.InHand.{Held, unread}
+use Rattle.jwt_words.specs.Words.{JwkOrder, KidChoice, KidNamed, KidThumbprint, NoKid, SecretOrder}
+use Rattle.jwt_words.specs.declared.printing.Printing.{Printing}
+use Rattle.jwt_printing.specs.Jwk.{jwk_line, jwk_refused, random_failed}
+use Rattle.jwt_printing.specs.Printed.{Answer, out_of_memory}
+use Rattle.jwt_printing.specs.Printer.{printed_file_fault, printer}
+use Rattle.jwt_command.specs.Documents.{last_most, most_unless_unread}
+use Rattle.jwt_command.specs.RunLines.{Outcome, Printed}
+
+-- the `kid` of a key
+abbrev pub kid_by : KidChoice → KeyOctets → Option (List ℕ)
+kid_by NoKid = λ key. None
+kid_by (KidNamed text) = λ key. Some text
+kid_by KidThumbprint = λ key. Some (thumbprint_of_key key)
+
+-- the JWK alone, or a key set of it
+abbrev pub bare_or_set : Bool → List ℕ → List ℕ
+bare_or_set true json = json
+bare_or_set false json = set_text json
+
+-- ---- public keys
+
+-- what is printed of octets: of one key in DER, of one in PEM alone, of all in a PEM file
+abbrev pub IsPrintedAs : Bool → Bool → (KeyOctets → Option (List ℕ)) → Option (List ℕ) → List ℕ → List ℕ → Type 0
+IsPrintedAs true bare kid alg octets json = (one : List ℕ) × IsJwkOf octets kid alg one × (json ≡ bare_or_set bare one)
+IsPrintedAs false true kid alg octets json = IsJwkOfPem octets kid alg json
+IsPrintedAs false false kid alg octets json = IsSetOf octets kid alg json
+
+abbrev pub IsPrinted : JwkOrder → List ℕ → List ℕ → Type 0
+IsPrinted order = IsPrintedAs order.der order.bare (kid_by order.kid) order.alg
+
+-- the octets are public keys as they are asked for: one in DER, one in PEM, or 1 to 1,024 in a PEM file
+abbrev pub AreKeysAs : Bool → Bool → List ℕ → Type 0
+AreKeysAs true bare octets = (label : Label) × (key : KeyOctets) × IsPublicKey key × IsEncoding label key octets
+AreKeysAs false true octets = (key : KeyOctets) × IsPemOf key octets
+AreKeysAs false false octets = (key : KeyOctets) × (keys : List KeyOctets) × IsFileOf (key ∷ keys) octets × (length keys ≤ 1023)
+
+abbrev pub AreKeys : JwkOrder → List ℕ → Type 0
+AreKeys order = AreKeysAs order.der order.bare
+
+-- the line of a refusal, by some name
+abbrev pub IsRefusal : Printing → Answer → Type 0
+IsRefusal printing a = (name : List ℕ) × (remedy : Option (List ℕ)) × (a ≡ jwk_refused printing name remedy)
+
+-- what is printed of octets; or they aren't what is asked for, and are refused
+abbrev pub JwkOfKeys : JwkOrder → List ℕ → Answer → Type 0
+JwkOfKeys order octets a = ((json : List ℕ) × IsPrinted order octets json × (a ≡ jwk_line json)) ⊎ ((AreKeys order octets → ⊥) × IsRefusal order.printing a)
+
+-- at most 4,194,304 octets are taken
+abbrev pub JwkOfOctets : JwkOrder → List ℕ → Answer → Type 0
+JwkOfOctets order octets a = ((length octets ≤ 4194304) × JwkOfKeys order octets a) ⊎ ((4194304 < length octets) × (a ≡ jwk_refused order.printing (codes "TooLong") None))
+
+-- of an input, by a reader that has failed or not
+abbrev pub JwkOfInput : JwkOrder → Bool → List ℕ → Answer → Type 0
+JwkOfInput order true x a = a ≡ (printer order.printing).read_failed
+JwkOfInput order false x a = JwkOfOctets order x a
+
+-- of what a file holds, or of the input
+abbrev pub JwkInHand : JwkOrder → Option (List ℕ) → Bool → List ℕ → Answer → Type 0
+JwkInHand order (Some octets) failed x a = JwkOfOctets order octets a
+JwkInHand order None failed x a = JwkOfInput order failed x a
+
+abbrev pub JwkNamed : Option (List ℕ) → JwkOrder → Option (List ℕ) → Bool → List ℕ → Answer → Type 0
+JwkNamed (Some name) order held failed x a = a ≡ printed_file_fault order.printing name
+JwkNamed None order held failed x a = JwkInHand order held failed x a
+
+-- the answer, where a file that is named may not be in hand
+abbrev pub JwkAnswer : JwkOrder → Held → Bool → List ℕ → Answer → Type 0
+JwkAnswer order held failed x a = JwkNamed (unread order.files held) order held.key failed x a
+
+-- an allocation was refused, or an answer is printed
+abbrev pub RunsJwk : JwkOrder → Held → List ℕ → Bool → Outcome → Type 0
+RunsJwk order held x failed o = Printed out_of_memory o ⊎ ((a : Answer) × JwkAnswer order held failed x a × Printed a o)
+
+-- how much of the input is taken at most: nothing where the keys are in a file
+abbrev pub jwk_most : Held → JwkOrder → ℕ
+jwk_most held order = most_unless_unread (unread order.files held) (last_most 4194305 held.key)
+
+-- ---- new secrets
+
+-- the octets that the system's random source gave, where it gave just as many as a digest has
+abbrev pub whole_secret : ℕ → List ℕ → Option (List ℕ)
+whole_secret size octets = if length octets == size then Some octets else None
+
+abbrev pub secret_in : Alg → Option (List ℕ) → Option (List ℕ)
+secret_in alg random = option_and_then (whole_secret (digest_size alg)) random
+
+-- the JWK of a secret, with its thumbprint as `kid`, for this algorithm alone
+abbrev pub secret_jwk : Alg → List ℕ → List ℕ
+secret_jwk alg k = compact_text (object (jwk (Some (thumbprint_of_key (OctKey k))) (Some (name_of alg)) (OctKey k)))
+
+abbrev pub secret_line : SecretOrder → Option (List ℕ) → Answer
+secret_line order (Some k) = jwk_line (bare_or_set order.bare (secret_jwk order.alg k))
+secret_line order None = random_failed order.printing
+
+abbrev pub secret_answer : SecretOrder → Held → Answer
+secret_answer order held = secret_line order (secret_in order.alg held.random)

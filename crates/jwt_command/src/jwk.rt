@@ -1,0 +1,239 @@
+//! The command `jwk`: public keys in PEM or DER as JWKs, and new secrets.
+ghost use Rattle.std.specs.Prelude.{◌≡◌, ◌≢◌, ◌≤◌, ◌⊎◌, true, false, IfOk, IfSome, IsOkUnless, None, length, option_map};
+ghost use Rattle.serde_json.specs.Data.{object};
+ghost use Rattle.jwt_text.specs.Intake.{TakesAtMost};
+ghost use Rattle.jwt_mac.specs.Algorithm.{digest_size, is_hmac_alg};
+ghost use Rattle.jwt_jwk.specs.Converted.{kid_of};
+ghost use Rattle.jwt_jwk.specs.Jwk.{text_of};
+ghost use Rattle.jwt_words.specs.InHand.{unread};
+ghost use Rattle.jwt_words.specs.Seen.{held_view, jwk_view, kid_view, secret_view};
+ghost use Rattle.jwt_printing.specs.Views.{reply_view};
+ghost use Rattle.jwt_command.specs.Documents.{last_most};
+ghost use Rattle.jwt_command.specs.Jwk.{AreKeys, AreKeysAs, IsPrinted, IsPrintedAs, IsRefusal, JwkAnswer, JwkInHand, JwkOfInput, JwkOfKeys, JwkOfOctets, bare_or_set, jwk_most, kid_by, secret_answer, secret_jwk, secret_line, secret_in};
+
+use crate::input::whole::read_input;
+use jwt_jwk::{
+    JwkFault, Kid, jwk_of_der, jwk_of_pem, jwk_set_of_pem, set_of_jwk, thumbprint, write_jwk,
+};
+use jwt_mac::{Alg, KeyView};
+use jwt_printing::{
+    Reply, jwk_line, printed_file_fault, printed_read_fault, random_failed, refused_jwk,
+};
+use jwt_text::{GREATEST_LIMIT, Source, TextFault};
+use jwt_words::{Held, JwkOrder, KidChoice, Printing, SecretOrder, unread};
+use std::alloc::{AllocError, Global};
+
+/// The `kid` that is asked for.
+fn kid_by(choice: KidChoice<'_>) -> Kid<'_>
+    ensures { kid_of result ≡ kid_by (kid_view choice.entry) }
+{
+    match choice {
+        KidChoice::Absent => Kid::Absent,
+        KidChoice::Name(name) => Kid::Name(name),
+        KidChoice::Thumbprint => Kid::Thumbprint,
+    }
+}
+
+/// The JWK alone, or a key set of it.
+fn bare_or_set(alloc: Global, bare: bool, json: Vec<u8>) -> Result<Vec<u8>, AllocError>
+    ensures { IfOk result (λ v. v.items ≡ bare_or_set bare json.items) }
+{
+    if bare {
+        Ok(json)
+    } else {
+        set_of_jwk(alloc, json.as_slice())
+    }
+}
+
+/// What is printed of one key in DER.
+fn of_der(
+    alloc: Global,
+    bare: bool,
+    kid: Kid<'_>,
+    alg: Option<&str>,
+    octets: &[u8],
+) -> Result<Vec<u8>, JwkFault>
+    ensures ok { IfOk result (λ v. IsPrintedAs true bare (kid_of kid.entry) (text_of alg.entry) octets.now v.items) }
+    ensures only { AreKeysAs true bare octets.now → IsOkUnless result JwkFault.OutOfMemory }
+{
+    match jwk_of_der(alloc, octets, kid, alg) {
+        Ok(json) => match bare_or_set(alloc, bare, json) {
+            Ok(printed) => Ok(printed),
+            Err(_) => Err(JwkFault::OutOfMemory),
+        },
+        Err(fault) => Err(fault),
+    }
+}
+
+/// What is printed of keys in PEM.
+fn of_pem(
+    alloc: Global,
+    bare: bool,
+    kid: Kid<'_>,
+    alg: Option<&str>,
+    octets: &[u8],
+) -> Result<Vec<u8>, JwkFault>
+    ensures ok { IfOk result (λ v. IsPrintedAs false bare (kid_of kid.entry) (text_of alg.entry) octets.now v.items) }
+    ensures only { AreKeysAs false bare octets.now → IsOkUnless result JwkFault.OutOfMemory }
+{
+    if bare {
+        jwk_of_pem(alloc, octets, kid, alg)
+    } else {
+        jwk_set_of_pem(alloc, octets, kid, alg)
+    }
+}
+
+/// What is printed of public keys.
+fn of_keys(alloc: Global, order: JwkOrder<'_>, octets: &[u8]) -> Result<Vec<u8>, JwkFault>
+    ensures ok { IfOk result (λ v. IsPrinted (jwk_view order.entry) octets.now v.items) }
+    ensures only { AreKeys (jwk_view order.entry) octets.now → IsOkUnless result JwkFault.OutOfMemory }
+{
+    let kid = kid_by(order.kid);
+    if order.der {
+        of_der(alloc, order.bare, kid, order.alg, octets)
+    } else {
+        of_pem(alloc, order.bare, kid, order.alg, octets)
+    }
+}
+
+/// The line of a refusal, but for want of memory.
+fn refusal(alloc: Global, printing: Printing, fault: JwkFault) -> Result<Reply, AllocError>
+    ensures line { IfOk result (λ a. IsRefusal printing (reply_view a)) }
+    ensures memory { IfOk result (λ _. fault ≢ JwkFault.OutOfMemory) }
+{
+    match fault {
+        JwkFault::OutOfMemory => Err(AllocError),
+        _ => refused_jwk(alloc, printing, fault.name(), fault.remedy()),
+    }
+}
+
+/// The answer of public keys.
+fn keys_answer(alloc: Global, order: JwkOrder<'_>, octets: &[u8]) -> Result<Reply, AllocError>
+    ensures { IfOk result (λ a. JwkOfKeys (jwk_view order.entry) octets.now (reply_view a)) }
+{
+    match of_keys(alloc, order, octets) {
+        Ok(json) => jwk_line(json),
+        Err(fault) => refusal(alloc, order.printing, fault),
+    }
+}
+
+/// The answer of octets, of which there may be too many.
+fn octets_answer(alloc: Global, order: JwkOrder<'_>, octets: &[u8]) -> Result<Reply, AllocError>
+    ensures { IfOk result (λ a. JwkOfOctets (jwk_view order.entry) octets.now (reply_view a)) }
+{
+    if octets.len() <= GREATEST_LIMIT as usize {
+        keys_answer(alloc, order, octets)
+    } else {
+        refused_jwk(alloc, order.printing, "TooLong", None)
+    }
+}
+
+/// The answer of an input.
+fn input_answer<R: Source>(
+    alloc: Global,
+    order: JwkOrder<'_>,
+    r: &mut R,
+) -> Result<Reply, AllocError>
+    ensures answer { IfSome (R.remaining r.old) (λ x. IfOk result (λ a.
+        JwkOfInput (jwk_view order.entry) (R.failed r.new) x (reply_view a))) }
+    ensures taken { IfSome (R.remaining r.old)
+        (λ x. (R.failed r.new ≡ true) ⊎ TakesAtMost 4194305 x (R.remaining r.new)) }
+{
+    match read_input(alloc, GREATEST_LIMIT, r) {
+        Ok(input) => octets_answer(alloc, order, input.octets()),
+        Err(TextFault::Read) => printed_read_fault(alloc, order.printing),
+        Err(TextFault::TooLong) => refused_jwk(alloc, order.printing, "TooLong", None),
+        Err(_) => Err(AllocError),
+    }
+}
+
+/// The answer of what a file holds, or of the input.
+fn held_answer<R: Source>(
+    alloc: Global,
+    order: JwkOrder<'_>,
+    held: Option<&[u8]>,
+    r: &mut R,
+) -> Result<Reply, AllocError>
+    ensures answer { IfSome (R.remaining r.old) (λ x. IfOk result (λ a.
+        JwkInHand (jwk_view order.entry) (option_map (λ t. t.now) held.entry) (R.failed r.new) x (reply_view a))) }
+    ensures taken { IfSome (R.remaining r.old) (λ x. (R.failed r.new ≡ true)
+        ⊎ TakesAtMost (last_most 4194305 (option_map (λ t. t.now) held.entry)) x (R.remaining r.new)) }
+{
+    match held {
+        Some(octets) => octets_answer(alloc, order, octets),
+        None => input_answer(alloc, order, r),
+    }
+}
+
+/// Runs `jwt jwk`: on the file of the keys, which is in hand, or on an input, of at most 4,194,304 octets.
+pub(crate) fn jwk<R: Source>(
+    alloc: Global,
+    order: JwkOrder<'_>,
+    held: Held<'_>,
+    r: &mut R,
+) -> Result<Reply, AllocError>
+    ensures answer { IfSome (R.remaining r.old) (λ x. IfOk result (λ a.
+        JwkAnswer (jwk_view order.entry) (held_view held.entry) (R.failed r.new) x (reply_view a))) }
+    ensures taken { IfSome (R.remaining r.old) (λ x. (R.failed r.new ≡ true)
+        ⊎ TakesAtMost (jwk_most (held_view held.entry) (jwk_view order.entry)) x (R.remaining r.new)) }
+{
+    match unread(order.files, held) {
+        Some(name) => printed_file_fault(alloc, order.printing, name),
+        None => held_answer(alloc, order, held.key, r),
+    }
+}
+
+/// The JWK of a secret, with its thumbprint as `kid`, for this algorithm alone.
+fn secret_jwk(alloc: Global, alg: Alg, k: &[u8]) -> Result<Vec<u8>, AllocError>
+    requires hmac { is_hmac_alg alg ≡ true }
+    requires size { length k.now ≡ digest_size alg }
+    ensures { IfOk result (λ v. v.items ≡ secret_jwk alg k.now) }
+{
+    let key = KeyView::Oct { k };
+    let Ok(print) = thumbprint(alloc, key) else {
+        return Err(AllocError);
+    };
+    match write_jwk(alloc, key, Some(print.as_str()), Some(alg.text())) {
+        Ok(json) => Ok(json),
+        Err(_) => Err(AllocError),
+    }
+}
+
+/// The line of a secret.
+fn secret_line(alloc: Global, order: SecretOrder, k: &[u8]) -> Result<Reply, AllocError>
+    requires hmac { is_hmac_alg order.alg ≡ true }
+    requires size { length k.now ≡ digest_size order.alg }
+    ensures { IfOk result (λ a. reply_view a ≡ secret_line (secret_view order) (Some k.now)) }
+{
+    let json = secret_jwk(alloc, order.alg, k)?;
+    jwk_line(bare_or_set(alloc, order.bare, json)?)
+}
+
+/// The octets of a secret, where there are just as many as a digest of its algorithm has.
+fn secret_in(alg: Alg, random: Option<&[u8]>) -> Option<&[u8]>
+    ensures is { option_map (λ t. t.now) result ≡ secret_in alg (option_map (λ t. t.now) random.entry) }
+    ensures size { IfSome result (λ k. length k.now ≡ digest_size alg) }
+{
+    let octets = random?;
+    if octets.len() == alg.digest() as usize {
+        Some(octets)
+    } else {
+        None
+    }
+}
+
+/// Runs `jwt jwk --new` with octets of the system's random source: it takes exactly as many as a digest of its algorithm has.
+pub(crate) fn new_secret(
+    alloc: Global,
+    order: SecretOrder,
+    held: Held<'_>,
+) -> Result<Reply, AllocError>
+    requires { is_hmac_alg order.alg ≡ true }
+    ensures { IfOk result (λ a. reply_view a
+        ≡ secret_answer (secret_view order) (held_view held.entry)) }
+{
+    match secret_in(order.alg, held.random) {
+        Some(k) => secret_line(alloc, order, k),
+        None => random_failed(alloc, order.printing),
+    }
+}

@@ -1,0 +1,309 @@
+//! The words of `jwk`.
+ghost use Rattle.std.specs.Prelude.{◌≡◌, IfOk, IfSome, codes, false, option_map, true};
+ghost use Rattle.clap.specs.Words.{app_of, first_of, found_of, rows_of};
+ghost use Rattle.clap.specs.declared.builder.command.Command.TheViews.{out-Command as fields_of};
+ghost use Rattle.jwt_mac.specs.Algorithm.{is_hmac_alg};
+ghost use Rattle.jwt_words.specs.Seen.{files_view, jwk_view, kid_view, secret_view};
+ghost use Rattle.jwt_words.specs.Words.{asks_of_public_keys, is_public_alg, jwk_app, jwk_of_keys, jwk_on_input, jwk_order, jwk_with_kid, key_file_in, kid_chosen, kid_in, public_alg_chosen, secret_alg, secret_alg_in, secret_order};
+
+use crate::nearest::nearest;
+use crate::printing::Printing;
+use crate::words::{
+    Files, chosen_printing, flag, is_named, is_set, json_option, option, unknown_value,
+};
+use clap::{ArgMatches, Command};
+use jwt_mac::Alg;
+use std::alloc::{AllocError, Global};
+
+/// The `kid` that each key gets.
+#[derive(Clone, Copy)]
+pub enum KidChoice<'a> {
+    /// None.
+    Absent,
+
+    /// This name.
+    Name(&'a str),
+
+    /// The key's thumbprint.
+    Thumbprint,
+}
+
+/// What `jwk` asks for: the JWKs of public keys, in a key set.
+#[derive(Clone, Copy)]
+pub struct JwkOrder<'a> {
+    /// How a refusal is printed.
+    pub printing: Printing,
+
+    /// Whether the key is in DER, and else in PEM.
+    pub der: bool,
+
+    /// Whether the JWK of one key is printed alone.
+    pub bare: bool,
+    pub kid: KidChoice<'a>,
+
+    /// The `alg` that each key gets, an algorithm by public keys.
+    pub alg: Option<&'a str>,
+
+    /// The file of the keys, where one is named.
+    pub files: Files<'a>,
+}
+
+/// What `jwk --new` asks for: a new secret, in a key set, with its thumbprint as `kid`.
+#[derive(Clone, Copy)]
+pub struct SecretOrder {
+    /// How a failure is printed.
+    pub printing: Printing,
+
+    /// Whether its JWK is printed alone.
+    pub bare: bool,
+
+    /// Its algorithm: HS256, HS384 or HS512.
+    pub alg: Alg,
+}
+
+/// The options of the input.
+fn jwk_on_input<'a>(alloc: Global) -> Result<Command<'a>, AllocError>
+    ensures shape { IfOk result (λ c. app_of c ≡ jwk_on_input) }
+    ensures local { IfOk result (λ c. (fields_of c).has_globals ≡ false) }
+{
+    let about =
+        "Prints the key set of public keys in PEM, which standard input holds, or of a new secret";
+    let file = "The file of the keys, in the place of standard input";
+    Command::new(alloc, "jwk")
+        .about(about)
+        .arg(option(alloc, "file", "FILE", file))?
+        .arg(flag(alloc, "der", "Reads one key in DER, in the place of PEM"))
+}
+
+/// With those of the `kid`.
+fn jwk_with_kid<'a>(alloc: Global) -> Result<Command<'a>, AllocError>
+    ensures shape { IfOk result (λ c. app_of c ≡ jwk_with_kid) }
+    ensures local { IfOk result (λ c. (fields_of c).has_globals ≡ false) }
+{
+    let print = "Gives each key its thumbprint by SHA-256 as kid";
+    jwk_on_input(alloc)?
+        .arg(option(alloc, "kid", "NAME", "The kid of each key"))?
+        .arg(flag(alloc, "kid-thumbprint", print))
+}
+
+/// With those of the other members.
+fn jwk_of_keys<'a>(alloc: Global) -> Result<Command<'a>, AllocError>
+    ensures shape { IfOk result (λ c. app_of c ≡ jwk_of_keys) }
+    ensures local { IfOk result (λ c. (fields_of c).has_globals ≡ false) }
+{
+    let alg =
+        "The alg of each key: RS256, RS384, RS512, PS256, PS384, PS512, ES256, ES384, ES512 or EdDSA";
+    let bare = "Prints the JWK alone, of one key";
+    jwk_with_kid(alloc)?
+        .arg(option(alloc, "alg", "A", alg))?
+        .arg(flag(alloc, "bare", bare))
+}
+
+/// The command `jwk`.
+pub(crate) fn jwk_command<'a>(alloc: Global) -> Result<Command<'a>, AllocError>
+    ensures shape { IfOk result (λ c. app_of c ≡ jwk_app) }
+    ensures local { IfOk result (λ c. (fields_of c).has_globals ≡ false) }
+{
+    let secret = "Makes a new secret, for HS256, HS384 or HS512; reads no key";
+    jwk_of_keys(alloc)?
+        .arg(option(alloc, "new", "A", secret))?
+        .arg(json_option(alloc))
+}
+
+/// The `kid` by its name, or as the thumbprint: one of the two, or none.
+fn kid_chosen<'a>(name: Option<&'a str>, thumbprint: bool) -> Option<KidChoice<'a>>
+    ensures { option_map kid_view result ≡ kid_chosen (option_map (λ t. t.now) name.entry) thumbprint }
+{
+    match (name, thumbprint) {
+        (None, false) => Some(KidChoice::Absent),
+        (None, true) => Some(KidChoice::Thumbprint),
+        (Some(name), false) => Some(KidChoice::Name(name)),
+        (Some(_), true) => None,
+    }
+}
+
+/// The value that an option has, where it has one.
+fn value<'a>(options: &ArgMatches<'a>, name: &str) -> Option<&'a str>
+    ensures { option_map (λ t. t.now) result ≡ first_of name.now (rows_of (found_of options.now)) }
+{
+    options.get_str(name)
+}
+
+fn chosen_kid<'a>(options: &ArgMatches<'a>) -> Option<KidChoice<'a>>
+    ensures { option_map kid_view result ≡ kid_in (rows_of (found_of options.now)) }
+{
+    let name = value(options, "kid");
+    let thumbprint = is_set(options, "kid-thumbprint");
+    kid_chosen(name, thumbprint)
+}
+
+/// Whether it is an algorithm by public keys.
+fn is_public_alg(alg: Option<Alg>) -> bool
+    ensures { result ≡ is_public_alg alg }
+{
+    match alg {
+        Some(alg) => !alg.is_hmac(),
+        None => false,
+    }
+}
+
+/// The `alg` of each key, if any; none where it is no algorithm by public keys.
+fn public_alg_chosen<'a>(name: Option<&'a str>) -> Option<Option<&'a str>>
+    ensures { option_map (λ a. option_map (λ t. t.now) a) result
+        ≡ public_alg_chosen (option_map (λ t. t.now) name.entry) }
+{
+    match name {
+        Some(name) => {
+            if is_public_alg(Alg::from_text(name)) {
+                Some(Some(name))
+            } else {
+                None
+            }
+        }
+        None => Some(None),
+    }
+}
+
+fn chosen_public_alg<'a>(options: &ArgMatches<'a>) -> Option<Option<&'a str>>
+    ensures { option_map (λ a. option_map (λ t. t.now) a) result
+        ≡ public_alg_chosen (first_of (codes "alg") (rows_of (found_of options.now))) }
+{
+    let name = value(options, "alg");
+    public_alg_chosen(name)
+}
+
+/// The file of the keys alone.
+fn key_file_in<'a>(name: Option<&'a str>) -> Files<'a>
+    ensures { files_view result ≡ key_file_in (option_map (λ t. t.now) name.entry) }
+{
+    Files {
+        policy: None,
+        keys: None,
+        token: None,
+        key: name,
+    }
+}
+
+fn chosen_key_file<'a>(options: &ArgMatches<'a>) -> Files<'a>
+    ensures { files_view result ≡ key_file_in (first_of (codes "file") (rows_of (found_of options.now))) }
+{
+    let name = value(options, "file");
+    key_file_in(name)
+}
+
+/// What `jwk` asks for without `--new`.
+pub(crate) fn chosen_jwk<'a>(options: &ArgMatches<'a>) -> Option<JwkOrder<'a>>
+    ensures { option_map jwk_view result ≡ jwk_order (rows_of (found_of options.now)) }
+{
+    let alg = chosen_public_alg(options)?;
+    let kid = chosen_kid(options)?;
+    let printing = chosen_printing(options);
+    let der = is_set(options, "der");
+    let bare = is_set(options, "bare");
+    let files = chosen_key_file(options);
+    Some(JwkOrder {
+        printing,
+        der,
+        bare,
+        kid,
+        alg,
+        files,
+    })
+}
+
+/// An algorithm that has secrets.
+fn secret_alg(alg: Alg) -> Option<Alg>
+    ensures alg { result ≡ secret_alg alg }
+    ensures hmac { IfSome result (λ a. is_hmac_alg a ≡ true) }
+{
+    if alg.is_hmac() { Some(alg) } else { None }
+}
+
+fn chosen_secret_alg(options: &ArgMatches<'_>) -> Option<Alg>
+    ensures alg { result ≡ secret_alg_in (rows_of (found_of options.now)) }
+    ensures hmac { IfSome result (λ a. is_hmac_alg a ≡ true) }
+{
+    let name = value(options, "new")?;
+    let alg = Alg::from_text(name)?;
+    secret_alg(alg)
+}
+
+/// Whether an option is used that a new secret has no use for.
+fn asks_of_public_keys(options: &ArgMatches<'_>) -> bool
+    ensures { result ≡ asks_of_public_keys (rows_of (found_of options.now)) }
+{
+    is_named(options, "file")
+        || is_set(options, "der")
+        || is_named(options, "kid")
+        || is_set(options, "kid-thumbprint")
+        || is_named(options, "alg")
+}
+
+/// What `jwk --new` asks for.
+pub(crate) fn chosen_secret(options: &ArgMatches<'_>) -> Option<SecretOrder>
+    ensures order { option_map secret_view result ≡ secret_order (rows_of (found_of options.now)) }
+    ensures hmac { IfSome result (λ o. is_hmac_alg o.alg ≡ true) }
+{
+    if asks_of_public_keys(options) {
+        return None;
+    }
+    let alg = chosen_secret_alg(options)?;
+    let printing = chosen_printing(options);
+    let bare = is_set(options, "bare");
+    Some(SecretOrder {
+        printing,
+        bare,
+        alg,
+    })
+}
+
+/// What is said of an option that `--new` has no use for, as `clap` words it.
+fn wrong_beside_new(alloc: Global, options: &ArgMatches<'_>) -> Result<String, AllocError> {
+    let beside = if is_named(options, "file") {
+        "--file <FILE>"
+    } else if is_set(options, "der") {
+        "--der"
+    } else if is_named(options, "kid") {
+        "--kid <NAME>"
+    } else if is_set(options, "kid-thumbprint") {
+        "--kid-thumbprint"
+    } else {
+        "--alg <A>"
+    };
+    format!(in alloc;
+        "error: the argument '--new <A>' cannot be used with '{beside}'\n\nFor more information, try '--help'.\n"
+    )
+}
+
+/// What is said of wrong words with `--new`.
+fn wrong_secret(alloc: Global, options: &ArgMatches<'_>) -> Result<String, AllocError> {
+    if asks_of_public_keys(options) {
+        return wrong_beside_new(alloc, options);
+    }
+    let alg = options.get_str("new").unwrap_or("");
+    let near = nearest(alloc, alg, &["HS256", "HS384", "HS512"])?;
+    unknown_value(alloc, "--new <A>", alg, "HS256, HS384, HS512", near)
+}
+
+/// What is said of an `--alg` that isn't one by public keys.
+fn wrong_alg(alloc: Global, alg: &str) -> Result<String, AllocError> {
+    let known = [
+        "RS256", "RS384", "RS512", "PS256", "PS384", "PS512", "ES256", "ES384", "ES512", "EdDSA",
+    ];
+    let near = nearest(alloc, alg, &known)?;
+    let names = "RS256, RS384, RS512, PS256, PS384, PS512, ES256, ES384, ES512, EdDSA";
+    unknown_value(alloc, "--alg <A>", alg, names, near)
+}
+
+/// What is said where `clap` accepts the words of `jwk` and they ask for nothing.
+pub(crate) fn wrong_jwk(alloc: Global, options: &ArgMatches<'_>) -> Result<String, AllocError> {
+    if is_named(options, "new") {
+        return wrong_secret(alloc, options);
+    }
+    match options.get_str("alg") {
+        Some(alg) if !is_public_alg(Alg::from_text(alg)) => wrong_alg(alloc, alg),
+        _ => format!(in alloc;
+            "error: the argument '--kid <NAME>' cannot be used with '--kid-thumbprint'\n\nFor more information, try '--help'.\n"
+        ),
+    }
+}
