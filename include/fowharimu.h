@@ -21,15 +21,16 @@
  *
  *  - A fow_validator is zeroed before its first use (FOW_VALIDATOR_INIT), is changed by these functions alone, isn't copied
  *    while it holds something, and is used by one call at a time. Another thread may use it after a lock or a join. Validators
- *    that were opened beside one another (fow_open_beside) may be used by as many threads at once.
+ *    that were opened beside one another (fow_open_beside) may be used by as many threads at once. The same holds of a fow_access
+ *    (FOW_ACCESS_INIT), which each thread opens for itself.
  *  - A pointer with a length beside it is to so many readable octets (const) or writable octets (else), fewer than 2^63. It
  *    isn't NULL, even where the length is 0: hand in the address of any octet then. Every other pointer is to one readable and
  *    writable value of its type, and isn't NULL.
- *  - What a call writes to doesn't overlap with what it is handed, nor with the validator.
+ *  - What a call writes to doesn't overlap with what it is handed, nor with the validator, nor with the access rule.
  *  - A bool is 0 or 1.
  *  - malloc, realloc and free are those of one allocator, and no call is made from a signal handler.
  *
- * A validator that was never opened, or was closed, is no error: a call answers FOW_NOT_OPEN then. Nothing is leaked where
+ * A validator or an access rule that was never opened, or was closed, is no error: a call answers FOW_NOT_OPEN then. Nothing is leaked where
  * memory is refused. Each call ends. Nothing is promised of time, or of keys that are left in memory. An open validator keeps
  * what reading a token needs from one fow_judge to the next: 16 KiB, and room that grows with the longest token that was judged.
  *
@@ -48,7 +49,7 @@ extern "C" {
 
 /* The number of this interface. It grows with each change of a struct, of a number, or of what a call means: so a program that was compiled
  * with this header asks whether the library that it loaded has the same. */
-#define FOW_ABI 1
+#define FOW_ABI 2
 
 /* The number of the interface that the library has: FOW_ABI of the header that it was built with. It needs no validator. It is C, and tested. */
 uint32_t fow_abi(void);
@@ -76,7 +77,8 @@ enum fow_status {
     FOW_OUT_OF_MEMORY = 3, /* an allocation was refused */
     FOW_NOT_OPEN = 4,      /* the validator holds nothing */
     FOW_TOO_SHORT = 5,     /* what is to be written has more octets than there is room for */
-    FOW_ABSENT = 6         /* there is no such thing */
+    FOW_ABSENT = 6,        /* there is no such thing */
+    FOW_DENIED = 7         /* of fow_denied alone: the accepted token may not do this */
 };
 
 /* Why something is refused: one number for each name that the program `jwt` prints. fow_fault_name gives the name. */
@@ -156,7 +158,21 @@ enum fow_fault {
     FOW_ISSUE_ALG_NOT_HMAC = 803,        /* the algorithm isn't HMAC; it doesn't come from fow_issue, which answers FOW_ABSENT */
     FOW_ISSUE_KEY_UNFIT = 804,           /* the key of this signature doesn't suit the algorithm, or may not sign */
     FOW_ISSUE_TOO_LONG = 805,            /* the token would have more than 1,048,576 octets */
-    FOW_ISSUE_SPENT = 806                /* the HMAC of this signature would cost more than 10^12 octets */
+    FOW_ISSUE_SPENT = 806,               /* the HMAC of this signature would cost more than 10^12 octets */
+
+    /* why an access rule is refused; fow_access_refused names the member or the claim */
+    FOW_ACCESS_JSON = 901,        /* no JSON text in UTF-8, or no object */
+    FOW_ACCESS_NAME_TWICE = 902,  /* a name stands twice in one object, at any depth */
+    FOW_ACCESS_MEMBER = 903,      /* a member is unknown, or of another kind */
+    FOW_ACCESS_RANGE = 904,       /* a scope is no scope token, or the name of the claim that carries scopes no JSON Pointer (RFC 6901) */
+    FOW_ACCESS_CLAIM = 905,       /* what is asked of this claim is of another kind */
+    FOW_ACCESS_CLAIM_RANGE = 906, /* what is asked of this claim is the empty list, or its name begins with `/` and is no JSON Pointer */
+    FOW_ACCESS_TOO_LONG = 907,    /* more than 65,536 octets */
+
+    /* why an accepted token is denied; fow_denied_name names the scope or the claim */
+    FOW_DENIED_SCOPE_MISSING = 1001,     /* this scope isn't granted */
+    FOW_DENIED_CLAIM_MISSING = 1002,     /* this claim is absent */
+    FOW_DENIED_CLAIM_NOT_ALLOWED = 1003  /* this claim has no value that is allowed */
 };
 
 /* The part of a token of which FOW_FORM_BASE64 speaks. */
@@ -407,6 +423,53 @@ uint32_t fow_claim(fow_validator *validator, const uint8_t *name, size_t name_le
 /* A claim of the token that was accepted last that is a whole number of 64 signed bits, such as `exp`. Proved: FOW_OK: *number
  * is that number. FOW_ABSENT: there is none, as with fow_claim. */
 uint32_t fow_number(fow_validator *validator, const uint8_t *name, size_t name_len, int64_t *number);
+
+/* An access rule: which scopes and which values of claims an accepted token has to have. It is a document of its own (docs/ACCESS.md), so
+ * one policy may stand for a service and one rule for each of its parts. The members are private. */
+typedef struct fow_access {
+    void *at;
+    bool held;
+} fow_access;
+
+#define FOW_ACCESS_INIT { NULL, false }
+
+/* Reads an access rule, of at most 65,536 octets.
+ *
+ * Proved: FOW_OK: the rule that these octets say is held from now on. FOW_REFUSED: *fault says why it is refused, the first cause.
+ * FOW_OUT_OF_MEMORY: memory was refused. Where the answer isn't FOW_OK, what was held is held on. The octets aren't needed any more after
+ * the call. */
+uint32_t fow_access_open(fow_access *access, const uint8_t *rule, size_t rule_len, uint32_t *fault);
+
+/* Writes the name of the member, or of the claim, for which a rule is refused, in UTF-8, with JSON escapes undone. It reads the rule's
+ * octets again, and needs no fow_access.
+ *
+ * Proved: FOW_OK: `out` begins with that name, which has *written octets. FOW_ABSENT: the rule stands, or is refused for a fault that speaks
+ * of none. */
+uint32_t fow_access_refused(const uint8_t *rule, size_t rule_len, uint8_t *out, size_t out_len, size_t *written);
+
+/* Writes a scope that a rule asks for, by its number from 0 in the order of the document: what a challenge has in its `scope` where it says
+ * insufficient_scope (RFC 6750, section 3.1), with a space between two. A scope has no space, no quotation mark and no backslash.
+ *
+ * Proved: FOW_OK: `out` begins with that scope, which has *written octets. FOW_ABSENT: there is none of this number. FOW_NOT_OPEN: nothing is
+ * held. What is held stays. */
+uint32_t fow_access_scope(fow_access *access, uint32_t number, uint8_t *out, size_t out_len, size_t *written);
+
+/* Frees what is held. It may be called twice, and before anything was opened. Proved: nothing is held. */
+void fow_access_close(fow_access *access);
+
+/* Holds a rule against the claims of the token that was accepted last. It takes no memory. A service answers 403 to FOW_DENIED, and 401 to a
+ * token that isn't accepted (RFC 6750, section 3.1). It may be asked of as many rules as there are, until the next token is judged.
+ *
+ * Proved: FOW_OK: the claims meet the rule. FOW_DENIED: they don't, and *denial says which demand is the first that they don't meet: scopes in
+ * the order of the rule, then claims in ascending octet order of their names. FOW_ABSENT: the last verdict was no acceptance. FOW_NOT_OPEN: the
+ * validator or the rule holds nothing. Both hold what they held. */
+uint32_t fow_denied(fow_validator *validator, fow_access *access, uint32_t *denial);
+
+/* Writes the scope that isn't granted, or the name of the claim that isn't as the rule asks, in UTF-8, for the first demand that isn't met.
+ *
+ * Proved: FOW_OK: `out` begins with it, and it has *written octets. FOW_ABSENT: the claims meet the rule, or the last verdict was no
+ * acceptance. FOW_NOT_OPEN: as of fow_denied. Both hold what they held. */
+uint32_t fow_denied_name(fow_validator *validator, fow_access *access, uint8_t *out, size_t out_len, size_t *written);
 
 /* Issues the claims as a token signed by HMAC: `alg` is FOW_HS256, FOW_HS384 or FOW_HS512, `form` is enum fow_form, and `typ` the
  * protected header's `typ` in UTF-8, such as `at+jwt`; where typ_len is 0, it has none. In compact and flattened form key `key` of

@@ -1,4 +1,4 @@
-/* bench HMAC RSA [EC]: the least time of a call, in microseconds of processor time, on a token by HMAC and one by RS256. With one by ES256
+/* bench HMAC RSA [EC]: the least time of a call, in microseconds of processor time, on a token by HMAC and one by RS256, and of an access rule. With one by ES256
  * this and that by RS256 are also judged by 1,024 keys of which none made the signature, where a caller says so without cryptography. */
 #include <fowharimu_openssl.h>
 #include <openssl/evp.h>
@@ -93,6 +93,34 @@ static void time_rsa(const char *name)
     fow_close(&validator);
 }
 
+/* The access token of RFC 9068, section 3, by HS256, and an access rule for its scopes and its client. */
+static void time_access(const char *name)
+{
+    static const char policy_text[] = "{\"algs\":[\"HS256\"],\"typ\":\"at+jwt\",\"issuers\":[\"https://authorization-server.example.com/\"],"
+                                      "\"audiences\":[\"https://rs.example.com/\"],\"required\":[\"sub\",\"exp\"]}";
+    static const char claims[] = "{\"iss\":\"https://authorization-server.example.com/\",\"sub\":\"5ba552d67\",\"aud\":\"https://rs.example.com/\","
+                                 "\"exp\":1639528912,\"iat\":1618354090,\"jti\":\"dbe39bf3a3ba4238a513f51d6e1691c4\","
+                                 "\"client_id\":\"s6BhdRkqt3\",\"scope\":\"openid profile reademail\"}";
+    static const char rule[] = "{\"scopes\":[\"openid\",\"reademail\"],\"claims\":{\"client_id\":[\"s6BhdRkqt3\"]}}";
+    static uint8_t issued[4096];
+    const int64_t now = 1618354090;
+    fow_validator validator = FOW_VALIDATOR_INIT;
+    fow_access access = FOW_ACCESS_INIT;
+    fow_report report;
+    uint32_t fault, denial;
+    size_t written;
+    read_named(&keys, name, "keys");
+    CHECK(fow_open(&validator, (const uint8_t *)policy_text, sizeof policy_text - 1, keys.at, keys.len, &fault) == FOW_OK);
+    CHECK(fow_issue(&validator, FOW_HS256, FOW_COMPACT, 0, (const uint8_t *)"at+jwt", 6, (const uint8_t *)claims, sizeof claims - 1, issued,
+              sizeof issued, &written, &report)
+        == FOW_OK);
+    TIME("RFC 9068 verdict", 200, CHECK(fow_judge(&validator, issued, written, now, &report) == FOW_OK));
+    TIME("RFC 9068 fow_access_open", 200, CHECK(fow_access_open(&access, (const uint8_t *)rule, sizeof rule - 1, &fault) == FOW_OK));
+    TIME("RFC 9068 fow_denied", 2000, CHECK(fow_denied(&validator, &access, &denial) == FOW_OK));
+    fow_access_close(&access);
+    fow_close(&validator);
+}
+
 /* Tells that no key made the signature, one try after another. */
 static void deny_each(fow_validator *validator, uint64_t tries)
 {
@@ -130,6 +158,7 @@ int main(int argc, char **argv)
     CHECK(argc == 3 || argc == 4);
     time_hmac(argv[1]);
     time_rsa(argv[2]);
+    time_access(argv[1]);
     if (argc == 4) {
         time_many("RS256: 1,024 keys that are denied", argv[2], "\"n\":\"", "RS256");
         time_many("ES256: 1,024 keys that are denied", argv[3], "\"x\":\"", "ES256");

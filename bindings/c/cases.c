@@ -1,6 +1,6 @@
 /* cases none|proved|openssl FILE: answers each case of a table, as bindings/cases/make writes it, by no verifier of public keys, by the proved ones
- * or by OpenSSL. A line of the table is `open POLICY KEYS`, `judge NAME NOW TOKEN` or `issue NAME ALG FORM KEY TYP CLAIMS`, with texts in hexadecimal,
- * and `-` for one without octets. A line of the answer has what bindings/cases/README.md says. */
+ * or by OpenSSL. A line of the table is `open POLICY KEYS`, `judge NAME NOW TOKEN`, `deny NAME NOW RULE TOKEN` or `issue NAME ALG FORM KEY TYP CLAIMS`,
+ * with texts in hexadecimal, and `-` for one without octets. A line of the answer has what bindings/cases/README.md says. */
 #define _POSIX_C_SOURCE 200809L
 #include <fowharimu_openssl.h>
 #include <inttypes.h>
@@ -17,7 +17,8 @@ typedef struct text {
 static fow_validator validator = FOW_VALIDATOR_INIT;
 static fow_openssl crypto = FOW_OPENSSL_INIT;
 static uint32_t opened = FOW_NOT_OPEN, open_fault;
-static text policy, keys, token, typ, claims, out;
+static fow_access access_rule = FOW_ACCESS_INIT;
+static text policy, keys, token, rule, typ, claims, out;
 static int verifiers;
 
 static void reserve(text *it, size_t room)
@@ -75,7 +76,7 @@ static void print_hex(const uint8_t *at, size_t len)
 /* A fault's name, after what it is a fault of. */
 static void print_fault(uint32_t fault)
 {
-    static const char *const kinds[] = { "", "policy", "keys", "text", "form", "ceiling", "signature", "claims", "issue" };
+    static const char *const kinds[] = { "", "policy", "keys", "text", "form", "ceiling", "signature", "claims", "issue", "access", "denied" };
     CHECK(fault / 100 < sizeof kinds / sizeof kinds[0]);
     if (fault == FOW_NO_FAULT)
         printf("\t-");
@@ -85,7 +86,7 @@ static void print_fault(uint32_t fault)
 
 static const char *verdict_of(uint32_t status)
 {
-    static const char *const names[] = { "accepted", "refused", "asks", "memory", "closed", "short", "absent" };
+    static const char *const names[] = { "accepted", "refused", "asks", "memory", "closed", "short", "absent", "denied" };
     CHECK(status < sizeof names / sizeof names[0]);
     return names[status];
 }
@@ -148,28 +149,26 @@ static void judge_token(int64_t now, fow_report *report)
         fow_judge(&validator, token.at, token.len, now, report);
 }
 
-static void answer_judge(char *line)
+/* What is said of the token that was judged just now; `denial` where it is accepted and the rule that is held denies it. */
+static void print_judged(const char *name, const fow_report *report, uint32_t denial)
 {
-    const char *name = next_word(&line);
-    int64_t now = strtoll(next_word(&line), NULL, 10);
-    fow_report report = { 0 };
     size_t written = 0;
-    read_hex(&line, &token);
-    if (opened != FOW_OK) {
-        print_not_opened(name);
-        return;
+    reserve(&out, token.len + rule.len + 1);
+    printf("%s\t%s", name, verdict_of(denial == FOW_NO_FAULT ? report->verdict : FOW_DENIED));
+    print_fault(denial == FOW_NO_FAULT ? report->fault : denial);
+    printf("\t%" PRIu32 "\t%" PRIu32 "\t%" PRIu32, report->part, report->signature, report->key);
+    if (denial == FOW_NO_FAULT) {
+        print_claim(report->claim);
+    } else {
+        CHECK(fow_denied_name(&validator, &access_rule, out.at, out.room, &written) == FOW_OK);
+        putchar('\t');
+        print_hex(out.at, written);
     }
-    judge_token(now, &report);
-    printf("%s\t%s", name, verdict_of(report.verdict));
-    print_fault(report.fault);
-    printf("\t%" PRIu32 "\t%" PRIu32 "\t%" PRIu32, report.part, report.signature, report.key);
-    print_claim(report.claim);
-    printf("\t%" PRIu64, report.work);
+    printf("\t%" PRIu64, report->work);
     print_states();
-    print_tries(report.tries);
+    print_tries(report->tries);
     putchar('\t');
-    reserve(&out, token.len + 1);
-    if (report.verdict == FOW_OK) {
+    if (report->verdict == FOW_OK && denial == FOW_NO_FAULT) {
         CHECK(fow_payload(&validator, token.at, token.len, out.at, out.room, &written) == FOW_OK);
         print_hex(out.at, written);
     } else {
@@ -177,6 +176,55 @@ static void answer_judge(char *line)
     }
     putchar('\n');
     fow_forget(&validator);
+}
+
+static void answer_judge(char *line)
+{
+    const char *name = next_word(&line);
+    int64_t now = strtoll(next_word(&line), NULL, 10);
+    fow_report report = { 0 };
+    read_hex(&line, &token);
+    if (opened != FOW_OK) {
+        print_not_opened(name);
+        return;
+    }
+    judge_token(now, &report);
+    print_judged(name, &report, FOW_NO_FAULT);
+}
+
+/* Of an access rule that is refused: the fault, and the member or the claim that it speaks of. */
+static void print_rule_refused(const char *name, uint32_t status, uint32_t fault)
+{
+    size_t written = 0;
+    reserve(&out, rule.len + 1);
+    printf("%s\t%s", name, verdict_of(status));
+    print_fault(fault);
+    printf("\t0\t0\t0\t");
+    if (fow_access_refused(rule.at, rule.len, out.at, out.room, &written) == FOW_OK)
+        print_hex(out.at, written);
+    else
+        putchar('-');
+    printf("\t0\t\t\t-\n");
+}
+
+static void answer_deny(char *line)
+{
+    const char *name = next_word(&line);
+    int64_t now = strtoll(next_word(&line), NULL, 10);
+    fow_report report = { 0 };
+    uint32_t fault = FOW_NO_FAULT, denial = FOW_NO_FAULT;
+    read_hex(&line, &rule);
+    read_hex(&line, &token);
+    CHECK(opened == FOW_OK);
+    uint32_t status = fow_access_open(&access_rule, rule.at, rule.len, &fault);
+    if (status != FOW_OK) {
+        print_rule_refused(name, status, fault);
+        return;
+    }
+    judge_token(now, &report);
+    status = fow_denied(&validator, &access_rule, &denial);
+    CHECK(status == (report.verdict != FOW_OK ? FOW_ABSENT : denial == FOW_NO_FAULT ? FOW_OK : FOW_DENIED));
+    print_judged(name, &report, denial);
 }
 
 static void answer_issue(char *line)
@@ -216,6 +264,8 @@ static void answer_line(char *line)
         open_documents(line);
     else if (strcmp(what, "judge") == 0)
         answer_judge(line);
+    else if (strcmp(what, "deny") == 0)
+        answer_deny(line);
     else
         answer_issue(line);
 }
@@ -234,9 +284,10 @@ int main(int argc, char **argv)
     CHECK(!ferror(table));
     fclose(table);
     free(line);
-    for (text *const *it = (text *const[]){ &policy, &keys, &token, &typ, &claims, &out, NULL }; *it != NULL; it++)
+    for (text *const *it = (text *const[]){ &policy, &keys, &token, &rule, &typ, &claims, &out, NULL }; *it != NULL; it++)
         free((*it)->at);
     fow_openssl_clear(&crypto);
+    fow_access_close(&access_rule);
     fow_close(&validator);
     return 0;
 }

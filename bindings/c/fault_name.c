@@ -121,6 +121,26 @@ const char *fow_fault_name(uint32_t fault)
         return "TooLong";
     case FOW_ISSUE_SPENT:
         return "Spent";
+    case FOW_ACCESS_JSON:
+        return "Json";
+    case FOW_ACCESS_NAME_TWICE:
+        return "NameTwice";
+    case FOW_ACCESS_MEMBER:
+        return "Member";
+    case FOW_ACCESS_RANGE:
+        return "Range";
+    case FOW_ACCESS_CLAIM:
+        return "Claim";
+    case FOW_ACCESS_CLAIM_RANGE:
+        return "ClaimRange";
+    case FOW_ACCESS_TOO_LONG:
+        return "TooLong";
+    case FOW_DENIED_SCOPE_MISSING:
+        return "ScopeMissing";
+    case FOW_DENIED_CLAIM_MISSING:
+        return "ClaimMissing";
+    case FOW_DENIED_CLAIM_NOT_ALLOWED:
+        return "ClaimNotAllowed";
     default:
         return "";
     }

@@ -149,6 +149,35 @@ static uint32_t issue_it(void)
         sizeof out, &written, &report);
 }
 
+/* An access rule, which is opened anew where it is open. */
+static fow_access access = FOW_ACCESS_INIT;
+
+static uint32_t open_access(void)
+{
+    static const uint8_t rule[] = "{\"scopes\":[\"read\"],\"scope_claim\":\"/a/b\",\"claims\":{\"/a~1b\":[\"x\",true,7],\"iss\":[\"joe\"]}}";
+    uint32_t fault;
+    return fow_access_open(&access, rule, sizeof rule - 1, &fault);
+}
+
+static uint32_t claim_of_rule(void)
+{
+    static const uint8_t refused[] = "{\"claims\":{\"iss\":[\"joe\",1.5]}}";
+    size_t written;
+    return fow_access_refused(refused, sizeof refused - 1, out, sizeof out, &written);
+}
+
+static uint32_t hold_access(void)
+{
+    uint32_t denial;
+    return fow_denied(&validator, &access, &denial);
+}
+
+static uint32_t name_denied(void)
+{
+    size_t written;
+    return fow_denied_name(&validator, &access, out, sizeof out, &written);
+}
+
 /* Refuses each allocation of a call in turn, and then all after it, until the call needs no more. */
 static void refuse_each(const char *name, uint32_t (*call)(void), uint32_t right)
 {
@@ -208,10 +237,19 @@ int main(int argc, char **argv)
     refuse_on(argv[3], FOW_ASKS, answer_by_ed25519);
     refuse_on(argv[1], FOW_OK, NULL);
     refuse_each("fow_refused_member", member_of_policy, FOW_OK);
+    refuse_each("fow_access_refused", claim_of_rule, FOW_OK);
     CHECK(open_it() == FOW_OK);
     long before = held;
     refuse_each("fow_issue", issue_it, FOW_OK);
     CHECK(held == before);
+    refuse_each("fow_access_open", open_access, FOW_OK);
+    refuse_each("fow_access_open, opened anew", open_access, FOW_OK);
+    CHECK(judge_it() == FOW_OK);
+    long asked = asked_for;
+    refuse_each("fow_denied", hold_access, FOW_DENIED);
+    refuse_each("fow_denied_name", name_denied, FOW_OK);
+    CHECK(asked_for == asked);
+    fow_access_close(&access);
     fow_close(&validator);
     printf("%ld allocations, nothing is left\n", asked_for);
     return 0;

@@ -1,5 +1,5 @@
 /* stack NAME ..: each call in a thread whose stack has 128 KiB: on these tokens, and on JSON that nests deep in the payload and the protected
- * header of a token, in one in JSON form, in a policy, in a key set and in claims to issue. The stack is painted before: so it is told how much
+ * header of a token, in one in JSON form, in a policy, in an access rule, in a key set and in claims to issue. The stack is painted before: so it is told how much
  * of it was touched at most, of which the thread itself takes some 2,000 octets. */
 #define _GNU_SOURCE
 #include <fowharimu.h>
@@ -25,6 +25,8 @@ static uint8_t out[ROOM];
 static char text[ROOM], nested[ROOM];
 static size_t text_len, nested_len;
 static fow_validator hmac = FOW_VALIDATOR_INIT;
+static fow_access rule = FOW_ACCESS_INIT;
+static const char rule_text[] = "{\"scopes\":[\"read\"],\"scope_claim\":\"/x/a\",\"claims\":{\"x\":[7]}}";
 static const char wide[] = "{\"algs\":[\"HS256\"],\"limit\":1048576,\"work\":1000000000000}";
 
 static const uint8_t *at(const char *octets)
@@ -76,11 +78,14 @@ static void *call_each(void *unused)
 static void *judge_text(void *unused)
 {
     fow_report report;
+    uint32_t denial;
     size_t written;
     int64_t number;
     fow_question asked;
     fow_judge(&hmac, at(text), text_len, NOW, &report);
     fow_proved_judge(&hmac, at(text), text_len, NOW, &report);
+    fow_denied(&hmac, &rule, &denial);
+    fow_denied_name(&hmac, &rule, out, sizeof out, &written);
     fow_payload(&hmac, at(text), text_len, out, sizeof out, &written);
     fow_unverified_header(&hmac, at(text), text_len, 0, out, sizeof out, &written);
     fow_claim(&hmac, at("x"), 1, out, sizeof out, &written);
@@ -99,6 +104,17 @@ static void *open_policy(void *unused)
     CHECK(fow_open(&validator, at(nested), nested_len, keys.at, keys.len, &fault) == FOW_REFUSED);
     fow_refused_member(at(nested), nested_len, out, sizeof out, &written);
     fow_close(&validator);
+    return unused;
+}
+
+static void *open_access(void *unused)
+{
+    fow_access access = FOW_ACCESS_INIT;
+    uint32_t fault;
+    size_t written;
+    CHECK(fow_access_open(&access, at(nested), nested_len, &fault) == FOW_REFUSED);
+    fow_access_refused(at(nested), nested_len, out, sizeof out, &written);
+    fow_access_close(&access);
     return unused;
 }
 
@@ -165,6 +181,7 @@ static const struct {
     { "protected header", "\"alg\":\"HS256\",", put_header, judge_text },
     { "JSON form", "\"payload\":\"e30\",\"signature\":\"AA\",", put_form, judge_text },
     { "policy", "\"algs\":[\"HS256\"],", NULL, open_policy },
+    { "access rule", "\"claims\":{\"a\":[1]},", NULL, open_access },
     { "key set", "\"keys\":[],", NULL, open_keys },
     { "claims to issue", "", NULL, issue_claims },
 };
@@ -202,10 +219,12 @@ int main(int argc, char **argv)
     printf("tokens: %zu octets of stack\n", most);
     read_named(&keys, argv[1], "keys");
     CHECK(fow_open(&hmac, at(wide), sizeof wide - 1, keys.at, keys.len, &fault) == FOW_OK);
+    CHECK(fow_access_open(&rule, at(rule_text), sizeof rule_text - 1, &fault) == FOW_OK);
     for (size_t place = 0; place < sizeof places / sizeof *places; place++) {
         size_t touched = touched_in(place);
         most = touched > most ? touched : most;
     }
+    fow_access_close(&rule);
     fow_close(&hmac);
     CHECK(most + LEFT <= STACK);
     printf("128 KiB of stack do: %zu octets are left at least\n", STACK - most);

@@ -48,6 +48,16 @@ POLICIES = (
     b'{"algs":[]}',
     b"[]",
 )
+RULES = (
+    b"{}",
+    b'{"scopes":["read","write"],"scope_claim":"/a~1b/~0","claims":{"":["x",true,-7],"/a/b":[""],"scope":["read"]}}',
+    b'{"scopes":["a b"]}',
+    b'{"scope_claim":"/~2"}',
+    b'{"claims":{"a":[]}}',
+    b'{"claims":{"a":[1.5]}}',
+    b'{"claims":{"/~":[1]}}',
+    b'{"scope":[]}',
+)
 KEY_SETS = (
     b'{"keys":[{"kty":"oct","k":"%s","kid":"a","alg":"HS256","use":"sig","key_ops":["sign","verify"]},{"kty":"oct","k":"QQ"},{"kty":"oct"},7,'
     b'{"kty":"zz"}]}' % base64.urlsafe_b64encode(SECRETS[0]).rstrip(b"="),
@@ -58,7 +68,7 @@ KEY_SETS = (
 WORDS = "alg typ cty kid crit jku x5u jwk x5c b64 enc zip HS256 HS384 HS512 RS256 ES256 EdDSA none PS256 payload signatures signature protected "
 WORDS += "header ciphertext iss sub aud exp nbf iat jti JWT application/jwt keys kty oct RSA EC OKP crv P-256 Ed25519 Ed448 k n e x y d use sig key_ops "
 WORDS += "verify sign version algs mode any all limit work max_signatures line_feed need_kid thumb_kid understood issuers audiences required leeway "
-WORDS += "max_age max_calls"
+WORDS += "max_age max_calls scopes scope_claim claims scope scp roles read"
 SPELLED = ("\\x22:\\x22", "\\\\u0041", "\\\\ud83d\\\\ude00", "\\\\ud800", "\\x00", "\\xff", "\\xed\\xa0\\x80", "\\xf0\\x9f\\x98\\x80", "1e999", "-0")
 SPELLED += ("9223372036854775807", "9223372036854775808", "18446744073709551616", "1.0", "1E-400", "null", "true", "[[[[[[[[", "{\\x22a\\x22:")
 SPELLED += ("eyJhbGciOiJIUzI1NiJ9", "e30", "....", "\\x0a")
@@ -117,6 +127,13 @@ def issue_seeds() -> list[bytes]:
     return [bytes([alg, form, alg, 0]) + typ + b"\n" + claims.encode() for alg, form in numbers for typ in types for claims in CLAIMS[:8]]
 
 
+def access_seeds() -> list[bytes]:
+    """An access rule, a line feed, claims."""
+    rules = [it.read_bytes().strip() for it in sorted((TOP / "examples/access").glob("*.access"))] + list(RULES)
+    claims = [line.encode() for it in sorted((TOP / "examples/access").glob("*.claims")) for line in it.read_text().splitlines()]
+    return [rule + b"\n" + it for rule in rules for it in claims]
+
+
 def calls_seeds() -> list[bytes]:
     """Four octets for each call."""
     chosen = random.Random(5)
@@ -125,7 +142,7 @@ def calls_seeds() -> list[bytes]:
 
 def main() -> None:
     out = pathlib.Path(sys.argv[1])
-    made = {"judge": judge_seeds, "claims": claims_seeds, "open": open_seeds, "issue": issue_seeds, "calls": calls_seeds}
+    made = {"judge": judge_seeds, "claims": claims_seeds, "open": open_seeds, "issue": issue_seeds, "calls": calls_seeds, "access": access_seeds}
     for name, seeds in made.items():
         (out / name).mkdir(parents=True, exist_ok=True)
         for number, seed in enumerate(seeds()):

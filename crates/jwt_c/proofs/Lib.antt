@@ -1,4 +1,5 @@
 pub mod Counting
 pub mod Handles
+pub mod RuleHandles
 pub mod Telling
 pub mod Values

@@ -1,3 +1,4 @@
+pub mod Access
 pub mod Asking
 pub mod Documents
 pub mod Faults
@@ -6,4 +7,5 @@ pub mod Issuing
 pub mod MostQuestions
 pub mod Proving
 pub mod Reports
+pub mod RuleHandles
 pub mod Written

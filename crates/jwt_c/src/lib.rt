@@ -1,9 +1,11 @@
 //! The library for C: what `include/fowharimu.h` declares.
 //!
 //! A validator of the header is a [`handle::Handle`], which holds a [`desk::Desk`] or nothing. Contracts see what it holds. Each
-//! exported function takes that out, works on it in safe code, and puts it back.
+//! exported function takes that out, works on it in safe code, and puts it back. So does each of an access rule, which is a
+//! [`rule_handle::RuleHandle`] with a [`rule_desk::RuleDesk`].
 #![tactic(auto)]
 
+mod access;
 mod asking;
 pub mod desk;
 pub mod exports;
@@ -15,4 +17,7 @@ mod loose;
 mod most_questions;
 mod proving;
 pub mod report;
+pub mod rule_desk;
+pub mod rule_exports;
+pub mod rule_handle;
 mod writing;

@@ -1,53 +1,23 @@
 //! How many questions one token can raise.
 
-ghost use Rattle.std.specs.Prelude.{◌≡◌, ◌≤◌, ◌&&◌, false, not, slice_get};
+ghost use Rattle.std.specs.Prelude.{◌≡◌, ◌≤◌, false, slice_get};
 ghost use Rattle.std.specs.List.{count_by, list_any};
 ghost use Rattle.std.specs.Option.{option_map_or};
-ghost use Rattle.jwt_mac.specs.Algorithm.{is_hmac_alg};
-ghost use Rattle.jwt_mac.specs.Verifying.{key_octets};
 ghost use Rattle.jwt_keys.specs.KeySets.{key_set};
 ghost use Rattle.jwt_keys.specs.Views.{key_parts};
-ghost use Rattle.jwt_policy.specs.Eligible.{suits};
 ghost use Rattle.jwt_c.specs.Documents.{documents};
 ghost use Rattle.jwt_c.specs.MostQuestions.{is_public_for, may_be_asked, most_questions};
 
 use crate::desk::Desk;
 use jwt_keys::{Key, KeySet};
-use jwt_mac::{Alg, Curve, KeyView};
-use jwt_policy::Policy;
-
-/// Whether the algorithm is one of public keys that asks for a key of this kind and curve (RFC 7518, sections 3.3 to 3.5; RFC 8037,
-/// section 3.1).
-fn suits_public(alg: Alg, key: KeyView<'_>) -> bool
-    ensures { result ≡ (not (is_hmac_alg alg) && suits alg (key_octets key.entry)) }
-{
-    match key {
-        KeyView::Oct { k: _ } => false,
-        KeyView::Rsa { n: _, e: _ } => match alg {
-            Alg::RS256 | Alg::RS384 | Alg::RS512 | Alg::PS256 | Alg::PS384 | Alg::PS512 => true,
-            _ => false,
-        },
-        KeyView::Ec { curve, x: _, y: _ } => match (alg, curve) {
-            (Alg::ES256, Curve::P256) | (Alg::ES384, Curve::P384) | (Alg::ES512, Curve::P521) =>
-                true,
-            _ => false,
-        },
-        KeyView::Okp { curve: _, x: _ } => match alg {
-            Alg::EdDSA => true,
-            _ => false,
-        },
-    }
-}
+use jwt_mac::Alg;
+use jwt_policy::{Policy, is_for};
 
 /// Whether the algorithm is one of public keys, and fits the key.
 fn is_public_for(key: &Key, alg: Alg) -> bool
     ensures { result ≡ is_public_for (key_parts key.now) alg }
 {
-    suits_public(alg, key.view())
-        && match key.alg_text() {
-            Some(text) => alg.text() == text,
-            None => true,
-        }
+    !alg.is_hmac() && is_for(key, alg)
 }
 
 /// Whether one of the algorithms is one of public keys, and fits the key.

@@ -1,0 +1,20 @@
+-- The ownership of the handle of an access rule.
+use base.Fml.{Fml, ftrue, ffalse}
+use base.Stored.{Coded}
+use Rattle.std.specs.Coded.{coded_option}
+use denote.RawPtr.{Ptr}
+use Rattle.std.specs.Prelude.{Bool, true, false, Option, Some, None}
+use Rattle.std.specs.Box.Ownership.{box_owns}
+use Rattle.std_heap.specs.contracts.Global as heap
+use Rattle.std_heap.specs.contracts.GlobalAllocator.TheImpl.{ghosts}
+use Rattle.jwt_c.specs.contracts.rule_desk.RuleDesk.{the_row}
+
+-- the desk's block, which the heap may free, where one is held
+abbrev pub rule_handle_owns : heap.the_row.Denot → Bool → Ptr → Option the_row.Denot → Fml
+rule_handle_owns a true p (Some d) = box_owns (ghosts.dealloc_token a) the_row p d
+rule_handle_owns a true p None = ffalse
+rule_handle_owns a false p (Some d) = ffalse
+rule_handle_owns a false p None = ftrue
+
+abbrev pub rule_desk_coded : Coded (Option the_row.Denot)
+rule_desk_coded = coded_option the_row.coded

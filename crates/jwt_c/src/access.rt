@@ -1,0 +1,114 @@
+//! Access rules that are held, and what they say of the claims of the last acceptance.
+
+ghost use Rattle.std.specs.Prelude.{◌≡◌, IfOk, IfErr, Ok, slice_get};
+ghost use Rattle.jwt_access.specs.Document.{rule_of};
+ghost use Rattle.jwt_c.specs.Access.{access_number, denial_number, IsRuleRefused, IsHeldAgainst, PutsDenied, refused_in};
+ghost use Rattle.jwt_c.specs.Written.{PutsSome};
+
+use crate::rule_desk::RuleDesk;
+use crate::writing::put;
+use jwt_access::{AccessFault, AccessRule, Denial};
+use jwt_policy::Claims;
+use std::alloc::Global;
+
+/// The number of a rule's fault; 0 for want of memory.
+fn access_number(fault: &AccessFault) -> u32
+    ensures { result ≡ access_number fault.now }
+{
+    match fault {
+        AccessFault::OutOfMemory => 0,
+        AccessFault::Json => 901,
+        AccessFault::NameTwice => 902,
+        AccessFault::Member(_) => 903,
+        AccessFault::Range(_) => 904,
+        AccessFault::Claim(_) => 905,
+        AccessFault::ClaimRange(_) => 906,
+        AccessFault::TooLong => 907,
+    }
+}
+
+/// The number of a denial.
+fn denial_number(denial: &Denial<'_>) -> u32
+    ensures { result ≡ denial_number denial.now }
+{
+    match denial {
+        Denial::ScopeMissing(_) => 1001,
+        Denial::ClaimMissing(_) => 1002,
+        Denial::ClaimNotAllowed(_) => 1003,
+    }
+}
+
+/// The rule of a document, or the status and the number of the fault for which it is refused.
+pub(crate) fn rule_of(alloc: Global, document: &[u8]) -> Result<Box<RuleDesk>, (u32, u32)>
+    ensures read { IfOk result (λ b. rule_of document.now ≡ Ok b.value.rule) }
+    ensures refused { IfErr result (λ e. IsRuleRefused document.now e.0 e.1) }
+{
+    let rule = match AccessRule::read(alloc, document) {
+        Ok(rule) => rule,
+        Err(AccessFault::OutOfMemory) => return Err((3, 0)),
+        Err(fault) => return Err((1, access_number(&fault))),
+    };
+    match Box::new(alloc, RuleDesk { rule }) {
+        Ok(desk) => Ok(desk),
+        Err(_) => Err((3, 0)),
+    }
+}
+
+/// Puts the name of the member, or of the claim, for which a rule is refused at the front of `out`. 0; 3: memory was refused; 5: `out` is
+/// too short; 6: the rule isn't refused for one.
+pub(crate) fn put_refused(alloc: Global, rule: &[u8], out: &mut [u8], written: &mut usize) -> u32
+    ensures { PutsSome (refused_in (rule_of rule.now)) result written.new out.old out.new }
+{
+    match AccessRule::read(alloc, rule) {
+        Err(AccessFault::OutOfMemory) => 3,
+        Err(
+            AccessFault::Member(name)
+            | AccessFault::Range(name)
+            | AccessFault::Claim(name)
+            | AccessFault::ClaimRange(name),
+        ) => put(name.text().as_bytes(), out, written),
+        _ => 6,
+    }
+}
+
+/// Puts a scope that the rule asks for at the front of `out`. 0; 5: `out` is too short; 6: there is no such scope.
+pub(crate) fn put_scope(rule: &AccessRule, number: u32, out: &mut [u8], written: &mut usize) -> u32
+    ensures { PutsSome (slice_get rule.now.scopes number) result written.new out.old out.new }
+{
+    match rule.scopes().get(number as usize) {
+        Some(scope) => put(scope.as_bytes(), out, written),
+        None => 6,
+    }
+}
+
+/// Holds the rule against claims. 0: they meet it; 7: they don't, and the number is that of the denial; 6: there are none.
+pub(crate) fn hold(rule: &AccessRule, claims: &Option<Claims>) -> (u32, u32)
+    ensures { IsHeldAgainst rule.now claims.now result.0 result.1 }
+{
+    match claims {
+        Some(claims) => match rule.denial(claims) {
+            Some(denial) => (7, denial_number(&denial)),
+            None => (0, 0),
+        },
+        None => (6, 0),
+    }
+}
+
+/// Puts the scope or the claim that the claims lack at the front of `out`. 0; 5: `out` is too short; 6: they meet the rule, or there are
+/// none.
+pub(crate) fn put_denied(
+    rule: &AccessRule,
+    claims: &Option<Claims>,
+    out: &mut [u8],
+    written: &mut usize,
+) -> u32
+    ensures { PutsDenied rule.now claims.now result written.new out.old out.new }
+{
+    match claims {
+        Some(claims) => match rule.denial(claims) {
+            Some(denial) => put(denial.denied().as_bytes(), out, written),
+            None => 6,
+        },
+        None => 6,
+    }
+}
