@@ -16,7 +16,7 @@ pub record Missed (m x bound : ℕ) : Type 0 where
   pub is : inverse_below m x bound ≡ None
   pub none : (w : ℕ) → w < bound → (x * w) % m ≡ 1 → ⊥
 
-searched : (m x bound : ℕ) → Found m x bound ⊎ Missed m x bound
+pub searched : (m x bound : ℕ) → Found m x bound ⊎ Missed m x bound
 unfolding inverse_below
 searched m x zero = inr (record { is = refl; none = λ w less one. absurd (omega arith) })
 searched m x (suc bound) =

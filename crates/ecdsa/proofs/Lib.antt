@@ -10,6 +10,7 @@ pub mod NineLimbs
 
 pub mod Search
 pub mod Reductions
+pub mod Inverses
 -- ---- the field: the functions of field
 
 pub mod Units
@@ -18,7 +19,6 @@ pub mod Forms
 pub mod Made
 -- ---- points: the functions of formulas and sums
 
-pub mod Inverses
 pub mod Slopes
 pub mod Chord
 pub mod Tangent

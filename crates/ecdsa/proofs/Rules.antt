@@ -139,16 +139,16 @@ module _ (m : ℕ) (above : 1 < m) where
   cube_unit Z unit = unit_times m above (Z * Z) Z (square_unit Z unit) unit
 
 module _ (E : Domain) (above : 1 < E.p) where
-  both : (U S U2 S2 Z : ℕ) (R1 R2 : Option Point) (b : AreBoth E U S U2 S2 Z R1 R2) → sum_of E R1 R2 ≡ sum E (Affine b.x1 b.y1) (Affine b.x2 b.y2)
-  both U S U2 S2 Z R1 R2 b = ap₂ (sum_of E) b.first b.second
+  both : (U S U2 S2 Z : ℕ) (left right : Option Point) (b : AreBoth E U S U2 S2 Z left right) → sum_of E left right ≡ sum E (Affine b.x1 b.y1) (Affine b.x2 b.y2)
+  both U S U2 S2 Z left right b = ap₂ (sum_of E) b.first b.second
 
-  pub chord_sum : (U S U2 S2 Z H R X Y Z' : ℕ) (R1 R2 : Option Point) → H < E.p → H ≢ 0 → Same E.p (H + U) U2 → Same E.p (R + S) S2 →
-      IsChord E.p U S H R Z X Y Z' → Meet E U S U2 S2 Z R1 R2 → AreFor E.p X Y Z' (sum_of E R1 R2)
-  chord_sum U S U2 S2 Z H R X Y Z' R1 R2 below other h r made meet =
+  pub chord_sum : (U S U2 S2 Z H R X Y Z' : ℕ) (left right : Option Point) → H < E.p → H ≢ 0 → Same E.p (H + U) U2 → Same E.p (R + S) S2 →
+      IsChord E.p U S H R Z X Y Z' → Meet E U S U2 S2 Z left right → AreFor E.p X Y Z' (sum_of E left right)
+  chord_sum U S U2 S2 Z H R X Y Z' left right below other h r made meet =
       ⊎_elim
       (λ b.
       let apart : b.x1 ≢ b.x2 = λ same. other (difference_from E.p above b.x1 b.x2 (Z * Z) H U U2 below b.first_at.x_is b.second_at.x_is h same) in
-      let is = both U S U2 S2 Z R1 R2 b ∙ sum_chord E b.x1 b.y1 b.x2 b.y2 apart in
+      let is = both U S U2 S2 Z left right b ∙ sum_chord E b.x1 b.y1 b.x2 b.y2 apart in
       subst (λ o. AreFor E.p X Y Z' o) (sym is)
       (chord_at E.p U S U2 S2 Z H R b.x1 b.y1 b.x2 b.y2 X Y Z' above b.first_at b.second_at h r made))
       (λ n.
@@ -158,17 +158,17 @@ module _ (E : Domain) (above : 1 < E.p) where
       subst (λ o. AreFor E.p X Y Z' o) (sym n.none) lacks)
       meet
 
-  pub lacking_sum : (U S U2 S2 Z X Y : ℕ) (R1 R2 : Option Point) → NoInverse E.p Z → Meet E U S U2 S2 Z R1 R2 → AreFor E.p X Y Z (sum_of E R1 R2)
-  lacking_sum U S U2 S2 Z X Y R1 R2 lacks meet =
+  pub lacking_sum : (U S U2 S2 Z X Y : ℕ) (left right : Option Point) → NoInverse E.p Z → Meet E U S U2 S2 Z left right → AreFor E.p X Y Z (sum_of E left right)
+  lacking_sum U S U2 S2 Z X Y left right lacks meet =
       ⊎_elim
       (λ b. let unit = b.first_at.unit in absurd (lacks unit.0 unit.1))
       (λ n. subst (λ o. AreFor E.p X Y Z o) (sym n.none) lacks)
       meet
 
   -- where x and y are the same, both are one point
-  pub same_sum : (U S U2 S2 Z H R : ℕ) (R1 R2 : Option Point) → HasInverse E.p Z → H ≡ 0 → R ≡ 0 → Same E.p (H + U) U2 → Same E.p (R + S) S2 →
-      Meet E U S U2 S2 Z R1 R2 → (R1 ≡ R2) × AreFor E.p U S Z R1
-  same_sum U S U2 S2 Z H R R1 R2 unit none none_too h r meet =
+  pub same_sum : (U S U2 S2 Z H R : ℕ) (left right : Option Point) → HasInverse E.p Z → H ≡ 0 → R ≡ 0 → Same E.p (H + U) U2 → Same E.p (R + S) S2 →
+      Meet E U S U2 S2 Z left right → (left ≡ right) × AreFor E.p U S Z left
+  same_sum U S U2 S2 Z H R left right unit none none_too h r meet =
       ⊎_elim
       (λ b.
       let x_same : b.x1 ≡ b.x2 =
@@ -181,9 +181,9 @@ module _ (E : Domain) (above : 1 < E.p) where
       (λ n. absurd (n.lacks unit.0 unit.1))
       meet
 
-  pub opposite_sum : (U S U2 S2 Z H T : ℕ) (R1 R2 : Option Point) → HasInverse E.p Z → H ≡ 0 → Same E.p (H + U) U2 → Same E.p T (S + S2) → T ≡ 0 →
-      Meet E U S U2 S2 Z R1 R2 → sum_of E R1 R2 ≡ Some Infinity
-  opposite_sum U S U2 S2 Z H T R1 R2 unit none h t none_too meet =
+  pub opposite_sum : (U S U2 S2 Z H T : ℕ) (left right : Option Point) → HasInverse E.p Z → H ≡ 0 → Same E.p (H + U) U2 → Same E.p T (S + S2) → T ≡ 0 →
+      Meet E U S U2 S2 Z left right → sum_of E left right ≡ Some Infinity
+  opposite_sum U S U2 S2 Z H T left right unit none h t none_too meet =
       ⊎_elim
       (λ b.
       let x_same : b.x1 ≡ b.x2 =
@@ -191,7 +191,7 @@ module _ (E : Domain) (above : 1 < E.p) where
       (no_difference E.p above H U U2 h none) in
       let turned : (b.y1 + b.y2) % E.p ≡ 0 =
       opposite_from E.p above b.y1 b.y2 (Z * Z * Z) S S2 T (cube_unit E.p above Z unit) b.first_at.y_is b.second_at.y_is t none_too in
-      both U S U2 S2 Z R1 R2 b ∙ ap (λ x. sum E (Affine b.x1 b.y1) (Affine x b.y2)) (sym x_same) ∙ sum_opposite E b.x1 b.y1 b.y2 turned)
+      both U S U2 S2 Z left right b ∙ ap (λ x. sum E (Affine b.x1 b.y1) (Affine x b.y2)) (sym x_same) ∙ sum_opposite E b.x1 b.y1 b.y2 turned)
       (λ n. absurd (n.lacks unit.0 unit.1))
       meet
 
@@ -205,10 +205,10 @@ module _ (E : Domain) (above : 1 < E.p) where
       (λ l. l.is)
       (inverse_tells E.p (minus E.p x x) above)
 
-  pub apart_sum : (U S U2 S2 Z H R T X Y : ℕ) (R1 R2 : Option Point) → HasInverse E.p Z → H ≡ 0 → R < E.p → R ≢ 0 → T < E.p → T ≢ 0 →
-      Same E.p (H + U) U2 → Same E.p (R + S) S2 → Same E.p T (S + S2) → Meet E U S U2 S2 Z R1 R2 → AreFor E.p X Y H (sum_of E R1 R2)
+  pub apart_sum : (U S U2 S2 Z H R T X Y : ℕ) (left right : Option Point) → HasInverse E.p Z → H ≡ 0 → R < E.p → R ≢ 0 → T < E.p → T ≢ 0 →
+      Same E.p (H + U) U2 → Same E.p (R + S) S2 → Same E.p T (S + S2) → Meet E U S U2 S2 Z left right → AreFor E.p X Y H (sum_of E left right)
   unfolding by_slope
-  apart_sum U S U2 S2 Z H R T X Y R1 R2 unit none r_below r_other t_below t_other h r t meet =
+  apart_sum U S U2 S2 Z H R T X Y left right unit none r_below r_other t_below t_other h r t meet =
       ⊎_elim
       (λ b.
       let x_same : b.x1 ≡ b.x2 =
@@ -218,8 +218,8 @@ module _ (E : Domain) (above : 1 < E.p) where
       r_other (difference_from E.p above b.y1 b.y2 (Z * Z * Z) R S S2 r_below b.first_at.y_is b.second_at.y_is r same) in
       let no_turn : (b.y1 + b.y2) % E.p ≢ 0 = λ turned.
       t_other (no_opposite E.p above b.y1 b.y2 (Z * Z * Z) S S2 T t_below b.first_at.y_is b.second_at.y_is t turned) in
-      let is : sum_of E R1 R2 ≡ None =
-      both U S U2 S2 Z R1 R2 b ∙ ap (λ x. sum E (Affine b.x1 b.y1) (Affine x b.y2)) (sym x_same) ∙ sum_apart E b.x1 b.y1 b.y2 no_turn y_other
+      let is : sum_of E left right ≡ None =
+      both U S U2 S2 Z left right b ∙ ap (λ x. sum E (Affine b.x1 b.y1) (Affine x b.y2)) (sym x_same) ∙ sum_apart E b.x1 b.y1 b.y2 no_turn y_other
       ∙ ap (by_slope E.p b.x1 b.y1 b.x1 (minus E.p b.y2 b.y1)) (no_slope b.x1 b.first_at.x_below) in
       subst (λ o. AreFor E.p X Y H o) (sym is) (zero_lacks E.p above H (ap (λ k. k % E.p) none)))
       (λ n. absurd (n.lacks unit.0 unit.1))
@@ -249,17 +249,17 @@ module _ (E : Domain) (above : 1 < E.p) where
       sum_opposite E x y y (ap (λ k. k % E.p) twice ∙ mod-eq_of_lt (omega arith))
 
   -- over the product of both Z
-  pub meets : (X1 Y1 Z1 X2 Y2 Z2 U S U2 S2 Z : ℕ) (R1 R2 : Option Point) → Same E.p U (X1 * (Z2 * Z2)) → Same E.p S (Y1 * (Z2 * Z2 * Z2)) →
-      Same E.p U2 (X2 * (Z1 * Z1)) → Same E.p S2 (Y2 * (Z1 * Z1 * Z1)) → Same E.p Z (Z1 * Z2) → AreFor E.p X1 Y1 Z1 R1 → AreFor E.p X2 Y2 Z2 R2 →
-      Meet E U S U2 S2 Z R1 R2
-  meets X1 Y1 Z1 X2 Y2 Z2 U S U2 S2 Z None R2 u s u2 s2 z first second =
+  pub meets : (X1 Y1 Z1 X2 Y2 Z2 U S U2 S2 Z : ℕ) (left right : Option Point) → Same E.p U (X1 * (Z2 * Z2)) → Same E.p S (Y1 * (Z2 * Z2 * Z2)) →
+      Same E.p U2 (X2 * (Z1 * Z1)) → Same E.p S2 (Y2 * (Z1 * Z1 * Z1)) → Same E.p Z (Z1 * Z2) → AreFor E.p X1 Y1 Z1 left → AreFor E.p X2 Y2 Z2 right →
+      Meet E U S U2 S2 Z left right
+  meets X1 Y1 Z1 X2 Y2 Z2 U S U2 S2 Z None right u s u2 s2 z first second =
       inr (record {
-        none = none_left E R2;
+        none = none_left E right;
         lacks = λ i one.
             let unit = unit_left E.p above Z1 Z2 (unit_same E.p above Z (Z1 * Z2) z (i, one)) in
             first unit.0 unit.1;
       })
-  meets X1 Y1 Z1 X2 Y2 Z2 U S U2 S2 Z (Some Infinity) R2 u s u2 s2 z first second = absurd first
+  meets X1 Y1 Z1 X2 Y2 Z2 U S U2 S2 Z (Some Infinity) right u s u2 s2 z first second = absurd first
   meets X1 Y1 Z1 X2 Y2 Z2 U S U2 S2 Z (Some (Affine x1 y1)) None u s u2 s2 z first second =
       inr (record {
         none = refl;
@@ -282,10 +282,10 @@ module _ (E : Domain) (above : 1 < E.p) where
       })
 
   -- over the first Z, where the second is 1
-  pub meets_affine : (X1 Y1 Z1 X2 Y2 Z2 U2 S2 : ℕ) (R1 R2 : Option Point) → Z2 ≡ 1 → Same E.p U2 (X2 * (Z1 * Z1)) → Same E.p S2 (Y2 * (Z1 * Z1 * Z1)) →
-      AreFor E.p X1 Y1 Z1 R1 → AreFor E.p X2 Y2 Z2 R2 → Meet E X1 Y1 U2 S2 Z1 R1 R2
-  meets_affine X1 Y1 Z1 X2 Y2 Z2 U2 S2 R1 R2 one u2 s2 first second =
+  pub meets_affine : (X1 Y1 Z1 X2 Y2 Z2 U2 S2 : ℕ) (left right : Option Point) → Z2 ≡ 1 → Same E.p U2 (X2 * (Z1 * Z1)) → Same E.p S2 (Y2 * (Z1 * Z1 * Z1)) →
+      AreFor E.p X1 Y1 Z1 left → AreFor E.p X2 Y2 Z2 right → Meet E X1 Y1 U2 S2 Z1 left right
+  meets_affine X1 Y1 Z1 X2 Y2 Z2 U2 S2 left right one u2 s2 first second =
       let alone : X1 ≡ X1 * (Z2 * Z2) = omega (arith, ap (λ k. X1 * (k * k)) one) in
       let alone_too : Y1 ≡ Y1 * (Z2 * Z2 * Z2) = omega (arith, ap (λ k. Y1 * (k * k * k)) one) in
       let same : Z1 ≡ Z1 * Z2 = omega (arith, ap (λ k. Z1 * k) one) in
-      meets X1 Y1 Z1 X2 Y2 Z2 X1 Y1 U2 S2 Z1 R1 R2 (ap (λ k. k % E.p) alone) (ap (λ k. k % E.p) alone_too) u2 s2 (ap (λ k. k % E.p) same) first second
+      meets X1 Y1 Z1 X2 Y2 Z2 X1 Y1 U2 S2 Z1 left right (ap (λ k. k % E.p) alone) (ap (λ k. k % E.p) alone_too) u2 s2 (ap (λ k. k % E.p) same) first second

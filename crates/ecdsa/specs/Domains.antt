@@ -18,19 +18,19 @@ domain C = record {
 }
 
 -- two points at coordinates over one Z, or a sum without a result and a Z without an inverse
-pub record AreBoth (E : Domain) (U S U2 S2 Z : ℕ) (R1 R2 : Option Point) : Type 0 where
+pub record AreBoth (E : Domain) (U S U2 S2 Z : ℕ) (left right : Option Point) : Type 0 where
   pub x1 : ℕ
   pub y1 : ℕ
   pub x2 : ℕ
   pub y2 : ℕ
-  pub first : R1 ≡ Some (Affine x1 y1)
-  pub second : R2 ≡ Some (Affine x2 y2)
+  pub first : left ≡ Some (Affine x1 y1)
+  pub second : right ≡ Some (Affine x2 y2)
   pub first_at : IsAt E.p U S Z x1 y1
   pub second_at : IsAt E.p U2 S2 Z x2 y2
 
-pub record HasNoSum (E : Domain) (Z : ℕ) (R1 R2 : Option Point) : Type 0 where
-  pub none : sum_of E R1 R2 ≡ None
+pub record HasNoSum (E : Domain) (Z : ℕ) (left right : Option Point) : Type 0 where
+  pub none : sum_of E left right ≡ None
   pub lacks : NoInverse E.p Z
 
 abbrev pub Meet : Domain → ℕ → ℕ → ℕ → ℕ → ℕ → Option Point → Option Point → Type 0
-Meet E U S U2 S2 Z R1 R2 = AreBoth E U S U2 S2 Z R1 R2 ⊎ HasNoSum E Z R1 R2
+Meet E U S U2 S2 Z left right = AreBoth E U S U2 S2 Z left right ⊎ HasNoSum E Z left right

@@ -72,7 +72,7 @@ pub fn add_over<const N: usize, const KIND: usize>(
     requires s2 { Below curve.now.field s2 }
     requires z { Below curve.now.field z }
     ensures below { IfSome result (λ q. IsBelow curve.now.field q) }
-    ensures stands { (R1 R2 : Option CurvePoint) → Meet (domain curve.now) (value curve.now.field u1.entry) (value curve.now.field s1.entry) (value curve.now.field u2.entry) (value curve.now.field s2.entry) (value curve.now.field z.entry) R1 R2 → Stands curve.now.field result (sum_of (domain curve.now) R1 R2) }
+    ensures stands { (left right : Option CurvePoint) → Meet (domain curve.now) (value curve.now.field u1.entry) (value curve.now.field s1.entry) (value curve.now.field u2.entry) (value curve.now.field s2.entry) (value curve.now.field z.entry) left right → Stands curve.now.field result (sum_of (domain curve.now) left right) }
 {
     let f = &curve.field;
     let h = f.minus(u2, u1);
@@ -118,7 +118,7 @@ fn add_two_affine<const N: usize, const KIND: usize>(
     requires q { IsBelow curve.now.field q }
     requires one { value curve.now.field q.z ≡ 1 }
     ensures below { IfSome result (λ q. IsBelow curve.now.field q) }
-    ensures stands { (R1 R2 : Option CurvePoint) → AreFor (size curve.now.field) (value curve.now.field p.entry.x) (value curve.now.field p.entry.y) (value curve.now.field p.entry.z) R1 → AreFor (size curve.now.field) (value curve.now.field q.entry.x) (value curve.now.field q.entry.y) (value curve.now.field q.entry.z) R2 → Stands curve.now.field result (sum_of (domain curve.now) R1 R2) }
+    ensures stands { (left right : Option CurvePoint) → AreFor (size curve.now.field) (value curve.now.field p.entry.x) (value curve.now.field p.entry.y) (value curve.now.field p.entry.z) left → AreFor (size curve.now.field) (value curve.now.field q.entry.x) (value curve.now.field q.entry.y) (value curve.now.field q.entry.z) right → Stands curve.now.field result (sum_of (domain curve.now) left right) }
 {
     let f = &curve.field;
     let zz = f.square(p.z);
@@ -138,7 +138,7 @@ pub fn add_affine<const N: usize, const KIND: usize>(
     requires q { IsBelow curve.now.field q }
     requires one { value curve.now.field q.z ≡ 1 }
     ensures below { IfSome result (λ q. IsBelow curve.now.field q) }
-    ensures stands { (R1 R2 : Option CurvePoint) → Stands curve.now.field p.entry R1 → AreFor (size curve.now.field) (value curve.now.field q.entry.x) (value curve.now.field q.entry.y) (value curve.now.field q.entry.z) R2 → Stands curve.now.field result (sum_of (domain curve.now) R1 R2) }
+    ensures stands { (left right : Option CurvePoint) → Stands curve.now.field p.entry left → AreFor (size curve.now.field) (value curve.now.field q.entry.x) (value curve.now.field q.entry.y) (value curve.now.field q.entry.z) right → Stands curve.now.field result (sum_of (domain curve.now) left right) }
 {
     match p {
         None => Some(q),
@@ -155,7 +155,7 @@ fn add_two<const N: usize, const KIND: usize>(
     requires p { IsBelow curve.now.field p }
     requires q { IsBelow curve.now.field q }
     ensures below { IfSome result (λ q. IsBelow curve.now.field q) }
-    ensures stands { (R1 R2 : Option CurvePoint) → AreFor (size curve.now.field) (value curve.now.field p.entry.x) (value curve.now.field p.entry.y) (value curve.now.field p.entry.z) R1 → AreFor (size curve.now.field) (value curve.now.field q.entry.x) (value curve.now.field q.entry.y) (value curve.now.field q.entry.z) R2 → Stands curve.now.field result (sum_of (domain curve.now) R1 R2) }
+    ensures stands { (left right : Option CurvePoint) → AreFor (size curve.now.field) (value curve.now.field p.entry.x) (value curve.now.field p.entry.y) (value curve.now.field p.entry.z) left → AreFor (size curve.now.field) (value curve.now.field q.entry.x) (value curve.now.field q.entry.y) (value curve.now.field q.entry.z) right → Stands curve.now.field result (sum_of (domain curve.now) left right) }
 {
     let f = &curve.field;
     let zz1 = f.square(p.z);
@@ -179,7 +179,7 @@ fn add_finite<const N: usize, const KIND: usize>(
     requires p { IsBelow curve.now.field p }
     requires q { IfSome q (λ q. IsBelow curve.now.field q) }
     ensures below { IfSome result (λ q. IsBelow curve.now.field q) }
-    ensures stands { (R1 R2 : Option CurvePoint) → AreFor (size curve.now.field) (value curve.now.field p.entry.x) (value curve.now.field p.entry.y) (value curve.now.field p.entry.z) R1 → Stands curve.now.field q.entry R2 → Stands curve.now.field result (sum_of (domain curve.now) R1 R2) }
+    ensures stands { (left right : Option CurvePoint) → AreFor (size curve.now.field) (value curve.now.field p.entry.x) (value curve.now.field p.entry.y) (value curve.now.field p.entry.z) left → Stands curve.now.field q.entry right → Stands curve.now.field result (sum_of (domain curve.now) left right) }
 {
     match q {
         None => Some(p),
@@ -196,7 +196,7 @@ pub fn add<const N: usize, const KIND: usize>(
     requires p { IfSome p (λ q. IsBelow curve.now.field q) }
     requires q { IfSome q (λ q. IsBelow curve.now.field q) }
     ensures below { IfSome result (λ q. IsBelow curve.now.field q) }
-    ensures stands { (R1 R2 : Option CurvePoint) → Stands curve.now.field p.entry R1 → Stands curve.now.field q.entry R2 → Stands curve.now.field result (sum_of (domain curve.now) R1 R2) }
+    ensures stands { (left right : Option CurvePoint) → Stands curve.now.field p.entry left → Stands curve.now.field q.entry right → Stands curve.now.field result (sum_of (domain curve.now) left right) }
 {
     match p {
         None => q,

@@ -24,7 +24,7 @@ fn next<const N: usize, const KIND: usize>(
     requires q { IsBelow curve.now.field q }
     requires one { value curve.now.field q.z ≡ 1 }
     ensures below { IfSome result (λ q. IsBelow curve.now.field q) }
-    ensures stands { (R1 R2 : Option CurvePoint) → Stands curve.now.field p.entry R1 → AreFor (size curve.now.field) (value curve.now.field q.entry.x) (value curve.now.field q.entry.y) (value curve.now.field q.entry.z) R2 → Stands curve.now.field result (if set then sum_of (domain curve.now) R1 R2 else R1) }
+    ensures stands { (left right : Option CurvePoint) → Stands curve.now.field p.entry left → AreFor (size curve.now.field) (value curve.now.field q.entry.x) (value curve.now.field q.entry.y) (value curve.now.field q.entry.z) right → Stands curve.now.field result (if set then sum_of (domain curve.now) left right else left) }
 {
     if set {
         return add_affine(curve, p, q);

@@ -4,7 +4,7 @@ mod FlattenedForm
 mod GeneralForm
 mod HeaderTexts
 mod Lengths
-mod Lists
+pub mod Lists
 mod Spelled
 mod SpentLaw
 mod Steps

@@ -195,8 +195,9 @@ fn first_no_space(octets: &[u8]) -> Option<u8>
     octets.iter().copied().find(|c| !is_space(*c))
 }
 
-/// Whether the first octet that isn't JSON white space is `{`.
-pub(crate) fn opens_object(octets: &[u8]) -> bool
+/// Whether the first octet that isn't JSON white space is `{` (RFC 8259, section 2): such a text is read as a token in JSON form, and any
+/// other as one in compact form (RFC 7515, section 7). It takes no memory.
+pub fn opens_object(octets: &[u8]) -> bool
     ensures { result ≡ opens_object octets.now }
 {
     match first_no_space(octets) {

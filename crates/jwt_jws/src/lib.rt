@@ -17,6 +17,7 @@ mod unprotected;
 
 pub use compact::{CompactTexts, compact_texts};
 pub use fault::{Form, FormFault, Place};
+pub use json::opens_object;
 pub use parsing::{parse, parse_with};
 pub use signature::Signature;
 pub use signed::{Signatures, Signed};

@@ -10,47 +10,64 @@ use Rattle.jwt_policy.specs.declared.claim_fault.ClaimFault.TheVariants.{ClaimMi
 
 -- a required claim is absent
 abbrev pub missing : Members → List ℕ → Row ClaimFault
-missing ms name = not (has name ms) ⇒ ClaimMissing name
+missing claims name = not (has name claims) ⇒ ClaimMissing name
 
 -- ---- dates (RFC 7519, sections 4.1.4 to 4.1.6), in seconds, over unbounded whole numbers
 
 unfoldable pub is_expired : Settings → Members → ℤ → Bool
-is_expired p ms now = some_passes (λ exp. not (int_lt now (exp +ℤ pos p.claims.leeway))) (whole_at (codes "exp") ms)
+is_expired policy claims now = some_passes (λ exp. not (int_lt now (exp +ℤ pos policy.claims.leeway))) (whole_at (codes "exp") claims)
 
 -- a date is later than now, the leeway added
 abbrev pub is_later : ℤ → ℕ → ℤ → Bool
 is_later now leeway date = int_lt (now +ℤ pos leeway) date
 
 unfoldable pub is_not_yet : Settings → Members → ℤ → Bool
-is_not_yet p ms now = some_passes (is_later now p.claims.leeway) (whole_at (codes "nbf") ms)
+is_not_yet policy claims now = some_passes (is_later now policy.claims.leeway) (whole_at (codes "nbf") claims)
 
 unfoldable pub is_issued_later : Settings → Members → ℤ → Bool
-is_issued_later p ms now = is_some p.claims.max_age && some_passes (is_later now p.claims.leeway) (whole_at (codes "iat") ms)
+is_issued_later policy claims now = is_some policy.claims.max_age && some_passes (is_later now policy.claims.leeway) (whole_at (codes "iat") claims)
 
 -- what was issued at iat is older than the greatest age, the leeway added
 unfoldable pub is_too_old : Settings → Members → ℤ → Bool
-is_too_old p ms now =
-    some_passes (λ iat. some_passes (λ age. int_lt (iat +ℤ pos (age + p.claims.leeway)) now) p.claims.max_age) (whole_at (codes "iat") ms)
+is_too_old policy claims now =
+    some_passes (λ iat. some_passes (λ age. int_lt (iat +ℤ pos (age + policy.claims.leeway)) now) policy.claims.max_age) (whole_at (codes "iat") claims)
+
+-- ---- the tests of the claims that aren't of dates
+
+-- the policy has a greatest age, and `iat` is absent
+abbrev pub lacks_iat : Settings → Members → Bool
+lacks_iat policy claims = is_some policy.claims.max_age && not (has (codes "iat") claims)
+
+-- the policy names issuers, and `iss` is none of them (RFC 7519, section 4.1.1; RFC 8725, section 3.8)
+abbrev pub is_other_issuer : Settings → Members → Bool
+is_other_issuer policy claims = not (length policy.claims.issuers == 0) && not (some_passes (is_among policy.claims.issuers) (text_at (codes "iss") claims))
+
+-- `aud` is one of these texts, or holds one (RFC 7519, section 4.1.3)
+abbrev pub names_audience : List (List ℕ) → Members → Bool
+names_audience audiences claims =
+    some_passes (is_among audiences) (text_at (codes "aud") claims) || some_passes (any_text (is_among audiences)) (list_at (codes "aud") claims)
+
+-- `aud` is there, and names none of the policy's audiences (RFC 8725, section 3.9)
+abbrev pub is_other_audience : Settings → Members → Bool
+is_other_audience policy claims = has (codes "aud") claims && not (names_audience policy.claims.audiences claims)
 
 -- ---- the table
 
--- The rows after those of the required claims: `iat`, which a greatest age asks for; the issuer (RFC 7519, section 4.1.1;
--- RFC 8725, section 3.8); the audience (RFC 7519, section 4.1.3; RFC 8725, section 3.9); the dates.
+-- The rows after those of the required claims.
 unfoldable pub later_rows : Settings → Members → ℤ → List (Row ClaimFault)
-later_rows p ms now =
-    ((is_some p.claims.max_age && not (has (codes "iat") ms)) ⇒ ClaimMissing (codes "iat"))
-    ∷ ((not (length p.claims.issuers == 0) && not (some_passes (is_among p.claims.issuers) (text_at (codes "iss") ms))) ⇒ Issuer)
-    ∷ ((has (codes "aud") ms && not (some_passes (is_among p.claims.audiences) (text_at (codes "aud") ms)
-    || some_passes (any_text (is_among p.claims.audiences)) (list_at (codes "aud") ms))) ⇒ Audience)
-    ∷ (is_expired p ms now ⇒ Expired)
-    ∷ (is_not_yet p ms now ⇒ NotYet)
-    ∷ (is_issued_later p ms now ⇒ IssuedLater)
-    ∷ (is_too_old p ms now ⇒ TooOld)
+later_rows policy claims now =
+    (lacks_iat policy claims ⇒ ClaimMissing (codes "iat"))
+    ∷ (is_other_issuer policy claims ⇒ Issuer)
+    ∷ (is_other_audience policy claims ⇒ Audience)
+    ∷ (is_expired policy claims now ⇒ Expired)
+    ∷ (is_not_yet policy claims now ⇒ NotYet)
+    ∷ (is_issued_later policy claims now ⇒ IssuedLater)
+    ∷ (is_too_old policy claims now ⇒ TooOld)
     ∷ []
 
 abbrev pub check_rows : Settings → Members → ℤ → List (Row ClaimFault)
-check_rows p ms now = map (missing ms) p.claims.required ++ later_rows p ms now
+check_rows policy claims now = map (missing claims) policy.claims.required ++ later_rows policy claims now
 
 -- the first cause to refuse the claims, if any
 unfoldable pub check_of : Settings → Members → ℤ → Option ClaimFault
-check_of p ms now = first_row (check_rows p ms now)
+check_of policy claims now = first_row (check_rows policy claims now)

@@ -1,14 +1,12 @@
 //! The algorithm of a signature (RFC 7515, section 4.1.1).
 
-ghost use Rattle.std.specs.Prelude.{◌≡◌, codes, is_none, map, not};
+ghost use Rattle.std.specs.Prelude.{◌≡◌, map};
 ghost use Rattle.std.specs.List.{list_any};
 ghost use Rattle.std.specs.Str.{bytes_eq};
 ghost use Rattle.jwt_mac.specs.Algorithm.{name_of};
 ghost use Rattle.jwt_mac.specs.Verifying.{Meaning};
-ghost use Rattle.jwt_jws.specs.Token.{alg_text};
 ghost use Rattle.jwt_jws.specs.Views.{parts};
-ghost use Rattle.jwt_policy.specs.Bars.{alg, can_verify};
-ghost use Rattle.jwt_policy.specs.Texts.{some_passes};
+ghost use Rattle.jwt_policy.specs.Bars.{alg, can_verify, lacks_alg, is_alg_none, is_alg_unknown, is_alg_not_allowed, lacks_verifier};
 
 use crate::policy::Policy;
 use jwt_jws::Signature;
@@ -26,15 +24,14 @@ pub fn known_alg(signature: &Signature<'_>) -> Option<Alg>
 
 /// Whether the protected header has no text `alg`.
 pub(crate) fn lacks_alg(signature: &Signature<'_>) -> bool
-    ensures { result ≡ is_none (alg_text (parts signature.now)) }
+    ensures { result ≡ lacks_alg (parts signature.now) }
 {
     signature.alg_text().is_none()
 }
 
 /// Whether `alg` is `none`.
 pub(crate) fn is_alg_none(signature: &Signature<'_>) -> bool
-    ensures { result
-        ≡ some_passes (λ t. bytes_eq t (codes "none")) (alg_text (parts signature.now)) }
+    ensures { result ≡ is_alg_none (parts signature.now) }
 {
     match signature.alg_text() {
         Some(text) => text == "none",
@@ -44,7 +41,7 @@ pub(crate) fn is_alg_none(signature: &Signature<'_>) -> bool
 
 /// Whether `alg` isn't known.
 pub(crate) fn is_alg_unknown(signature: &Signature<'_>) -> bool
-    ensures { result ≡ is_none (alg (parts signature.now)) }
+    ensures { result ≡ is_alg_unknown (parts signature.now) }
 {
     known_alg(signature).is_none()
 }
@@ -64,9 +61,7 @@ fn is_allowed(algs: &[Alg], alg: Alg) -> bool
 
 /// Whether the policy doesn't allow the algorithm.
 pub(crate) fn is_alg_not_allowed(policy: &Policy, signature: &Signature<'_>) -> bool
-    ensures { result ≡ not (some_passes
-        (λ a. list_any (λ b. bytes_eq (name_of b) (name_of a)) policy.now.run.algs)
-        (alg (parts signature.now))) }
+    ensures { result ≡ is_alg_not_allowed policy.now (parts signature.now) }
 {
     match known_alg(signature) {
         Some(alg) => !is_allowed(policy.algs(), alg),
@@ -74,8 +69,8 @@ pub(crate) fn is_alg_not_allowed(policy: &Policy, signature: &Signature<'_>) -> 
     }
 }
 
-/// Whether signatures by the algorithm can be verified.
-fn can_verify(verifiers: &[Box<dyn Verifier>], alg: Alg) -> bool
+/// Whether signatures by the algorithm can be verified: it is HMAC, or a verifier names it. It takes no memory.
+pub fn can_verify(verifiers: &[Box<dyn Verifier>], alg: Alg) -> bool
     ensures { result ≡ can_verify (map meaning verifiers.now) alg }
 {
     alg.is_hmac() || first_for(verifiers, alg).is_some()
@@ -83,8 +78,7 @@ fn can_verify(verifiers: &[Box<dyn Verifier>], alg: Alg) -> bool
 
 /// Whether nothing here verifies by the algorithm.
 pub(crate) fn lacks_verifier(verifiers: &[Box<dyn Verifier>], signature: &Signature<'_>) -> bool
-    ensures { result
-        ≡ not (some_passes (can_verify (map meaning verifiers.now)) (alg (parts signature.now))) }
+    ensures { result ≡ lacks_verifier (map meaning verifiers.now) (parts signature.now) }
 {
     match known_alg(signature) {
         Some(alg) => !can_verify(verifiers, alg),

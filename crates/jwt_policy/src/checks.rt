@@ -1,10 +1,9 @@
 //! The claims under a policy, at a moment (RFC 7519, sections 4.1.1 to 4.1.6).
 
-ghost use Rattle.std.specs.Prelude.{◌≡◌, ◌+◌, ◌+ℤ◌, ◌==◌, ◌&&◌, ◌||◌, not, codes, int_lt, is_some, length, map, pos, string_bytes};
-ghost use Rattle.jwt_text.specs.Members.{has, list_at, text_at};
+ghost use Rattle.std.specs.Prelude.{◌≡◌, ◌+◌, ◌+ℤ◌, int_lt, map, pos, string_bytes};
 ghost use Rattle.jwt_text.specs.Rows.{first_row};
-ghost use Rattle.jwt_policy.specs.Texts.{any_text, is_among, some_passes};
-ghost use Rattle.jwt_policy.specs.Checks.{missing, is_expired, is_later, is_not_yet, is_issued_later, is_too_old, later_rows, check_of};
+ghost use Rattle.jwt_policy.specs.Texts.{any_text, is_among};
+ghost use Rattle.jwt_policy.specs.Checks.{missing, lacks_iat, is_other_issuer, names_audience, is_other_audience, is_expired, is_later, is_not_yet, is_issued_later, is_too_old, later_rows, check_of};
 
 use crate::claim_fault::{ClaimFault, ClaimName};
 use crate::claims::Claims;
@@ -28,16 +27,14 @@ fn first_missing<'a>(claims: &ObjectRef<'_>, required: &'a [String]) -> Option<C
 
 /// Whether the policy has a greatest age, and `iat` is absent.
 fn lacks_iat(policy: &Policy, claims: &ObjectRef<'_>) -> bool
-    ensures { result ≡ (is_some policy.now.claims.max_age && not (has (codes "iat") claims.now)) }
+    ensures { result ≡ lacks_iat policy.now claims.now }
 {
     policy.max_age().is_some() && !claims.has("iat")
 }
 
 /// Whether the policy names issuers, and `iss` isn't among them.
 fn is_other_issuer(policy: &Policy, claims: &ObjectRef<'_>) -> bool
-    ensures { result ≡ (not (length policy.now.claims.issuers == 0)
-        && not (some_passes (is_among policy.now.claims.issuers)
-        (text_at (codes "iss") claims.now))) }
+    ensures { result ≡ is_other_issuer policy.now claims.now }
 {
     let issuers = policy.issuers();
     if issuers.is_empty() {
@@ -66,11 +63,7 @@ fn any_among(texts: &[String], list: &List<'_>) -> bool
 
 /// Whether a text of `aud` is among these.
 fn names_audience(audiences: &[String], claims: &ObjectRef<'_>) -> bool
-    ensures { result
-        ≡ (some_passes (is_among (map string_bytes audiences.now))
-        (text_at (codes "aud") claims.now)
-        || some_passes (any_text (is_among (map string_bytes audiences.now)))
-        (list_at (codes "aud") claims.now)) }
+    ensures { result ≡ names_audience (map string_bytes audiences.now) claims.now }
 {
     let one = match claims.text("aud") {
         Some(text) => is_among(audiences, text),
@@ -84,11 +77,7 @@ fn names_audience(audiences: &[String], claims: &ObjectRef<'_>) -> bool
 
 /// Whether `aud` is there and names none of the policy's audiences.
 fn is_other_audience(policy: &Policy, claims: &ObjectRef<'_>) -> bool
-    ensures { result ≡ (has (codes "aud") claims.now
-        && not (some_passes (is_among policy.now.claims.audiences)
-        (text_at (codes "aud") claims.now)
-        || some_passes (any_text (is_among policy.now.claims.audiences))
-        (list_at (codes "aud") claims.now))) }
+    ensures { result ≡ is_other_audience policy.now claims.now }
 {
     claims.has("aud") && !names_audience(policy.audiences(), claims)
 }

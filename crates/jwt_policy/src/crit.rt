@@ -1,11 +1,10 @@
 //! The header `crit` (RFC 7515, section 4.1.11).
 
-ghost use Rattle.std.specs.Prelude.{◌≡◌, ◌||◌, ◌&&◌, not, codes, map, string_bytes};
+ghost use Rattle.std.specs.Prelude.{◌≡◌, ◌&&◌, not, map, string_bytes};
 ghost use Rattle.jwt_jws.specs.Views.{parts};
-ghost use Rattle.jwt_text.specs.Members.{has, list_at};
-ghost use Rattle.jwt_jws.specs.Token.{in_header, in_unprotected};
-ghost use Rattle.jwt_policy.specs.Texts.{any_text, each_text, is_among, some_passes};
-ghost use Rattle.jwt_policy.specs.Bars.{registered_names, is_name_list};
+ghost use Rattle.jwt_jws.specs.Token.{in_header};
+ghost use Rattle.jwt_policy.specs.Texts.{any_text, each_text, is_among};
+ghost use Rattle.jwt_policy.specs.Bars.{registered_names, is_name_list, is_crit_misshapen, is_crit_unknown};
 
 use crate::policy::Policy;
 use crate::texts::is_among;
@@ -73,10 +72,7 @@ fn is_name_list(signature: &Signature<'_>, list: &List<'_>) -> bool
 
 /// Whether `crit` has another shape than it may have.
 pub(crate) fn is_crit_misshapen(signature: &Signature<'_>) -> bool
-    ensures { result ≡ (in_unprotected (codes "crit") (parts signature.now)
-        || (has (codes "crit") (parts signature.now).protected
-        && not (some_passes (is_name_list (parts signature.now))
-        (list_at (codes "crit") (parts signature.now).protected)))) }
+    ensures { result ≡ is_crit_misshapen (parts signature.now) }
 {
     if signature.in_unprotected("crit") {
         return true;
@@ -93,9 +89,7 @@ pub(crate) fn is_crit_misshapen(signature: &Signature<'_>) -> bool
 
 /// Whether the policy doesn't understand a name in `crit`.
 pub(crate) fn is_crit_unknown(policy: &Policy, signature: &Signature<'_>) -> bool
-    ensures { result
-        ≡ some_passes (any_text (λ t. not (is_among policy.now.header.understood t)))
-        (list_at (codes "crit") (parts signature.now).protected) }
+    ensures { result ≡ is_crit_unknown policy.now (parts signature.now) }
 {
     match signature.protected().list("crit") {
         Some(list) => names_other(policy.understood(), &list),

@@ -42,8 +42,9 @@ fn suits(alg: Alg, key: KeyView<'_>) -> bool
     }
 }
 
-/// Whether the key is for this algorithm: by its kind, and by its own `alg`, where present.
-fn is_for(key: &Key, alg: Alg) -> bool
+/// Whether the key is for this algorithm: it is of the kind, curve and size that the algorithm asks for (RFC 7518, section 3.1), and
+/// its own `alg`, where present, names this algorithm (RFC 7517, section 4.4). It takes no memory.
+pub fn is_for(key: &Key, alg: Alg) -> bool
     ensures { result ≡ is_for (key_parts key.now) alg }
 {
     suits(alg, key.view())

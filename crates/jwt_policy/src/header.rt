@@ -1,9 +1,9 @@
 //! Members of the JOSE header, which is the union of the protected and the unprotected header (RFC 7515, section 4).
 
-ghost use Rattle.std.specs.Prelude.{◌≡◌, ◌||◌, ◌&&◌, codes, is_none, not};
-ghost use Rattle.jwt_text.specs.Members.{text_at, is_no_text};
-ghost use Rattle.jwt_jws.specs.Token.{in_header, kid};
+ghost use Rattle.std.specs.Prelude.{◌≡◌, codes, not};
+ghost use Rattle.jwt_text.specs.Members.{text_at};
 ghost use Rattle.jwt_jws.specs.Views.{parts};
+ghost use Rattle.jwt_policy.specs.Bars.{has_key_url, has_enc, is_unencoded, is_typ_misshapen, is_typ_mismatched, is_nested, is_kid_misshapen, lacks_kid};
 ghost use Rattle.jwt_policy.specs.Texts.{same_media_type, some_passes};
 
 use crate::media::same_media_type;
@@ -14,30 +14,28 @@ use jwt_text::Object;
 
 /// Whether the header has `jku` or `x5u` (RFC 7515, sections 4.1.2 and 4.1.5).
 pub(crate) fn has_key_url(signature: &Signature<'_>) -> bool
-    ensures { result ≡ (in_header (codes "jku") (parts signature.now)
-        || in_header (codes "x5u") (parts signature.now)) }
+    ensures { result ≡ has_key_url (parts signature.now) }
 {
     signature.in_header("jku") || signature.in_header("x5u")
 }
 
 /// Whether the header has `enc` (RFC 7516, section 4.1.2).
 pub(crate) fn has_enc(signature: &Signature<'_>) -> bool
-    ensures { result ≡ in_header (codes "enc") (parts signature.now) }
+    ensures { result ≡ has_enc (parts signature.now) }
 {
     signature.in_header("enc")
 }
 
 /// Whether the header has `b64` (RFC 7797, section 3).
 pub(crate) fn is_unencoded(signature: &Signature<'_>) -> bool
-    ensures { result ≡ in_header (codes "b64") (parts signature.now) }
+    ensures { result ≡ is_unencoded (parts signature.now) }
 {
     signature.in_header("b64")
 }
 
 /// Whether `typ` or `cty` of the protected header is there and no text.
 pub(crate) fn is_typ_misshapen(signature: &Signature<'_>) -> bool
-    ensures { result ≡ (is_no_text (codes "typ") (parts signature.now).protected
-        || is_no_text (codes "cty") (parts signature.now).protected) }
+    ensures { result ≡ is_typ_misshapen (parts signature.now) }
 {
     let protected = signature.protected().lend();
     is_no_text(&protected, "typ") || is_no_text(&protected, "cty")
@@ -56,10 +54,7 @@ fn is_other_typ(header: &Object, typ: &str) -> bool
 
 /// Whether the policy asks for another `typ`.
 pub(crate) fn is_typ_mismatched(policy: &Policy, signature: &Signature<'_>) -> bool
-    ensures { result ≡ some_passes
-        (λ t. not (some_passes (same_media_type t)
-        (text_at (codes "typ") (parts signature.now).protected)))
-        policy.now.header.typ }
+    ensures { result ≡ is_typ_mismatched policy.now (parts signature.now) }
 {
     match policy.typ() {
         Some(typ) => is_other_typ(signature.protected(), typ),
@@ -69,8 +64,7 @@ pub(crate) fn is_typ_mismatched(policy: &Policy, signature: &Signature<'_>) -> b
 
 /// Whether the payload is a token again (RFC 7519, section 5.2).
 pub(crate) fn is_nested(signature: &Signature<'_>) -> bool
-    ensures { result ≡ some_passes (same_media_type (codes "application/jwt"))
-        (text_at (codes "cty") (parts signature.now).protected) }
+    ensures { result ≡ is_nested (parts signature.now) }
 {
     match signature.protected().text("cty") {
         Some(text) => same_media_type("application/jwt", text),
@@ -80,16 +74,14 @@ pub(crate) fn is_nested(signature: &Signature<'_>) -> bool
 
 /// Whether `kid` is there and no text.
 pub(crate) fn is_kid_misshapen(signature: &Signature<'_>) -> bool
-    ensures { result ≡ (in_header (codes "kid") (parts signature.now)
-        && is_none (kid (parts signature.now))) }
+    ensures { result ≡ is_kid_misshapen (parts signature.now) }
 {
     signature.in_header("kid") && signature.kid().is_none()
 }
 
 /// Whether the policy asks for a `kid` that isn't there.
 pub(crate) fn lacks_kid(policy: &Policy, signature: &Signature<'_>) -> bool
-    ensures { result ≡ (policy.now.header.need_kid
-        && not (in_header (codes "kid") (parts signature.now))) }
+    ensures { result ≡ lacks_kid policy.now (parts signature.now) }
 {
     policy.need_kid() && !signature.in_header("kid")
 }

@@ -33,12 +33,12 @@ mod policy_fault;
 mod sig_fault;
 mod texts;
 
-pub use algorithm::known_alg;
+pub use algorithm::{can_verify, known_alg};
 pub use bars::bar;
 pub use checks::check;
 pub use claim_fault::{Claim, ClaimFault, ClaimName};
 pub use claims::{Audience, Claims};
-pub use eligibility::{eligible, fits};
+pub use eligibility::{eligible, fits, is_for};
 pub use mode::Mode;
 pub use policy::Policy;
 pub use policy_fault::{MemberName, PolicyFault};
