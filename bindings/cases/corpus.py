@@ -50,6 +50,17 @@ class Judging(NamedTuple):
     token: bytes
 
 
+class Denying(NamedTuple):
+    """A token to judge, and an access rule to hold against its claims where it is accepted."""
+
+    name: str
+    policy: bytes
+    keys: bytes
+    now: int
+    rule: bytes
+    token: bytes
+
+
 class Issuing(NamedTuple):
     """Claims to issue: `alg`, `form` and `key` are the numbers of fowharimu.h."""
 
@@ -63,7 +74,7 @@ class Issuing(NamedTuple):
     claims: bytes
 
 
-Case = Union[Judging, Issuing]
+Case = Union[Judging, Denying, Issuing]
 
 
 def written(value: object) -> bytes:
@@ -584,6 +595,125 @@ def ceilings() -> Iterator[Case]:
             yield Judging(f"ceilings/work/{work}/{count}", policy_of("HS256", work=work), key_set(*wrong[:count], good), NOW, token)
 
 
+# ---- access rules
+
+# Claims as issuers write them, and claims that grant nothing: each beside `iss` and `exp`.
+GRANTS: dict[str, dict] = {
+    "none": {},
+    "rfc-9068": {"client_id": "s6BhdRkqt3", "scope": "openid profile reademail"},
+    "keycloak": {"azp": "gateway", "realm_access": {"roles": ["offline_access", "editor"]}, "resource_access": {"a/b~c": {"roles": ["x"]}}, "scope": "email profile"},
+    "entra": {"scp": "Files.Read user_impersonation", "roles": ["Task.Read", "Task.Write"], "tid": "72f9", "ver": "2.0"},
+    "cognito": {"client_id": "57ab", "token_use": "access", "scope": "aws.cognito.signin.user.admin shop/read", "cognito:groups": ["staff"]},
+    "identity": {"aud": ["s6BhdRkqt3", "other"], "azp": "s6BhdRkqt3", "email_verified": True, "auth_time": 1300819370},
+    "provisioned": {"roles": [{"value": "admin"}], "scope": {"read": True}},
+    "one-scope": {"scope": "read"},
+    "scopes": {"scope": "write read admin"},
+    "longer-scope": {"scope": "reads bread read2"},
+    "other-letters": {"scope": "Read READ"},
+    "two-spaces": {"scope": "write  read"},
+    "space-before": {"scope": " read"},
+    "space-behind": {"scope": "read "},
+    "tab": {"scope": "write\tread"},
+    "line-feed": {"scope": "write\nread"},
+    "quotation-mark": {"scope": 'read wr"ite'},
+    "no-ascii": {"scope": "read \u00e9"},
+    "empty-scope": {"scope": ""},
+    "comma": {"scope": "write,read"},
+    "list-of-scopes": {"scope": ["write", "read"]},
+    "list-of-one-text": {"scope": ["write read"]},
+    "list-with-a-number": {"scope": ["read", 7]},
+    "list-of-lists": {"scope": [["read"]]},
+    "empty-list": {"scope": []},
+    "scope-of-a-number": {"scope": 7},
+    "scope-of-null": {"scope": None},
+    "role": {"role": "admin", "level": 7, "root": True},
+    "roles": {"role": ["user", "admin"], "level": [1, 7], "root": [False, True]},
+    "other-kinds": {"role": 1, "level": "7", "root": "true"},
+    "one-for-true": {"role": True, "level": 7.0, "root": 1},
+    "nothing-right": {"role": "admins", "level": 8, "root": False},
+    "slashes": {"/role": "admin", "a": {"": "y", "b": {"c": ["z"]}}, "": "x", "a~b": "t", "a/b": "s"},
+}
+# Rules that stand.
+RULES: dict[str, object] = {
+    "nothing": {},
+    "read": {"scopes": ["read"]},
+    "read-and-write": {"scopes": ["read", "write"]},
+    "write-and-read": {"scopes": ["write", "read", "read"]},
+    "openid": {"scopes": ["profile", "openid"], "claims": {"client_id": ["other", "s6BhdRkqt3"]}},
+    "read-of-scp": {"scopes": ["Files.Read"], "scope_claim": "scp"},
+    "read-of-roles": {"scopes": ["Task.Write"], "scope_claim": "roles"},
+    "read-of-a-pointer": {"scopes": ["editor"], "scope_claim": "/realm_access/roles"},
+    "any-of-scope": {"claims": {"scope": ["read", "admin"]}},
+    "any-of-scope-by-pointer": {"claims": {"/scope": ["read", "admin"]}},
+    "any-of-scp": {"scope_claim": "scp", "claims": {"scp": ["Files.Read"], "scope": ["read"]}},
+    "whole-scope": {"claims": {"scope": ["write  read", "write\tread", ""]}},
+    "keycloak": {"claims": {"/realm_access/roles": ["admin", "editor"], "azp": ["gateway"]}},
+    "keycloak-escaped": {"claims": {"/resource_access/a~1b~0c/roles": ["x"]}},
+    "keycloak-exchanged": {"claims": {"/resource_access/a~0b~1c/roles": ["x"]}},
+    "through-a-list": {"claims": {"/roles/0/value": ["admin"]}},
+    "cognito": {"scopes": ["shop/read"], "claims": {"token_use": ["access"], "client_id": ["57ab"], "cognito:groups": ["staff"]}},
+    "identity": {"claims": {"email_verified": [True], "azp": ["s6BhdRkqt3"], "aud": ["other"], "auth_time": [1300819370]}},
+    "role": {"claims": {"role": ["root", "admin"]}},
+    "role-level-root": {"claims": {"role": ["admin"], "level": [7], "root": [True]}},
+    "root-is-one": {"claims": {"root": [1, "true"]}},
+    "false": {"claims": {"root": [False]}},
+    "issuer": {"claims": {"iss": ["joe"], "exp": [1300819380]}},
+    "expiry-as-a-text": {"claims": {"exp": ["1300819380"]}},
+    "slash-name": {"claims": {"/~1role": ["admin"]}},
+    "empty-names": {"claims": {"": ["x"], "/": ["x"], "/a/": ["y"]}},
+    "tilde-name": {"claims": {"a~b": ["t"], "/a~0b": ["t"], "a/b": ["s"], "/a~1b": ["s"]}},
+    "deep": {"claims": {"/a/b/c": ["z"]}},
+}
+# Rules that are refused, as they are written.
+NO_RULES: dict[str, bytes] = {
+    "empty": b"",
+    "list": b"[]",
+    "no-utf-8": b'{"scopes":["\xff"]}',
+    "name-twice": b'{"scopes":[],"scopes":[]}',
+    "claim-twice": b'{"claims":{"a":["x"],"\\u0061":["y"]}}',
+    "unknown": b'{"scope":"read"}',
+    "other-letters": b'{"Scopes":[]}',
+    "scopes-text": b'{"scopes":"read"}',
+    "scopes-number": b'{"scopes":["read",1]}',
+    "scope-empty": b'{"scopes":[""]}',
+    "scope-with-a-space": b'{"scopes":["read write"]}',
+    "scope-with-a-quotation-mark": b'{"scopes":["a\\"b"]}',
+    "scope-beyond-ascii": b'{"scopes":["\\u00e9"]}',
+    "scope-claim-list": b'{"scope_claim":["scp"]}',
+    "scope-claim-pointer": b'{"scope_claim":"/a~2b"}',
+    "claims-list": b'{"claims":[]}',
+    "claim-text": b'{"claims":{"a":"x"}}',
+    "claim-empty-list": b'{"claims":{"a":[]}}',
+    "claim-null": b'{"claims":{"a":[null]}}',
+    "claim-fraction": b'{"claims":{"a":[1.5]}}',
+    "claim-exponent": b'{"claims":{"a":[1e2]}}',
+    "claim-beyond-64-bits": b'{"claims":{"a":[9223372036854775808]}}',
+    "claim-list-in-a-list": b'{"claims":{"a":[["x"]]}}',
+    "claim-pointer": b'{"claims":{"/~2":["x"]}}',
+    "claim-pointer-end": b'{"claims":{"/a/~":[]}}',
+    "first-claim": b'{"claims":{"b":[],"a":7}}',
+    "too-long": b"{}" + b" " * 65535,
+}
+
+
+def access() -> Iterator[Case]:
+    """Each rule held against each token; rules that are refused; tokens that are refused before a rule is asked."""
+    policy, keys = policy_of("HS256"), key_set(key_text("HS256"))
+    token = lambda more: compact("HS256", payload=written({"iss": "joe", "exp": 1300819380, **more}))
+    for what, more in GRANTS.items():
+        audience = {"audiences": ["other"]} if "aud" in more else {}
+        for name, rule in RULES.items():
+            yield Denying(f"access/{what}/{name}", policy_of("HS256", **audience), keys, NOW, written(rule), token(more))
+    for name, rule in NO_RULES.items():
+        yield Denying(f"access/refused-rule/{name}", policy, keys, NOW, rule, token(GRANTS["scopes"]))
+    for name, moment, spoil in (("expired", NOW + 1, 0), ("bad-signature", NOW, 1)):
+        yield Denying(f"access/refused-token/{name}", policy, keys, moment, written(RULES["read"]), token(GRANTS["scopes"])[: -2 * spoil or None] + b"AA" * spoil)
+    for alg in ("RS256", "ES256", "EdDSA"):
+        signed_by = compact(alg, payload=written({"scope": "read", "exp": 1300819380}))
+        for name in ("read", "read-and-write", "role"):
+            yield Denying(f"access/{alg}/{name}", policy_of(alg, max_calls=8), key_set(key_text(alg)), NOW, written(RULES[name]), signed_by)
+
+
 # ---- issuing
 
 
@@ -608,7 +738,7 @@ def issuing() -> Iterator[Case]:
     yield Issuing("issuing/typ-quoted", policy, key_set(good), 1, 1, 0, b'a"\\b\xc3\xa9', CLAIMS)
 
 
-GROUPS = [octets, parts, forms, signatures, headers, claims, policies, key_sets, ceilings, issuing]
+GROUPS = [octets, parts, forms, signatures, headers, claims, policies, key_sets, ceilings, access, issuing]
 
 
 def all_cases() -> list[Case]:

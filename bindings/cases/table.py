@@ -37,6 +37,8 @@ def lines_of(cases: list[corpus.Case]) -> Iterator[str]:
             yield f"open {spelled(case.policy)} {spelled(case.keys)}\n"
         if isinstance(case, corpus.Judging):
             yield f"judge {case.name} {case.now} {spelled(case.token)}\n"
+        elif isinstance(case, corpus.Denying):
+            yield f"deny {case.name} {case.now} {spelled(case.rule)} {spelled(case.token)}\n"
         else:
             yield f"issue {case.name} {case.alg} {case.form} {case.key} {spelled(case.typ)} {spelled(case.claims)}\n"
 

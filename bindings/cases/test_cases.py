@@ -10,7 +10,7 @@ import corpus
 import table
 
 FOLDER = pathlib.Path(sys.argv.pop(1))
-KINDS = ("", "policy", "keys", "text", "form", "ceiling", "signature", "claims", "issue")
+KINDS = ("", "policy", "keys", "text", "form", "ceiling", "signature", "claims", "issue", "access", "denied")
 
 
 def faults() -> set[str]:
@@ -18,7 +18,7 @@ def faults() -> set[str]:
     header = (corpus.TOP / "include/fowharimu.h").read_text()
     numbers = re.search(r"enum fow_fault \{(.*?)\n\};", header, re.S)[1]
     names = dict(re.findall(r'case (FOW_\w+):\s+return "(\w+)"', (corpus.TOP / "bindings/c/fault_name.c").read_text()))
-    return {f"{KINDS[int(number) // 100]}.{names[word]}" for word, number in re.findall(r"(FOW_\w+) = ([1-9]\d\d)\b", numbers)}
+    return {f"{KINDS[int(number) // 100]}.{names[word]}" for word, number in re.findall(r"(FOW_\w+) = ([1-9]\d{2,3})\b", numbers)}
 
 
 def said(one: str) -> dict[str, str]:

@@ -86,6 +86,22 @@ func (v *Validator) Validate(token string) (Claims, error) {
 
 // ValidateAt is Validate at another moment, of which a fraction of a second is left out.
 func (v *Validator) ValidateAt(token string, now time.Time) (Claims, error) {
+	return v.validate(token, now, func(*seat) error { return nil })
+}
+
+// ValidateFor is Validate where the claims have to meet an access rule too. The error is a *DeniedError where they don't, a Refusal,
+// ErrOutOfMemory or ErrClosed.
+func (v *Validator) ValidateFor(token string, access *Access) (Claims, error) {
+	return v.ValidateForAt(token, time.Now(), access)
+}
+
+// ValidateForAt is ValidateFor at another moment, of which a fraction of a second is left out.
+func (v *Validator) ValidateForAt(token string, now time.Time, access *Access) (Claims, error) {
+	return v.validate(token, now, access.check)
+}
+
+// validate gives the claims of a token that is accepted, where nothing speaks against it then.
+func (v *Validator) validate(token string, now time.Time, check func(*seat) error) (Claims, error) {
 	s, err := v.take()
 	if err != nil {
 		return Claims{}, err
@@ -97,6 +113,9 @@ func (v *Validator) ValidateAt(token string, now time.Time) (Claims, error) {
 	}
 	if refusal != nil {
 		return Claims{}, refusal
+	}
+	if err := check(s); err != nil {
+		return Claims{}, err
 	}
 	payload, status := s.held.payload(token)
 	if status != statusOK {

@@ -1,14 +1,46 @@
 package fowharimu
 
 /*
-#cgo pkg-config: fowharimu_openssl
-#include <fowharimu_openssl.h>
 #include <stdlib.h>
+#ifdef FOWHARIMU_PROVED
+#include <fowharimu.h>
 
-// A validator, and what OpenSSL made of its keys.
+// Public keys by the library's proved verifiers, which hold nothing.
+typedef struct crypto {
+	char nothing;
+} crypto;
+
+static void crypto_judge(crypto *it, fow_validator *validator, const uint8_t *token, size_t len, int64_t now, fow_report *report)
+{
+	(void)it;
+	fow_proved_judge(validator, token, len, now, report);
+}
+
+static void crypto_clear(crypto *it)
+{
+	(void)it;
+}
+#else
+#include <fowharimu_openssl.h>
+
+// What OpenSSL made of the keys.
+typedef fow_openssl crypto;
+
+static void crypto_judge(crypto *it, fow_validator *validator, const uint8_t *token, size_t len, int64_t now, fow_report *report)
+{
+	fow_openssl_judge(it, validator, token, len, now, report);
+}
+
+static void crypto_clear(crypto *it)
+{
+	fow_openssl_clear(it);
+}
+#endif
+
+// A validator, and what verifies its public keys.
 typedef struct held {
 	fow_validator validator;
-	fow_openssl crypto;
+	crypto crypto;
 } held;
 
 // The octets of a text, at an address that isn't NULL.
@@ -35,7 +67,7 @@ static uint32_t held_open_beside(held *it, held *another)
 static fow_report held_judge(held *it, _GoString_ token, int64_t now)
 {
 	fow_report report = { 0 };
-	fow_openssl_judge(&it->crypto, &it->validator, at(token), _GoStringLen(token), now, &report);
+	crypto_judge(&it->crypto, &it->validator, at(token), _GoStringLen(token), now, &report);
 	return report;
 }
 
@@ -61,9 +93,25 @@ static uint32_t refused_member(_GoString_ policy, uint8_t *out, size_t room, siz
 	return fow_refused_member(at(policy), _GoStringLen(policy), out, room, written);
 }
 
+static uint32_t access_open(fow_access *it, _GoString_ rule, uint32_t *fault)
+{
+	return fow_access_open(it, at(rule), _GoStringLen(rule), fault);
+}
+
+static uint32_t access_refused(_GoString_ rule, uint8_t *out, size_t room, size_t *written)
+{
+	return fow_access_refused(at(rule), _GoStringLen(rule), out, room, written);
+}
+
+static void access_free(fow_access *it)
+{
+	fow_access_close(it);
+	free(it);
+}
+
 static void held_free(held *it)
 {
-	fow_openssl_clear(&it->crypto);
+	crypto_clear(&it->crypto);
 	fow_close(&it->validator);
 	free(it);
 }
@@ -83,7 +131,11 @@ const (
 	statusOutOfMemory = C.FOW_OUT_OF_MEMORY
 	statusTooShort    = C.FOW_TOO_SHORT
 	statusAbsent      = C.FOW_ABSENT
+	statusDenied      = C.FOW_DENIED
 )
+
+// scopeMissing is the number of the denial that speaks of a scope.
+const scopeMissing = C.FOW_DENIED_SCOPE_MISSING
 
 // defaultQuestions is how many questions one token may raise where no option says it.
 const defaultQuestions = C.FOW_MOST_QUESTIONS
@@ -205,6 +257,61 @@ func (h *held) refusedClaim() (string, error) {
 func refusedMember(policy []byte) (string, error) {
 	return textOf(writtenTo(256, func(out *C.uint8_t, room C.size_t, written *C.size_t) C.uint32_t {
 		return C.refused_member(string(policy), out, room, written)
+	}))
+}
+
+// rule is an access rule that the library holds. It lies in C's memory, and is used by one call at a time.
+type rule struct {
+	at *C.fow_access
+}
+
+// open reads a rule, and answers the status and the fault.
+func (r *rule) open(document []byte) (status, fault int) {
+	r.at = (*C.fow_access)(C.calloc(1, C.sizeof_fow_access))
+	if r.at == nil {
+		return statusOutOfMemory, 0
+	}
+	var number C.uint32_t
+	status = int(C.access_open(r.at, string(document), &number))
+	return status, int(number)
+}
+
+// scope gives the scope of this number, and the status.
+func (r *rule) scope(number int) (string, int) {
+	text, status := writtenTo(256, func(out *C.uint8_t, room C.size_t, written *C.size_t) C.uint32_t {
+		return C.fow_access_scope(r.at, C.uint32_t(number), out, room, written)
+	})
+	return string(text), status
+}
+
+// denied holds the rule against the claims of the token that was accepted last, and answers the status and the denial.
+func (r *rule) denied(h *held) (status, denial int) {
+	var number C.uint32_t
+	status = int(C.fow_denied(&h.at.validator, r.at, &number))
+	return status, int(number)
+}
+
+// deniedName gives the scope or the claim of the denial, and the status.
+func (r *rule) deniedName(h *held) (string, int) {
+	text, status := writtenTo(256, func(out *C.uint8_t, room C.size_t, written *C.size_t) C.uint32_t {
+		return C.fow_denied_name(&h.at.validator, r.at, out, room, written)
+	})
+	return string(text), status
+}
+
+// close frees what is held. It may be called twice.
+func (r *rule) close() {
+	if r.at != nil {
+		C.access_free(r.at)
+		r.at = nil
+	}
+}
+
+// refusedInRule gives the name of the member, or of the claim, for which a rule is refused; it is empty where it is refused for none. The
+// error is ErrOutOfMemory.
+func refusedInRule(document []byte) (string, error) {
+	return textOf(writtenTo(256, func(out *C.uint8_t, room C.size_t, written *C.size_t) C.uint32_t {
+		return C.access_refused(string(document), out, room, written)
 	}))
 }
 

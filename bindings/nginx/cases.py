@@ -2,7 +2,7 @@
 
 A request carries a token in a header, for `jwt_token $http_token`, and where it is of the characters of a b64token (RFC 6750, section 2.1) in the
 header Authorization too; there each other one is refused as Form. It is one without NUL, line feeds and carriage returns, and without a space at
-either end. A policy or a key set that is refused has no location. The moment is the same for all, that of most cases, by moment.c, which is preloaded.
+either end. A policy, a key set or an access rule that is refused has no location. The moment is the same for all, that of most cases, by moment.c, which is preloaded.
 """
 import http.client
 import json
@@ -18,7 +18,10 @@ from server import TOP, Nginx
 TABLE = TOP / "build/cases"
 NOW = "1300819379"
 SHOWN = "".join(f"add_header X-{it.title()} $jwt_{it} always;" for it in ("verdict", "fault", "tries", "work", "claim_iss"))
+# The documents of a location, by the directive that names each.
+ENDS = ("policy", "keys", "access")
 HEADERS = ("x-verdict", "x-fault", "x-tries", "x-work", "x-claim_iss")
+STATUS = {"accepted": 200, "refused": 401, "forbidden": 403}
 # (of no octets the module leaves the answer to the library)
 B64TOKEN = re.compile(rb"([A-Za-z0-9._~+/-]+=*)?")
 NO_TOKEN = {"x-verdict": "refused", "x-fault": "Form", "x-tries": "0", "x-work": "0", "x-claim_iss": ""}
@@ -39,29 +42,32 @@ def octets_of(word: str) -> bytes:
 
 
 def is_carried(now: str, token: bytes, answer: list[str]) -> bool:
-    """Whether a request can carry the token at this moment, under a policy and a key set that aren't refused."""
-    documents = answer[1].startswith(("policy.", "keys."))
+    """Whether a request can carry the token at this moment, under documents that aren't refused."""
+    documents = answer[1].startswith(("policy.", "keys.", "access."))
     return now == NOW and not documents and not set(token) & set(b"\0\r\n") and token == token.strip(b" ")
 
 
-def read_cases() -> tuple[list[tuple[bytes, bytes]], list[Asked], int]:
+def read_cases() -> tuple[list[tuple[bytes, ...]], list[Asked], int]:
     """The documents of each location, the cases that are asked, and how many tokens there are in all."""
     answers = dict(it.split("\t", 1) for it in (TABLE / "openssl.tsv").read_text().splitlines())
-    documents: list[tuple[bytes, bytes]] = []
+    documents: list[tuple[bytes, ...]] = []
     cases: list[Asked] = []
+    places: dict[tuple[bytes, ...], int] = {}
     opened, count = (b"", b""), 0
     with (TABLE / "cases.txt").open() as table:
         for line in table:
             what, *words = line.split()
             if what == "open":
                 opened = (octets_of(words[0]), octets_of(words[1]))
-            elif what == "judge":
-                name, now, token = words[0], words[1], octets_of(words[2])
+            elif what in ("judge", "deny"):
+                name, now, *rule, token = words[0], words[1], *map(octets_of, words[2:])
                 answer, count = answers[name].split("\t"), count + 1
                 if is_carried(now, token, answer):
-                    if not documents or documents[-1] != opened:
-                        documents.append(opened)
-                    cases.append(Asked(name, len(documents) - 1, token, answer))
+                    needed = (*opened, *rule)
+                    if needed not in places:
+                        places[needed] = len(documents)
+                        documents.append(needed)
+                    cases.append(Asked(name, places[needed], token, answer))
     return documents, cases, count
 
 
@@ -75,7 +81,7 @@ def expected(case: Asked) -> dict[str, str]:
     """The headers that the stored answer comes to. Of claims whose digest alone is stored the issuer isn't compared."""
     verdict, fault, *_, work, states, tries, claims = case.answer
     found = {
-        "x-verdict": verdict,
+        "x-verdict": "forbidden" if verdict == "denied" else verdict,
         "x-fault": fault.partition(".")[2],
         "x-tries": str(len(tries.split(","))) if tries else "0",
         "x-work": work,
@@ -96,7 +102,7 @@ def differences(nginx: Nginx, cases: list[Asked]) -> Iterator[str]:
         answer.read()
         wanted = NO_TOKEN if is_bearer and not B64TOKEN.fullmatch(case.token) else expected(case)
         said = {name: (answer.getheader(name) or "").encode("latin-1").decode("utf-8", "replace") for name in wanted}
-        if said != wanted or answer.status != (200 if wanted["x-verdict"] == "accepted" else 401):
+        if said != wanted or answer.status != STATUS.get(wanted["x-verdict"]):
             yield f"{case.name}, {'Bearer' if is_bearer else 'a variable'}: {answer.status} {said}, and not {wanted}"
     connection.close()
 
@@ -114,12 +120,12 @@ def run(check: Callable[..., None]) -> None:
         subprocess.run([os.environ.get("CC", "cc"), "-O1", "-shared", "-fPIC", "-o", library, TOP / "bindings/nginx/moment.c"], check=True)
         nginx = Nginx(room, workers=1, logs=False, LD_PRELOAD=str(library), MOMENT=NOW)
         nginx.write("html/page", "the page\n")
-        for place, (policy, keys) in enumerate(documents):
-            nginx.write(f"{place}.policy", policy)
-            nginx.write(f"{place}.keys", keys)
+        for place, needed in enumerate(documents):
+            for end, octets in zip(ENDS, needed):
+                nginx.write(f"{place}.{end}", octets)
         locations = "\n".join(
-            f"location = /{place}{name} {{ jwt on; jwt_policy {place}.policy; jwt_keys {place}.keys; {token} try_files /page =404; }}"
-            for place in range(len(documents))
+            f"location = /{place}{name} {{ jwt on; {' '.join(f'jwt_{end} {place}.{end};' for end, _ in zip(ENDS, needed))} {token} try_files /page =404; }}"
+            for place, needed in enumerate(documents)
             for name, token in (("", ""), ("-variable", "jwt_token $http_token;"))
         )
         nginx.configure(f"server {{ listen 127.0.0.1:{{port}}; {SHOWN} {locations} }}")

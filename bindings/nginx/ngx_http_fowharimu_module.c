@@ -19,6 +19,7 @@
 /* the longest documents that the library reads, in octets */
 #define NGX_HTTP_FOWHARIMU_MAX_POLICY  65536
 #define NGX_HTTP_FOWHARIMU_MAX_KEYS    4194304
+#define NGX_HTTP_FOWHARIMU_MAX_ACCESS  65536
 
 /* in the place of a variable's index: the header Authorization */
 #define NGX_HTTP_FOWHARIMU_BEARER      -2
@@ -30,11 +31,12 @@ typedef struct {
 } ngx_http_fowharimu_validator_t;
 
 
+/* an access rule: the document of a file, or what a "jwt_require" asks for */
 typedef struct {
-    ngx_str_t                        name;
-    ngx_array_t                      values;    /* ngx_str_t */
-    unsigned                         words:1;   /* its text is a list of words */
-} ngx_http_fowharimu_demand_t;
+    fow_access                       handle;
+    ngx_str_t                        claim;     /* that "jwt_require" names */
+    char                            *challenge; /* where a scope is missing */
+} ngx_http_fowharimu_rule_t;
 
 
 typedef struct {
@@ -56,7 +58,8 @@ typedef struct {
     ngx_str_t                        keys;
     ngx_int_t                        token;
     ngx_str_t                        argument;  /* that the token is */
-    ngx_array_t                     *demands;
+    ngx_http_fowharimu_rule_t       *rule;      /* of "jwt_access" */
+    ngx_array_t                     *demands;   /* such rules, by pointers */
     ngx_http_fowharimu_validator_t  *validator;
 } ngx_http_fowharimu_loc_conf_t;
 
@@ -100,12 +103,12 @@ static ngx_int_t ngx_http_fowharimu_keep_claim(ngx_http_request_t *r,
 static ngx_int_t ngx_http_fowharimu_keep_payload(ngx_http_request_t *r,
     ngx_http_fowharimu_loc_conf_t *lcf, ngx_http_fowharimu_ctx_t *ctx,
     ngx_str_t *token, ngx_str_t *room);
-static ngx_int_t ngx_http_fowharimu_meets(ngx_http_fowharimu_demand_t *demand,
-    ngx_str_t *claim);
-static ngx_int_t ngx_http_fowharimu_meets_text(
-    ngx_http_fowharimu_demand_t *demand, ngx_str_t *text);
-static ngx_int_t ngx_http_fowharimu_is_among(ngx_array_t *values, u_char *data,
-    size_t len);
+static ngx_int_t ngx_http_fowharimu_permit(ngx_http_request_t *r,
+    ngx_http_fowharimu_loc_conf_t *lcf, ngx_http_fowharimu_ctx_t *ctx,
+    ngx_http_fowharimu_rule_t *rule);
+static void ngx_http_fowharimu_log_denial(ngx_http_request_t *r,
+    ngx_http_fowharimu_loc_conf_t *lcf, ngx_http_fowharimu_rule_t *rule,
+    uint32_t denial);
 static ngx_int_t ngx_http_fowharimu_claim(
     ngx_http_fowharimu_validator_t *validator, ngx_str_t *name,
     ngx_str_t *claim);
@@ -163,8 +166,21 @@ static char *ngx_http_fowharimu_refuse_member(ngx_conf_t *cf, ngx_str_t *name,
     ngx_str_t *policy, uint32_t fault);
 static char *ngx_http_fowharimu_set_token(ngx_conf_t *cf, ngx_command_t *cmd,
     void *conf);
+static char *ngx_http_fowharimu_access(ngx_conf_t *cf, ngx_command_t *cmd,
+    void *conf);
 static char *ngx_http_fowharimu_require(ngx_conf_t *cf, ngx_command_t *cmd,
     void *conf);
+static ngx_int_t ngx_http_fowharimu_rule_text(ngx_conf_t *cf, ngx_str_t *value,
+    ngx_uint_t n, ngx_str_t *document);
+static u_char *ngx_http_fowharimu_put_text(u_char *p, ngx_str_t *text,
+    ngx_uint_t pointer);
+static ngx_uint_t ngx_http_fowharimu_is_whole(ngx_str_t *value);
+static ngx_http_fowharimu_rule_t *ngx_http_fowharimu_open_rule(ngx_conf_t *cf,
+    ngx_str_t *name, ngx_str_t *document);
+static ngx_int_t ngx_http_fowharimu_set_challenge(ngx_conf_t *cf,
+    ngx_http_fowharimu_rule_t *rule, ngx_str_t *document);
+static void ngx_http_fowharimu_close_rule(void *data);
+static ngx_int_t ngx_http_fowharimu_compare(ngx_conf_t *cf);
 static char *ngx_http_fowharimu_claim_set(ngx_conf_t *cf, ngx_command_t *cmd,
     void *conf);
 static char *ngx_http_fowharimu_set_answer(ngx_conf_t *cf, ngx_command_t *cmd,
@@ -202,6 +218,13 @@ static ngx_command_t  ngx_http_fowharimu_commands[] = {
     { ngx_string("jwt_token"),
       NGX_HTTP_FOWHARIMU_CONF|NGX_CONF_TAKE1,
       ngx_http_fowharimu_set_token,
+      NGX_HTTP_LOC_CONF_OFFSET,
+      0,
+      NULL },
+
+    { ngx_string("jwt_access"),
+      NGX_HTTP_FOWHARIMU_CONF|NGX_CONF_TAKE1,
+      ngx_http_fowharimu_access,
       NGX_HTTP_LOC_CONF_OFFSET,
       0,
       NULL },
@@ -676,16 +699,36 @@ ngx_http_fowharimu_accepted(ngx_http_request_t *r,
     ngx_str_t *token)
 {
     ngx_int_t                        rc;
-    ngx_str_t                        room, claim;
+    ngx_str_t                        room;
     ngx_uint_t                       i;
-    ngx_http_fowharimu_demand_t     *demand;
+    ngx_http_fowharimu_rule_t      **demand;
     ngx_http_fowharimu_main_conf_t  *mcf;
 
     mcf = ngx_http_get_module_main_conf(r, ngx_http_fowharimu_module);
 
-    /* without room where no claim is asked for, nor the payload */
+    if (lcf->rule) {
+        rc = ngx_http_fowharimu_permit(r, lcf, ctx, lcf->rule);
 
-    if (lcf->demands == NULL && mcf->claims.nelts == 0 && !mcf->payload) {
+        if (rc != NGX_OK) {
+            return rc;
+        }
+    }
+
+    if (lcf->demands) {
+        demand = lcf->demands->elts;
+
+        for (i = 0; i < lcf->demands->nelts; i++) {
+            rc = ngx_http_fowharimu_permit(r, lcf, ctx, demand[i]);
+
+            if (rc != NGX_OK) {
+                return rc;
+            }
+        }
+    }
+
+    /* without room where no variable names a claim or the payload */
+
+    if (mcf->claims.nelts == 0 && !mcf->payload) {
         ngx_str_set(&ctx->verdict, "accepted");
         return NGX_OK;
     }
@@ -696,31 +739,6 @@ ngx_http_fowharimu_accepted(ngx_http_request_t *r,
     room.data = ngx_pnalloc(r->pool, room.len);
     if (room.data == NULL) {
         return ngx_http_fowharimu_fail(r, ctx, "OutOfMemory");
-    }
-
-    if (lcf->demands) {
-        demand = lcf->demands->elts;
-
-        for (i = 0; i < lcf->demands->nelts; i++) {
-            claim = room;
-            rc = ngx_http_fowharimu_claim(lcf->validator, &demand[i].name,
-                                          &claim);
-
-            if (rc == NGX_ERROR) {
-                return ngx_http_fowharimu_fail(r, ctx, "OutOfMemory");
-            }
-
-            if (rc != NGX_OK || !ngx_http_fowharimu_meets(&demand[i], &claim)) {
-                ngx_str_set(&ctx->verdict, "forbidden");
-
-                ngx_log_error(NGX_LOG_INFO, r->connection->log, 0,
-                              "jwt: the claim \"%V\" isn't as \"jwt_require\" "
-                              "asks", &demand[i].name);
-
-                return ngx_http_fowharimu_refuse(r, NGX_HTTP_FORBIDDEN,
-                                       "Bearer error=\"insufficient_scope\"");
-            }
-        }
     }
 
     if (ngx_http_fowharimu_keep_claims(r, lcf, ctx, &room) != NGX_OK
@@ -734,6 +752,83 @@ ngx_http_fowharimu_accepted(ngx_http_request_t *r,
     ngx_str_set(&ctx->verdict, "accepted");
 
     return NGX_OK;
+}
+
+
+/* whether the claims of that token meet a rule: the library says so */
+
+static ngx_int_t
+ngx_http_fowharimu_permit(ngx_http_request_t *r,
+    ngx_http_fowharimu_loc_conf_t *lcf, ngx_http_fowharimu_ctx_t *ctx,
+    ngx_http_fowharimu_rule_t *rule)
+{
+    char      *challenge;
+    uint32_t   denial;
+
+    denial = FOW_NO_FAULT;
+
+    switch (fow_denied(&lcf->validator->handle, &rule->handle, &denial)) {
+
+    case FOW_OK:
+        return NGX_OK;
+
+    case FOW_DENIED:
+        break;
+
+    default:
+        return ngx_http_fowharimu_fail(r, ctx, "NotOpen");
+    }
+
+    ngx_str_set(&ctx->verdict, "forbidden");
+
+    if (rule->claim.data == NULL) {
+        ngx_http_fowharimu_set_text(&ctx->fault, fow_fault_name(denial));
+    }
+
+    ngx_http_fowharimu_log_denial(r, lcf, rule, denial);
+
+    /* RFC 6750, section 3.1 */
+
+    challenge = denial == FOW_DENIED_SCOPE_MISSING
+                ? rule->challenge : "Bearer error=\"insufficient_scope\"";
+
+    return ngx_http_fowharimu_refuse(r, NGX_HTTP_FORBIDDEN, challenge);
+}
+
+
+static void
+ngx_http_fowharimu_log_denial(ngx_http_request_t *r,
+    ngx_http_fowharimu_loc_conf_t *lcf, ngx_http_fowharimu_rule_t *rule,
+    uint32_t denial)
+{
+    size_t     len;
+    u_char     room[256];
+    ngx_str_t  name;
+
+    if (rule->claim.data) {
+        ngx_log_error(NGX_LOG_INFO, r->connection->log, 0,
+                      "jwt: the claim \"%V\" isn't as \"jwt_require\" asks",
+                      &rule->claim);
+        return;
+    }
+
+    len = 0;
+
+    /* (a longer name is left out) */
+
+    if (fow_denied_name(&lcf->validator->handle, &rule->handle, room,
+                        sizeof(room), &len)
+        != FOW_OK)
+    {
+        len = 0;
+    }
+
+    name.len = len;
+    name.data = room;
+
+    ngx_log_error(NGX_LOG_INFO, r->connection->log, 0,
+                  "jwt: the token is denied: %s \"%V\"",
+                  fow_fault_name(denial), &name);
 }
 
 
@@ -852,93 +947,6 @@ ngx_http_fowharimu_keep_payload(ngx_http_request_t *r,
     ctx->payload = kept;
 
     return NGX_OK;
-}
-
-
-/* whether a claim, a number or some texts in JSON, is as it is asked for */
-
-static ngx_int_t
-ngx_http_fowharimu_meets(ngx_http_fowharimu_demand_t *demand, ngx_str_t *claim)
-{
-    u_char     *p, *last;
-    ngx_str_t   text;
-
-    p = claim->data;
-    last = claim->data + claim->len;
-
-    if (*p != '"' && *p != '[') {
-        return ngx_http_fowharimu_is_among(&demand->values, p, claim->len);
-    }
-
-    while (p < last) {
-
-        if (*p != '"') {
-            p++;
-            continue;
-        }
-
-        if (ngx_http_fowharimu_read_text(&p, last, &text) == NGX_OK
-            && ngx_http_fowharimu_meets_text(demand, &text))
-        {
-            return 1;
-        }
-    }
-
-    return 0;
-}
-
-
-static ngx_int_t
-ngx_http_fowharimu_meets_text(ngx_http_fowharimu_demand_t *demand,
-    ngx_str_t *text)
-{
-    u_char  *p, *last, *end;
-
-    if (!demand->words) {
-        return ngx_http_fowharimu_is_among(&demand->values, text->data,
-                                           text->len);
-    }
-
-    p = text->data;
-    last = text->data + text->len;
-
-    while (p < last) {
-        end = ngx_strlchr(p, last, ' ');
-
-        if (end == NULL) {
-            end = last;
-        }
-
-        if (ngx_http_fowharimu_is_among(&demand->values, p, end - p)) {
-            return 1;
-        }
-
-        if (end == last) {
-            break;
-        }
-
-        p = end + 1;
-    }
-
-    return 0;
-}
-
-
-static ngx_int_t
-ngx_http_fowharimu_is_among(ngx_array_t *values, u_char *data, size_t len)
-{
-    ngx_str_t   *value;
-    ngx_uint_t   i;
-
-    value = values->elts;
-
-    for (i = 0; i < values->nelts; i++) {
-        if (value[i].len == len && ngx_memcmp(value[i].data, data, len) == 0) {
-            return 1;
-        }
-    }
-
-    return 0;
 }
 
 
@@ -1454,6 +1462,7 @@ ngx_http_fowharimu_create_loc_conf(ngx_conf_t *cf)
 
     lcf->enable = NGX_CONF_UNSET;
     lcf->token = NGX_CONF_UNSET;
+    lcf->rule = NGX_CONF_UNSET_PTR;
     lcf->demands = NGX_CONF_UNSET_PTR;
 
     return lcf;
@@ -1525,6 +1534,7 @@ ngx_http_fowharimu_merge_loc_conf(ngx_conf_t *cf, void *parent, void *child)
 
     ngx_conf_merge_value(conf->enable, prev->enable, 0);
     ngx_conf_merge_value(conf->token, prev->token, NGX_HTTP_FOWHARIMU_BEARER);
+    ngx_conf_merge_ptr_value(conf->rule, prev->rule, NULL);
     ngx_conf_merge_ptr_value(conf->demands, prev->demands, NULL);
 
     if (!conf->enable) {
@@ -1727,11 +1737,7 @@ ngx_http_fowharimu_open(ngx_conf_t *cf, ngx_http_fowharimu_loc_conf_t *lcf)
         return NGX_OK;
     }
 
-    if (fow_abi() != FOW_ABI) {
-        ngx_conf_log_error(NGX_LOG_EMERG, cf, 0,
-                           "the library %s has interface %uD, and this module "
-                           "was compiled for %d", fow_version(), fow_abi(),
-                           FOW_ABI);
+    if (ngx_http_fowharimu_compare(cf) != NGX_OK) {
         return NGX_ERROR;
     }
 
@@ -1768,6 +1774,24 @@ ngx_http_fowharimu_open(ngx_conf_t *cf, ngx_http_fowharimu_loc_conf_t *lcf)
     }
 
     return NGX_OK;
+}
+
+
+/* whether the library has the interface that the module was compiled for */
+
+static ngx_int_t
+ngx_http_fowharimu_compare(ngx_conf_t *cf)
+{
+    if (fow_abi() == FOW_ABI) {
+        return NGX_OK;
+    }
+
+    ngx_conf_log_error(NGX_LOG_EMERG, cf, 0,
+                       "the library %s has interface %uD, and this module "
+                       "was compiled for %d", fow_version(), fow_abi(),
+                       FOW_ABI);
+
+    return NGX_ERROR;
 }
 
 
@@ -2033,51 +2057,336 @@ ngx_http_fowharimu_set_token(ngx_conf_t *cf, ngx_command_t *cmd, void *conf)
 
 
 static char *
+ngx_http_fowharimu_access(ngx_conf_t *cf, ngx_command_t *cmd, void *conf)
+{
+    ngx_http_fowharimu_loc_conf_t *lcf = conf;
+
+    ngx_str_t                       *value, document;
+    ngx_http_fowharimu_rule_t       *rule;
+    ngx_http_fowharimu_main_conf_t  *mcf;
+
+    if (lcf->rule != NGX_CONF_UNSET_PTR) {
+        return "is duplicate";
+    }
+
+    value = cf->args->elts;
+
+    if (ngx_http_fowharimu_read_file(cf, &value[1],
+                                     NGX_HTTP_FOWHARIMU_MAX_ACCESS, &document)
+        != NGX_OK)
+    {
+        return NGX_CONF_ERROR;
+    }
+
+    rule = ngx_http_fowharimu_open_rule(cf, &value[1], &document);
+
+    if (rule == NULL
+        || ngx_http_fowharimu_set_challenge(cf, rule, &document) != NGX_OK)
+    {
+        return NGX_CONF_ERROR;
+    }
+
+    mcf = ngx_http_conf_get_module_main_conf(cf, ngx_http_fowharimu_module);
+    mcf->named = 1;
+
+    lcf->rule = rule;
+
+    return NGX_CONF_OK;
+}
+
+
+/* a rule of one claim, since lines may name the same claim */
+
+static char *
 ngx_http_fowharimu_require(ngx_conf_t *cf, ngx_command_t *cmd, void *conf)
 {
     ngx_http_fowharimu_loc_conf_t *lcf = conf;
 
-    ngx_str_t                    *value, *v;
-    ngx_uint_t                    i;
-    ngx_http_fowharimu_demand_t  *demand;
+    ngx_str_t                  *value, document;
+    ngx_http_fowharimu_rule_t  *rule, **demand;
 
     if (lcf->demands == NGX_CONF_UNSET_PTR) {
         lcf->demands = ngx_array_create(cf->pool, 2,
-                                        sizeof(ngx_http_fowharimu_demand_t));
+                                        sizeof(ngx_http_fowharimu_rule_t *));
         if (lcf->demands == NULL) {
             return NGX_CONF_ERROR;
         }
     }
+
+    value = cf->args->elts;
+
+    if (ngx_http_fowharimu_rule_text(cf, &value[1], cf->args->nelts - 2,
+                                     &document)
+        != NGX_OK)
+    {
+        return NGX_CONF_ERROR;
+    }
+
+    rule = ngx_http_fowharimu_open_rule(cf, &value[0], &document);
+    if (rule == NULL) {
+        return NGX_CONF_ERROR;
+    }
+
+    rule->claim = value[1];
 
     demand = ngx_array_push(lcf->demands);
     if (demand == NULL) {
         return NGX_CONF_ERROR;
     }
 
-    value = cf->args->elts;
-
-    /* RFC 8693, section 4.2: the scopes stand in one text */
-
-    demand->name = value[1];
-    demand->words = (ngx_strcmp(value[1].data, "scope") == 0);
-
-    if (ngx_array_init(&demand->values, cf->pool, cf->args->nelts - 2,
-                       sizeof(ngx_str_t))
-        != NGX_OK)
-    {
-        return NGX_CONF_ERROR;
-    }
-
-    for (i = 2; i < cf->args->nelts; i++) {
-        v = ngx_array_push(&demand->values);
-        if (v == NULL) {
-            return NGX_CONF_ERROR;
-        }
-
-        *v = value[i];
-    }
+    *demand = rule;
 
     return NGX_CONF_OK;
+}
+
+
+/*
+ * The document of a rule that asks for one of n values of a claim, the texts
+ * that stand behind its name, or of the numbers that they spell.  Of "scope",
+ * which carries scopes, a word is enough by the rule's own meaning.
+ */
+
+static ngx_int_t
+ngx_http_fowharimu_rule_text(ngx_conf_t *cf, ngx_str_t *value, ngx_uint_t n,
+    ngx_str_t *document)
+{
+    size_t      len;
+    u_char     *p;
+    ngx_uint_t  i;
+
+    /* an octet becomes six at most, and a text stands as a number too */
+
+    len = sizeof("{\"claims\":{\"/~1\":[]}}") + 6 * value[0].len;
+
+    for (i = 1; i <= n; i++) {
+        len += sizeof("\"\",,") + 7 * value[i].len;
+    }
+
+    p = ngx_pnalloc(cf->temp_pool, len);
+    if (p == NULL) {
+        return NGX_ERROR;
+    }
+
+    document->data = p;
+
+    p = ngx_cpymem(p, "{\"claims\":{", sizeof("{\"claims\":{") - 1);
+    p = ngx_http_fowharimu_put_text(p, &value[0], 1);
+    *p++ = ':';
+    *p++ = '[';
+
+    for (i = 1; i <= n; i++) {
+
+        if (i > 1) {
+            *p++ = ',';
+        }
+
+        p = ngx_http_fowharimu_put_text(p, &value[i], 0);
+
+        if (ngx_http_fowharimu_is_whole(&value[i])) {
+            *p++ = ',';
+            p = ngx_cpymem(p, value[i].data, value[i].len);
+        }
+    }
+
+    p = ngx_cpymem(p, "]}}", sizeof("]}}") - 1);
+
+    document->len = p - document->data;
+
+    return NGX_OK;
+}
+
+
+/*
+ * Writes a text in JSON.  The name of a claim that begins with a slash is
+ * written as the JSON Pointer to it (RFC 6901), which a rule would take it for.
+ */
+
+static u_char *
+ngx_http_fowharimu_put_text(u_char *p, ngx_str_t *text, ngx_uint_t pointer)
+{
+    u_char      c;
+    ngx_uint_t  i;
+
+    pointer = pointer && text->len && text->data[0] == '/';
+
+    *p++ = '"';
+
+    if (pointer) {
+        *p++ = '/';
+    }
+
+    for (i = 0; i < text->len; i++) {
+        c = text->data[i];
+
+        if (pointer && (c == '~' || c == '/')) {
+            *p++ = '~';
+            *p++ = (c == '~') ? '0' : '1';
+
+        } else if (c == '"' || c == '\\') {
+            *p++ = '\\';
+            *p++ = c;
+
+        } else if (c < 0x20) {
+            p = ngx_sprintf(p, "\\u%04xd", (int) c);
+
+        } else {
+            *p++ = c;
+        }
+    }
+
+    *p++ = '"';
+
+    return p;
+}
+
+
+/* whether the library would spell some whole number of 64 signed bits so */
+
+static ngx_uint_t
+ngx_http_fowharimu_is_whole(ngx_str_t *value)
+{
+    size_t      len;
+    u_char     *p;
+    ngx_uint_t  i, negative;
+
+    p = value->data;
+    len = value->len;
+    negative = len && *p == '-';
+
+    if (negative) {
+        p++;
+        len--;
+    }
+
+    if (len == 0 || len > 19 || (*p == '0' && (len > 1 || negative))) {
+        return 0;
+    }
+
+    for (i = 0; i < len; i++) {
+        if (p[i] < '0' || p[i] > '9') {
+            return 0;
+        }
+    }
+
+    return len < 19
+           || ngx_memcmp(p, negative ? "9223372036854775808"
+                                     : "9223372036854775807", 19)
+              <= 0;
+}
+
+
+/* opens the rule of a document; what is said of one that is refused names it */
+
+static ngx_http_fowharimu_rule_t *
+ngx_http_fowharimu_open_rule(ngx_conf_t *cf, ngx_str_t *name,
+    ngx_str_t *document)
+{
+    uint32_t                    fault, status;
+    ngx_str_t                   member;
+    ngx_pool_cleanup_t         *cln;
+    ngx_http_fowharimu_rule_t  *rule;
+
+    if (ngx_http_fowharimu_compare(cf) != NGX_OK) {
+        return NULL;
+    }
+
+    cln = ngx_pool_cleanup_add(cf->pool, sizeof(ngx_http_fowharimu_rule_t));
+    if (cln == NULL) {
+        return NULL;
+    }
+
+    rule = cln->data;
+    ngx_memzero(rule, sizeof(ngx_http_fowharimu_rule_t));
+    cln->handler = ngx_http_fowharimu_close_rule;
+
+    fault = FOW_NO_FAULT;
+    status = fow_access_open(&rule->handle, document->data, document->len,
+                             &fault);
+
+    if (status == FOW_OK) {
+        return rule;
+    }
+
+    /* a name is no longer than the document that it is in */
+
+    member.len = 0;
+    member.data = ngx_pnalloc(cf->temp_pool, document->len + 1);
+
+    if (member.data
+        && fow_access_refused(document->data, document->len, member.data,
+                              document->len + 1, &member.len)
+           == FOW_OK)
+    {
+        ngx_conf_log_error(NGX_LOG_EMERG, cf, 0,
+                           "\"%V\" is refused: %s of \"%V\"", name,
+                           fow_fault_name(fault), &member);
+        return NULL;
+    }
+
+    ngx_conf_log_error(NGX_LOG_EMERG, cf, 0, "\"%V\" is refused: %s", name,
+                       status == FOW_REFUSED ? fow_fault_name(fault)
+                                             : "OutOfMemory");
+
+    return NULL;
+}
+
+
+/* RFC 6750, section 3.1: the scopes that are necessary; none has a quote */
+
+static ngx_int_t
+ngx_http_fowharimu_set_challenge(ngx_conf_t *cf,
+    ngx_http_fowharimu_rule_t *rule, ngx_str_t *document)
+{
+    size_t     len;
+    u_char    *p, *last;
+    uint32_t   n, status;
+
+    static const char  head[] = "Bearer error=\"insufficient_scope\", scope=\"";
+
+    /* all scopes with spaces are shorter than the document that has them */
+
+    p = ngx_pnalloc(cf->pool, sizeof(head) + document->len + 1);
+    if (p == NULL) {
+        return NGX_ERROR;
+    }
+
+    rule->challenge = (char *) p;
+
+    p = ngx_cpymem(p, head, sizeof(head) - 1);
+    last = p + document->len;
+
+    for (n = 0; p < last; n++) {
+        status = fow_access_scope(&rule->handle, n, p, last - p, &len);
+
+        if (status == FOW_ABSENT) {
+            break;
+        }
+
+        if (status != FOW_OK || len >= (size_t) (last - p)) {
+            return NGX_ERROR;
+        }
+
+        p += len;
+        *p++ = ' ';
+    }
+
+    if (n) {
+        p--;
+    }
+
+    *p++ = '"';
+    *p = '\0';
+
+    return NGX_OK;
+}
+
+
+static void
+ngx_http_fowharimu_close_rule(void *data)
+{
+    ngx_http_fowharimu_rule_t  *rule = data;
+
+    fow_access_close(&rule->handle);
 }
 
 

@@ -60,7 +60,7 @@ class Nginx:
     def write(self, name: str, text: str | bytes) -> pathlib.Path:
         path = self.room / name
         path.parent.mkdir(parents=True, exist_ok=True)
-        path.write_bytes(text.encode() if isinstance(text, str) else text)
+        path.write_bytes(text.encode("utf-8", "surrogateescape") if isinstance(text, str) else text)
         return path
 
     def configure(self, http: str) -> None:

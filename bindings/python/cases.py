@@ -3,12 +3,12 @@ import json
 import sys
 from typing import Optional, Union
 
-from fowharimu import CeilingReached, ClaimsRefused, FormRefused, FowharimuError, IssueRefused, KeysRefused, PolicyRefused, Report, SignatureRefused, TooLong, Undecided, Validator
+from fowharimu import Access, AccessRefused, CeilingReached, ClaimsRefused, Denied, FormRefused, FowharimuError, IssueRefused, KeysRefused, PolicyRefused, Report, SignatureRefused, TooLong, Undecided, Validator
 
 PARTS = {None: 0, "payload": 1, "protected": 2, "signature": 3}
 STATES = {"barred": 1, "no key": 2, "bad signature": 3, "verified": 4, "not reached": 5, "stopped": 6}
 KINDS = {PolicyRefused: "policy", KeysRefused: "keys", TooLong: "text", FormRefused: "form", CeilingReached: "ceiling", SignatureRefused: "signature"}
-KINDS |= {ClaimsRefused: "claims", IssueRefused: "issue"}
+KINDS |= {ClaimsRefused: "claims", IssueRefused: "issue", AccessRefused: "access", Denied: "denied"}
 ALGORITHMS = {1: "HS256", 2: "HS384", 3: "HS512"}
 FORMS = {1: "compact", 2: "general", 3: "flattened"}
 # Faults of claims, for which issuing refuses too.
@@ -28,7 +28,7 @@ def spelled(text: Optional[str]) -> str:
 def line_of(verdict: str, refusal: Optional[FowharimuError], signature: object, key: object, work: object = 0, states: str = "", tries: str = "", claims: str = "-") -> str:
     """An answer. What a refusal says beside the report has to be the same."""
     fault = "-" if refusal is None or isinstance(refusal, Undecided) else f"{KINDS[type(refusal)]}.{refusal.fault}"
-    claim = getattr(refusal, "claim", None) or getattr(refusal, "member", None)
+    claim = getattr(refusal, "claim", None) or getattr(refusal, "member", None) or getattr(refusal, "scope", None)
     for name, value in (("signature", signature), ("key", key)):
         if getattr(refusal, name, value) != value:
             raise AssertionError(f"{name} of the refusal and of the report differ")
@@ -36,19 +36,31 @@ def line_of(verdict: str, refusal: Optional[FowharimuError], signature: object, 
     return "\t".join(map(str, fields))
 
 
-def judged(validator: Validator, token: bytes, now: int) -> str:
-    """The answer to a token: the report, and the claims as `validate` gives them."""
+def judged(validator: Validator, token: bytes, now: int, access: Optional[Access] = None) -> str:
+    """The answer to a token: the report, and the claims as `validate` gives them where the access rule, if any, is met."""
     report: Report = validator.judge(token, now)
     states = ",".join(f"{STATES[it.state]}/{it.fault or ''}/{it.key or 0}" for it in report.states)
     tries = ",".join(f"{it.signature}/{it.key}/{it.cost}" for it in report.tries)
     refusal, claims = report.refusal, "-"
     try:
-        claims = spelled(json.dumps(validator.validate(token, now)))
+        claims = spelled(json.dumps(validator.validate(token, now, access)))
+    except Denied as denial:
+        if not report.accepted or access is None or denial.scopes != access.scopes:
+            raise
+        return line_of("denied", denial, report.signature, report.key, report.work, states, tries)
     except FowharimuError as error:
         if type(error) is not type(refusal) or error.args != refusal.args:
             raise
     verdict = "accepted" if report.accepted else "asks" if isinstance(refusal, Undecided) else "refused"
     return line_of(verdict, refusal, report.signature, report.key, report.work, states, tries, claims)
+
+
+def denied(validator: Validator, token: bytes, now: int, rule: bytes) -> str:
+    """The answer to a token under an access rule, which is read first."""
+    try:
+        return judged(validator, token, now, Access(rule))
+    except AccessRefused as refusal:
+        return line_of("refused", refusal, 0, 0)
 
 
 def issued(validator: Validator, alg: str, form: str, key: str, typ: bytes, claims: bytes) -> str:
@@ -76,6 +88,8 @@ def answer(validator: Union[Validator, FowharimuError], what: str, words: list[s
         return line_of("refused", validator, 0, 0)
     if what == "judge":
         return judged(validator, octets_of(words[1]), int(words[0]))
+    if what == "deny":
+        return denied(validator, octets_of(words[2]), int(words[0]), octets_of(words[1]))
     return issued(validator, *words[:3], octets_of(words[3]), octets_of(words[4]))
 
 

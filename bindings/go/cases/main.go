@@ -65,6 +65,16 @@ func answered(validator *fowharimu.Validator, refused error, words []string, thr
 		fatal(err)
 		return together(threads, func() said { return judged(validator, string(octetsOf(words[3])), time.Unix(now, 0)) }), true
 	}
+	if words[0] == "deny" {
+		now, err := strconv.ParseInt(words[2], 10, 64)
+		fatal(err)
+		access, err := fowharimu.OpenAccess(octetsOf(words[3]))
+		if err != nil {
+			return refusedFor(err), true
+		}
+		defer access.Close()
+		return together(threads, func() said { return denied(validator, string(octetsOf(words[4])), time.Unix(now, 0), access) }), true
+	}
 	return issued(validator, words[2:])
 }
 
@@ -115,6 +125,19 @@ func judged(validator *fowharimu.Validator, token string, now time.Time) said {
 	return answer
 }
 
+// denied gives the report on a token, and its claims where they meet an access rule.
+func denied(validator *fowharimu.Validator, token string, now time.Time, access *fowharimu.Access) said {
+	answer := judged(validator, token, now)
+	_, err := validator.ValidateForAt(token, now, access)
+	var denial *fowharimu.DeniedError
+	if errors.As(err, &denial) {
+		answer.verdict, answer.fault, answer.claim, answer.claims = "denied", "denied."+denial.Fault, denial.Scope+denial.Claim, ""
+	} else if (err == nil) != (answer.verdict == "accepted") {
+		log.Fatalf("ValidateForAt says %v, JudgeAt %v", err, answer)
+	}
+	return answer
+}
+
 // checkPair ends the program where a refusal names another signature or key than its report.
 func checkPair(answer said, report fowharimu.Report) {
 	kind, _, _ := strings.Cut(answer.fault, ".")
@@ -152,6 +175,7 @@ func refusedFor(err error) said {
 	answer := said{verdict: "refused"}
 	var policy *fowharimu.PolicyError
 	var keys *fowharimu.KeysError
+	var access *fowharimu.AccessError
 	var long *fowharimu.TooLongError
 	var form *fowharimu.FormError
 	var ceiling *fowharimu.CeilingError
@@ -162,6 +186,8 @@ func refusedFor(err error) said {
 	switch {
 	case errors.As(err, &policy):
 		answer.fault, answer.claim = "policy."+policy.Fault, policy.Member
+	case errors.As(err, &access):
+		answer.fault, answer.claim = "access."+access.Fault, access.Member
 	case errors.As(err, &keys):
 		answer.fault = "keys." + keys.Fault
 	case errors.As(err, &long):

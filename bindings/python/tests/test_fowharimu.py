@@ -17,10 +17,13 @@ import unittest
 from typing import Any, Callable, Iterator, List
 
 from fowharimu import (
+    Access,
+    AccessRefused,
     AnotherLibrary,
     CeilingReached,
     ClaimsRefused,
     Closed,
+    Denied,
     FormRefused,
     FowharimuError,
     IssueRefused,
@@ -75,6 +78,117 @@ class Opening(unittest.TestCase):
         number = int(os.environ["FOWHARIMU_ANOTHER"])
         self.assertEqual((caught.exception.made_for, caught.exception.loaded), (_library.ABI, number))
         self.assertEqual(str(caught.exception), f"the library another has interface {number}, and this package was made for {_library.ABI}")
+
+
+class Rules(unittest.TestCase):
+    """Access rules, over the claims of RFC 7515, appendix A.1: `iss` joe, `exp` and `http://example.com/is_root` true."""
+
+    def denial(self, rule: Any) -> Denied:
+        """Why a rule denies the token."""
+        with validator_of(HMAC) as validator, self.assertRaises(Denied) as caught:
+            validator.validate(token_of(HMAC), NOW, Access(rule))
+        return caught.exception
+
+    def test_an_accepted_token_that_meets_a_rule(self) -> None:
+        rule = Access({"scopes": ["joe"], "scope_claim": "iss", "claims": {"iss": ["joe", "ann"], "exp": [NOW + 1], "http://example.com/is_root": [True]}})
+        with validator_of(HMAC) as validator:
+            for access in (rule, Access("{}"), Access(b"{}"), None):
+                self.assertEqual(validator.validate(token_of(HMAC), NOW, access=access)["iss"], "joe")
+
+    def test_a_denial_tells_what_is_missing(self) -> None:
+        denial = self.denial({"scopes": ["read", "write"], "claims": {"iss": ["ann"]}})
+        self.assertEqual(denial.args, ("ScopeMissing", "read", None, ("read", "write")))
+        self.assertEqual((denial.fault, denial.scope, denial.claim, denial.scopes), denial.args)
+        self.assertEqual(str(denial), "the token is denied: ScopeMissing 'read'")
+        self.assertEqual(self.denial({"claims": {"iss": ["ann"], "sub": ["x"]}}).args, ("ClaimNotAllowed", None, "iss", ()))
+        self.assertEqual(self.denial({"claims": {"": ["x"]}}).args, ("ClaimMissing", None, "", ()))
+        long = "/" + "a" * 5000
+        self.assertEqual(self.denial({"claims": {long: [1]}}).claim, long)
+
+    def test_a_denial_is_no_refusal(self) -> None:
+        self.assertFalse(issubclass(Denied, TokenRefused))
+        with validator_of(HMAC) as validator, self.assertRaises(ClaimsRefused):
+            validator.validate(token_of(HMAC), NOW + 3600, Access({"scopes": ["read"]}))
+        for copied in (copy.copy, lambda it: pickle.loads(pickle.dumps(it))):
+            denial = self.denial({"scopes": ["read"]})
+            self.assertEqual(copied(denial).args, denial.args)
+
+    def test_a_rule_that_is_refused(self) -> None:
+        for rule, fault, member in (
+            (b"", "Json", None),
+            (b"\xff", "Json", None),
+            ("\ud800", "Json", None),
+            ('{"scopes":[],"scopes":[]}', "NameTwice", None),
+            ({"scope": "read"}, "Member", "scope"),
+            ({"scopes": ["read write"]}, "Range", "scopes"),
+            ({"claims": {"a": [1.5]}}, "Claim", "a"),
+            ({"claims": {"/~2": [1]}}, "ClaimRange", "/~2"),
+            (b" " * 65537, "TooLong", None),
+        ):
+            with self.subTest(rule[:30] if isinstance(rule, (str, bytes)) else rule), self.assertRaises(AccessRefused) as caught:
+                Access(rule)
+            self.assertEqual((caught.exception.fault, caught.exception.member), (fault, member))
+        with self.assertRaises(TypeError):
+            Access(7)  # type: ignore[arg-type]
+
+    def test_the_rules_of_the_documents(self) -> None:
+        """Those of docs/ACCESS.md, which stand in examples/access, with what is expected there of the claims beside them."""
+        shown, said = (TOP / "docs/ACCESS.md").read_text(), []
+        for path in sorted((TOP / "examples/access").glob("*.access")):
+            rule = path.read_text()
+            self.assertIn(f"```json\n{rule}```\n", shown)
+            said.append(path.stem)
+            with Validator(path.with_suffix(".policy").read_bytes(), (TOP / "examples/rfc7515-a1.keys").read_bytes()) as validator:
+                for claims in path.with_suffix(".claims").read_text().splitlines():
+                    token = validator.issue(claims, typ="at+jwt")
+                    report = validator.judge(token, 1639528911)
+                    try:
+                        validator.validate(token, 1639528911, Access(rule))
+                        verdict = "accepted"
+                    except Denied as denial:
+                        name = f"claim={json.dumps(denial.claim)}" if denial.scope is None else f"scope={json.dumps(denial.scope)}"
+                        verdict = f"denied {denial.fault} {name}"
+                    said.append(f"{verdict} sig=0 key=0 tries=1 work={report.work}")
+        self.assertEqual(said, (TOP / "examples/access/expected.txt").read_text().splitlines())
+
+    def test_it_is_not_copied(self) -> None:
+        access = Access({"scopes": ["a", "b"]})
+        self.assertEqual(access.scopes, ("a", "b"))
+        for copied in (copy.copy, copy.deepcopy, pickle.dumps):
+            with self.assertRaises(TypeError):
+                copied(access)
+
+    def test_threads_share_it(self) -> None:
+        access, wrong = Access({"claims": {"iss": ["joe"]}}), []
+        denies = Access({"claims": {"iss": ["ann"]}})
+        with validator_of(HMAC) as validator:
+
+            def judge_often() -> None:
+                for _ in range(200):
+                    if validator.validate(token_of(HMAC), NOW, access)["iss"] != "joe":
+                        wrong.append("claims")
+                    try:
+                        validator.validate(token_of(HMAC), NOW, denies)
+                        wrong.append("granted")
+                    except Denied as denial:
+                        if denial.claim != "iss":
+                            wrong.append(denial)
+
+            threads = [threading.Thread(target=judge_often) for _ in range(8)]
+            for thread in threads:
+                thread.start()
+            for thread in threads:
+                thread.join()
+        self.assertEqual(wrong, [])
+        self.assertLessEqual(len(access._free), 8)
+
+    def test_a_failed_call_is_no_permission(self) -> None:
+        with validator_of(HMAC) as validator:
+            access, seat = Access({}), validator._seats.take()
+            # (nothing was judged by this seat)
+            with self.assertRaises(MemoryError):
+                access.denial(seat)
+            validator._seats.give(seat)
 
 
 class Tokens(unittest.TestCase):
@@ -373,7 +487,7 @@ class Threads(unittest.TestCase):
         validator.close()
         self.assertFalse(free.held.held)
         self.assertTrue(taken.held.held)
-        self.assertEqual(validator._judge(taken, token.encode(), NOW).verdict, _library.OK)
+        self.assertEqual(taken.judge(token.encode(), NOW).verdict, _library.OK)
         validator._seats.give(taken)
         self.assertFalse(taken.held.held)
         with self.assertRaises(Closed):

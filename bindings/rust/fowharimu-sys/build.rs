@@ -1,17 +1,45 @@
-//! Finds the libraries: in FOWHARIMU_LIB_DIR, or by pkg-config, or where the linker looks.
+//! Finds the libraries: in FOWHARIMU_LIB_DIR, or in this package where it has them, or by pkg-config, or where the linker looks.
 
 use std::env;
+use std::path::{Path, PathBuf};
 use std::process::Command;
+
+/// The system and the processor of the libraries that this package may have.
+const SHIPPED: &str = "linux-x86_64";
 
 fn main() {
     println!("cargo:rerun-if-env-changed=FOWHARIMU_LIB_DIR");
-    match env::var("FOWHARIMU_LIB_DIR") {
-        Ok(folder) => search_in(&folder),
-        Err(_) => search_by_pkg_config(),
+    match (env::var("FOWHARIMU_LIB_DIR"), shipped()) {
+        (Ok(folder), _) => search_in(&folder),
+        (Err(_), Some(folder)) => search_in(&folder.to_string_lossy()),
+        (Err(_), None) => search_by_pkg_config(),
     }
-    println!("cargo:rustc-link-lib=static=fowharimu_openssl");
-    println!("cargo:rustc-link-lib=static=fowharimu");
-    println!("cargo:rustc-link-lib=crypto");
+    if env::var_os("CARGO_FEATURE_OPENSSL").is_some() {
+        println!("cargo:rustc-link-lib=static=fowharimu_openssl");
+        println!("cargo:rustc-link-lib=static=fowharimu");
+        println!("cargo:rustc-link-lib=crypto");
+    } else {
+        println!("cargo:rustc-link-lib=static=fowharimu");
+    }
+}
+
+/// The folder of the libraries that this package has. On another system or processor than theirs the build ends.
+fn shipped() -> Option<PathBuf> {
+    let of = |name| env::var(name).unwrap_or_default();
+    let all = Path::new(&of("CARGO_MANIFEST_DIR")).join("lib");
+    if !all.exists() {
+        return None;
+    }
+    let target = format!(
+        "{}-{}",
+        of("CARGO_CFG_TARGET_OS"),
+        of("CARGO_CFG_TARGET_ARCH")
+    );
+    assert!(
+        target == SHIPPED,
+        "fowharimu has a library for {SHIPPED}, and the target is {target}"
+    );
+    Some(all.join(SHIPPED))
 }
 
 /// Has the libraries of a folder linked, and linked anew where they have changed.

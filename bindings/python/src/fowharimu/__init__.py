@@ -1,4 +1,5 @@
-"""Validates JSON Web Tokens (RFC 7519) by a library that is proved correct, and public-key signatures by OpenSSL.
+"""Validates JSON Web Tokens (RFC 7519) by a library that is proved correct. Public-key signatures are verified by its proved verifiers where the
+package has its library inside, as a wheel has, and else by OpenSSL.
 
     from fowharimu import TokenRefused, Validator
 
@@ -17,14 +18,17 @@ import operator
 import time
 from dataclasses import dataclass
 from types import TracebackType
-from typing import Any, Dict, List, NoReturn, Optional, SupportsIndex, Type, Union
+from typing import Any, Dict, List, NoReturn, Optional, SupportsIndex, Type
 
 from . import _library
+from ._access import Access
 from ._faults import (
+    AccessRefused,
     AnotherLibrary,
     CeilingReached,
     ClaimsRefused,
     Closed,
+    Denied,
     FormRefused,
     FowharimuError,
     IssueRefused,
@@ -38,13 +42,17 @@ from ._faults import (
     Unreadable,
 )
 from ._seats import Seat, Seats, written
+from ._texts import Document, Text, document_of, octets_of
 
 __all__ = [
+    "Access",
+    "AccessRefused",
     "AnotherLibrary",
     "CeilingReached",
     "Claims",
     "ClaimsRefused",
     "Closed",
+    "Denied",
     "FormRefused",
     "FowharimuError",
     "IssueRefused",
@@ -63,8 +71,9 @@ __all__ = [
 ]
 
 Claims = Dict[str, Any]
-Text = Union[str, bytes, bytearray, memoryview]
-Document = Union[Text, Dict[str, Any]]
+
+# What json.loads calls of a text, after a look at its other arguments.
+_decode = json.JSONDecoder().decode
 
 _PARTS = {1: "payload", 2: "protected", 3: "signature"}
 _STATES = {1: "barred", 2: "no key", 3: "bad signature", 4: "verified", 5: "not reached", 6: "stopped"}
@@ -108,23 +117,6 @@ class Report:
         return self.refusal is None
 
 
-def _octets(text: Text, what: str) -> bytes:
-    """The octets of a text or of what is bytes-like. A lone surrogate, which UTF-8 doesn't have, becomes octets that the library refuses.
-    Raises TypeError for anything else, an `int` too."""
-    if isinstance(text, bytes):
-        return text
-    if isinstance(text, str):
-        return text.encode("utf-8", "surrogatepass")
-    try:
-        return bytes(memoryview(text))
-    except TypeError:
-        raise TypeError(f"{what} has to be str or bytes-like, and not {type(text).__name__}") from None
-
-
-def _document(document: Document, what: str) -> bytes:
-    return json.dumps(document).encode() if isinstance(document, dict) else _octets(document, what)
-
-
 def _number(number: SupportsIndex, what: str, least: int, greatest: int) -> int:
     """A whole number in its range. Raises TypeError and ValueError: it is never wrapped."""
     value = operator.index(number)
@@ -140,7 +132,7 @@ def _moment(now: Optional[SupportsIndex]) -> int:
 def _object(octets: bytes, what: str) -> Dict[str, Any]:
     """The object that a JSON text spells. Raises Unreadable where Python's `json` doesn't take it, though the library does."""
     try:
-        members: Dict[str, Any] = json.loads(octets.decode())
+        members: Dict[str, Any] = _decode(octets.decode())
     except ValueError:
         raise Unreadable(what, octets) from None
     return members
@@ -164,7 +156,7 @@ class Validator:
         self, policy: Document, keys: Document, *, most_questions: Optional[int] = _library.MOST_QUESTIONS
     ) -> None:
         self._library = _library.load()
-        policy_octets, key_octets = _document(policy, "a policy"), _document(keys, "a key set")
+        policy_octets, key_octets = document_of(policy, "a policy"), document_of(keys, "a key set")
         documents = Seat()
         fault = ctypes.c_uint32()
         status = self._library.fow_open(
@@ -177,32 +169,34 @@ class Validator:
         self._check_questions(documents, most_questions)
         self._seats = Seats(documents)
 
-    def validate(self, token: Text, now: Optional[SupportsIndex] = None) -> Claims:
-        """The claims of a token that is accepted at a moment, in seconds since 1970-01-01T00:00:00Z; without one, at the clock's.
+    def validate(self, token: Text, now: Optional[SupportsIndex] = None, access: Optional[Access] = None) -> Claims:
+        """The claims of a token that is accepted at a moment, in seconds since 1970-01-01T00:00:00Z; without one, at the clock's. With an
+        access rule, only where they meet it.
 
-        Raises TokenRefused, Closed, MemoryError where memory is refused, TypeError for a token that is neither str nor bytes-like, and
+        Raises TokenRefused, Denied where the rule isn't met, Closed, MemoryError where memory is refused, TypeError for a token that is neither str nor bytes-like, and
         ValueError for a moment that 64 bits don't have.
         """
-        octets, moment = _octets(token, "a token"), _moment(now)
+        octets, moment = octets_of(token, "a token"), _moment(now)
         seat = self._seats.take()
         try:
-            report = self._judge(seat, octets, moment)
+            report = seat.judge(octets, moment)
             if report.verdict != _library.OK:
                 raise self._refusal(seat, report)
-            payload = written(len(octets) + 1, self._library.fow_payload, seat.held, octets, len(octets))
+            denial = None if access is None else access.denial(seat)
+            if denial is not None:
+                raise denial
+            payload = seat.payload(octets)
         finally:
             self._seats.give(seat)
-        if payload is None:
-            raise MemoryError
         return _object(payload, "Claims")
 
     def judge(self, token: Text, now: Optional[SupportsIndex] = None) -> Report:
         """All that is said of a token: its verdict, its signatures, and each try with its cost. Raises as `validate` does, TokenRefused
         aside: a refusal stands in the report."""
-        octets, moment = _octets(token, "a token"), _moment(now)
+        octets, moment = octets_of(token, "a token"), _moment(now)
         seat = self._seats.take()
         try:
-            report = self._judge(seat, octets, moment)
+            report = seat.judge(octets, moment)
             return Report(
                 refusal=None if report.verdict == _library.OK else self._refusal(seat, report),
                 signature=report.signature,
@@ -219,7 +213,7 @@ class Validator:
 
         Raises Closed, Unreadable, MemoryError, TypeError and ValueError, as `validate` does.
         """
-        octets, number = _octets(token, "a token"), _number(signature, "a signature's number", 0, 2**32 - 1)
+        octets, number = octets_of(token, "a token"), _number(signature, "a signature's number", 0, 2**32 - 1)
         seat = self._seats.take()
         try:
             header = written(
@@ -237,7 +231,7 @@ class Validator:
         Raises IssueRefused, Closed, MemoryError where memory is refused, KeyError for another algorithm or form, ValueError for a key's
         number that 32 bits don't have or a `typ` that is no text in UTF-8, and TypeError.
         """
-        octets, typ_octets = _document(claims, "claims"), typ.encode()
+        octets, typ_octets = document_of(claims, "claims"), typ.encode()
         number, algorithm, form_number = _number(key, "a key's number", 0, 2**32 - 1), _HMAC[alg], _FORMS[form]
         report = _library.CReport()
 
@@ -293,13 +287,6 @@ class Validator:
             raise Closed
         if allowed is not None and most.value > allowed:
             raise TooManyQuestions(most.value, allowed)
-
-    def _judge(self, seat: Seat, octets: bytes, moment: int) -> _library.CReport:
-        report = _library.CReport()
-        self._library.fow_openssl_judge(seat.crypto, seat.held, octets, len(octets), moment, report)
-        if report.verdict not in (_library.OK, _library.REFUSED, _library.ASKS):
-            raise MemoryError
-        return report
 
     def _refusal(self, seat: Seat, report: _library.CReport) -> TokenRefused:
         if report.verdict == _library.ASKS:

@@ -6,7 +6,7 @@ pickled as any other.
 
 from __future__ import annotations
 
-from typing import Optional
+from typing import Optional, Tuple
 
 
 class FowharimuError(Exception):
@@ -71,6 +71,38 @@ class KeysRefused(FowharimuError):
 
     def __str__(self) -> str:
         return f"the key set is refused: {self.fault}"
+
+
+class AccessRefused(FowharimuError):
+    """The access rule is refused. `fault` is the name that the program `jwt` prints, such as `ClaimRange`; `member` the name of the member, or of
+    the claim, that it speaks of, where it speaks of one."""
+
+    def __init__(self, fault: str, member: Optional[str] = None) -> None:
+        super().__init__(fault, member)
+        self.fault = fault
+        self.member = member
+
+    def __str__(self) -> str:
+        return f"the access rule is refused: {self.fault}" + (f" {self.member!r}" if self.member is not None else "")
+
+
+class Denied(FowharimuError):
+    """The token is accepted, and its claims don't meet the access rule: a service answers 403 to this, and 401 to TokenRefused.
+
+    `fault` is `ScopeMissing`, `ClaimMissing` or `ClaimNotAllowed`; `scope` the scope that isn't granted, or else `claim` the name of the claim;
+    `scopes` are all that the rule asks for: joined by spaces, the `scope` of a challenge that says insufficient_scope (RFC 6750, section 3.1).
+    """
+
+    def __init__(self, fault: str, scope: Optional[str], claim: Optional[str], scopes: Tuple[str, ...]) -> None:
+        super().__init__(fault, scope, claim, scopes)
+        self.fault = fault
+        self.scope = scope
+        self.claim = claim
+        self.scopes = scopes
+
+    def __str__(self) -> str:
+        name = self.claim if self.scope is None else self.scope
+        return f"the token is denied: {self.fault} {name!r}"
 
 
 class TokenRefused(FowharimuError):

@@ -5,19 +5,29 @@ from __future__ import annotations
 import ctypes
 import functools
 import os
+import pathlib
+import platform
+import sys
 from ctypes.util import find_library
+from typing import Optional
 
 from ._faults import AnotherLibrary
 
 # The number of the interface that this package is made for, and the most questions of one token that are taken as a rule: FOW_ABI and
 # FOW_MOST_QUESTIONS of fowharimu.h.
-ABI, MOST_QUESTIONS = 1, 64
+ABI, MOST_QUESTIONS = 2, 64
 
-OK, REFUSED, ASKS, OUT_OF_MEMORY, NOT_OPEN, TOO_SHORT, ABSENT = range(7)
+OK, REFUSED, ASKS, OUT_OF_MEMORY, NOT_OPEN, TOO_SHORT, ABSENT, DENIED = range(8)
 
 
 class CValidator(ctypes.Structure):
     """fow_validator."""
+
+    _fields_ = [("at", ctypes.c_void_p), ("held", ctypes.c_bool)]
+
+
+class CAccess(ctypes.Structure):
+    """fow_access."""
 
     _fields_ = [("at", ctypes.c_void_p), ("held", ctypes.c_bool)]
 
@@ -64,6 +74,7 @@ _U32, _SIZE = ctypes.c_uint32, ctypes.c_size_t
 _IN = [ctypes.c_char_p, _SIZE]
 _OUT = [ctypes.c_char_p, _SIZE, ctypes.POINTER(_SIZE)]
 _VALIDATOR = ctypes.POINTER(CValidator)
+_ACCESS = ctypes.POINTER(CAccess)
 _REPORT = ctypes.POINTER(CReport)
 
 _SIGNATURES = {
@@ -77,8 +88,18 @@ _SIGNATURES = {
     "fow_refused_claim": (_U32, [_VALIDATOR, *_OUT]),
     "fow_payload": (_U32, [_VALIDATOR, *_IN, *_OUT]),
     "fow_unverified_header": (_U32, [_VALIDATOR, *_IN, _U32, *_OUT]),
+    "fow_access_open": (_U32, [_ACCESS, *_IN, ctypes.POINTER(_U32)]),
+    "fow_access_refused": (_U32, [*_IN, *_OUT]),
+    "fow_access_scope": (_U32, [_ACCESS, _U32, *_OUT]),
+    "fow_access_close": (None, [_ACCESS]),
+    "fow_denied": (_U32, [_VALIDATOR, _ACCESS, ctypes.POINTER(_U32)]),
+    "fow_denied_name": (_U32, [_VALIDATOR, _ACCESS, *_OUT]),
     "fow_fault_name": (ctypes.c_char_p, [_U32]),
     "fow_issue": (_U32, [_VALIDATOR, _U32, _U32, _U32, *_IN, *_IN, *_OUT, _REPORT]),
+    "fow_proved_judge": (_U32, [_VALIDATOR, *_IN, ctypes.c_int64, _REPORT]),
+}
+# What the library over OpenSSL has besides.
+_OPENSSL_SIGNATURES = {
     "fow_openssl_judge": (_U32, [ctypes.POINTER(COpenssl), _VALIDATOR, *_IN, ctypes.c_int64, _REPORT]),
     "fow_openssl_clear": (None, [ctypes.POINTER(COpenssl)]),
 }
@@ -86,15 +107,37 @@ _SIGNATURES = {
 
 @functools.lru_cache(maxsize=None)
 def load() -> ctypes.CDLL:
-    """The library: the one that FOWHARIMU_LIBRARY names, or the installed one. It is looked for once. Raises AnotherLibrary where it has
-    another interface."""
-    name = os.environ.get("FOWHARIMU_LIBRARY") or find_library("fowharimu_openssl") or "libfowharimu_openssl.so.0"
-    library = ctypes.CDLL(name)
+    """The library, which is looked for once: the one that FOWHARIMU_LIBRARY names, or the one in this package, or the installed one. Where it is
+    over OpenSSL, that verifies public keys, and else the library's own proved verifiers do. Raises AnotherLibrary where it has another
+    interface, and OSError where there is none."""
+    library = ctypes.CDLL(os.environ.get("FOWHARIMU_LIBRARY") or _shipped() or _installed())
     _compare(library)
-    for function, (result, arguments) in _SIGNATURES.items():
+    signatures = {**_SIGNATURES, **_OPENSSL_SIGNATURES} if is_over_openssl(library) else _SIGNATURES
+    for function, (result, arguments) in signatures.items():
         getattr(library, function).restype = result
         getattr(library, function).argtypes = arguments
     return library
+
+
+def is_over_openssl(library: ctypes.CDLL) -> bool:
+    """Whether the library is the one over OpenSSL."""
+    return hasattr(library, "fow_openssl_judge")
+
+
+def _shipped() -> Optional[str]:
+    """The library in this package, where it is a wheel's. Raises OSError on another system or processor than its own."""
+    library = pathlib.Path(__file__).with_name("libfowharimu.so.0")
+    if not library.exists():
+        return None
+    here = f"{sys.platform}-{platform.machine()}"
+    if here != "linux-x86_64":
+        raise OSError(f"fowharimu has a library for linux-x86_64, and this is {here}")
+    return str(library)
+
+
+def _installed() -> str:
+    """The installed library: the one over OpenSSL before the one alone."""
+    return find_library("fowharimu_openssl") or find_library("fowharimu") or "libfowharimu_openssl.so.0"
 
 
 def _compare(library: ctypes.CDLL) -> None:

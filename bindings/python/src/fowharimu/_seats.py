@@ -19,6 +19,9 @@ _opening = threading.RLock()
 _under_way: List[int] = []
 _is_forking = False
 
+# The octets of room that a payload is first given. A longer one gets more.
+_ROOM = 1_024
+
 # How long a fork waits for calls that are under way, in seconds: each ends by itself, and takes some milliseconds at most as a rule.
 _PATIENCE = 10.0
 
@@ -75,16 +78,46 @@ class Seat:
     """A validator of the library, and what OpenSSL made of its keys. It is used by one call at a time. What it holds is freed with it, without a
     lock: Python may do so at any moment, in any thread."""
 
-    __slots__ = ("library", "held", "crypto")
+    __slots__ = ("library", "held", "crypto", "is_over_openssl", "report", "room", "view", "length")
 
     def __init__(self) -> None:
         self.library = _library.load()
+        self.is_over_openssl = _library.is_over_openssl(self.library)
         self.held = _library.CValidator()
         self.crypto = _library.COpenssl()
+        self.report = _library.CReport()
+        self.length = ctypes.c_size_t()
+        self._make_room(_ROOM)
+
+    def judge(self, octets: bytes, moment: int) -> _library.CReport:
+        """The report on a token, until the next call: OpenSSL verifies public keys where the library is over it, and else the library's proved
+        verifiers do. Raises MemoryError where memory is refused."""
+        if self.is_over_openssl:
+            verdict = self.library.fow_openssl_judge(self.crypto, self.held, octets, len(octets), moment, self.report)
+        else:
+            verdict = self.library.fow_proved_judge(self.held, octets, len(octets), moment, self.report)
+        if verdict > _library.ASKS:
+            raise MemoryError
+        return self.report
+
+    def payload(self, octets: bytes) -> bytes:
+        """The payload of the token that was judged last, and accepted. Raises MemoryError where memory is refused."""
+        size = len(octets)
+        if size > len(self.room):
+            self._make_room(size)
+        if self.library.fow_payload(self.held, octets, size, self.room, len(self.room), self.length) != _library.OK:
+            raise MemoryError
+        return bytes(self.view[: self.length.value])
+
+    def _make_room(self, size: int) -> None:
+        """Makes room for a payload, which is kept for the next one. A payload has fewer octets than its token."""
+        self.room = ctypes.create_string_buffer(size)
+        self.view = memoryview(self.room)
 
     def close(self) -> None:
         """Frees what is held. It may be called twice."""
-        self.library.fow_openssl_clear(self.crypto)
+        if self.is_over_openssl:
+            self.library.fow_openssl_clear(self.crypto)
         self.library.fow_close(self.held)
 
     def __del__(self) -> None:

@@ -4,7 +4,7 @@
 use std::os::raw::{c_char, c_void};
 
 /// The number of the interface that stands here.
-pub const FOW_ABI: u32 = 1;
+pub const FOW_ABI: u32 = 2;
 pub const FOW_MOST_QUESTIONS: u32 = 64;
 
 pub const FOW_OK: u32 = 0;
@@ -14,11 +14,20 @@ pub const FOW_OUT_OF_MEMORY: u32 = 3;
 pub const FOW_NOT_OPEN: u32 = 4;
 pub const FOW_TOO_SHORT: u32 = 5;
 pub const FOW_ABSENT: u32 = 6;
+pub const FOW_DENIED: u32 = 7;
 
 /// A policy, a key set, what was told of signatures, and the last report.
 #[repr(C)]
 #[derive(Debug)]
 pub struct fow_validator {
+    pub at: *mut c_void,
+    pub held: bool,
+}
+
+/// An access rule.
+#[repr(C)]
+#[derive(Debug)]
+pub struct fow_access {
     pub at: *mut c_void,
     pub held: bool,
 }
@@ -91,8 +100,58 @@ extern "C" {
         written: *mut usize,
     ) -> u32;
 
+    pub fn fow_access_open(
+        access: *mut fow_access,
+        rule: *const u8,
+        rule_len: usize,
+        fault: *mut u32,
+    ) -> u32;
+
+    pub fn fow_access_refused(
+        rule: *const u8,
+        rule_len: usize,
+        out: *mut u8,
+        out_len: usize,
+        written: *mut usize,
+    ) -> u32;
+
+    pub fn fow_access_scope(
+        access: *mut fow_access,
+        number: u32,
+        out: *mut u8,
+        out_len: usize,
+        written: *mut usize,
+    ) -> u32;
+
+    pub fn fow_access_close(access: *mut fow_access);
+
+    pub fn fow_denied(
+        validator: *mut fow_validator,
+        access: *mut fow_access,
+        denial: *mut u32,
+    ) -> u32;
+
+    pub fn fow_denied_name(
+        validator: *mut fow_validator,
+        access: *mut fow_access,
+        out: *mut u8,
+        out_len: usize,
+        written: *mut usize,
+    ) -> u32;
+
     pub fn fow_fault_name(fault: u32) -> *const c_char;
 
+    pub fn fow_proved_judge(
+        validator: *mut fow_validator,
+        token: *const u8,
+        token_len: usize,
+        now: i64,
+        report: *mut fow_report,
+    ) -> u32;
+}
+
+#[cfg(feature = "openssl")]
+extern "C" {
     pub fn fow_openssl_judge(
         crypto: *mut fow_openssl,
         validator: *mut fow_validator,

@@ -1,7 +1,7 @@
 //! Answers each case of a table that `bindings/cases/make` wrote, over OpenSSL: cases FILE. `bindings/cases/README.md` says what a line is.
 //! `?` stands for what this crate doesn't show. It doesn't issue.
 
-use fowharimu::{Error, Part, Validator};
+use fowharimu::{Access, Error, Part, Validator};
 use std::fs::File;
 use std::io::{self, BufRead, BufReader, BufWriter, Write};
 use std::{env, error};
@@ -50,6 +50,18 @@ fn refused(error: Error) -> Result<String, Error> {
             ));
         }
         Error::Keys { fault } => return Ok(format!("refused\tkeys.{fault}\t0\t0\t0\t-\t0\t\t\t-")),
+        Error::Access { fault, member } => {
+            let member = spelled(&member.unwrap_or_default());
+            return Ok(format!(
+                "refused\taccess.{fault}\t0\t0\t0\t{member}\t0\t\t\t-"
+            ));
+        }
+        Error::Denied { fault, name } => {
+            let name = spelled(&name);
+            return Ok(format!(
+                "denied\tdenied.{fault}\t0\t?\t?\t{name}\t?\t?\t?\t-"
+            ));
+        }
         Error::TooLong => (
             "text.TooLong".to_owned(),
             0,
@@ -119,6 +131,30 @@ fn judged(opened: &Result<Validator, Error>, now: &str, token: &str) -> Result<S
     }
 }
 
+/// The answer to a token under an access rule, which is read first.
+fn denied(
+    opened: &Result<Validator, Error>,
+    now: &str,
+    rule: &str,
+    token: &str,
+) -> Result<String, Failure> {
+    let said = Access::open(&octets_of(rule)?).and_then(|access| match opened {
+        Ok(validator) => Ok((validator, access)),
+        Err(error) => Err(error.clone()),
+    });
+    let (validator, access) = match said {
+        Ok(both) => both,
+        Err(error) => return Ok(refused(error)?),
+    };
+    match validator.validate_for_at(&octets_of(token)?, now.parse()?, &access) {
+        Ok(claims) => Ok(format!(
+            "accepted\t-\t0\t?\t?\t-\t?\t?\t?\t{}",
+            spelled(claims.json())
+        )),
+        Err(error) => Ok(refused(error)?),
+    }
+}
+
 fn main() -> Result<(), Failure> {
     let name = env::args().nth(1).ok_or("usage: cases FILE")?;
     let mut out = BufWriter::new(io::stdout().lock());
@@ -136,6 +172,9 @@ fn main() -> Result<(), Failure> {
             }
             (["judge", name, now, token], Some(opened)) => {
                 writeln!(out, "{name}\t{}", judged(opened, now, token)?)?
+            }
+            (["deny", name, now, rule, token], Some(opened)) => {
+                writeln!(out, "{name}\t{}", denied(opened, now, rule, token)?)?
             }
             (["issue", ..], Some(_)) => {}
             _ => return Err("the table has another line".into()),

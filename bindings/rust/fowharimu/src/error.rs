@@ -35,6 +35,14 @@ pub enum Error {
     },
     /// The key set is refused.
     Keys { fault: String },
+    /// The access rule is refused, for this member, or this claim, where the fault speaks of one.
+    Access {
+        fault: String,
+        member: Option<String>,
+    },
+    /// The token is accepted, and its claims don't meet the access rule: this scope isn't granted (`ScopeMissing`), or this claim isn't as it
+    /// asks (`ClaimMissing`, `ClaimNotAllowed`). A service answers 403 to this, and 401 to a token that isn't accepted.
+    Denied { fault: String, name: String },
     /// The token has more octets than the policy's `limit`.
     TooLong,
     /// The octets are no signed token.
@@ -84,6 +92,11 @@ impl fmt::Display for Error {
                 member.iter().try_for_each(|it| write!(f, " {it:?}"))
             }
             Error::Keys { fault } => write!(f, "the key set is refused: {fault}"),
+            Error::Access { fault, member } => {
+                write!(f, "the access rule is refused: {fault}")?;
+                member.iter().try_for_each(|it| write!(f, " {it:?}"))
+            }
+            Error::Denied { fault, name } => write!(f, "the token is denied: {fault} {name:?}"),
             Error::TooLong => write!(f, "the token is refused: TooLong"),
             Error::Form { fault, .. } => write!(f, "the token is refused: {fault}"),
             Error::Ceiling {

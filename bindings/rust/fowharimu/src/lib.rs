@@ -1,4 +1,5 @@
-//! Validates JSON Web Tokens (RFC 7519) by a library that is proved correct, and public-key signatures by OpenSSL.
+//! Validates JSON Web Tokens (RFC 7519) by a library that is proved correct. Public-key signatures are verified by OpenSSL, or without the feature
+//! `openssl` by the library's proved verifiers, which need no other library.
 //!
 //! ```no_run
 //! # fn main() -> Result<(), Box<dyn std::error::Error>> {
@@ -11,9 +12,12 @@
 //! # }
 //! ```
 
+mod access;
+mod crypto;
 mod error;
 mod seat;
 
+pub use access::Access;
 pub use error::{Error, Part};
 
 use seat::Seat;
@@ -89,22 +93,43 @@ impl Validator {
     /// The claims of a token that is accepted at the clock's moment.
     ///
     /// # Errors
-    /// Each but `Policy` and `Keys`.
+    /// Each but `Policy`, `Keys`, `Access` and `Denied`.
     pub fn validate(&self, token: &[u8]) -> Result<Claims, Error> {
-        let now = match SystemTime::now().duration_since(UNIX_EPOCH) {
-            Ok(since) => i64::try_from(since.as_secs()).unwrap_or(i64::MAX),
-            Err(before) => i64::try_from(before.duration().as_secs()).map_or(i64::MIN, |it| -it),
-        };
-        self.validate_at(token, now)
+        self.validate_at(token, clock())
     }
 
     /// The claims of a token that is accepted at a moment, in seconds since 1970-01-01T00:00:00Z.
     ///
     /// # Errors
-    /// Each but `Policy` and `Keys`.
+    /// Each but `Policy`, `Keys`, `Access` and `Denied`.
     pub fn validate_at(&self, token: &[u8], now: i64) -> Result<Claims, Error> {
+        self.claims(token, now, None)
+    }
+
+    /// The claims of a token that is accepted at the clock's moment, where they meet an access rule.
+    ///
+    /// # Errors
+    /// `Denied` where they don't, and those of [`validate`](Validator::validate).
+    pub fn validate_for(&self, token: &[u8], access: &Access) -> Result<Claims, Error> {
+        self.validate_for_at(token, clock(), access)
+    }
+
+    /// The same at a moment, in seconds since 1970-01-01T00:00:00Z.
+    ///
+    /// # Errors
+    /// `Denied` where they don't, and those of [`validate`](Validator::validate).
+    pub fn validate_for_at(
+        &self,
+        token: &[u8],
+        now: i64,
+        access: &Access,
+    ) -> Result<Claims, Error> {
+        self.claims(token, now, Some(access))
+    }
+
+    fn claims(&self, token: &[u8], now: i64, access: Option<&Access>) -> Result<Claims, Error> {
         let mut seat = self.take()?;
-        let claims = seat.claims(token, now);
+        let claims = seat.claims(token, now, access);
         // Where a call panics, its seat is closed in place of being given back.
         self.seats().free.push(seat);
         claims
@@ -122,5 +147,13 @@ impl Validator {
     /// Nothing that is done under the lock leaves the seats half written, so a panic in another thread is no reason to stop.
     fn seats(&self) -> MutexGuard<'_, Seats> {
         self.seats.lock().unwrap_or_else(PoisonError::into_inner)
+    }
+}
+
+/// The clock's moment, in seconds since 1970-01-01T00:00:00Z.
+fn clock() -> i64 {
+    match SystemTime::now().duration_since(UNIX_EPOCH) {
+        Ok(since) => i64::try_from(since.as_secs()).unwrap_or(i64::MAX),
+        Err(before) => i64::try_from(before.duration().as_secs()).map_or(i64::MIN, |it| -it),
     }
 }

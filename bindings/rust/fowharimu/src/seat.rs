@@ -1,6 +1,7 @@
 //! What one call at a time judges with.
 
-use crate::{Claims, Error, Part};
+use crate::crypto::Crypto;
+use crate::{Access, Claims, Error, Part};
 use fowharimu_sys as sys;
 use std::ffi::CStr;
 use std::ptr;
@@ -9,13 +10,13 @@ use std::ptr;
 const CLAIMS: [&str; 7] = ["iss", "sub", "aud", "exp", "nbf", "iat", "jti"];
 
 /// The octets of room that a name is first given. A longer one gets more.
-const NAME_ROOM: usize = 256;
+pub(crate) const NAME_ROOM: usize = 256;
 
-/// A validator of the library, and what OpenSSL made of its keys.
+/// A validator of the library, and what verifies its public keys.
 #[derive(Debug)]
 pub(crate) struct Seat {
     held: sys::fow_validator,
-    crypto: sys::fow_openssl,
+    crypto: Crypto,
 }
 
 // SAFETY: what is written is owned by the seat alone, the documents that it shares with others are only read, and no function keeps
@@ -29,12 +30,7 @@ impl Seat {
                 at: ptr::null_mut(),
                 held: false,
             },
-            crypto: sys::fow_openssl {
-                keys: ptr::null_mut(),
-                count: 0,
-                room: ptr::null_mut(),
-                size: 0,
-            },
+            crypto: Crypto::new(),
         }
     }
 
@@ -81,11 +77,19 @@ impl Seat {
         }
     }
 
-    /// The claims of a token that is accepted at a moment.
-    pub(crate) fn claims(&mut self, token: &[u8], now: i64) -> Result<Claims, Error> {
+    /// The claims of a token that is accepted at a moment, where they meet an access rule, if there is one.
+    pub(crate) fn claims(
+        &mut self,
+        token: &[u8],
+        now: i64,
+        access: Option<&Access>,
+    ) -> Result<Claims, Error> {
         let report = self.judge(token, now);
         if report.verdict != sys::FOW_OK {
             return Err(self.refusal(&report));
+        }
+        if let Some(access) = access {
+            access.check(&mut self.held)?;
         }
         let held = &mut self.held;
         // SAFETY: the slices are as long as their lengths say, and aren't null.
@@ -99,19 +103,7 @@ impl Seat {
     }
 
     fn judge(&mut self, token: &[u8], now: i64) -> sys::fow_report {
-        let mut report = sys::fow_report::default();
-        // SAFETY: the slice is as long as its length says, and isn't null.
-        unsafe {
-            sys::fow_openssl_judge(
-                &mut self.crypto,
-                &mut self.held,
-                token.as_ptr(),
-                token.len(),
-                now,
-                &mut report,
-            );
-        }
-        report
+        self.crypto.judge(&mut self.held, token, now)
     }
 
     fn refusal(&mut self, report: &sys::fow_report) -> Error {
@@ -163,9 +155,8 @@ impl Seat {
 
 impl Drop for Seat {
     fn drop(&mut self) {
-        // SAFETY: both are those that the other calls had.
+        // SAFETY: it is that which the other calls had.
         unsafe {
-            sys::fow_openssl_clear(&mut self.crypto);
             sys::fow_close(&mut self.held);
         }
     }
@@ -175,7 +166,7 @@ impl Drop for Seat {
 ///
 /// # Errors
 /// `AnotherLibrary`.
-fn compare() -> Result<(), Error> {
+pub(crate) fn compare() -> Result<(), Error> {
     // SAFETY: it takes nothing.
     let loaded = unsafe { sys::fow_abi() };
     if loaded == sys::FOW_ABI {
@@ -199,7 +190,7 @@ fn part_of(part: u32) -> Option<Part> {
     }
 }
 
-fn fault_name(fault: u32) -> String {
+pub(crate) fn fault_name(fault: u32) -> String {
     // SAFETY: the name is a C string that is never freed.
     let name = unsafe { CStr::from_ptr(sys::fow_fault_name(fault)) };
     name.to_string_lossy().into_owned()
@@ -224,7 +215,7 @@ fn document_refused(number: u32, policy: &[u8]) -> Error {
 ///
 /// # Errors
 /// `OutOfMemory`, also where there is no such room, and `NotUtf8`.
-fn written(
+pub(crate) fn written(
     mut room: usize,
     mut call: impl FnMut(*mut u8, usize, *mut usize) -> u32,
 ) -> Result<Option<String>, Error> {

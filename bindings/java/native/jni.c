@@ -1,0 +1,369 @@
+/* The functions of fowharimu.h for Java, by JNI. Native.java declares them, and says what they do; nothing else calls them.
+ *
+ * PACKAGE is the package of Native.java, with slashes: who builds this takes it from there. What a call is handed is copied before the library
+ * reads it: so another thread that has the array can't change it meanwhile. */
+#include <fowharimu.h>
+#include <jni.h>
+#include <stdlib.h>
+
+#ifndef PACKAGE
+#error "PACKAGE has to be the package of Native.java, as \"org/example/fowharimu\""
+#endif
+
+/* How many numbers a report has. */
+enum { NUMBERS = 8 };
+
+/* A validator, and the octets of the token that it was handed last. An access rule is a fow_access, and nothing beside. */
+typedef struct held {
+    fow_validator validator;
+    uint8_t *token;
+    size_t len, room;
+} held;
+
+/* Octets at an address that isn't NULL, which are to be freed; NULL where memory is refused. */
+typedef struct octets {
+    uint8_t *at;
+    size_t len;
+} octets;
+
+static held *at(jlong it)
+{
+    return (held *)(intptr_t)it;
+}
+
+static octets copied(JNIEnv *env, jbyteArray from)
+{
+    octets to = { NULL, (size_t)(*env)->GetArrayLength(env, from) };
+    to.at = malloc(to.len + 1);
+    if (to.at != NULL)
+        (*env)->GetByteArrayRegion(env, from, 0, (jsize)to.len, (jbyte *)to.at);
+    return to;
+}
+
+/* Keeps a token's octets in the validator, since fow_payload reads them again. */
+static bool keep_token(JNIEnv *env, held *it, jbyteArray token)
+{
+    size_t len = (size_t)(*env)->GetArrayLength(env, token);
+    if (it->room < len + 1) {
+        free(it->token);
+        it->room = 0;
+        it->token = malloc(len + len / 2 + 64);
+        if (it->token == NULL)
+            return false;
+        it->room = len + len / 2 + 64;
+    }
+    it->len = len;
+    (*env)->GetByteArrayRegion(env, token, 0, (jsize)len, (jbyte *)it->token);
+    return true;
+}
+
+static void lack_memory(JNIEnv *env)
+{
+    jclass class = (*env)->FindClass(env, "java/lang/OutOfMemoryError");
+    if (class != NULL)
+        (*env)->ThrowNew(env, class, "fowharimu: an allocation was refused");
+}
+
+/* What a function wrote, and NULL where it wrote none. Of memory that is refused OutOfMemoryError is thrown. */
+static jbyteArray array_of(JNIEnv *env, uint32_t status, uint8_t *room, size_t len)
+{
+    jbyteArray result = NULL;
+    if (status == FOW_OK && (result = (*env)->NewByteArray(env, (jsize)len)) != NULL)
+        (*env)->SetByteArrayRegion(env, result, 0, (jsize)len, (const jbyte *)room);
+    free(room);
+    if (status == FOW_OUT_OF_MEMORY)
+        lack_memory(env);
+    return result;
+}
+
+static void put_report(JNIEnv *env, jlongArray out, const fow_report *from)
+{
+    const jlong all[NUMBERS] = { from->verdict, from->fault, from->part, from->signature, from->key, from->claim, (jlong)from->work,
+        (jlong)from->tries };
+    (*env)->SetLongArrayRegion(env, out, 0, NUMBERS, all);
+}
+
+static jintArray JNICALL interfaces(JNIEnv *env, jclass class)
+{
+    (void)class;
+    const jint both[2] = { FOW_ABI, (jint)fow_abi() };
+    jintArray out = (*env)->NewIntArray(env, 2);
+    if (out != NULL)
+        (*env)->SetIntArrayRegion(env, out, 0, 2, both);
+    return out;
+}
+
+static jstring JNICALL version(JNIEnv *env, jclass class)
+{
+    (void)class;
+    return (*env)->NewStringUTF(env, fow_version());
+}
+
+static jlong JNICALL open_validator(JNIEnv *env, jclass class, jbyteArray policy, jbyteArray keys, jintArray out)
+{
+    (void)class;
+    uint32_t fault = FOW_NO_FAULT, status = FOW_OUT_OF_MEMORY;
+    octets first = copied(env, policy), second = copied(env, keys);
+    held *it = calloc(1, sizeof *it);
+    if (first.at != NULL && second.at != NULL && it != NULL)
+        status = fow_open(&it->validator, first.at, first.len, second.at, second.len, &fault);
+    free(first.at);
+    free(second.at);
+    if (status == FOW_OK)
+        return (jlong)(intptr_t)it;
+    free(it);
+    jint said = status == FOW_REFUSED ? (jint)fault : 0;
+    (*env)->SetIntArrayRegion(env, out, 0, 1, &said);
+    return 0;
+}
+
+static jlong JNICALL open_beside(JNIEnv *env, jclass class, jlong another)
+{
+    (void)env;
+    (void)class;
+    held *it = calloc(1, sizeof *it);
+    if (it != NULL && fow_open_beside(&it->validator, &at(another)->validator) == FOW_OK)
+        return (jlong)(intptr_t)it;
+    free(it);
+    return 0;
+}
+
+static jint JNICALL most_questions(JNIEnv *env, jclass class, jlong it)
+{
+    (void)env;
+    (void)class;
+    uint32_t most = 0;
+    return fow_most_questions(&at(it)->validator, &most) == FOW_OK ? (jint)most : INT32_MAX;
+}
+
+static void JNICALL close_validator(JNIEnv *env, jclass class, jlong it)
+{
+    (void)env;
+    (void)class;
+    fow_close(&at(it)->validator);
+    free(at(it)->token);
+    free(at(it));
+}
+
+static jint JNICALL judge(JNIEnv *env, jclass class, jlong v, jbyteArray token, jlong now, jlongArray out)
+{
+    (void)class;
+    held *it = at(v);
+    fow_report report = { 0 };
+    if (!keep_token(env, it, token))
+        return FOW_OUT_OF_MEMORY;
+    uint32_t verdict = fow_proved_judge(&it->validator, it->token, it->len, now, &report);
+    put_report(env, out, &report);
+    return (jint)verdict;
+}
+
+static jbyteArray JNICALL payload(JNIEnv *env, jclass class, jlong v)
+{
+    (void)class;
+    held *it = at(v);
+    size_t len = 0;
+    uint8_t *room = malloc(it->len + 1);
+    uint32_t status = room == NULL ? FOW_OUT_OF_MEMORY : fow_payload(&it->validator, it->token, it->len, room, it->len + 1, &len);
+    return array_of(env, status, room, len);
+}
+
+static jbyteArray JNICALL header(JNIEnv *env, jclass class, jlong it, jbyteArray token, jint signature)
+{
+    (void)class;
+    size_t len = 0;
+    octets from = copied(env, token);
+    uint8_t *room = malloc(from.len + 1);
+    uint32_t status = from.at == NULL || room == NULL ? FOW_OUT_OF_MEMORY
+                                                      : fow_unverified_header(&at(it)->validator, from.at, from.len, (uint32_t)signature,
+                                                            room, from.len + 1, &len);
+    free(from.at);
+    return array_of(env, status, room, len);
+}
+
+/* Issues claims in as much room as the token needs. */
+static uint32_t issue_into(held *it, const jint *how, const octets *type, const octets *claims, octets *out, fow_report *report)
+{
+    uint32_t status = FOW_TOO_SHORT;
+    for (size_t room = 2 * claims->len + 2 * type->len + 1024; status == FOW_TOO_SHORT; room *= 2) {
+        uint8_t *more = realloc(out->at, room);
+        if (more == NULL)
+            return FOW_OUT_OF_MEMORY;
+        out->at = more;
+        status = fow_issue(&it->validator, (uint32_t)how[0], (uint32_t)how[1], (uint32_t)how[2], type->at, type->len, claims->at, claims->len,
+            out->at, room, &out->len, report);
+    }
+    return status;
+}
+
+static jbyteArray JNICALL issue(JNIEnv *env, jclass class, jlong it, jint alg, jint form, jint key, jbyteArray type, jbyteArray claims,
+    jlongArray report)
+{
+    (void)class;
+    const jint how[3] = { alg, form, key };
+    octets first = copied(env, type), second = copied(env, claims), token = { NULL, 0 };
+    fow_report said = { 0 };
+    said.verdict = first.at == NULL || second.at == NULL ? FOW_OUT_OF_MEMORY : issue_into(at(it), how, &first, &second, &token, &said);
+    free(first.at);
+    free(second.at);
+    put_report(env, report, &said);
+    return array_of(env, said.verdict, token.at, token.len);
+}
+
+static jboolean JNICALL state(JNIEnv *env, jclass class, jlong it, jint signature, jintArray out)
+{
+    (void)class;
+    fow_state said;
+    if (fow_state_of(&at(it)->validator, (uint32_t)signature, &said) != FOW_OK)
+        return JNI_FALSE;
+    const jint all[3] = { (jint)said.state, (jint)said.fault, (jint)said.key };
+    (*env)->SetIntArrayRegion(env, out, 0, 3, all);
+    return JNI_TRUE;
+}
+
+static jboolean JNICALL tried(JNIEnv *env, jclass class, jlong it, jlong n, jlongArray out)
+{
+    (void)class;
+    fow_try said;
+    if (fow_try_of(&at(it)->validator, (uint64_t)n, &said) != FOW_OK)
+        return JNI_FALSE;
+    const jlong all[3] = { said.signature, said.key, (jlong)said.cost };
+    (*env)->SetLongArrayRegion(env, out, 0, 3, all);
+    return JNI_TRUE;
+}
+
+/* (a name stands in a policy, which has at most 65,536 octets) */
+static jbyteArray JNICALL refused_claim(JNIEnv *env, jclass class, jlong it)
+{
+    (void)class;
+    size_t len = 0;
+    uint8_t *room = malloc(65536);
+    uint32_t status = room == NULL ? FOW_OUT_OF_MEMORY : fow_refused_claim(&at(it)->validator, room, 65536, &len);
+    return array_of(env, status, room, len);
+}
+
+static jbyteArray JNICALL refused_member(JNIEnv *env, jclass class, jbyteArray policy)
+{
+    (void)class;
+    size_t len = 0;
+    octets from = copied(env, policy);
+    uint8_t *room = malloc(from.len + 1);
+    uint32_t status = from.at == NULL || room == NULL ? FOW_OUT_OF_MEMORY
+                                                      : fow_refused_member(from.at, from.len, room, from.len + 1, &len);
+    free(from.at);
+    return array_of(env, status, room, len);
+}
+
+static fow_access *rule_at(jlong access)
+{
+    return (fow_access *)(intptr_t)access;
+}
+
+static jlong JNICALL open_access(JNIEnv *env, jclass class, jbyteArray rule, jintArray out)
+{
+    (void)class;
+    uint32_t fault = FOW_NO_FAULT, status = FOW_OUT_OF_MEMORY;
+    octets from = copied(env, rule);
+    fow_access *access = calloc(1, sizeof *access);
+    if (from.at != NULL && access != NULL)
+        status = fow_access_open(access, from.at, from.len, &fault);
+    free(from.at);
+    if (status == FOW_OK)
+        return (jlong)(intptr_t)access;
+    free(access);
+    jint said = status == FOW_REFUSED ? (jint)fault : 0;
+    (*env)->SetIntArrayRegion(env, out, 0, 1, &said);
+    return 0;
+}
+
+static void JNICALL close_access(JNIEnv *env, jclass class, jlong access)
+{
+    (void)env;
+    (void)class;
+    fow_access_close(rule_at(access));
+    free(rule_at(access));
+}
+
+static jbyteArray JNICALL access_refused(JNIEnv *env, jclass class, jbyteArray rule)
+{
+    (void)class;
+    size_t len = 0;
+    octets from = copied(env, rule);
+    uint8_t *room = malloc(from.len + 1);
+    uint32_t status = from.at == NULL || room == NULL ? FOW_OUT_OF_MEMORY
+                                                      : fow_access_refused(from.at, from.len, room, from.len + 1, &len);
+    free(from.at);
+    return array_of(env, status, room, len);
+}
+
+/* (scopes and names stand in a rule, which has at most 65,536 octets) */
+static jbyteArray JNICALL access_scope(JNIEnv *env, jclass class, jlong access, jint number)
+{
+    (void)class;
+    size_t len = 0;
+    uint8_t *room = malloc(65536);
+    uint32_t status = room == NULL ? FOW_OUT_OF_MEMORY : fow_access_scope(rule_at(access), (uint32_t)number, room, 65536, &len);
+    return array_of(env, status, room, len);
+}
+
+static jint JNICALL denied(JNIEnv *env, jclass class, jlong it, jlong access, jlongArray out)
+{
+    (void)class;
+    uint32_t denial = FOW_NO_FAULT;
+    uint32_t status = fow_denied(&at(it)->validator, rule_at(access), &denial);
+    jlong said = status == FOW_DENIED ? (jlong)denial : 0;
+    (*env)->SetLongArrayRegion(env, out, 0, 1, &said);
+    return (jint)status;
+}
+
+static jbyteArray JNICALL denied_name(JNIEnv *env, jclass class, jlong it, jlong access)
+{
+    (void)class;
+    size_t len = 0;
+    uint8_t *room = malloc(65536);
+    uint32_t status = room == NULL ? FOW_OUT_OF_MEMORY : fow_denied_name(&at(it)->validator, rule_at(access), room, 65536, &len);
+    return array_of(env, status, room, len);
+}
+
+static jstring JNICALL fault_name(JNIEnv *env, jclass class, jint fault)
+{
+    (void)class;
+    return (*env)->NewStringUTF(env, fow_fault_name((uint32_t)fault));
+}
+
+#define ROW(name, signature, function) { (char *)(name), (char *)(signature), (void *)(intptr_t)(function) }
+
+/* Gives Native.java its functions. */
+JNIEXPORT jint JNICALL JNI_OnLoad(JavaVM *vm, void *reserved)
+{
+    const JNINativeMethod all[] = {
+        ROW("interfaces", "()[I", interfaces),
+        ROW("version", "()Ljava/lang/String;", version),
+        ROW("open", "([B[B[I)J", open_validator),
+        ROW("openBeside", "(J)J", open_beside),
+        ROW("mostQuestions", "(J)I", most_questions),
+        ROW("close", "(J)V", close_validator),
+        ROW("judge", "(J[BJ[J)I", judge),
+        ROW("payload", "(J)[B", payload),
+        ROW("header", "(J[BI)[B", header),
+        ROW("issue", "(JIII[B[B[J)[B", issue),
+        ROW("state", "(JI[I)Z", state),
+        ROW("tried", "(JJ[J)Z", tried),
+        ROW("refusedClaim", "(J)[B", refused_claim),
+        ROW("refusedMember", "([B)[B", refused_member),
+        ROW("openAccess", "([B[I)J", open_access),
+        ROW("closeAccess", "(J)V", close_access),
+        ROW("accessRefused", "([B)[B", access_refused),
+        ROW("accessScope", "(JI)[B", access_scope),
+        ROW("denied", "(JJ[J)I", denied),
+        ROW("deniedName", "(JJ)[B", denied_name),
+        ROW("faultName", "(I)Ljava/lang/String;", fault_name),
+    };
+    JNIEnv *env = NULL;
+    (void)reserved;
+    if ((*vm)->GetEnv(vm, (void **)&env, JNI_VERSION_10) != JNI_OK)
+        return JNI_ERR;
+    jclass class = (*env)->FindClass(env, PACKAGE "/Native");
+    if (class == NULL || (*env)->RegisterNatives(env, class, all, sizeof all / sizeof *all) != 0)
+        return JNI_ERR;
+    return JNI_VERSION_10;
+}

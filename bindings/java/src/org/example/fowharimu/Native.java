@@ -1,0 +1,137 @@
+package org.example.fowharimu;
+
+import java.io.IOException;
+import java.io.InputStream;
+import java.nio.file.Files;
+import java.nio.file.Path;
+
+/** The functions of fowharimu.h: those of jni.c. An address is that of a validator, or of an access rule, of which one call at a time is made. */
+final class Native {
+    static final int OK = 0;
+    static final int REFUSED = 1;
+    static final int OUT_OF_MEMORY = 3;
+    static final int DENIED = 7;
+    /** The one denial that speaks of a scope. */
+    static final int SCOPE_MISSING = 1001;
+    /** How many numbers a report has, and where each stands. */
+    static final int NUMBERS = 8;
+    static final int FAULT = 1;
+    static final int PART = 2;
+    static final int SIGNATURE = 3;
+    static final int KEY = 4;
+    static final int CLAIM = 5;
+    static final int WORK = 6;
+    static final int TRIES = 7;
+
+    private static final String SYSTEM = "linux-x86_64";
+    private static final String LIBRARY = "libfowharimu_jni.so";
+    /** Why the library can't be used; null where it can. */
+    private static final String PROBLEM = load();
+
+    private Native() {}
+
+    /** Throws UnsatisfiedLinkError where the library can't be used. */
+    static void check() {
+        if (PROBLEM != null) {
+            throw new UnsatisfiedLinkError(PROBLEM);
+        }
+    }
+
+    /** Loads the library that {@code fowharimu.library} names, or the one in the jar, and says what is wrong with it. */
+    private static String load() {
+        String named = System.getProperty("fowharimu.library");
+        try {
+            if (named == null) {
+                loadFromJar();
+            } else {
+                System.load(named);
+            }
+        } catch (IOException | UnsatisfiedLinkError e) {
+            return "fowharimu: " + e.getMessage();
+        }
+        int[] numbers = interfaces();
+        return numbers[0] == numbers[1]
+                ? null
+                : "fowharimu: the library " + version() + " has interface " + numbers[1] + ", and this package was made for " + numbers[0];
+    }
+
+    /** Loads the library in the jar, from a new folder that only this user can read. Linux keeps what is loaded, and the folder goes. */
+    private static void loadFromJar() throws IOException {
+        String here = (System.getProperty("os.name") + "-" + System.getProperty("os.arch")).toLowerCase(java.util.Locale.ROOT);
+        if (!here.equals("linux-amd64")) {
+            throw new UnsatisfiedLinkError("the jar has a library for " + SYSTEM + ", and this is " + here);
+        }
+        try (InputStream in = Native.class.getResourceAsStream("/native/" + SYSTEM + "/" + LIBRARY)) {
+            if (in == null) {
+                throw new UnsatisfiedLinkError("the jar has no library: name one by the property fowharimu.library");
+            }
+            Path folder = Files.createTempDirectory("fowharimu");
+            Path library = folder.resolve(LIBRARY);
+            try {
+                Files.copy(in, library);
+                System.load(library.toString());
+            } finally {
+                Files.deleteIfExists(library);
+                Files.delete(folder);
+            }
+        }
+    }
+
+    /** The numbers of the interface that jni.c was compiled for, and that the library has. */
+    static native int[] interfaces();
+
+    static native String version();
+
+    /** The address of a validator on these documents; 0 where they are refused, for {@code fault[0]}, or for memory where that is 0. */
+    static native long open(byte[] policy, byte[] keys, int[] fault);
+
+    /** The address of another validator on the documents of this one; 0 where memory is refused. */
+    static native long openBeside(long it);
+
+    static native int mostQuestions(long it);
+
+    static native void close(long it);
+
+    /** The verdict; the report is written to. */
+    static native int judge(long it, byte[] token, long now, long[] report);
+
+    /** The payload of the token that was judged last; null where memory is refused. */
+    static native byte[] payload(long it);
+
+    /** A protected header; null where there is none. It throws OutOfMemoryError. */
+    static native byte[] header(long it, byte[] token, int signature);
+
+    /** The token, or null where the report says why there is none. */
+    static native byte[] issue(long it, int algorithm, int form, int key, byte[] type, byte[] claims, long[] report);
+
+    /** Writes the state, the fault and the key of a signature, and says whether there is one of this number. */
+    static native boolean state(long it, int signature, int[] out);
+
+    /** Writes the signature, the key and the cost of a try, and says whether there is one of this number. */
+    static native boolean tried(long it, long n, long[] out);
+
+    /** The name of the claim that was found missing; null where none was. It throws OutOfMemoryError. */
+    static native byte[] refusedClaim(long it);
+
+    /** The name of the member for which a policy is refused; null where it is refused for none. It throws OutOfMemoryError. */
+    static native byte[] refusedMember(byte[] policy);
+
+    /** The address of an access rule; 0 where it is refused, for {@code fault[0]}, or for memory where that is 0. */
+    static native long openAccess(byte[] rule, int[] fault);
+
+    static native void closeAccess(long access);
+
+    /** The name of the member or the claim for which a rule is refused; null where it is refused for none. It throws OutOfMemoryError. */
+    static native byte[] accessRefused(byte[] rule);
+
+    /** A scope of the rule, by its number from 0; null where there is none. It throws OutOfMemoryError. */
+    static native byte[] accessScope(long access, int number);
+
+    /** Whether the claims of the token that was accepted last meet the rule; {@code denial[0]} is the fault of {@link #DENIED}. */
+    static native int denied(long it, long access, long[] denial);
+
+    /** The scope or the claim of that denial; null where there is none. It throws OutOfMemoryError. */
+    static native byte[] deniedName(long it, long access);
+
+    static native String faultName(int fault);
+}

@@ -1,0 +1,101 @@
+package org.example.fowharimu;
+
+import java.util.Optional;
+
+/** A policy, a key set, an access rule, a token or claims are refused. */
+public final class Refused extends Exception {
+    /** What is refused, and of a token for what kind of reason. */
+    public enum Kind {
+        /** The policy; {@link #about} is the member that the fault speaks of. */
+        POLICY,
+        /** The key set. */
+        KEYS,
+        /** The policy and the key set, since one token could raise more questions about public keys than are taken. */
+        QUESTIONS,
+        /** A token with more octets than the policy's {@code limit}. */
+        TOO_LONG,
+        /** Octets that are no signed token; {@link #about} is the part that the fault speaks of: payload, protected or signature. */
+        FORM,
+        /** A token for which the policy's {@code work} or {@code max_calls} was reached before a key was tried on a signature. */
+        CEILING,
+        /** A token with a signature that isn't verified. */
+        SIGNATURE,
+        /** A token for its claims; {@link #about} is the claim that the fault speaks of. */
+        CLAIMS,
+        /** Claims that were to be issued; {@link #about} is the claim that the fault speaks of. */
+        ISSUE,
+        /** An access rule; {@link #about} is the member or the claim that the fault speaks of. */
+        ACCESS
+    }
+
+    private static final long serialVersionUID = 1;
+    private static final String[] WHAT = {
+        "the policy is", "the key set is", "the policy is", "the token is", "the token is", "the token is", "the token is", "the token is",
+        "the claims are", "the access rule is"
+    };
+    /** What is refused. */
+    private final Kind kind;
+    /** The name of the fault. */
+    private final String fault;
+    /** What the fault speaks of, or null. */
+    private final String about;
+    /** The number of a signature. */
+    private final int signature;
+    /** The number of a key. */
+    private final int key;
+
+    Refused(Kind kind, String fault, String about, int signature, int key) {
+        // (a refusal is no mistake of a program, and strangers cause it: it has no trace)
+        super(WHAT[kind.ordinal()] + " refused: " + fault + (about == null ? "" : ", " + about), null, false, false);
+        this.kind = kind;
+        this.fault = fault;
+        this.about = about;
+        this.signature = signature;
+        this.key = key;
+    }
+
+    /**
+     * What is refused.
+     *
+     * @return its kind
+     */
+    public Kind kind() {
+        return kind;
+    }
+
+    /**
+     * Why it is refused.
+     *
+     * @return the name that the program {@code jwt} prints, such as {@code Expired}; of {@link Kind#QUESTIONS} {@code TooManyQuestions}
+     */
+    public String fault() {
+        return fault;
+    }
+
+    /**
+     * The member, the part or the claim that the fault speaks of.
+     *
+     * @return its name; empty where the fault speaks of none
+     */
+    public Optional<String> about() {
+        return Optional.ofNullable(about);
+    }
+
+    /**
+     * The signature that the fault speaks of.
+     *
+     * @return its number, from 0; 0 where the fault speaks of none
+     */
+    public int signature() {
+        return signature;
+    }
+
+    /**
+     * The key that wasn't tried any more, of {@link Kind#CEILING}.
+     *
+     * @return its number, from 0, among the readable keys of the set; 0 where the fault speaks of none
+     */
+    public int key() {
+        return key;
+    }
+}

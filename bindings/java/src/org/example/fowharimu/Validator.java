@@ -1,0 +1,394 @@
+package org.example.fowharimu;
+
+import java.lang.ref.Cleaner;
+import java.lang.ref.Reference;
+import java.time.Instant;
+import java.util.ArrayList;
+import java.util.List;
+import java.util.Objects;
+import java.util.Optional;
+import java.util.OptionalInt;
+import java.util.function.Function;
+
+/**
+ * A policy and a key set, by which JSON Web Tokens (RFC 7519) are judged. What is said of a token is proved.
+ *
+ * <p>Threads share it, and judge side by side. {@link #close} frees what it holds, and else that is freed some time after the object is
+ * unreachable. A call on a closed validator throws IllegalStateException; one for which memory is refused throws OutOfMemoryError. A thread that
+ * calls has at least 128 KiB of stack.
+ *
+ * <pre>{@code
+ * try (Validator validator = new Validator(policy, keys)) {
+ *     String claims = validator.validate(token);
+ * } catch (Refused refusal) {
+ *     ... refusal.fault() ...
+ * }
+ * }</pre>
+ */
+public final class Validator implements AutoCloseable {
+    /** The most questions of one token that a policy and a key set may raise, unless the constructor is told of more. */
+    public static final int MOST_QUESTIONS = 64;
+
+    private static final String[] CLAIMS = {null, "iss", "sub", "aud", "exp", "nbf", "iat", "jti"};
+    private static final String[] PARTS = {null, "payload", "protected", "signature"};
+
+    private final Seats seats;
+    private final Cleaner.Cleanable cleanable;
+
+    /**
+     * Reads a policy and a key set under which one token raises at most 64 questions about public keys.
+     *
+     * @param policy a JSON text, as the program {@code jwt} takes it
+     * @param keys a JSON Web Key Set (RFC 7517, section 5)
+     * @throws Refused where one is refused
+     * @throws UnsatisfiedLinkError where there is no library for this machine, or one of another interface
+     */
+    public Validator(byte[] policy, byte[] keys) throws Refused {
+        this(policy, keys, MOST_QUESTIONS);
+    }
+
+    /**
+     * Reads a policy and a key set.
+     *
+     * @param policy a JSON text, as the program {@code jwt} takes it
+     * @param keys a JSON Web Key Set (RFC 7517, section 5)
+     * @param mostQuestions how many questions about public keys one token may raise, up to 32,768; {@code max_calls} in the policy bounds them
+     * @throws Refused where one is refused
+     * @throws UnsatisfiedLinkError where there is no library for this machine, or one of another interface
+     */
+    public Validator(byte[] policy, byte[] keys, int mostQuestions) throws Refused {
+        Native.check();
+        // (arrays that another thread changes meanwhile are copied in C before they are read)
+        int[] fault = new int[1];
+        long documents = Native.open(Objects.requireNonNull(policy, "policy"), Objects.requireNonNull(keys, "keys"), fault);
+        if (documents == 0) {
+            throw documentRefused(fault[0], policy);
+        }
+        int most = Native.mostQuestions(documents);
+        if (most > mostQuestions) {
+            Native.close(documents);
+            throw new Refused(Refused.Kind.QUESTIONS, "TooManyQuestions", most + " and not " + mostQuestions, 0, 0);
+        }
+        seats = new Documents(documents);
+        cleanable = Seats.CLEANER.register(this, seats);
+    }
+
+    /**
+     * The claims of a token that is accepted at the clock's moment.
+     *
+     * @param token the token
+     * @return the payload: a JSON text
+     * @throws Refused where the token isn't accepted
+     */
+    public String validate(String token) throws Refused {
+        return validate(token, Instant.now());
+    }
+
+    /**
+     * The claims of a token that is accepted at a moment.
+     *
+     * @param token the token
+     * @param now the moment, of which a fraction of a second is left out
+     * @return the payload: a JSON text
+     * @throws Refused where the token isn't accepted
+     */
+    public String validate(String token, Instant now) throws Refused {
+        return validate(Text.octets(token), now.getEpochSecond());
+    }
+
+    /**
+     * The claims of a token that is accepted at a moment.
+     *
+     * @param token the token's octets
+     * @param now the moment, in seconds since 1970-01-01T00:00:00Z
+     * @return the payload: a JSON text
+     * @throws Refused where the token isn't accepted
+     */
+    public String validate(byte[] token, long now) throws Refused {
+        Seats.Seat seat = seats.take();
+        try {
+            accept(seat, token, now);
+            return payload(seat);
+        } finally {
+            give(seat);
+        }
+    }
+
+    /**
+     * The claims of a token that is accepted at the clock's moment, and whose claims meet an access rule.
+     *
+     * @param token the token
+     * @param access the access rule
+     * @return the payload: a JSON text
+     * @throws Refused where the token isn't accepted
+     * @throws Denied where it is accepted, and its claims don't meet the rule
+     */
+    public String validate(String token, Access access) throws Refused, Denied {
+        return validate(token, Instant.now(), access);
+    }
+
+    /**
+     * The claims of a token that is accepted at a moment, and whose claims meet an access rule.
+     *
+     * @param token the token
+     * @param now the moment, of which a fraction of a second is left out
+     * @param access the access rule
+     * @return the payload: a JSON text
+     * @throws Refused where the token isn't accepted
+     * @throws Denied where it is accepted, and its claims don't meet the rule
+     */
+    public String validate(String token, Instant now, Access access) throws Refused, Denied {
+        return validate(Text.octets(token), now.getEpochSecond(), access);
+    }
+
+    /**
+     * The claims of a token that is accepted at a moment, and whose claims meet an access rule.
+     *
+     * @param token the token's octets
+     * @param now the moment, in seconds since 1970-01-01T00:00:00Z
+     * @param access the access rule
+     * @return the payload: a JSON text
+     * @throws Refused where the token isn't accepted
+     * @throws Denied where it is accepted, and its claims don't meet the rule
+     */
+    public String validate(byte[] token, long now, Access access) throws Refused, Denied {
+        Objects.requireNonNull(access, "access");
+        Seats.Seat seat = seats.take();
+        try {
+            accept(seat, token, now);
+            access.hold(seat);
+            return payload(seat);
+        } finally {
+            give(seat);
+        }
+    }
+
+    /**
+     * All that is said of a token at the clock's moment.
+     *
+     * @param token the token
+     * @return the verdict: a refusal stands in it
+     */
+    public Verdict judge(String token) {
+        return judge(token, Instant.now());
+    }
+
+    /**
+     * All that is said of a token at a moment.
+     *
+     * @param token the token
+     * @param now the moment, of which a fraction of a second is left out
+     * @return the verdict: a refusal stands in it
+     */
+    public Verdict judge(String token, Instant now) {
+        return judge(Text.octets(token), now.getEpochSecond());
+    }
+
+    /**
+     * All that is said of a token at a moment.
+     *
+     * @param token the token's octets
+     * @param now the moment, in seconds since 1970-01-01T00:00:00Z
+     * @return the verdict: a refusal stands in it
+     */
+    public Verdict judge(byte[] token, long now) {
+        Seats.Seat seat = seats.take();
+        try {
+            Optional<Refused> refusal = Optional.ofNullable(judge(seat, token, now));
+            Optional<String> claims = refusal.isEmpty() ? Optional.of(payload(seat)) : Optional.empty();
+            long[] said = seat.report;
+            return new Verdict(refusal, claims, (int) said[Native.SIGNATURE], (int) said[Native.KEY], said[Native.WORK], states(seat), tries(seat));
+        } finally {
+            give(seat);
+        }
+    }
+
+    /**
+     * The protected header of a signature. Anyone may have written it.
+     *
+     * @param token the token
+     * @param signature the signature's number, from 0
+     * @return a JSON text, which is empty where a token in JSON form has none; nothing where the octets are no token, or have no such signature
+     */
+    public Optional<String> unverifiedHeader(String token, int signature) {
+        byte[] octets = Text.octets(token);
+        if (signature < 0) {
+            throw new IllegalArgumentException("a signature's number has to be 0 or more");
+        }
+        return with(seat -> Optional.ofNullable(Text.of(Native.header(seat.at, octets, signature))));
+    }
+
+    /**
+     * Issues claims as a token, signed by HMAC.
+     *
+     * @param claims a JSON text
+     * @param how the algorithm, the form, the key and the header's {@code typ}
+     * @return the token
+     * @throws Refused where nothing is issued
+     */
+    public String issue(String claims, Issuing how) throws Refused {
+        return issue(Text.octets(claims), how);
+    }
+
+    /**
+     * Issues claims as a token, signed by HMAC.
+     *
+     * @param claims a JSON text in UTF-8
+     * @param how the algorithm, the form, the key and the header's {@code typ}
+     * @return the token
+     * @throws Refused where nothing is issued
+     */
+    public String issue(byte[] claims, Issuing how) throws Refused {
+        Objects.requireNonNull(claims, "claims");
+        byte[] type = Text.octets(how.type());
+        Seats.Seat seat = seats.take();
+        try {
+            byte[] token = Native.issue(
+                    seat.at, how.algorithm().ordinal() + 1, how.form().ordinal() + 1, how.key(), type, claims, seat.report);
+            if (token == null) {
+                throw notIssued(seat.report);
+            }
+            return Text.of(token);
+        } finally {
+            give(seat);
+        }
+    }
+
+    /** Frees what is held. It may be called twice. Calls that are under way end as if it weren't closed. */
+    @Override
+    public void close() {
+        cleanable.clean();
+    }
+
+    private <T> T with(Function<Seats.Seat, T> call) {
+        Seats.Seat seat = seats.take();
+        try {
+            return call.apply(seat);
+        } finally {
+            give(seat);
+        }
+    }
+
+    /** Gives a seat back. Until then this object isn't cleaned, though nothing else may refer to it. */
+    private void give(Seats.Seat seat) {
+        seats.give(seat);
+        Reference.reachabilityFence(this);
+    }
+
+    private static void accept(Seats.Seat seat, byte[] token, long now) throws Refused {
+        Refused refusal = judge(seat, token, now);
+        if (refusal != null) {
+            throw refusal;
+        }
+    }
+
+    /** Why a token isn't accepted; null where it is. */
+    private static Refused judge(Seats.Seat seat, byte[] token, long now) {
+        int verdict = Native.judge(seat.at, Objects.requireNonNull(token, "token"), now, seat.report);
+        if (verdict == Native.OK) {
+            return null;
+        }
+        if (verdict != Native.REFUSED) {
+            throw lackMemory();
+        }
+        return refusal(seat);
+    }
+
+    private static Refused refusal(Seats.Seat seat) {
+        int fault = (int) seat.report[Native.FAULT];
+        int signature = (int) seat.report[Native.SIGNATURE];
+        String name = Native.faultName(fault);
+        return switch (fault / 100) {
+            case 3 -> new Refused(Refused.Kind.TOO_LONG, name, null, 0, 0);
+            case 4 -> new Refused(Refused.Kind.FORM, name, PARTS[(int) seat.report[Native.PART]], signature, 0);
+            case 5 -> new Refused(Refused.Kind.CEILING, name, null, signature, (int) seat.report[Native.KEY]);
+            case 6 -> new Refused(Refused.Kind.SIGNATURE, name, null, signature, 0);
+            default -> new Refused(Refused.Kind.CLAIMS, name, claim(seat), 0, 0);
+        };
+    }
+
+    private static String claim(Seats.Seat seat) {
+        int claim = (int) seat.report[Native.CLAIM];
+        return claim < CLAIMS.length ? CLAIMS[claim] : Text.of(Native.refusedClaim(seat.at));
+    }
+
+    private static String payload(Seats.Seat seat) {
+        byte[] payload = Native.payload(seat.at);
+        if (payload == null) {
+            throw lackMemory();
+        }
+        return Text.of(payload);
+    }
+
+    private static List<SignatureState> states(Seats.Seat seat) {
+        List<SignatureState> states = new ArrayList<>();
+        int[] said = new int[3];
+        while (Native.state(seat.at, states.size(), said)) {
+            SignatureState.State state = SignatureState.State.values()[said[0] - 1];
+            Optional<String> fault = state == SignatureState.State.BARRED ? Optional.of(Native.faultName(said[1])) : Optional.empty();
+            OptionalInt key = state == SignatureState.State.VERIFIED ? OptionalInt.of(said[2]) : OptionalInt.empty();
+            states.add(new SignatureState(state, fault, key));
+        }
+        return List.copyOf(states);
+    }
+
+    private static List<Try> tries(Seats.Seat seat) {
+        List<Try> tries = new ArrayList<>();
+        long[] said = new long[3];
+        while (tries.size() < seat.report[Native.TRIES] && Native.tried(seat.at, tries.size(), said)) {
+            tries.add(new Try((int) said[0], (int) said[1], said[2]));
+        }
+        return List.copyOf(tries);
+    }
+
+    private static Refused notIssued(long[] report) {
+        if (report[0] == Native.OUT_OF_MEMORY) {
+            throw lackMemory();
+        }
+        if (report[0] != Native.REFUSED) {
+            throw new IllegalArgumentException("the type has to be a text without lone surrogates");
+        }
+        int claim = (int) report[Native.CLAIM];
+        String about = claim < CLAIMS.length ? CLAIMS[claim] : null;
+        return new Refused(Refused.Kind.ISSUE, Native.faultName((int) report[Native.FAULT]), about, (int) report[Native.SIGNATURE], 0);
+    }
+
+    private static Refused documentRefused(int fault, byte[] policy) {
+        if (fault == 0) {
+            throw lackMemory();
+        }
+        String name = Native.faultName(fault);
+        return fault / 100 == 2
+                ? new Refused(Refused.Kind.KEYS, name, null, 0, 0)
+                : new Refused(Refused.Kind.POLICY, name, Text.of(Native.refusedMember(policy)), 0, 0);
+    }
+
+    private static OutOfMemoryError lackMemory() {
+        return new OutOfMemoryError("fowharimu: an allocation was refused");
+    }
+
+    /** What a validator holds: its documents, and the handles on them. */
+    private static final class Documents extends Seats {
+        private final long at;
+
+        Documents(long at) {
+            super("the validator is closed");
+            this.at = at;
+        }
+
+        @Override
+        long another() {
+            return Native.openBeside(at);
+        }
+
+        @Override
+        void end() {
+            Native.close(at);
+        }
+
+        @Override
+        void free(long seat) {
+            Native.close(seat);
+        }
+    }
+}

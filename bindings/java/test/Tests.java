@@ -1,0 +1,568 @@
+import java.io.ByteArrayInputStream;
+import java.io.ByteArrayOutputStream;
+import java.io.ObjectInputStream;
+import java.io.ObjectOutputStream;
+import java.nio.charset.StandardCharsets;
+import java.nio.file.Files;
+import java.nio.file.Path;
+import java.time.Instant;
+import java.util.ArrayList;
+import java.util.List;
+import java.util.Optional;
+import java.util.concurrent.Callable;
+import java.util.concurrent.ExecutorService;
+import java.util.concurrent.Executors;
+import java.util.concurrent.Future;
+import java.util.stream.Collectors;
+import java.util.stream.Stream;
+
+import org.example.fowharimu.Access;
+import org.example.fowharimu.Denied;
+import org.example.fowharimu.Issuing;
+import org.example.fowharimu.Refused;
+import org.example.fowharimu.SignatureState;
+import org.example.fowharimu.Try;
+import org.example.fowharimu.Validator;
+import org.example.fowharimu.Verdict;
+
+/**
+ * Tests TOP: the tests of this package, over the tokens of the repository at TOP. Tests TOP another NUMBER: over a library of another interface,
+ * which has this number.
+ */
+final class Tests {
+    private static final Instant NOW = Instant.ofEpochSecond(1300819379);
+    private static final String HS256 = "{\"algs\":[\"HS256\"]}";
+
+    private final Path top;
+    private final Path hmac;
+    private int passed;
+
+    private Tests(Path top) {
+        this.top = top;
+        this.hmac = top.resolve("examples/rfc7515-a1");
+    }
+
+    public static void main(String[] words) throws Exception {
+        Tests tests = new Tests(Path.of(words[0]));
+        if (words.length > 1) {
+            tests.anotherLibrary(Integer.parseInt(words[2]));
+        } else {
+            tests.all();
+        }
+        System.out.println("Java: " + tests.passed + " tests passed");
+    }
+
+    private interface Test {
+        void run() throws Exception;
+    }
+
+    private void all() throws Exception {
+        for (Test it : new Test[] {
+            this::eachToken, this::ed448, this::clock, this::verdict, this::refusals, this::surrogates, this::documents, this::questions,
+            this::mistakes, this::closing, this::issuing, this::freeing, this::threads, this::closingMeanwhile, this::ruleMet, this::denials,
+            this::denialIsNoRefusal, this::rulesRefused, this::rulesOfTheDocuments, this::ruleMistakes, this::ruleClosing, this::ruleFreeing,
+            this::ruleThreads, this::ruleClosingMeanwhile
+        }) {
+            it.run();
+            passed++;
+        }
+    }
+
+    private void eachToken() throws Exception {
+        List<Path> names = new ArrayList<>();
+        for (String folder : List.of("examples", "bindings/tokens")) {
+            try (Stream<Path> files = Files.list(top.resolve(folder))) {
+                files.filter(it -> it.toString().endsWith(".jwt")).forEach(it -> names.add(Path.of(it.toString().replaceAll("\\.jwt$", ""))));
+            }
+        }
+        check(names.size() >= 15, "tokens");
+        for (Path name : names) {
+            if (!name.endsWith("Ed448")) {
+                oneToken(name);
+            }
+        }
+    }
+
+    private void oneToken(Path name) throws Exception {
+        String token = token(name);
+        try (Validator it = open(name)) {
+            Verdict said = it.judge(token, NOW);
+            if (name.endsWith("rfc8037-a4")) {
+                equal(said.refusal().get().kind(), Refused.Kind.CLAIMS);
+            } else {
+                check(said.accepted() && said.claims().get().contains("\"joe\""), "" + name);
+                equal(it.validate(token, NOW), said.claims().get());
+            }
+            int at = token.lastIndexOf('.') + 1;
+            String changed = token.substring(0, at) + (token.charAt(at) == 'A' ? 'B' : 'A') + token.substring(at + 1);
+            Refused refusal = it.judge(changed, NOW).refusal().get();
+            equal(refusal.kind(), Refused.Kind.SIGNATURE);
+            equal(refusal.fault(), "BadSignature");
+        }
+    }
+
+    private void ed448() throws Exception {
+        Path name = top.resolve("bindings/tokens/Ed448");
+        try (Validator it = open(name)) {
+            equal(it.judge(token(name), NOW).refusal().get().fault(), "BadSignature");
+        }
+    }
+
+    private void clock() throws Exception {
+        try (Validator it = open(hmac)) {
+            equal(refused(() -> it.validate(token(hmac))).fault(), "Expired");
+            equal(it.judge(token(hmac)).refusal().get().fault(), "Expired");
+        }
+    }
+
+    private void verdict() throws Exception {
+        try (Validator it = open(hmac)) {
+            Verdict said = it.judge(token(hmac), NOW);
+            equal(said.states().get(0).state(), SignatureState.State.VERIFIED);
+            equal(said.states().get(0).key().getAsInt(), 0);
+            equal(said.tries(), List.of(new Try(0, 0, said.work())));
+        }
+    }
+
+    private void refusals() throws Exception {
+        String token = token(hmac);
+        Object[][] cases = {
+            {HS256.replace("}", ",\"limit\":100}"), token, Refused.Kind.TOO_LONG, "TooLong", null},
+            {HS256, "a.b", Refused.Kind.FORM, "Segments", null},
+            {HS256, "", Refused.Kind.FORM, "Empty", null},
+            {HS256, "e30.*.AA", Refused.Kind.FORM, "Base64", "payload"},
+            {HS256.replace("}", ",\"work\":10}"), token, Refused.Kind.CEILING, "WorkExceeded", null},
+            {"{\"algs\":[\"HS384\"]}", token, Refused.Kind.SIGNATURE, "AlgNotAllowed", null},
+            {HS256.replace("}", ",\"required\":[\"röle\"]}"), token, Refused.Kind.CLAIMS, "ClaimMissing", "röle"},
+            {HS256.replace("}", ",\"required\":[\"sub\"]}"), token, Refused.Kind.CLAIMS, "ClaimMissing", "sub"},
+            {HS256.replace("}", ",\"issuers\":[\"eve\"]}"), token, Refused.Kind.CLAIMS, "Issuer", null},
+        };
+        for (Object[] it : cases) {
+            try (Validator validator = new Validator(octets((String) it[0]), read(hmac, "keys"))) {
+                Refused refusal = refused(() -> validator.validate((String) it[1], NOW));
+                equal(refusal.kind(), it[2]);
+                equal(refusal.fault(), it[3]);
+                if (it[3] != "Issuer") {
+                    equal(refusal.about(), Optional.ofNullable(it[4]));
+                }
+            }
+        }
+    }
+
+    /** A surrogate that stands alone isn't taken for another text. */
+    private void surrogates() throws Exception {
+        try (Validator it = open(hmac)) {
+            for (String text : List.of("é€\ud83d\ude00", "\ufffd", "?")) {
+                String claims = "{\"iss\":\"" + text + "\",\"exp\":1300819380}";
+                equal(it.issue(claims, new Issuing()).length() > 0, true);
+            }
+            for (String text : List.of("\ud800", "\udc00\ud800", "é\ud800€")) {
+                equal(refused(() -> it.issue("{\"iss\":\"" + text + "\"}", new Issuing())).fault(), "ClaimsShape");
+                equal(it.judge(text, NOW).refusal().get().kind(), Refused.Kind.FORM);
+                thrown(IllegalArgumentException.class, () -> it.issue("{}", new Issuing(Issuing.Algorithm.HS256, Issuing.Form.COMPACT, 0, text)));
+            }
+        }
+    }
+
+    private void documents() throws Exception {
+        byte[] keys = read(hmac, "keys");
+        Refused member = refused(() -> new Validator(octets(HS256.replace("}", ",\"audience\":\"me\"}")), keys));
+        equal(List.of(member.kind(), member.fault(), member.about().get()), List.of(Refused.Kind.POLICY, "Member", "audience"));
+        equal(refused(() -> new Validator(octets("{\"algs\":[]}"), keys)).fault(), "NoAlgorithm");
+        Refused set = refused(() -> new Validator(octets(HS256), octets("{}")));
+        equal(List.of(set.kind(), set.fault()), List.of(Refused.Kind.KEYS, "NotKeySet"));
+    }
+
+    private void questions() throws Exception {
+        String keys = new String(read(top.resolve("bindings/tokens/RS256"), "keys"), StandardCharsets.UTF_8);
+        String key = keys.substring(keys.indexOf('[') + 1, keys.lastIndexOf(']'));
+        byte[] many = octets("{\"keys\":[" + key + "," + key + "," + key + "]}");
+        byte[] policy = octets("{\"algs\":[\"RS256\"],\"max_signatures\":32}");
+        equal(refused(() -> new Validator(policy, many)).kind(), Refused.Kind.QUESTIONS);
+        new Validator(policy, many, 96).close();
+    }
+
+    private void mistakes() throws Exception {
+        try (Validator it = open(hmac)) {
+            thrown(NullPointerException.class, () -> it.judge((byte[]) null, 0));
+            thrown(NullPointerException.class, () -> it.validate((String) null));
+            thrown(NullPointerException.class, () -> it.issue((byte[]) null, new Issuing()));
+            thrown(IllegalArgumentException.class, () -> it.unverifiedHeader("a.b.c", -1));
+            equal(it.judge(octets(token(hmac)), Long.MAX_VALUE).accepted(), false);
+            check(it.judge(token(hmac), NOW).accepted(), "seats are given back");
+        }
+        thrown(NullPointerException.class, () -> new Validator(null, new byte[0]));
+        thrown(IllegalArgumentException.class, () -> new Issuing(Issuing.Algorithm.HS256, Issuing.Form.COMPACT, -1, ""));
+    }
+
+    private void closing() throws Exception {
+        Validator it = open(hmac);
+        check(it.judge(token(hmac), NOW).accepted(), "open");
+        it.close();
+        it.close();
+        thrown(IllegalStateException.class, () -> it.judge("a.b.c", NOW));
+        thrown(IllegalStateException.class, () -> it.validate("a.b.c", NOW));
+        thrown(IllegalStateException.class, () -> it.issue("{}", new Issuing()));
+        thrown(IllegalStateException.class, () -> it.unverifiedHeader("a.b.c", 0));
+    }
+
+    private void issuing() throws Exception {
+        String claims = "{\"iss\":\"joe\",\"exp\":1300819380}";
+        try (Validator it = open(hmac)) {
+            for (Issuing.Form form : Issuing.Form.values()) {
+                equal(it.validate(it.issue(claims, new Issuing(Issuing.Algorithm.HS256, form, 0, "")), NOW), claims);
+            }
+            Refused none = refused(() -> it.issue(claims, new Issuing(Issuing.Algorithm.HS256, Issuing.Form.COMPACT, 7, "")));
+            equal(List.of(none.kind(), none.fault()), List.of(Refused.Kind.ISSUE, "NoKey"));
+            equal(refused(() -> it.issue("{\"iss\":7}", new Issuing())).about(), Optional.of("iss"));
+            String token = it.issue("{}", new Issuing(Issuing.Algorithm.HS256, Issuing.Form.COMPACT, 0, "at+jwt"));
+            check(it.unverifiedHeader(token, 0).get().contains("\"at+jwt\""), "typ");
+            equal(it.unverifiedHeader(token, 1), Optional.empty());
+            equal(it.unverifiedHeader("a.b", 0), Optional.empty());
+        }
+    }
+
+    /** What isn't closed is freed: else this takes some gigabytes. */
+    private void freeing() throws Exception {
+        byte[] policy = read(hmac, "policy");
+        byte[] keys = read(hmac, "keys");
+        for (int n = 0; n < 20_000; n++) {
+            new Validator(policy, keys).judge("a.b.c", NOW);
+            if (n % 1_000 == 0) {
+                System.gc();
+            }
+        }
+        check(resident() < 1_000_000, "resident: " + resident() + " KiB");
+    }
+
+    private void threads() throws Exception {
+        Path name = top.resolve("bindings/tokens/ES256");
+        String token = token(name);
+        try (Validator shared = open(name)) {
+            for (int it : together(8, () -> accepted(shared, token, 20))) {
+                equal(it, 20);
+            }
+        }
+    }
+
+    /** A validator that is closed while threads judge: each call is answered or told that it is closed. */
+    private void closingMeanwhile() throws Exception {
+        String token = token(hmac);
+        for (int n = 0; n < 20; n++) {
+            Validator shared = open(hmac);
+            together(4, () -> {
+                try {
+                    accepted(shared, token, 50);
+                } catch (IllegalStateException e) {
+                    return 0;
+                } finally {
+                    shared.close();
+                }
+                return 1;
+            });
+        }
+    }
+
+    private void ruleMet() throws Exception {
+        String all = "{\"scopes\":[\"joe\"],\"scope_claim\":\"iss\",\"claims\":"
+                + "{\"iss\":[\"joe\",\"ann\"],\"exp\":[1300819380],\"http://example.com/is_root\":[true]}}";
+        String token = token(hmac);
+        try (Validator it = open(hmac)) {
+            for (String rule : List.of("{}", all)) {
+                try (Access text = new Access(rule); Access octets = new Access(octets(rule))) {
+                    equal(it.validate(token, NOW, text), it.validate(token, NOW));
+                    equal(it.validate(octets(token), NOW.getEpochSecond(), octets), it.validate(token, NOW));
+                }
+            }
+            String lasting = it.issue("{\"iss\":\"joe\",\"exp\":99999999999,\"scope\":\"read write\"}", new Issuing());
+            try (Access read = new Access("{\"scopes\":[\"write\",\"read\"]}"); Access other = new Access("{\"scopes\":[\"rea\"]}")) {
+                equal(read.scopes(), List.of("write", "read"));
+                check(it.validate(lasting, read).contains("read write"), "at the clock's moment");
+                equal(denied(() -> it.validate(lasting, other)).scope(), Optional.of("rea"));
+            }
+        }
+    }
+
+    private void denials() throws Exception {
+        String many = "/" + "a".repeat(5000);
+        String most = "é".repeat(32_000);
+        Object[][] cases = {
+            {"{\"scopes\":[\"read\",\"write\"],\"claims\":{\"iss\":[\"ann\"]}}", "ScopeMissing", "read", null, List.of("read", "write")},
+            {"{\"claims\":{\"iss\":[\"ann\"],\"sub\":[\"x\"]}}", "ClaimNotAllowed", null, "iss", List.of()},
+            {"{\"claims\":{\"http://example.com/is_root\":[1]}}", "ClaimNotAllowed", null, "http://example.com/is_root", List.of()},
+            {"{\"claims\":{\"\":[\"x\"]}}", "ClaimMissing", null, "", List.of()},
+            {"{\"claims\":{\"röle\\u20ac\":[\"x\"]}}", "ClaimMissing", null, "röle€", List.of()},
+            {"{\"claims\":{\"" + many + "\":[1]}}", "ClaimMissing", null, many, List.of()},
+            {"{\"claims\":{\"" + most + "\":[1]}}", "ClaimMissing", null, most, List.of()},
+        };
+        for (Object[] it : cases) {
+            try (Validator validator = open(hmac); Access access = new Access((String) it[0])) {
+                Denied denial = denied(() -> validator.validate(token(hmac), NOW, access));
+                equal(denial.fault(), it[1]);
+                equal(denial.scope(), Optional.ofNullable(it[2]));
+                equal(denial.claim(), Optional.ofNullable(it[3]));
+                equal(denial.scopes(), it[4]);
+                equal(access.scopes(), it[4]);
+                equal(denial.getMessage(), "the token is denied: " + it[1] + ", " + (it[2] == null ? it[3] : it[2]));
+                equal(denial.getStackTrace().length, 0);
+            }
+        }
+    }
+
+    /** A token that isn't accepted is refused, whatever the rule; one that is denied can be judged, and its exception can be written. */
+    private void denialIsNoRefusal() throws Exception {
+        check(!Refused.class.isAssignableFrom(Denied.class), "a denial is a refusal");
+        try (Validator it = open(hmac); Access access = new Access("{\"scopes\":[\"read\"]}")) {
+            equal(refused(() -> it.validate(token(hmac), NOW.plusSeconds(3600), access)).fault(), "Expired");
+            equal(refused(() -> it.validate(token(hmac), access)).fault(), "Expired");
+            equal(refused(() -> it.validate("a.b", NOW, access)).fault(), "Segments");
+            Denied denial = denied(() -> it.validate(token(hmac), NOW, access));
+            check(it.judge(token(hmac), NOW).accepted(), "the token is accepted");
+            ByteArrayOutputStream written = new ByteArrayOutputStream();
+            new ObjectOutputStream(written).writeObject(denial);
+            Denied read = (Denied) new ObjectInputStream(new ByteArrayInputStream(written.toByteArray())).readObject();
+            equal(List.of(read.fault(), read.scope(), read.claim()), List.of("ScopeMissing", Optional.of("read"), Optional.empty()));
+            equal(read.scopes(), List.of("read"));
+        }
+    }
+
+    private void rulesRefused() throws Exception {
+        String[][] cases = {
+            {"", "Json", null},
+            {"\ud800", "Json", null},
+            {"[]", "Json", null},
+            {"{\"scopes\":[],\"scopes\":[]}", "NameTwice", null},
+            {"{\"scope\":\"read\"}", "Member", "scope"},
+            {"{\"scopes\":[\"read write\"]}", "Range", "scopes"},
+            {"{\"claims\":{\"röle\":[1.5]}}", "Claim", "röle"},
+            {"{\"claims\":{\"\":[]}}", "ClaimRange", ""},
+            {"{\"claims\":{\"/~2\":[1]}}", "ClaimRange", "/~2"},
+            {" ".repeat(65537), "TooLong", null},
+        };
+        for (String[] it : cases) {
+            Refused refusal = refused(() -> new Access(it[0]));
+            equal(refusal.kind(), Refused.Kind.ACCESS);
+            equal(refusal.fault(), it[1]);
+            equal(refusal.about(), Optional.ofNullable(it[2]));
+            equal(refusal.getMessage(), "the access rule is refused: " + it[1] + (it[2] == null ? "" : ", " + it[2]));
+        }
+        equal(refused(() -> new Access(new byte[] {(byte) 0xff})).fault(), "Json");
+    }
+
+    /** Those of docs/ACCESS.md, which stand in examples/access, with what is expected there of the claims beside them. */
+    private void rulesOfTheDocuments() throws Exception {
+        List<String> said = new ArrayList<>();
+        List<Path> rules;
+        try (Stream<Path> files = Files.list(top.resolve("examples/access"))) {
+            rules = files.filter(it -> it.toString().endsWith(".access")).sorted().collect(Collectors.toList());
+        }
+        for (Path path : rules) {
+            Path name = Path.of(path.toString().replaceAll("\\.access$", ""));
+            said.add("" + name.getFileName());
+            try (Validator validator = new Validator(read(name, "policy"), read(hmac, "keys")); Access access = new Access(read(name, "access"))) {
+                for (String claims : Files.readAllLines(Path.of(name + ".claims"))) {
+                    said.add(underRule(validator, claims, access));
+                }
+            }
+        }
+        equal(said, Files.readAllLines(top.resolve("examples/access/expected.txt")));
+    }
+
+    /** What `jwt verify` prints of a token with these claims. */
+    private static String underRule(Validator validator, String claims, Access access) throws Exception {
+        String token = validator.issue(claims, new Issuing(Issuing.Algorithm.HS256, Issuing.Form.COMPACT, 0, "at+jwt"));
+        Instant now = Instant.ofEpochSecond(1639528911);
+        String rest = " sig=0 key=0 tries=1 work=" + validator.judge(token, now).work();
+        try {
+            equal(validator.validate(token, now, access), claims);
+            return "accepted" + rest;
+        } catch (Denied e) {
+            String name = e.scope().map(it -> "scope=\"" + it + "\"").orElseGet(() -> "claim=\"" + e.claim().get() + "\"");
+            return "denied " + e.fault() + " " + name + rest;
+        }
+    }
+
+    private void ruleMistakes() throws Exception {
+        thrown(NullPointerException.class, () -> new Access((String) null));
+        thrown(NullPointerException.class, () -> new Access((byte[]) null));
+        byte[] rule = octets("{\"scopes\":[\"read\"]}");
+        try (Validator it = open(hmac); Access access = new Access(rule); Access all = new Access("{}")) {
+            thrown(NullPointerException.class, () -> it.validate("a.b", NOW, (Access) null));
+            thrown(NullPointerException.class, () -> it.validate((byte[]) null, 0, access));
+            // (the rule is that which was handed in, also for threads that come later)
+            java.util.Arrays.fill(rule, (byte) ' ');
+            String token = token(hmac);
+            for (int count : together(8, () -> heldOften(it, token, all, access, 200))) {
+                equal(count, 200);
+            }
+            thrown(UnsupportedOperationException.class, () -> access.scopes().set(0, "x"));
+        }
+    }
+
+    /** A rule that is closed lets nothing through, nor does one for a validator that is closed. */
+    private void ruleClosing() throws Exception {
+        Access access = new Access("{\"scopes\":[\"a\",\"b\"]}");
+        Access open = new Access("{}");
+        Validator it = open(hmac);
+        access.close();
+        access.close();
+        equal(access.scopes(), List.of("a", "b"));
+        equal(thrown(IllegalStateException.class, () -> it.validate(token(hmac), NOW, access)).getMessage(), "the access rule is closed");
+        equal(it.validate(token(hmac), NOW, open), it.validate(token(hmac), NOW));
+        it.close();
+        equal(thrown(IllegalStateException.class, () -> it.validate(token(hmac), NOW, open)).getMessage(), "the validator is closed");
+        open.close();
+    }
+
+    /** What isn't closed is freed: else this takes some gigabytes. */
+    private void ruleFreeing() throws Exception {
+        byte[] rule = octets("{\"claims\":{\"" + "a".repeat(60_000) + "\":[1]}}");
+        try (Validator it = open(hmac)) {
+            for (int n = 0; n < 40_000; n++) {
+                Access access = new Access(rule);
+                if (n % 1_000 == 0) {
+                    denied(() -> it.validate(token(hmac), NOW, access));
+                    System.gc();
+                }
+            }
+        }
+        check(resident() < 1_000_000, "resident: " + resident() + " KiB");
+    }
+
+    private void ruleThreads() throws Exception {
+        String token = token(hmac);
+        try (Validator it = open(hmac);
+                Access grants = new Access("{\"claims\":{\"iss\":[\"joe\"]}}");
+                Access denies = new Access("{\"scopes\":[\"read\"]}")) {
+            for (int count : together(8, () -> heldOften(it, token, grants, denies, 200))) {
+                equal(count, 200);
+            }
+        }
+    }
+
+    /** How often, of so many times, one rule is met and the other isn't. */
+    private static int heldOften(Validator it, String token, Access grants, Access denies, int times) throws Exception {
+        int count = 0;
+        for (int n = 0; n < times; n++) {
+            boolean isMet = it.validate(token, NOW, grants).contains("\"joe\"");
+            boolean isDenied = denied(() -> it.validate(token, NOW, denies)).scope().equals(Optional.of("read"));
+            count += isMet && isDenied ? 1 : 0;
+        }
+        return count;
+    }
+
+    /** A rule that is closed while threads hold it: each call is answered or told that it is closed. */
+    private void ruleClosingMeanwhile() throws Exception {
+        String token = token(hmac);
+        try (Validator it = open(hmac)) {
+            for (int n = 0; n < 20; n++) {
+                Access grants = new Access("{}");
+                Access denies = new Access("{\"scopes\":[\"read\"]}");
+                together(4, () -> {
+                    try {
+                        return heldOften(it, token, grants, denies, 50);
+                    } catch (IllegalStateException e) {
+                        return 0;
+                    } finally {
+                        denies.close();
+                        grants.close();
+                    }
+                });
+            }
+        }
+    }
+
+    /** The package refuses a library of another interface, each time. */
+    private void anotherLibrary(int loaded) throws Exception {
+        for (int n = 0; n < 2; n++) {
+            Throwable error = thrown(UnsatisfiedLinkError.class, () -> open(hmac));
+            String message = "fowharimu: the library another has interface " + loaded + ", and this package was made for " + (loaded - 1);
+            equal(error.getMessage(), message);
+            equal(thrown(UnsatisfiedLinkError.class, () -> new Access("{}")).getMessage(), message);
+        }
+        passed++;
+    }
+
+    private static int accepted(Validator validator, String token, int calls) {
+        int count = 0;
+        for (int n = 0; n < calls; n++) {
+            count += validator.judge(token, NOW).accepted() ? 1 : 0;
+        }
+        return count;
+    }
+
+    private static <T> List<T> together(int threads, Callable<T> call) throws Exception {
+        ExecutorService pool = Executors.newFixedThreadPool(threads);
+        try {
+            List<T> all = new ArrayList<>();
+            for (Future<T> it : pool.invokeAll(java.util.Collections.nCopies(threads, call))) {
+                all.add(it.get());
+            }
+            return all;
+        } finally {
+            pool.shutdown();
+        }
+    }
+
+    /** The resident memory of this process, in KiB. */
+    private static long resident() throws Exception {
+        try (Stream<String> lines = Files.lines(Path.of("/proc/self/status"))) {
+            String line = lines.filter(it -> it.startsWith("VmRSS:")).collect(Collectors.toList()).get(0);
+            return Long.parseLong(line.replaceAll("[^0-9]", ""));
+        }
+    }
+
+    private static Refused refused(Callable<?> call) throws Exception {
+        try {
+            call.call();
+        } catch (Refused e) {
+            return e;
+        }
+        throw new AssertionError("it isn't refused");
+    }
+
+    private static Denied denied(Callable<?> call) throws Exception {
+        try {
+            call.call();
+        } catch (Denied e) {
+            return e;
+        }
+        throw new AssertionError("it isn't denied");
+    }
+
+    private static Throwable thrown(Class<? extends Throwable> kind, Callable<?> call) throws Exception {
+        try {
+            call.call();
+        } catch (Throwable e) {
+            check(kind.isInstance(e), "another error: " + e);
+            return e;
+        }
+        throw new AssertionError("nothing is thrown");
+    }
+
+    private static Validator open(Path name) throws Exception {
+        return new Validator(read(name, "policy"), read(name, "keys"));
+    }
+
+    private static byte[] read(Path name, String end) throws Exception {
+        return Files.readAllBytes(Path.of(name + "." + end));
+    }
+
+    private static String token(Path name) throws Exception {
+        return new String(read(name, "jwt"), StandardCharsets.UTF_8);
+    }
+
+    private static byte[] octets(String text) {
+        return text.getBytes(StandardCharsets.UTF_8);
+    }
+
+    private static void equal(Object one, Object other) {
+        check(one.equals(other), one + " and not " + other);
+    }
+
+    private static void check(boolean holds, String what) {
+        if (!holds) {
+            throw new AssertionError(what);
+        }
+    }
+}

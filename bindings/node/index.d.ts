@@ -1,0 +1,171 @@
+/**
+ * Validates JSON Web Tokens (RFC 7519) by a library that is proved correct. Signatures by RSA, ECDSA and Ed25519 are verified by its proved
+ * verifiers; one by Ed448 is refused as `BadSignature`.
+ */
+
+/** Octets, their text, or what JSON.stringify makes a text of. */
+export type Document = string | Uint8Array | object;
+/** A token: its text, or its octets. */
+export type Token = string | Uint8Array;
+/** Seconds since 1970-01-01T00:00:00Z: a whole number that is exact, or a bigint of 64 bits. */
+export type Moment = number | bigint;
+export type Claims = { [name: string]: unknown };
+export type State = 'barred' | 'no key' | 'bad signature' | 'verified' | 'not reached' | 'stopped';
+
+/** What became of a signature: `fault` where it is barred, `key` where that key verified it. */
+export interface SignatureState {
+  readonly state: State;
+  readonly fault: string | undefined;
+  readonly key: number | undefined;
+}
+/** The try of a key on a signature, and the octets that it fed to HMAC: 0 for a public key. */
+export interface Try {
+  readonly signature: number;
+  readonly key: number;
+  readonly cost: number;
+}
+/** All that is said of a token. `refusal` is why it isn't accepted, and null where it is. */
+export interface Report {
+  readonly accepted: boolean;
+  readonly refusal: TokenRefused | null;
+  /** The number, from 0, of the signature that was verified, or that the refusal speaks of. */
+  readonly signature: number;
+  /** The number, from 0, of the key that verified it, among the readable keys of the set. */
+  readonly key: number;
+  /** The octets that were fed to HMAC. */
+  readonly work: number;
+  readonly states: SignatureState[];
+  readonly tries: Try[];
+}
+/** How claims are issued: without more HS256, compact, by key 0, with no `typ`. */
+export interface Issuing {
+  key?: number;
+  alg?: 'HS256' | 'HS384' | 'HS512';
+  form?: 'compact' | 'general' | 'flattened';
+  typ?: string;
+}
+export interface Opening {
+  /** How many questions about public keys one token may raise: 64 without it, and never more than 32,768. `max_calls` bounds them. */
+  mostQuestions?: number;
+}
+
+/** The moment at which a token is judged, the clock's without one, and the access rule that its claims have to meet. */
+export interface Asking {
+  access: Access;
+  now?: Moment;
+}
+
+/** What this package throws of its own. */
+export class FowharimuError extends Error {}
+/** Another library was loaded than this package was made for. */
+export class AnotherLibrary extends FowharimuError {
+  readonly madeFor: number;
+  readonly loaded: number;
+  readonly version: string;
+}
+/** The validator is closed. */
+export class Closed extends FowharimuError {}
+/** One token could raise more questions about public keys than are taken. */
+export class TooManyQuestions extends FowharimuError {
+  readonly most: number;
+  readonly allowed: number;
+}
+/** The policy is refused; `member` is the name of the member that the fault speaks of. */
+export class PolicyRefused extends FowharimuError {
+  readonly fault: string;
+  readonly member: string | undefined;
+}
+export class KeysRefused extends FowharimuError {
+  readonly fault: string;
+}
+/** Nothing is issued; `signature` is the number of the signature that the fault speaks of, `claim` the name of the claim. */
+export class IssueRefused extends FowharimuError {
+  readonly fault: string;
+  readonly signature: number;
+  readonly claim: string | undefined;
+}
+/** The access rule is refused; `member` is the name of the member, or of the claim, that the fault speaks of. */
+export class AccessRefused extends FowharimuError {
+  readonly fault: string;
+  readonly member: string | undefined;
+}
+/**
+ * The token is accepted, and its claims don't meet the access rule: a service answers 403 to this, and 401 to TokenRefused. `scope` is the scope
+ * that isn't granted, or else `claim` the name of the claim. `scopes` are all that the rule asks for: joined by spaces, the `scope` of a challenge
+ * that says insufficient_scope (RFC 6750, section 3.1).
+ */
+export class Denied extends FowharimuError {
+  readonly fault: 'ScopeMissing' | 'ClaimMissing' | 'ClaimNotAllowed';
+  readonly scope: string | undefined;
+  readonly claim: string | undefined;
+  readonly scopes: readonly string[];
+}
+/** The token isn't accepted. `fault` is the name that the program `jwt` prints, such as `Expired`. */
+export class TokenRefused extends FowharimuError {
+  readonly fault: string;
+}
+/** The token has more octets than the policy's `limit`. */
+export class TooLong extends TokenRefused {}
+/** The octets are no signed token. */
+export class FormRefused extends TokenRefused {
+  readonly part: 'payload' | 'protected' | 'signature' | undefined;
+  readonly signature: number;
+}
+/** The policy's `work` or `max_calls` was reached before this key was tried on this signature. */
+export class CeilingReached extends TokenRefused {
+  readonly signature: number;
+  readonly key: number;
+}
+/** The signature of this number isn't verified. */
+export class SignatureRefused extends TokenRefused {
+  readonly signature: number;
+}
+/** The claims are refused; `claim` is the name of the claim that the fault speaks of. */
+export class ClaimsRefused extends TokenRefused {
+  readonly claim: string | undefined;
+}
+
+/**
+ * An access rule: which scopes and which values of claims an accepted token has to have (docs/ACCESS.md). Any validator of the same worker may be
+ * handed it. What is never closed is freed with the object.
+ */
+export class Access {
+  /**
+   * A JSON text, or what is written as it: of plain objects and arrays alone, since JSON.stringify writes others as `{}`, and that asks for nothing.
+   * Throws AccessRefused, AnotherLibrary, TypeError for what is neither, RangeError for a number in an object that isn't exact, and an Error where
+   * memory is refused.
+   */
+  constructor(rule: Document);
+  /** The scopes that have to be granted, in the order of the rule. */
+  readonly scopes: readonly string[];
+  /** Frees what is held. It may be called twice. A later `validate` with it throws Closed. */
+  close(): void;
+}
+
+/**
+ * A policy and a key set, by which tokens are judged. A call takes microseconds, and blocks: `max_calls` in the policy bounds it. Each worker
+ * opens its own. What is never closed is freed with the object.
+ */
+export class Validator {
+  /**
+   * Both are JSON texts, as the program `jwt` takes them, or what is written as them. Throws PolicyRefused, KeysRefused, TooManyQuestions,
+   * AnotherLibrary, TypeError for what is neither, and an Error where memory is refused.
+   */
+  constructor(policy: Document, keys: Document, how?: Opening);
+  /**
+   * The claims of a token that is accepted at a moment; without one, at the clock's. Whole numbers past 2^53 lose digits by JSON.parse:
+   * `validateText` has them. With an access rule, only claims that meet it are given. Throws TokenRefused, Denied, Closed, TypeError also for an
+   * object whose `access` isn't an Access and for more arguments, RangeError for a moment that isn't one, and an Error where memory is refused.
+   */
+  validate(token: Token, how?: Moment | Asking): Claims;
+  /** The same claims as the JSON text that the token has. */
+  validateText(token: Token, how?: Moment | Asking): string;
+  /** All that is said of a token: a refusal stands in the report. Throws as `validate` does without an access rule, TokenRefused aside. */
+  judge(token: Token, now?: Moment): Report;
+  /** The protected header of the signature of this number; undefined where there is none. Anyone may have written it. */
+  unverifiedHeader(token: Token, signature?: number): { [name: string]: unknown } | undefined;
+  /** The claims as a token, signed by HMAC. Throws IssueRefused, Closed, TypeError and RangeError. */
+  issue(claims: Document, how?: Issuing): string;
+  /** Frees what is held. It may be called twice. Later calls throw Closed. */
+  close(): void;
+}

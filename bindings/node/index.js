@@ -1,0 +1,271 @@
+'use strict';
+/** Validates JSON Web Tokens (RFC 7519) by a library that is proved correct, public-key signatures too. index.d.ts says what each call does. */
+
+const OK = 0, REFUSED = 1, OUT_OF_MEMORY = 3;
+/** FOW_NO_FAULT and FOW_DENIED_SCOPE_MISSING of fowharimu.h. */
+const NO_FAULT = 0, SCOPE_MISSING = 1001;
+/** FOW_MOST_QUESTIONS of fowharimu.h. */
+const MOST_QUESTIONS = 64;
+const GREATEST_NUMBER = 2 ** 32 - 1;
+const PARTS = { 1: 'payload', 2: 'protected', 3: 'signature' };
+const STATES = { 1: 'barred', 2: 'no key', 3: 'bad signature', 4: 'verified', 5: 'not reached', 6: 'stopped' };
+const CLAIMS = { 1: 'iss', 2: 'sub', 3: 'aud', 4: 'exp', 5: 'nbf', 6: 'iat', 7: 'jti' };
+const FORMS = { compact: 1, general: 2, flattened: 3 };
+const HMAC = { HS256: 1, HS384: 2, HS512: 3 };
+
+class FowharimuError extends Error {
+  constructor(message, members) {
+    super(message);
+    Object.assign(this, members);
+  }
+}
+// (a name that stands on the class costs no error anything)
+const named = (kind, name) => Object.defineProperty(kind.prototype, 'name', { value: name, configurable: true, writable: true });
+class AnotherLibrary extends FowharimuError {}
+class Closed extends FowharimuError {}
+class TooManyQuestions extends FowharimuError {}
+class PolicyRefused extends FowharimuError {}
+class KeysRefused extends FowharimuError {}
+class IssueRefused extends FowharimuError {}
+class AccessRefused extends FowharimuError {}
+class Denied extends FowharimuError {}
+class TokenRefused extends FowharimuError {}
+class TooLong extends TokenRefused {}
+class FormRefused extends TokenRefused {}
+class CeilingReached extends TokenRefused {}
+class SignatureRefused extends TokenRefused {}
+class ClaimsRefused extends TokenRefused {}
+const ERRORS = {
+  FowharimuError, AnotherLibrary, Closed, TooManyQuestions, PolicyRefused, KeysRefused, IssueRefused, AccessRefused, Denied, TokenRefused,
+  TooLong, FormRefused, CeilingReached, SignatureRefused, ClaimsRefused,
+};
+for (const [name, kind] of Object.entries(ERRORS)) named(kind, name);
+
+/** The functions of addon.c: those of the file that FOWHARIMU_NODE names, or of the one in this package. */
+function load() {
+  const file = process.env.FOWHARIMU_NODE;
+  if (file) return require(file);
+  if (process.platform !== 'linux' || process.arch !== 'x64') {
+    throw new FowharimuError(`fowharimu has a library for linux-x64, and this is ${process.platform}-${process.arch}`);
+  }
+  return require('./prebuilds/linux-x64/fowharimu.node');
+}
+const native = load();
+
+const isBinary = (it) => ArrayBuffer.isView(it) || it instanceof ArrayBuffer || it instanceof SharedArrayBuffer;
+// (of what is binary only a Uint8Array is taken, and addon.c says so)
+const octets = (document, replacer) => (typeof document === 'string' || isBinary(document) ? document : JSON.stringify(document, replacer));
+
+function isPlain(object) {
+  const kind = Object.getPrototypeOf(object);
+  return Array.isArray(object) || kind === null || Object.getPrototypeOf(kind) === null;
+}
+
+/** Refuses in an access rule what JSON.stringify leaves out, or writes as `{}`, such as a promise or a map: the rule would ask for less. */
+function wholly(name, value) {
+  const isObject = typeof value === 'object' && value !== null, at = JSON.stringify(name);
+  if (isObject ? !isPlain(value) : ['undefined', 'function', 'symbol'].includes(typeof value)) {
+    throw new TypeError(`an access rule has plain objects and arrays, texts, numbers and booleans, and something else at ${at}`);
+  }
+  if (!Number.isInteger(value) || Number.isSafeInteger(value)) return value;
+  throw new RangeError(`an access rule has at ${at} a number that isn't exact: a JSON text can have it`);
+}
+
+function compareLibrary() {
+  const { madeFor, loaded, version } = native;
+  if (madeFor === loaded) return;
+  throw new AnotherLibrary(`the library ${version} has interface ${loaded}, and this package was made for ${madeFor}`, { madeFor, loaded, version });
+}
+
+function documentRefused(number, policy) {
+  const fault = native.faultName(number);
+  if (Math.trunc(number / 100) === 2) return new KeysRefused(`the key set is refused: ${fault}`, { fault });
+  const member = native.refusedMember(policy);
+  return new PolicyRefused(`the policy is refused: ${fault}${member === undefined ? '' : ` ${JSON.stringify(member)}`}`, { fault, member });
+}
+
+function accessRefused(number, rule) {
+  const fault = native.faultName(number), member = native.refusedInAccess(rule);
+  return new AccessRefused(`the access rule is refused: ${fault}${member === undefined ? '' : ` ${JSON.stringify(member)}`}`, { fault, member });
+}
+
+/** A moment as the library takes it: it is never wrapped or rounded. */
+function moment(now) {
+  if (now === undefined) return Math.floor(Date.now() / 1000);
+  if (Number.isSafeInteger(now)) return now;
+  if (typeof now === 'bigint' && BigInt.asIntN(64, now) === now) return now;
+  throw new RangeError('now has to be a whole number of seconds that 64 bits have');
+}
+
+function whole(number, what) {
+  if (Number.isInteger(number) && number >= 0 && number <= GREATEST_NUMBER) return number;
+  throw new RangeError(`${what} has to be a whole number from 0 to ${GREATEST_NUMBER}`);
+}
+
+/** What a Validator may see of an Access, and nobody else: the rule as addon.c takes it, and its scopes. */
+let ruleOf;
+
+class Access {
+  #held;
+  #isClosed = false;
+  #scopes = [];
+
+  static {
+    ruleOf = (access) => {
+      if (typeof access !== 'object' || access === null || !(#held in access)) throw new TypeError('access has to be an Access');
+      if (access.#isClosed) throw new Closed('the access rule is closed');
+      return { held: access.#held, scopes: access.#scopes };
+    };
+  }
+
+  constructor(rule) {
+    compareLibrary();
+    const text = octets(rule, wholly), held = native.openAccess(text);
+    if (typeof held === 'number') throw accessRefused(held, text);
+    for (let scope; (scope = native.scope(held, this.#scopes.length)) !== undefined; ) this.#scopes.push(scope);
+    Object.freeze(this.#scopes);
+    this.#held = held;
+  }
+
+  get scopes() {
+    return this.#scopes;
+  }
+
+  close() {
+    this.#isClosed = true;
+    native.closeAccess(this.#held);
+  }
+}
+
+/** Refuses more than a token and one word beside it: an access rule behind a moment would go unheard. */
+function takeNoMore(others) {
+  if (others.length > 0) throw new TypeError('beside the token one argument is taken: a moment, or for claims { access, now }');
+}
+
+/** The moment and the access rule that a token is asked for. An object always has a rule, so that one isn't left out by a misspelled name. */
+function asked(how, others) {
+  takeNoMore(others);
+  if (typeof how !== 'object' || how === null) return { now: how };
+  return { now: how.now, rule: ruleOf(how.access) };
+}
+
+class Validator {
+  #held;
+  #isClosed = false;
+  #report = new Float64Array(8);
+
+  constructor(policy, keys, { mostQuestions = MOST_QUESTIONS } = {}) {
+    compareLibrary();
+    const text = octets(policy), held = native.open(text, octets(keys));
+    if (typeof held === 'number') throw documentRefused(held, text);
+    const most = native.mostQuestions(held);
+    if (!(most <= mostQuestions)) {
+      native.close(held);
+      throw new TooManyQuestions(
+        `one token could raise ${most} questions about public keys, and ${mostQuestions} are taken: set max_calls in the policy`,
+        { most, allowed: mostQuestions });
+    }
+    this.#held = held;
+  }
+
+  validate(token, how, ...others) {
+    return JSON.parse(this.validateText(token, how, ...others));
+  }
+
+  validateText(token, how, ...others) {
+    const { now, rule } = asked(how, others), refusal = this.#judge(token, now) ?? (rule && this.#denial(rule));
+    if (refusal) throw refusal;
+    return native.payload(this.#held);
+  }
+
+  judge(token, now, ...others) {
+    takeNoMore(others);
+    const refusal = this.#judge(token, now);
+    const [, , , signature, key, , work, count] = this.#report;
+    return { accepted: refusal === null, refusal, signature, key, work, states: this.#states(), tries: this.#tries(count) };
+  }
+
+  unverifiedHeader(token, signature = 0) {
+    const header = native.header(this.#open(), token, whole(signature, "a signature's number"));
+    return header === undefined ? undefined : JSON.parse(header || '{}');
+  }
+
+  issue(claims, { key = 0, alg = 'HS256', form = 'compact', typ = '' } = {}) {
+    if (!Object.hasOwn(HMAC, alg) || !Object.hasOwn(FORMS, form)) throw new RangeError(`no algorithm or form ${alg}, ${form}`);
+    if (typeof typ !== 'string') throw new TypeError('typ has to be a string');
+    const number = whole(key, "a key's number");
+    const token = native.issue(this.#open(), HMAC[alg], FORMS[form], number, typ, octets(claims), this.#report);
+    if (token !== undefined) return token;
+    const [status, fault, , signature, , claim] = this.#report;
+    // (what is neither issued nor refused is a `typ` that is no text in UTF-8)
+    if (status !== REFUSED) throw new RangeError('typ has to be a text without lone surrogates');
+    const name = native.faultName(fault);
+    throw new IssueRefused(`nothing is issued: ${name}`, { fault: name, signature, claim: CLAIMS[claim] });
+  }
+
+  close() {
+    this.#isClosed = true;
+    native.close(this.#held);
+  }
+
+  #open() {
+    if (this.#isClosed) throw new Closed('the validator is closed');
+    return this.#held;
+  }
+
+  /** Why a token isn't accepted, and null where it is. */
+  #judge(token, now) {
+    const verdict = native.judge(this.#open(), token, moment(now), this.#report);
+    return verdict === OK ? null : this.#refusal(verdict);
+  }
+
+  /** Why an access rule denies the token that was accepted just now, and null where its claims meet the rule. */
+  #denial({ held, scopes }) {
+    const number = native.denied(this.#held, held);
+    if (number === NO_FAULT) return null;
+    const fault = native.faultName(number), name = native.deniedName(this.#held, held), isScope = number === SCOPE_MISSING;
+    const members = { fault, scope: isScope ? name : undefined, claim: isScope ? undefined : name, scopes };
+    return new Denied(`the token is denied: ${fault}, ${isScope ? 'scope' : 'claim'} ${JSON.stringify(name)}`, members);
+  }
+
+  #refusal(verdict) {
+    if (verdict === OUT_OF_MEMORY) throw new Error('an allocation was refused');
+    if (verdict !== REFUSED) throw new Closed('the validator is closed');
+    const [, number, part, signature, key, claim] = this.#report;
+    const fault = native.faultName(number), said = `the token is refused: ${fault}`;
+    switch (Math.trunc(number / 100)) {
+      case 3: return new TooLong(said, { fault });
+      case 4: return new FormRefused(said, { fault, part: PARTS[part], signature });
+      case 5: return new CeilingReached(said, { fault, signature, key });
+      case 6: return new SignatureRefused(said, { fault, signature });
+      default: return this.#claimsRefused(said, fault, CLAIMS[claim] ?? native.refusedClaim(this.#held));
+    }
+  }
+
+  #claimsRefused(said, fault, claim) {
+    return new ClaimsRefused(claim === undefined ? said : `${said}, claim ${JSON.stringify(claim)}`, { fault, claim });
+  }
+
+  #states() {
+    const states = [];
+    for (let said; (said = native.state(this.#held, states.length)) !== undefined; ) {
+      const [state, fault, key] = said;
+      states.push({ state: STATES[state], fault: state === 1 ? native.faultName(fault) : undefined, key: state === 4 ? key : undefined });
+    }
+    return states;
+  }
+
+  #tries(count) {
+    return Array.from({ length: count }, (_, n) => {
+      const [signature, key, cost] = native.tried(this.#held, n);
+      return { signature, key, cost };
+    });
+  }
+}
+if (Symbol.dispose) for (const it of [Validator, Access]) it.prototype[Symbol.dispose] = it.prototype.close;
+
+// (each by its name: so that `import { Validator } from 'fowharimu'` finds them)
+module.exports = {
+  Validator, Access, FowharimuError, AnotherLibrary, Closed, TooManyQuestions, PolicyRefused, KeysRefused, IssueRefused, AccessRefused,
+  Denied, TokenRefused, TooLong, FormRefused, CeilingReached, SignatureRefused, ClaimsRefused,
+};

@@ -1,0 +1,367 @@
+'use strict';
+const assert = require('node:assert');
+const { spawnSync } = require('node:child_process');
+const fs = require('node:fs');
+const path = require('node:path');
+const test = require('node:test');
+const { Worker, isMainThread, workerData, parentPort } = require('node:worker_threads');
+const fow = require('..');
+
+const TOP = process.env.FOWHARIMU_TOP ?? path.resolve(__dirname, '../../..');
+const NOW = 1300819379;
+const HMAC = path.join(TOP, 'examples/rfc7515-a1');
+const RSA = path.join(TOP, 'bindings/tokens/RS256');
+const read = (name, end) => fs.readFileSync(`${name}.${end}`);
+const validatorOf = (name) => new fow.Validator(read(name, 'policy'), read(name, 'keys'));
+const tokenOf = (name) => read(name, 'jwt').toString();
+const namesIn = (folder) =>
+  fs.readdirSync(path.join(TOP, folder)).filter((it) => it.endsWith('.jwt')).map((it) => path.join(TOP, folder, it.slice(0, -4)));
+/** The name of a token whose signature the proved verifiers don't verify. */
+const isUnverified = (name) => path.basename(name) === 'Ed448';
+
+/** The token with another first character of its signature. */
+function changed(token) {
+  const at = token.lastIndexOf('.') + 1;
+  return token.slice(0, at) + (token[at] === 'A' ? 'B' : 'A') + token.slice(at + 1);
+}
+
+function judgeMany(name) {
+  const validator = validatorOf(name);
+  let accepted = 0;
+  for (let n = 0; n < 200; n++) accepted += validator.judge(tokenOf(name), NOW).accepted;
+  return accepted;
+}
+
+function testEachToken() {
+  const names = ['examples', 'bindings/tokens'].flatMap(namesIn);
+  assert.ok(names.length >= 15);
+  for (const name of names.filter((it) => !isUnverified(it))) {
+    const validator = validatorOf(name), token = tokenOf(name);
+    if (path.basename(name) === 'rfc8037-a4') assert.throws(() => validator.validate(token, NOW), fow.ClaimsRefused);
+    else for (const it of [token, Buffer.from(token)]) assert.strictEqual(validator.validate(it, NOW).iss, 'joe', name);
+    assert.throws(() => validator.validate(changed(token), NOW), { name: 'SignatureRefused', fault: 'BadSignature', signature: 0 });
+    validator.close();
+  }
+}
+
+function testEd448() {
+  const name = path.join(TOP, 'bindings/tokens/Ed448');
+  assert.throws(() => validatorOf(name).validate(tokenOf(name), NOW), { name: 'SignatureRefused', fault: 'BadSignature' });
+}
+
+function testReport() {
+  const report = validatorOf(HMAC).judge(tokenOf(HMAC), NOW);
+  assert.ok(report.accepted);
+  assert.deepStrictEqual(report.states, [{ state: 'verified', fault: undefined, key: 0 }]);
+  assert.strictEqual(report.tries.length, 1);
+  assert.strictEqual(report.work, report.tries[0].cost);
+}
+
+function testRefusals() {
+  const policy = { algs: ['HS256'] }, token = tokenOf(HMAC), keys = read(HMAC, 'keys');
+  const refusal = (by, it) => new fow.Validator(by, keys).judge(it, NOW).refusal;
+  for (const [by, it, name, fault] of [
+    [{ ...policy, limit: 100 }, token, 'TooLong', 'TooLong'],
+    [policy, 'a.b', 'FormRefused', 'Segments'],
+    [policy, '', 'FormRefused', 'Empty'],
+    [policy, '\ud800.\0.é', 'FormRefused', 'Base64'],
+    [policy, 'e30.*.AA', 'FormRefused', 'Base64'],
+    [{ ...policy, work: 10 }, token, 'CeilingReached', 'WorkExceeded'],
+    [{ ...policy, version: 2, max_calls: 0 }, token, 'CeilingReached', 'CallsExceeded'],
+    [{ algs: ['HS384'] }, token, 'SignatureRefused', 'AlgNotAllowed'],
+    [{ ...policy, required: ['role'] }, token, 'ClaimsRefused', 'ClaimMissing'],
+    [{ ...policy, issuers: ['eve'] }, token, 'ClaimsRefused', 'Issuer'],
+  ]) {
+    const error = refusal(by, it);
+    assert.ok(error instanceof fow[name] && error instanceof fow.TokenRefused, `${fault}: ${error}`);
+    assert.deepStrictEqual([error.name, error.fault], [name, fault]);
+  }
+  assert.strictEqual(refusal(policy, 'e30.*.AA').part, 'payload');
+  for (const claim of ['role', 'sub', 'röle']) assert.strictEqual(refusal({ ...policy, required: [claim] }, token).claim, claim);
+}
+
+/** A surrogate that stands alone isn't taken for another text. */
+function testSurrogates() {
+  const key = { kty: 'oct', k: 'A'.repeat(43) }, policy = { algs: ['HS256'] }, keys = { keys: [key] };
+  const validator = new fow.Validator(policy, keys);
+  for (const text of ['é€\u{1f600}', '\ufffd', '\ufffd\ufffd']) {
+    assert.strictEqual(validator.validate(validator.issue(`{"iss":"${text}"}`), NOW).iss, text);
+  }
+  for (const text of ['\ud800', '\udc00\ud800', 'é\ud800€', '\ufffd\ud800']) {
+    assert.throws(() => validator.issue(`{"iss":"${text}"}`), { name: 'IssueRefused', fault: 'ClaimsShape' });
+    assert.throws(() => new fow.Validator(`{"algs":["HS256"],"issuers":["${text}"]}`, keys), { name: 'PolicyRefused', fault: 'Json' });
+  }
+  assert.throws(() => validator.issue({}, { typ: '\ud800' }), RangeError);
+}
+
+function testDocuments() {
+  const keys = { keys: [] };
+  assert.throws(() => new fow.Validator({ algs: ['HS256'], audience: 'me' }, keys), { name: 'PolicyRefused', fault: 'Member', member: 'audience' });
+  assert.throws(() => new fow.Validator({ algs: [] }, keys), { name: 'PolicyRefused', fault: 'NoAlgorithm', member: undefined });
+  assert.throws(() => new fow.Validator({ algs: ['HS256'] }, {}), { name: 'KeysRefused', fault: 'NotKeySet' });
+}
+
+/** Access rules, over the claims of RFC 7515, appendix A.1: `iss` joe, `exp` and `http://example.com/is_root` true. */
+function testGranted() {
+  const validator = validatorOf(HMAC), token = tokenOf(HMAC);
+  const claims = { iss: ['joe', 'ann'], exp: [NOW + 1], 'http://example.com/is_root': [true] };
+  const rule = { scopes: ['joe'], scope_claim: 'iss', claims };
+  for (const it of [rule, JSON.stringify(rule), Buffer.from(JSON.stringify(rule)), {}, '{}', Object.assign(Object.create(null), rule)]) {
+    const access = new fow.Access(it);
+    for (const now of [NOW, BigInt(NOW)]) {
+      assert.strictEqual(validator.validate(token, { access, now }).iss, 'joe');
+      assert.strictEqual(validator.validateText(token, { access, now }), validator.validateText(token, NOW));
+    }
+  }
+  assert.throws(() => validator.validate(token, { access: new fow.Access({}) }), { fault: 'Expired' });
+}
+
+function testDenied() {
+  const validator = validatorOf(HMAC), token = tokenOf(HMAC), long = `/${'a'.repeat(5000)}`;
+  const scope = undefined, claim = undefined, scopes = [], message = 'the token is denied: ';
+  for (const [rule, said, words] of [
+    [{ scopes: ['read', 'write'], claims: { iss: ['ann'] } }, { fault: 'ScopeMissing', scope: 'read', claim, scopes: ['read', 'write'] }, 'scope "read"'],
+    [{ scopes: ['joe', 'write'], scope_claim: 'iss' }, { fault: 'ScopeMissing', scope: 'write', claim, scopes: ['joe', 'write'] }, 'scope "write"'],
+    [{ claims: { iss: ['ann'], sub: ['x'] } }, { fault: 'ClaimNotAllowed', scope, claim: 'iss', scopes }, 'claim "iss"'],
+    [{ claims: { '': ['x'] } }, { fault: 'ClaimMissing', scope, claim: '', scopes }, 'claim ""'],
+    [{ claims: { röle: ['x'] } }, { fault: 'ClaimMissing', scope, claim: 'röle', scopes }, 'claim "röle"'],
+    [{ claims: { [long]: [1] } }, { fault: 'ClaimMissing', scope, claim: long, scopes }, `claim "${long}"`],
+  ]) {
+    const how = { access: new fow.Access(rule), now: NOW }, error = { name: 'Denied', message: `${message}${said.fault}, ${words}`, ...said };
+    for (const call of ['validate', 'validateText']) assert.throws(() => validator[call](token, how), error);
+    assert.deepStrictEqual(how.access.scopes, said.scopes);
+  }
+  assert.ok(new fow.Denied('') instanceof fow.FowharimuError && !(new fow.Denied('') instanceof fow.TokenRefused));
+}
+
+/** A token that isn't accepted is refused, whatever the rule says; and a denial stays with its token. */
+function testDenialIsNoRefusal() {
+  const validator = validatorOf(HMAC), token = tokenOf(HMAC);
+  const [denies, grants] = [{ scopes: ['read'] }, {}].map((it) => new fow.Access(it));
+  for (const access of [denies, grants]) {
+    assert.throws(() => validator.validate(token, { access, now: NOW + 3600 }), { name: 'ClaimsRefused', fault: 'Expired' });
+    assert.throws(() => validator.validate(changed(token), { access, now: NOW }), fow.SignatureRefused);
+  }
+  assert.throws(() => validator.validate(token, { access: denies, now: NOW }), fow.Denied);
+  assert.strictEqual(validator.validate(token, { access: grants, now: NOW }).iss, 'joe');
+  assert.strictEqual(validator.validate(token, NOW).iss, 'joe');
+  assert.strictEqual(validatorOf(RSA).validate(tokenOf(RSA), { access: grants, now: NOW }).iss, 'joe');
+}
+
+function testRefusedRules() {
+  for (const [rule, fault, member] of [
+    ['', 'Json'],
+    [Buffer.from([0xff]), 'Json'],
+    ['\ud800', 'Json'],
+    [7, 'Json'],
+    [null, 'Json'],
+    [[], 'Json'],
+    ['{"scopes":[],"scopes":[]}', 'NameTwice'],
+    [{ scope: 'read' }, 'Member', 'scope'],
+    [{ scopes: null }, 'Member', 'scopes'],
+    [{ scopes: ['read write'] }, 'Range', 'scopes'],
+    [{ claims: { a: [1.5] } }, 'Claim', 'a'],
+    [{ claims: { a: [NaN] } }, 'Claim', 'a'],
+    [{ claims: { röle: [] } }, 'ClaimRange', 'röle'],
+    [{ claims: { '/~2': [1] } }, 'ClaimRange', '/~2'],
+    [' '.repeat(65537), 'TooLong'],
+  ]) {
+    const message = `the access rule is refused: ${fault}${member === undefined ? '' : ` "${member}"`}`;
+    assert.throws(() => new fow.Access(rule), { name: 'AccessRefused', message, fault, member });
+  }
+}
+
+/** What JSON.stringify would leave out, or write as a rule that asks for less, is no rule. */
+function testRulesByMistake() {
+  const scopes = ['read'];
+  for (const it of [
+    undefined, 7n, Symbol('a'), () => ({ scopes }), new Uint16Array(2), new ArrayBuffer(2), Promise.resolve({ scopes }), new Map([['scopes', scopes]]),
+    new fow.Access({ scopes }), new (class { scopes = scopes; })(), Object.create({ scopes }), { scopes: undefined }, { claims: new Map([['a', [1]]]) },
+    { scopes: ['read', undefined] }, { claims: { a: undefined } }, { claims: { a: [() => 1] } }, { claims: { a: [7n] } },
+  ]) assert.throws(() => new fow.Access(it), TypeError);
+  for (const it of [2 ** 53, -(2 ** 62)]) assert.throws(() => new fow.Access({ claims: { a: [it] } }), RangeError);
+}
+
+/** A call that is handed no rule where it should be handed one gives no claims. */
+function testMistakenRules() {
+  const validator = validatorOf(HMAC), token = tokenOf(HMAC), access = new fow.Access({});
+  const others = [undefined, null, {}, '{}', true, fow.Access, Object.create(fow.Access.prototype), structuredClone(access), validator];
+  const error = { name: 'TypeError', message: 'access has to be an Access' };
+  for (const it of others) assert.throws(() => validator.validate(token, { access: it, now: NOW }), error);
+  for (const how of [{}, { now: NOW }, { acess: access, now: NOW }, access, [access], new Date(0)]) {
+    assert.throws(() => validator.validate(token, how), error);
+  }
+  for (const now of [1.5, NaN, null, `${NOW}`, { now: NOW }]) assert.throws(() => validator.validate(token, { access, now }), RangeError);
+  assert.throws(() => validator.judge(token, { access, now: NOW }), RangeError);
+  for (const call of ['validate', 'validateText', 'judge']) {
+    for (const it of [access, undefined]) assert.throws(() => validator[call](token, NOW, it), TypeError);
+  }
+  assert.throws(() => access.scopes.push('read'), TypeError);
+  assert.throws(() => { access.scopes = []; }, TypeError);
+  access.close();
+  access.close();
+  assert.throws(() => validator.validate(token, { access, now: NOW }), fow.Closed);
+  assert.deepStrictEqual(access.scopes, []);
+  validator.close();
+  assert.throws(() => validator.validate(token, { access: new fow.Access({}), now: NOW }), fow.Closed);
+}
+
+/** The rules of docs/ACCESS.md, which stand in examples/access, with what is expected there of the claims beside them. */
+function testRulesOfTheDocuments() {
+  const said = [], keys = fs.readFileSync(path.join(TOP, 'examples/rfc7515-a1.keys')), now = 1639528911;
+  const shown = fs.readFileSync(path.join(TOP, 'docs/ACCESS.md')).toString(), folder = path.join(TOP, 'examples/access');
+  for (const file of fs.readdirSync(folder).filter((it) => it.endsWith('.access')).sort()) {
+    const name = path.basename(file, '.access'), rule = path.join(folder, name), validator = new fow.Validator(read(rule, 'policy'), keys);
+    const access = new fow.Access(read(rule, 'access'));
+    assert.ok(shown.includes(`\`\`\`json\n${read(rule, 'access')}\`\`\`\n`), name);
+    said.push(name);
+    for (const claims of read(rule, 'claims').toString().trimEnd().split('\n')) {
+      const token = validator.issue(claims, { typ: 'at+jwt' });
+      said.push(`${verdictOf(validator, token, { access, now })} sig=0 key=0 tries=1 work=${validator.judge(token, now).work}`);
+    }
+  }
+  assert.deepStrictEqual(said, fs.readFileSync(path.join(folder, 'expected.txt')).toString().trimEnd().split('\n'));
+}
+
+/** What the program prints of a token: that it is accepted, or why it is denied. */
+function verdictOf(validator, token, how) {
+  try {
+    validator.validate(token, how);
+    return 'accepted';
+  } catch (error) {
+    if (!(error instanceof fow.Denied)) throw error;
+    const { fault, scope, claim } = error;
+    return `denied ${fault} ${scope === undefined ? 'claim' : 'scope'}=${JSON.stringify(scope ?? claim)}`;
+  }
+}
+
+function testQuestions() {
+  const many = { keys: Array(3).fill(JSON.parse(read(RSA, 'keys')).keys[0]) }, policy = { algs: ['RS256'], max_signatures: 32 };
+  assert.throws(() => new fow.Validator(policy, many), { name: 'TooManyQuestions', most: 96, allowed: 64 });
+  assert.throws(() => new fow.Validator(policy, many, { mostQuestions: NaN }), { name: 'TooManyQuestions' });
+  assert.ok(new fow.Validator(policy, many, { mostQuestions: 96 }).judge(tokenOf(RSA), NOW).accepted);
+}
+
+function testMistakes() {
+  const validator = validatorOf(HMAC), token = tokenOf(HMAC);
+  for (const it of [undefined, null, 7, new Uint16Array(2), new ArrayBuffer(2)]) {
+    assert.throws(() => validator.validate(it, NOW), TypeError);
+  }
+  for (const it of [undefined, 7n, Symbol('a'), new Uint16Array(2), new ArrayBuffer(2)]) {
+    assert.throws(() => new fow.Validator(it, { keys: [] }), TypeError);
+    assert.throws(() => validator.issue(it), TypeError);
+  }
+  for (const now of [1.5, NaN, Infinity, 2 ** 53, null, `${NOW}`, 2n ** 63n]) assert.throws(() => validator.validate(token, now), RangeError);
+  for (const key of [-1, 0.5, 2 ** 32]) {
+    assert.throws(() => validator.issue({}, { key }), RangeError);
+    assert.throws(() => validator.unverifiedHeader(token, key), RangeError);
+  }
+  assert.throws(() => validator.issue({}, { alg: 'RS256' }), RangeError);
+  assert.throws(() => validator.issue({}, { form: 'toString' }), RangeError);
+  assert.ok(validator.judge(token, BigInt(NOW)).accepted);
+  assert.ok(!validator.judge(token, 2n ** 63n - 1n).accepted);
+}
+
+function testClosing() {
+  const validator = validatorOf(HMAC), token = tokenOf(HMAC);
+  validator.close();
+  validator.close();
+  for (const call of ['validate', 'validateText', 'judge', 'unverifiedHeader', 'issue']) assert.throws(() => validator[call](token), fow.Closed);
+}
+
+function testIssuing() {
+  const validator = validatorOf(HMAC), claims = { iss: 'joe', exp: NOW + 1 };
+  for (const form of ['compact', 'general', 'flattened']) {
+    assert.deepStrictEqual(validator.validate(validator.issue(claims, { form }), NOW), claims);
+  }
+  assert.throws(() => validator.issue(claims, { key: 7 }), { name: 'IssueRefused', fault: 'NoKey' });
+  assert.throws(() => validator.issue({ iss: 7 }), { name: 'IssueRefused', fault: 'ClaimKind', claim: 'iss' });
+  assert.deepStrictEqual(validator.unverifiedHeader(validator.issue({}, { typ: 'at+jwt' })), { alg: 'HS256', typ: 'at+jwt' });
+  assert.strictEqual(validator.unverifiedHeader('a.b'), undefined);
+}
+
+/** Octets that another thread may change are copied before they are read. */
+function testSharedBuffers() {
+  const shared = new Uint8Array(new SharedArrayBuffer(read(HMAC, 'jwt').length));
+  shared.set(read(HMAC, 'jwt'));
+  assert.strictEqual(validatorOf(HMAC).validate(shared, NOW).iss, 'joe');
+  const empty = new Uint8Array(8);
+  structuredClone(empty.buffer, { transfer: [empty.buffer] });
+  assert.throws(() => validatorOf(HMAC).validate(empty, NOW), { fault: 'Empty' });
+}
+
+async function testFreeing() {
+  for (let n = 0; n < 5000; n++) validatorOf(HMAC);
+  await new Promise((done) => setImmediate(done));
+  assert.ok(process.memoryUsage().rss < 300e6, `${process.memoryUsage().rss}`);
+}
+
+/** (what is never closed is freed when the thread's loop turns; all of these rules together have 800 MB) */
+async function testFreeingRules() {
+  const rule = JSON.stringify({ claims: { a: Array.from({ length: 5000 }, (_, n) => n) } }), before = process.memoryUsage().rss;
+  for (let n = 0; n < 5000; n++) {
+    new fow.Access(rule);
+    if (n % 100 === 0) await new Promise((done) => setImmediate(done));
+  }
+  assert.ok(process.memoryUsage().rss < before + 300e6, `${process.memoryUsage().rss}`);
+}
+
+async function testWorkers() {
+  const counts = await Promise.all(Array.from({ length: 4 }, () => new Promise((done, failed) => {
+    const worker = new Worker(__filename, { workerData: RSA });
+    worker.on('message', done).on('error', failed);
+  })));
+  assert.deepStrictEqual(counts, [200, 200, 200, 200]);
+}
+
+async function testImport() {
+  const { Validator, TokenRefused, ...others } = await import('../index.js');
+  for (const it of ['Access', 'AccessRefused', 'Denied']) assert.ok(others[it] && others[it] === fow[it], it);
+  assert.strictEqual(Validator, fow.Validator);
+  assert.strictEqual(TokenRefused, fow.TokenRefused);
+}
+
+function testTypes(t) {
+  const done = spawnSync('tsc', ['--noEmit', '--strict', '--target', 'es2022', '--module', 'node16', path.join(__dirname, '../types.ts')]);
+  if (done.error) return t.skip('tsc is lacking (Debian: node-typescript)');
+  assert.strictEqual(done.status, 0, `${done.stdout}`);
+}
+
+/** FOWHARIMU_ANOTHER is the number of the interface that the library has which FOWHARIMU_NODE was linked with, where it isn't this package's. */
+function testAnotherLibrary() {
+  const loaded = Number(process.env.FOWHARIMU_ANOTHER);
+  for (const call of [() => validatorOf(HMAC), () => new fow.Access({})]) {
+    assert.throws(call, { name: 'AnotherLibrary', loaded, madeFor: loaded - 1, version: 'another' });
+  }
+}
+
+if (!isMainThread) {
+  parentPort.postMessage(judgeMany(workerData));
+} else if (process.env.FOWHARIMU_ANOTHER) {
+  test('another library is refused', testAnotherLibrary);
+} else {
+  test('each token is accepted, and refused where it is changed', testEachToken);
+  test('a signature by Ed448 is refused', testEd448);
+  test('the clock is the moment', () => assert.throws(() => validatorOf(HMAC).validate(tokenOf(HMAC)), { fault: 'Expired' }));
+  test('a report has each try', testReport);
+  test('each kind of refusal', testRefusals);
+  test('lone surrogates', testSurrogates);
+  test('refused documents', testDocuments);
+  test('claims that meet an access rule', testGranted);
+  test('claims that are denied', testDenied);
+  test('a denial is no refusal', testDenialIsNoRefusal);
+  test('refused access rules', testRefusedRules);
+  test('what is no access rule', testRulesByMistake);
+  test('no access rule by mistake', testMistakenRules);
+  test('the access rules of the documents', testRulesOfTheDocuments);
+  test('too many questions', testQuestions);
+  test('mistakes are told', testMistakes);
+  test('a closed validator refuses', testClosing);
+  test('what is issued is accepted', testIssuing);
+  test('shared and detached buffers', testSharedBuffers);
+  test('what is not closed is freed', testFreeing);
+  test('access rules that are not closed are freed', testFreeingRules);
+  test('workers judge at once', testWorkers);
+  test('import finds each name', testImport);
+  test('types', testTypes);
+}

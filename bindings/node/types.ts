@@ -1,0 +1,30 @@
+// What a caller in TypeScript writes; it is compiled, and not run.
+import { Access, AccessRefused, AnotherLibrary, ClaimsRefused, Denied, FormRefused, KeysRefused, PolicyRefused, Report, TokenRefused, Validator } from '.';
+
+const validator: Validator = new Validator({ algs: ['HS256'] }, '{"keys":[]}', { mostQuestions: 8 });
+const claims: unknown = validator.validate('a.b.c').iss;
+const text: string = validator.validateText(new Uint8Array(3), 7n);
+const report: Report = validator.judge('a.b.c', 1300819379);
+const refusal: TokenRefused | null = report.refusal;
+if (refusal instanceof FormRefused && refusal.part === 'payload') console.log(refusal.signature, refusal.fault);
+if (refusal instanceof ClaimsRefused) console.log(refusal.claim?.length, refusal.message);
+for (const it of report.states) if (it.state === 'verified') console.log(it.key);
+for (const it of report.tries) console.log(it.cost + it.key);
+const access: Access = new Access({ scopes: ['read'], claims: { email_verified: [true] } });
+const granted: unknown = validator.validate('a.b.c', { access, now: 7 }).iss ?? validator.validateText('a.b.c', { access });
+const denied: unknown = granted;
+if (denied instanceof Denied && denied.fault === 'ScopeMissing') console.log(denied.scope?.length, denied.claim, denied.scopes.join(' '));
+if (denied instanceof AccessRefused) console.log(denied.fault, denied.member?.length, access.scopes.length);
+access.close();
+const token: string = validator.issue({ iss: 'joe' }, { alg: 'HS384', form: 'flattened', key: 0, typ: 'at+jwt' });
+const kid: unknown = validator.unverifiedHeader(token, 0)?.kid;
+for (const it of [PolicyRefused, KeysRefused, AnotherLibrary]) console.log(it.name, claims, text, kid);
+validator.close();
+// @ts-expect-error: a token is a text or octets
+validator.validate(7);
+// @ts-expect-error: HMAC alone is issued
+validator.issue({}, { alg: 'RS256' });
+// @ts-expect-error: a misspelled rule
+validator.validate('a.b.c', { acess: access });
+// @ts-expect-error: an object without a rule
+validator.validate('a.b.c', { now: 7 });

@@ -1,0 +1,79 @@
+//! What verifies public keys: OpenSSL with the feature `openssl`, and else the library's proved verifiers.
+
+use fowharimu_sys as sys;
+
+/// What OpenSSL made of the keys of a validator.
+#[cfg(feature = "openssl")]
+#[derive(Debug)]
+pub(crate) struct Crypto(sys::fow_openssl);
+
+/// The proved verifiers, which hold nothing.
+#[cfg(not(feature = "openssl"))]
+#[derive(Debug)]
+pub(crate) struct Crypto;
+
+#[cfg(feature = "openssl")]
+impl Crypto {
+    pub(crate) fn new() -> Crypto {
+        Crypto(sys::fow_openssl {
+            keys: std::ptr::null_mut(),
+            count: 0,
+            room: std::ptr::null_mut(),
+            size: 0,
+        })
+    }
+
+    /// What is said of a token.
+    pub(crate) fn judge(
+        &mut self,
+        held: &mut sys::fow_validator,
+        token: &[u8],
+        now: i64,
+    ) -> sys::fow_report {
+        let mut report = sys::fow_report::default();
+        // SAFETY: the slice is as long as its length says, and isn't null.
+        unsafe {
+            sys::fow_openssl_judge(
+                &mut self.0,
+                held,
+                token.as_ptr(),
+                token.len(),
+                now,
+                &mut report,
+            );
+        }
+        report
+    }
+}
+
+#[cfg(feature = "openssl")]
+impl Drop for Crypto {
+    fn drop(&mut self) {
+        // SAFETY: it is that which the other calls had.
+        unsafe {
+            sys::fow_openssl_clear(&mut self.0);
+        }
+    }
+}
+
+#[cfg(not(feature = "openssl"))]
+impl Crypto {
+    pub(crate) fn new() -> Crypto {
+        Crypto
+    }
+
+    /// What is said of a token.
+    pub(crate) fn judge(
+        &mut self,
+        held: &mut sys::fow_validator,
+        token: &[u8],
+        now: i64,
+    ) -> sys::fow_report {
+        let mut report = sys::fow_report::default();
+        // SAFETY: the slice is as long as its length says, and isn't null.
+        unsafe {
+            sys::fow_proved_judge(held, token.as_ptr(), token.len(), now, &mut report);
+        }
+        report
+    }
+}
