@@ -4,7 +4,11 @@
 #   make test                        runs the tests of each language that is installed
 #   make install PREFIX= DESTDIR=    installs libraries, headers, pkg-config, the manual page and the program
 #   make fuzz SECONDS=               attacks the library for C, each way for so many seconds (Debian: clang, libclang-rt-14-dev)
-#   make deb                         makes build/fowharimu_VERSION_ARCHITECTURE.deb
+#   make node                        builds build/node/fowharimu.node, the addon for Node (Debian: nodejs, libnode-dev)
+#   make java                        builds build/java/fowharimu-VERSION.jar (Debian: openjdk-17-jdk-headless)
+#   make dist                        writes a release into build/dist, of what ./check passed: it needs no kit where it is unpacked
+#   make check-dist                  installs what is in build/dist where there is no kit, and has each caller answer all cases
+#   make deb                         makes a release, and Debian packages of it (Debian: dpkg-dev, debhelper, lintian, nginx-dev)
 #   make nginx                       builds build/nginx/ngx_http_fowharimu_module.so (Debian: nginx-dev)
 #   make nginx-install DESTDIR=      installs it where Debian's nginx looks for modules, with the endpoint for other gateways
 PREFIX ?= /usr/local
@@ -84,21 +88,14 @@ install: all $(PROGRAM) $(BUILD)/fowharimu.1
 	install -m 755 $(PROGRAM) $(DESTDIR)$(PREFIX)/bin/fowharimu
 	install -m 644 $(BUILD)/fowharimu.1 $(DESTDIR)$(PREFIX)/share/man/man1
 
-# The package holds what install installs, and, where nginx-dev is there, the module and the endpoint; in it the module isn't enabled. It is
-# made in a folder outside the repository, since it has symbolic links.
-deb:
-	mkdir -p $(BUILD)
-	room=$$(mktemp -d) && trap 'rm -rf "$$room"' EXIT && chmod 755 "$$room" && \
-	$(MAKE) install PREFIX=/usr DESTDIR="$$room" && install -d "$$room/DEBIAN" && \
-	if [ -e $(NGINX)/configure ]; then $(MAKE) nginx-files DESTDIR="$$room" && install -m 644 debian/conffiles "$$room/DEBIAN"; \
-	else echo "left out, since nginx-dev isn't here: the module for nginx, and the endpoint"; fi && \
-	sed 's|@VERSION@|$(VERSION)|; s|@ARCHITECTURE@|$(shell dpkg --print-architecture)|' debian/control > "$$room/DEBIAN/control" && \
-	dpkg-deb --root-owner-group --build "$$room" $(BUILD)
+# Made of the release, in a folder outside the repository, since they have symbolic links.
+deb: dist
+	release/debs $(BUILD)/dist
 
 # nginx's own configure, with the flags of Debian's nginx, writes the Makefile for the module.
 NGINX = /usr/share/nginx/src
 MODULE = ngx_http_fowharimu_module
-NGINX_FLAGS = -O2 -g -fPIC -fstack-protector-strong -D_FORTIFY_SOURCE=2
+NGINX_FLAGS = -O2 -g -ffile-prefix-map=$(CURDIR)=. -fPIC -fstack-protector-strong -D_FORTIFY_SOURCE=2
 
 $(BUILD)/nginx/Makefile: bindings/nginx/config
 	mkdir -p $(BUILD)/nginx
@@ -124,6 +121,25 @@ nginx-install: nginx-files
 	install -d $(DESTDIR)/etc/nginx/modules-enabled
 	ln -sf /usr/share/nginx/modules-available/mod-http-fowharimu.conf $(DESTDIR)/etc/nginx/modules-enabled/50-mod-http-fowharimu.conf
 
+# Each has the archive of the library inside.
+$(BUILD)/node/fowharimu.node: bindings/node/src/addon.c include/fowharimu.h $(BUILD)/libfowharimu.a
+	mkdir -p $(BUILD)/node
+	$(CC) $(CFLAGS) $(WARNINGS) -fPIC -shared -fstack-protector-strong -I$$(release/node_headers) -Iinclude -o $@ $< $(BUILD)/libfowharimu.a \
+	    -Wl,-z,relro,-z,now -Wl,--exclude-libs,ALL
+
+node: $(BUILD)/node/fowharimu.node
+
+$(BUILD)/java/fowharimu-$(VERSION).jar: $(shell find bindings/java -type f) include/fowharimu.h $(BUILD)/libfowharimu.a
+	bindings/java/build $(BUILD)/java $(VERSION) $(BUILD)/libfowharimu.a
+
+java: $(BUILD)/java/fowharimu-$(VERSION).jar
+
+dist: all
+	release/dist $(BUILD)/dist
+
+check-dist:
+	release/check $(BUILD)/dist
+
 test: libraries
 	bindings/run
 
@@ -137,4 +153,4 @@ clean:
 
 FORCE:
 
-.PHONY: all libraries install deb nginx nginx-files nginx-install test fuzz clean FORCE
+.PHONY: all libraries node java dist check-dist install deb nginx nginx-files nginx-install test fuzz clean FORCE
