@@ -5,7 +5,7 @@ in C are looked for too. It ends with 'N passed, M failed', where a row or a pat
 import os, pathlib, re, subprocess, sys
 
 TOP = pathlib.Path(__file__).resolve().parent.parent
-PLACES = "crates|docs|bindings|examples|include|bench|gate|trial|refused-growths|failing-streams|must-not-compile"
+PLACES = "crates|docs|bindings|examples|include|bench|gate|trial|keys|refused-growths|failing-streams|must-not-compile"
 
 
 def texts(pattern):
