@@ -46,7 +46,7 @@ pub(crate) struct Ready<'a> {
     pub(crate) signature: &'a [u8],
 }
 
-// Whether a verdict accepts.
+/// Whether a verdict accepts.
 fn is_accepted(verdict: &Verdict<'_>) -> Result<bool, RunFault>
     ensures value { IfOk result (λ accepted. accepted ≡ is_accepted verdict.now) }
     ensures memory { IfOk result (λ accepted. FoundMemory verdict.now) }
@@ -60,7 +60,7 @@ fn is_accepted(verdict: &Verdict<'_>) -> Result<bool, RunFault>
     }
 }
 
-// What a run that hashes came to.
+/// What a run that hashes came to.
 fn ran(accepted: bool, budget: &CountDown) -> Ran
     ensures value { result
         ≡ ran accepted (⟦<CountDown as Budget>⟧.octets budget.now)
@@ -74,7 +74,7 @@ fn ran(accepted: bool, budget: &CountDown) -> Ran
     }
 }
 
-// What a run that only reads came to.
+/// What a run that only reads came to.
 fn has_read(accepted: bool) -> Ran
     ensures { result ≡ ran accepted 0 0 }
 {
@@ -85,7 +85,7 @@ fn has_read(accepted: bool) -> Ran
     }
 }
 
-// Whether the octets are an object text.
+/// Whether the octets are an object text.
 fn is_object(alloc: Global, octets: &[u8]) -> Result<bool, RunFault>
     ensures { IfOk result (λ is. is ≡ is_ok (object_of octets.now)) }
 {

@@ -28,7 +28,7 @@ fn main(rt: HostRuntime) -> Result<(), Stop> {
     Ok(())
 }
 
-// Says what becomes of the token on standard input.
+/// Says what becomes of the token on standard input.
 fn answer(rt: &HostRuntime, validator: &Validator) -> io::Result<()> {
     let report = report_on(rt.alloc(), validator, &mut Reader::new(rt.stdin()), NOW);
     match &report.verdict {

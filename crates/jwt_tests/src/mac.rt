@@ -135,7 +135,7 @@ static VECTORS: [Vector; 7] = [
     },
 ];
 
-// The vector's tag and its length come out, for exactly its cost and one call, and nothing is left.
+/// The vector's tag and its length come out, for exactly its cost and one call, and nothing is left.
 fn pays<B: Budget>(b: &mut B, vector: &Vector) -> bool
     requires { B.calls b.old ≡ 0 }
 {
@@ -149,7 +149,7 @@ fn pays<B: Budget>(b: &mut B, vector: &Vector) -> bool
     same && b.octets() == vector.cost && b.left() == 0 && b.calls() == 1
 }
 
-// The budget is too small by one octet, and stays new.
+/// The budget is too small by one octet, and stays new.
 fn refuses<B: Budget>(b: &mut B, vector: &Vector) -> bool
     requires { B.calls b.old ≡ 0 }
 {
@@ -255,7 +255,7 @@ fn names(rt: HostRuntime) {
     }
 }
 
-// FIPS 180-4's example of one block, as SHA-256 of `abc`.
+/// FIPS 180-4's example of one block, as SHA-256 of `abc`.
 #[test]
 fn sha256_of_three_parts(rt: HostRuntime) {
     let digest = sha256([b"a", b"b", b"c"]);
@@ -313,7 +313,7 @@ impl Verifier for Lacking {
     }
 }
 
-// What the first verifier that names the algorithm says, None where none does.
+/// What the first verifier that names the algorithm says, None where none does.
 fn answer<B: Budget>(
     b: &mut B,
     verifiers: &[Box<dyn Verifier>],

@@ -300,8 +300,8 @@ fn reads_on(
     answer == want && all.get(..held) == Some(read.octets()) && all.get(held..) == Some(source.rest)
 }
 
-// `rt try --test --fail-alloc N` refuses the Nth allocation: what came stays held, and the same call made again takes what is
-// missing.
+/// `rt try --test --fail-alloc N` refuses the Nth allocation: what came stays held, and the same call made again takes what is
+/// missing.
 #[test]
 fn a_refused_growth_loses_no_octets(rt: HostRuntime) -> Result<(), Fail> {
     let mut all = [0u8; 9000];
@@ -675,7 +675,7 @@ fn writes_again(alloc: Global) -> bool {
     }
 }
 
-// `rt try --test --fail-alloc N` refuses the Nth allocation: every other answer, and the text that is written, stay the same.
+/// `rt try --test --fail-alloc N` refuses the Nth allocation: every other answer, and the text that is written, stay the same.
 #[test]
 fn a_refused_growth_changes_no_later_answer(rt: HostRuntime) {
     let alloc = rt.alloc();
