@@ -1,0 +1,501 @@
+package fowharimu
+
+import (
+	"context"
+	"crypto/tls"
+	"encoding/json"
+	"errors"
+	"fmt"
+	"io"
+	"net/http"
+	"net/url"
+	"strings"
+	"sync"
+	"sync/atomic"
+	"time"
+)
+
+// mostFetched is the most octets that a key set, or what tells where it stands, may have.
+const mostFetched = 4_194_304
+
+// mostRedirects is how many redirections within the origin are followed.
+const mostRedirects = 5
+
+// ErrURL says that keys aren't fetched from this URL: it isn't https, has no host, or has a name or a password in it.
+var ErrURL = errors.New("fowharimu: no URL of a key set: it is https, and has a host and neither a name nor a password")
+
+// ErrPolicyByURL says that a policy isn't one for keys by URL: it has an HMAC algorithm, while what is fetched is public; or it doesn't name
+// exactly the issuer whose keys are fetched.
+var ErrPolicyByURL = errors.New("fowharimu: no policy for keys by URL: it has an HMAC algorithm, or other issuers than the one")
+
+// UnavailableError says that the keys can't be fetched, and that none were before. Err says why.
+type UnavailableError struct {
+	Err error
+}
+
+func (e *UnavailableError) Error() string {
+	return "fowharimu: the key set can't be fetched: " + e.Err.Error()
+}
+
+// Unwrap gives why.
+func (e *UnavailableError) Unwrap() error { return e.Err }
+
+// TooOldError is the Refusal of each token where the keys are too old and newer ones can't be fetched. A service answers 503 to it.
+type TooOldError struct{}
+
+func (e *TooOldError) Error() string {
+	return "fowharimu: the keys are too old, and newer ones can't be fetched"
+}
+
+// FaultName is KeysTooOld.
+func (e *TooOldError) FaultName() string { return "KeysTooOld" }
+
+// Remote says how keys are fetched, by the rules of docs/KEYS.md. A time of zero stands for the one that is named here.
+type Remote struct {
+	RefreshAfter time.Duration // the age at which keys are fetched again, in the background; 10 minutes
+	Cooldown     time.Duration // the least time between two fetches, but for Refresh; 30 seconds
+	MaxAge       time.Duration // the age at which keys are too old; an hour
+	Timeout      time.Duration // of a whole fetch; 5 seconds
+	AllowHTTP    bool
+	TLS          *tls.Config // nil: the system's authorities
+	// OnFetch is called after each fetch, with the URL without its query, how many octets were had, and why it failed, if it did.
+	OnFetch func(url string, octets int, err error)
+}
+
+// RemoteKeys is a policy, and a key set at a URL, which is fetched at once, and again as docs/KEYS.md says: in the background; where a token is
+// refused for want of a key or by a bad signature, at most once a cool-down. Where that fails, the keys stay until they are too old. Goroutines
+// may share it.
+type RemoteKeys struct {
+	policy    []byte
+	address   string
+	how       Remote
+	options   []Option
+	client    *http.Client
+	validator atomic.Pointer[Validator]
+	mutex     sync.Mutex // guards what follows
+	fetch     *fetch     // the one that is under way
+	got       time.Time  // when the last fetch that went well ended
+	tried     time.Time  // when the last fetch began
+	closed    bool
+	err       error // why the last fetch failed
+}
+
+// fetch is one fetch.
+type fetch struct {
+	done   chan struct{} // closed when it is over
+	cancel context.CancelFunc
+}
+
+// OpenRemote fetches a key set. The error is ErrURL, ErrPolicyByURL, an *UnavailableError, or that of Open.
+func OpenRemote(policy []byte, address string, how Remote, options ...Option) (*RemoteKeys, error) {
+	if err := checkPolicy(policy, nil); err != nil {
+		return nil, err
+	}
+	return openRemote(policy, address, how, options)
+}
+
+// OpenIssuer fetches the keys of an issuer, whose URL its metadata tell (OpenID Connect Discovery 1.0, section 4; where there is none, RFC 8414,
+// section 3). The metadata are read once, under the same rules: their issuer has to be that very text, and the policy's issuers exactly that one.
+// The errors are those of OpenRemote.
+func OpenIssuer(policy []byte, issuer string, how Remote, options ...Option) (*RemoteKeys, error) {
+	if err := checkPolicy(policy, &issuer); err != nil {
+		return nil, err
+	}
+	how = how.orDefaults()
+	at, err := checkURL(issuer, how.AllowHTTP)
+	if err != nil {
+		return nil, err
+	}
+	ctx, cancel := context.WithTimeout(context.Background(), how.Timeout)
+	defer cancel()
+	address, err := keysURL(ctx, how.client(), issuer, at)
+	if err == nil {
+		_, err = checkURL(address, how.AllowHTTP)
+	}
+	if err != nil {
+		return nil, &UnavailableError{err}
+	}
+	return openRemote(policy, address, how, options)
+}
+
+func openRemote(policy []byte, address string, how Remote, options []Option) (*RemoteKeys, error) {
+	if _, err := checkURL(address, how.AllowHTTP); err != nil {
+		return nil, err
+	}
+	how = how.orDefaults()
+	r := &RemoteKeys{policy: policy, address: address, how: how, options: options, client: how.client()}
+	if err := r.Refresh(); err != nil {
+		return nil, &UnavailableError{err}
+	}
+	return r, nil
+}
+
+// Validate is Validator.Validate.
+func (r *RemoteKeys) Validate(token string) (Claims, error) { return r.ValidateAt(token, time.Now()) }
+
+// ValidateAt is Validator.ValidateAt. The error may be a *TooOldError too.
+func (r *RemoteKeys) ValidateAt(token string, now time.Time) (claims Claims, err error) {
+	err = r.by(func(v *Validator) (err error) {
+		claims, err = v.ValidateAt(token, now)
+		return err
+	})
+	return claims, err
+}
+
+// ValidateFor is Validator.ValidateFor.
+func (r *RemoteKeys) ValidateFor(token string, access *Access) (Claims, error) {
+	return r.ValidateForAt(token, time.Now(), access)
+}
+
+// ValidateForAt is Validator.ValidateForAt. The error may be a *TooOldError too.
+func (r *RemoteKeys) ValidateForAt(token string, now time.Time, access *Access) (claims Claims, err error) {
+	err = r.by(func(v *Validator) (err error) {
+		claims, err = v.ValidateForAt(token, now, access)
+		return err
+	})
+	return claims, err
+}
+
+// Judge is Validator.Judge.
+func (r *RemoteKeys) Judge(token string) (Report, error) { return r.JudgeAt(token, time.Now()) }
+
+// JudgeAt is Validator.JudgeAt. Where the keys are too old and none can be fetched, the report has the refusal *TooOldError and nothing else.
+func (r *RemoteKeys) JudgeAt(token string, now time.Time) (report Report, err error) {
+	var refusal Refusal
+	err = r.by(func(v *Validator) (err error) {
+		if report, err = v.JudgeAt(token, now); err != nil {
+			return err
+		}
+		refusal = report.Refusal
+		return refusal
+	})
+	if old := (*TooOldError)(nil); errors.As(err, &old) {
+		return Report{Refusal: old}, nil
+	}
+	if refusal != nil && err == error(refusal) {
+		return report, nil
+	}
+	return report, err
+}
+
+// Refresh fetches the key set now, whatever the cool-down; where a fetch is under way it waits for that one. The error says why the fetch failed;
+// the keys are as before then.
+func (r *RemoteKeys) Refresh() error {
+	r.mutex.Lock()
+	if r.closed {
+		r.mutex.Unlock()
+		return ErrClosed
+	}
+	if r.fetch == nil {
+		r.begin()
+	}
+	under := r.fetch
+	r.mutex.Unlock()
+	<-under.done
+	r.mutex.Lock()
+	defer r.mutex.Unlock()
+	return r.err
+}
+
+// Close frees what is held, and drops a fetch that is under way. It may be called twice. The error is nil.
+func (r *RemoteKeys) Close() error {
+	r.mutex.Lock()
+	defer r.mutex.Unlock()
+	r.closed = true
+	if r.fetch != nil {
+		r.fetch.cancel()
+	}
+	if last := r.validator.Swap(nil); last != nil {
+		return last.Close()
+	}
+	return nil
+}
+
+// by judges by the keys, and once more by newer ones where these may change what came of it and can be had.
+func (r *RemoteKeys) by(judge func(*Validator) error) error {
+	used, err := r.current()
+	if err != nil {
+		return err
+	}
+	err = judge(used)
+	if asksForKeys(err) {
+		r.renew(used)
+		if newer := r.validator.Load(); newer != nil && newer != used {
+			used, err = newer, judge(newer)
+		}
+	}
+	// (the keys may have been exchanged, and the old ones closed, before the call took them)
+	for errors.Is(err, ErrClosed) {
+		newer := r.validator.Load()
+		if newer == nil || newer == used {
+			break
+		}
+		used, err = newer, judge(newer)
+	}
+	return err
+}
+
+// asksForKeys says whether a token was refused for want of a key, or by a bad signature.
+func asksForKeys(err error) bool {
+	var refusal *SignatureError
+	return errors.As(err, &refusal) && (refusal.Fault == "NoKey" || refusal.Fault == "BadSignature")
+}
+
+// current gives the validator by which a token is judged first.
+func (r *RemoteKeys) current() (*Validator, error) {
+	r.mutex.Lock()
+	var under *fetch
+	if time.Since(r.got) >= r.how.RefreshAfter {
+		under = r.begun()
+	}
+	isOld := time.Since(r.got) >= r.how.MaxAge
+	r.mutex.Unlock()
+	if isOld {
+		if under != nil {
+			<-under.done
+		}
+		r.mutex.Lock()
+		isOld = time.Since(r.got) >= r.how.MaxAge
+		r.mutex.Unlock()
+		if isOld {
+			return nil, new(TooOldError)
+		}
+	}
+	if v := r.validator.Load(); v != nil {
+		return v, nil
+	}
+	return nil, ErrClosed
+}
+
+// renew waits for newer keys than those that were used, where a fetch is under way or may begin.
+func (r *RemoteKeys) renew(used *Validator) {
+	r.mutex.Lock()
+	var under *fetch
+	if r.validator.Load() == used {
+		under = r.begun()
+	}
+	r.mutex.Unlock()
+	if under != nil {
+		<-under.done
+	}
+}
+
+// begun gives the fetch that is under way, or a new one where the cool-down is over. The mutex is held.
+func (r *RemoteKeys) begun() *fetch {
+	if r.fetch == nil && !r.closed && time.Since(r.tried) >= r.how.Cooldown {
+		r.begin()
+	}
+	return r.fetch
+}
+
+// begin begins a fetch. The mutex is held.
+func (r *RemoteKeys) begin() {
+	ctx, cancel := context.WithTimeout(context.Background(), r.how.Timeout)
+	under := &fetch{make(chan struct{}), cancel}
+	r.tried, r.fetch = time.Now(), under
+	go r.run(ctx, under)
+}
+
+func (r *RemoteKeys) run(ctx context.Context, under *fetch) {
+	keys, err := get(ctx, r.client, r.address)
+	var newer *Validator
+	if err == nil {
+		newer, err = openPublic(r.policy, keys, r.options)
+	}
+	r.exchange(newer, err)
+	under.cancel()
+	close(under.done)
+	if r.how.OnFetch != nil {
+		r.how.OnFetch(withoutQuery(r.address), len(keys), err)
+	}
+}
+
+// exchange takes the new validator, where there is one, in place of the old one, and ends the fetch.
+func (r *RemoteKeys) exchange(newer *Validator, err error) {
+	r.mutex.Lock()
+	defer r.mutex.Unlock()
+	r.fetch, r.err = nil, err
+	if newer == nil {
+		return
+	}
+	if r.closed {
+		newer.Close()
+		return
+	}
+	r.got = time.Now()
+	if old := r.validator.Swap(newer); old != nil {
+		// (calls that are under way end as if it weren't closed)
+		old.Close()
+	}
+}
+
+// openPublic opens a policy and keys that were fetched, in which there may be no secret (RFC 8725, section 2.1).
+func openPublic(policy, keys []byte, options []Option) (*Validator, error) {
+	v, err := Open(policy, keys, options...)
+	if err != nil {
+		return nil, err
+	}
+	if hasSecret(keys) {
+		v.Close()
+		return nil, errors.New("it has a key of kty oct in it, which everyone may read")
+	}
+	return v, nil
+}
+
+// hasSecret says whether a key set that was read has an entry of kty oct. Names are compared octet by octet, which a struct's tags aren't.
+func hasSecret(keys []byte) bool {
+	var set map[string]json.RawMessage
+	var entries []any
+	if json.Unmarshal(keys, &set) != nil || json.Unmarshal(set["keys"], &entries) != nil {
+		return true
+	}
+	for _, entry := range entries {
+		if members, ok := entry.(map[string]any); ok && members["kty"] == "oct" {
+			return true
+		}
+	}
+	return false
+}
+
+// checkPolicy has the library read a policy, and says whether it is one for keys by URL, and for exactly this issuer, where there is one.
+func checkPolicy(policy []byte, issuer *string) error {
+	v, err := Open(policy, []byte(`{"keys":[]}`))
+	if err != nil {
+		return err
+	}
+	v.Close()
+	var members struct {
+		Algs    []string
+		Issuers []string
+	}
+	if json.Unmarshal(policy, &members) != nil {
+		return ErrPolicyByURL
+	}
+	for _, alg := range members.Algs {
+		if strings.HasPrefix(alg, "HS") {
+			return ErrPolicyByURL
+		}
+	}
+	if issuer != nil && (len(members.Issuers) != 1 || members.Issuers[0] != *issuer) {
+		return ErrPolicyByURL
+	}
+	return nil
+}
+
+// checkURL reads a URL from which keys may be fetched.
+func checkURL(address string, allowHTTP bool) (*url.URL, error) {
+	at, err := url.Parse(address)
+	if err != nil || at.Hostname() == "" || at.User != nil || at.Scheme != "https" && !(allowHTTP && at.Scheme == "http") {
+		return nil, ErrURL
+	}
+	return at, nil
+}
+
+// keysURL gives the URL of an issuer's keys, which its metadata tell.
+func keysURL(ctx context.Context, client *http.Client, issuer string, at *url.URL) (string, error) {
+	path := strings.TrimSuffix(at.Path, "/")
+	text, err := get(ctx, client, withPath(at, path+"/.well-known/openid-configuration"))
+	if status := (*statusError)(nil); errors.As(err, &status) && status.code == http.StatusNotFound {
+		text, err = get(ctx, client, withPath(at, "/.well-known/oauth-authorization-server"+path))
+	}
+	if err != nil {
+		return "", err
+	}
+	var metadata map[string]any
+	if err := json.Unmarshal(text, &metadata); err != nil {
+		return "", err
+	}
+	if metadata["issuer"] != issuer {
+		return "", errors.New("the metadata are of another issuer")
+	}
+	address, ok := metadata["jwks_uri"].(string)
+	if !ok {
+		return "", errors.New("the metadata have no jwks_uri")
+	}
+	return address, nil
+}
+
+func withPath(at *url.URL, path string) string {
+	other := *at
+	other.Path, other.RawPath = path, ""
+	return other.String()
+}
+
+func withoutQuery(address string) string {
+	at, err := url.Parse(address)
+	if err != nil {
+		return ""
+	}
+	at.RawQuery, at.Fragment = "", ""
+	return at.String()
+}
+
+// statusError is an answer with another status than 200.
+type statusError struct {
+	code int
+}
+
+func (e *statusError) Error() string { return fmt.Sprintf("its status is %d", e.code) }
+
+// get gives what stands at a URL.
+func get(ctx context.Context, client *http.Client, address string) ([]byte, error) {
+	request, err := http.NewRequestWithContext(ctx, http.MethodGet, address, nil)
+	if err != nil {
+		return nil, err
+	}
+	request.Header.Set("Accept", "application/jwk-set+json, application/json")
+	response, err := client.Do(request)
+	if err != nil {
+		return nil, err
+	}
+	defer response.Body.Close()
+	if response.StatusCode != http.StatusOK {
+		return nil, &statusError{response.StatusCode}
+	}
+	octets, err := io.ReadAll(io.LimitReader(response.Body, mostFetched+1))
+	if err == nil && len(octets) > mostFetched {
+		err = fmt.Errorf("it has more than %d octets", mostFetched)
+	}
+	return octets, err
+}
+
+// client gives a client that uses no proxy, and follows redirections within the origin alone.
+func (how Remote) client() *http.Client {
+	return &http.Client{
+		Transport:     &http.Transport{TLSClientConfig: how.TLS, DisableCompression: true, DisableKeepAlives: true},
+		CheckRedirect: sameOrigin,
+	}
+}
+
+func sameOrigin(request *http.Request, via []*http.Request) error {
+	if origin(request.URL) != origin(via[0].URL) || request.URL.User != nil {
+		return errors.New("it redirects to another origin")
+	}
+	if len(via) > mostRedirects {
+		return errors.New("it redirects too often")
+	}
+	return nil
+}
+
+// origin gives the scheme, the host and the port of a URL (RFC 6454, section 4).
+func origin(at *url.URL) [3]string {
+	port := at.Port()
+	if port == "" {
+		port = map[string]string{"https": "443", "http": "80"}[at.Scheme]
+	}
+	return [3]string{at.Scheme, strings.ToLower(at.Hostname()), port}
+}
+
+func (how Remote) orDefaults() Remote {
+	for at, otherwise := range map[*time.Duration]time.Duration{
+		&how.RefreshAfter: 10 * time.Minute,
+		&how.Cooldown:     30 * time.Second,
+		&how.MaxAge:       time.Hour,
+		&how.Timeout:      5 * time.Second,
+	} {
+		if *at == 0 {
+			*at = otherwise
+		}
+	}
+	return how
+}

@@ -1,0 +1,174 @@
+"""A server that plays an issuer: key sets and metadata over HTTP and over TLS, as the case wants them."""
+import http.server
+import json
+import pathlib
+import ssl
+import subprocess
+import threading
+import time
+
+AUTHORITY = """[ca]
+default_ca = own
+[own]
+database = {room}/index
+serial = {room}/serial
+new_certs_dir = {room}
+default_md = sha256
+policy = any
+copy_extensions = copy
+[any]
+commonName = supplied
+"""
+
+
+def openssl(room, *words):
+    """Runs `openssl` in a folder. It ends well, or this doesn't."""
+    subprocess.run(["openssl", *words], cwd=room, check=True, capture_output=True)
+
+
+def certificates(room):
+    """Makes an authority of the test's own, and three certificates: one for localhost, one for it that has expired, one of another name."""
+    room = pathlib.Path(room)
+    (room / "config").write_text(AUTHORITY.format(room=room))
+    (room / "index").write_text("")
+    (room / "serial").write_text("01\n")
+    openssl(room, "req", "-x509", "-newkey", "rsa:2048", "-nodes", "-keyout", "ca.key", "-out", "ca.pem", "-subj", "/CN=tests", "-days", "2",
+            "-addext", "basicConstraints=critical,CA:TRUE", "-addext", "keyUsage=keyCertSign")
+    for name, host, ends in (("good", "localhost", "21001231000000Z"), ("expired", "localhost", "20200102000000Z"), ("other", "elsewhere.example", "21001231000000Z")):
+        openssl(room, "req", "-newkey", "rsa:2048", "-nodes", "-keyout", f"{name}.key", "-out", f"{name}.csr", "-subj", f"/CN={name}",
+                "-addext", f"subjectAltName=DNS:{host}")
+        openssl(room, "ca", "-batch", "-notext", "-config", "config", "-keyfile", "ca.key", "-cert", "ca.pem", "-startdate", "20200101000000Z",
+                "-enddate", ends, "-in", f"{name}.csr", "-out", f"{name}.pem")
+    return room
+
+
+class Handler(http.server.BaseHTTPRequestHandler):
+    """Answers as the issuer's mode says."""
+
+    protocol_version = "HTTP/1.1"
+
+    def log_message(self, *_):
+        pass
+
+    def do_GET(self):
+        issuer = self.server.issuer
+        issuer.seen.append(self.path)
+        self.close_connection = True
+        document = issuer.documents.get(self.path)
+        if document is None:
+            return self.answer(404, b"")
+        kind = issuer.mode if self.path.startswith("/keys") else "ok"
+        getattr(self, f"answer_{kind}")(document)
+
+    def answer(self, status, body, kind="application/json", length=None, headers=()):
+        self.send_response(status)
+        self.send_header("Content-Type", kind)
+        self.send_header("Content-Length", str(len(body) if length is None else length))
+        self.send_header("Connection", "close")
+        for name, value in headers:
+            self.send_header(name, value)
+        self.end_headers()
+        try:
+            self.wfile.write(body)
+        except OSError:
+            pass
+
+    def answer_ok(self, document):
+        self.answer(200, document)
+
+    def answer_text(self, document):
+        self.answer(200, document, "text/html; charset=latin-1")
+
+    def answer_broken(self, document):
+        self.answer(500, document)
+
+    def answer_created(self, document):
+        self.answer(201, document)
+
+    def answer_cut(self, document):
+        self.answer(200, document[:-9], length=len(document))
+
+    def answer_slow(self, document):
+        """Octet by octet, each within any timeout of one read."""
+        self.send_response(200)
+        self.send_header("Content-Length", str(len(document)))
+        self.end_headers()
+        self.drip(document)
+
+    def answer_dawdling(self, document):
+        """The status, and then a header that never ends."""
+        self.wfile.write(b"HTTP/1.1 200 OK\r\nX-Slow: ")
+        self.drip(b"a" * 4_096)
+
+    def drip(self, octets):
+        try:
+            for at in range(len(octets)):
+                self.wfile.write(octets[at : at + 1])
+                self.wfile.flush()
+                time.sleep(0.05)
+        except OSError:
+            pass
+
+    def answer_away(self, document):
+        """A redirection to another origin, where the same keys stand."""
+        self.redirect(self.server.issuer.elsewhere())
+
+    def answer_near(self, document):
+        """A redirection within the origin."""
+        self.redirect("/new")
+
+    def answer_loop(self, document):
+        self.redirect("/keys")
+
+    def redirect(self, place):
+        self.answer(302, b"", headers=[("Location", place)])
+
+
+class Server(http.server.ThreadingHTTPServer):
+    daemon_threads = True
+    request_queue_size = 128
+
+    def handle_error(self, request, client_address):
+        """(a client that went away)"""
+
+
+class Issuer:
+    """The issuer: over HTTP, and over TLS with each of the three certificates."""
+
+    def __init__(self, room):
+        self.mode, self.documents, self.seen = "ok", {}, []
+        self.plain = self.served(None)
+        self.good, self.expired, self.other = (self.served(self.context(room, it)) for it in ("good", "expired", "other"))
+
+    def context(self, room, name):
+        context = ssl.SSLContext(ssl.PROTOCOL_TLS_SERVER)
+        context.load_cert_chain(room / f"{name}.pem", room / f"{name}.key")
+        return context
+
+    def served(self, context):
+        """Starts a server on the loopback, and gives its origin."""
+        server = Server(("127.0.0.1", 0), Handler)
+        server.issuer = self
+        if context is not None:
+            server.socket = context.wrap_socket(server.socket, server_side=True, do_handshake_on_connect=False)
+        threading.Thread(target=server.serve_forever, daemon=True).start()
+        return f"{'http' if context is None else 'https'}://localhost:{server.server_port}"
+
+    def elsewhere(self):
+        """Where a redirection to another origin leads: the loopback by its number, with the same keys."""
+        return f"{self.plain.replace('localhost', '127.0.0.1')}/new"
+
+    def keys(self, *sets, mode="ok"):
+        """Serves these keys in this mode from now on."""
+        self.mode = mode
+        document = json.dumps({"keys": [key for keys in sets for key in keys]}).encode()
+        self.documents = {**self.documents, "/keys": document, "/new": document}
+
+    def octets(self, octets, mode="ok"):
+        """Serves these octets in place of a key set."""
+        self.mode = mode
+        self.documents = {**self.documents, "/keys": octets, "/new": octets}
+
+    def fetches(self):
+        """How often keys were asked for."""
+        return self.seen.count("/keys")
