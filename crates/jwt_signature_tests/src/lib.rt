@@ -1,6 +1,8 @@
-//! The tests of the verifiers of signatures by public keys.
+//! The tests of the verifiers of signatures by public keys, and of what is advised of policies and keys.
 #![tactic(auto)]
 
+#[cfg(test)]
+mod advice;
 #[cfg(test)]
 mod ed25519;
 #[cfg(test)]
