@@ -33,10 +33,10 @@ final class TomcatApp {
 
     private static void guard(Context context, String path, Filter filter) {
         FilterDef def = new FilterDef();
-        def.setFilterName(path);
+        def.setFilterName("guard of " + path);
         def.setFilter(filter);
         FilterMap map = new FilterMap();
-        map.setFilterName(path);
+        map.setFilterName("guard of " + path);
         map.addURLPattern(path);
         map.setDispatcher(DispatcherType.REQUEST.name());
         context.addFilterDef(def);
@@ -52,8 +52,7 @@ final class TomcatApp {
         tomcat.getConnector().setProperty("address", "127.0.0.1");
         tomcat.getConnector().setProperty("maxHttpHeaderSize", String.valueOf(LONGEST_HEAD));
         Context context = tomcat.addContext("", null);
-        Tomcat.addServlet(context, "answer", new Answer());
-        context.addServletMappingDecoded("/", "answer");
+        Tomcat.addServlet(context, "answer", new Answer()).addMapping("/");
         // (the empty pattern is the root alone)
         guard(context, "", new Guard(validator));
         guard(context, "/scope", new Guard(validator, new Access(Files.readAllBytes(folder.resolve("scope.json")))));
