@@ -31,6 +31,10 @@ final class TomcatApp {
         }
     }
 
+    private static Validator open(Path folder) throws Exception {
+        return new Validator(Files.readAllBytes(folder.resolve("policy.json")), Files.readAllBytes(folder.resolve("keys.json")));
+    }
+
     private static void guard(Context context, String path, Filter filter) {
         FilterDef def = new FilterDef();
         def.setFilterName("guard of " + path);
@@ -45,7 +49,9 @@ final class TomcatApp {
 
     public static void main(String[] words) throws Exception {
         Path folder = Path.of(words[0]);
-        Validator validator = new Validator(Files.readAllBytes(folder.resolve("policy.json")), Files.readAllBytes(folder.resolve("keys.json")));
+        Validator validator = open(folder);
+        Validator closed = open(folder);
+        closed.close();
         Tomcat tomcat = new Tomcat();
         tomcat.setBaseDir(Files.createTempDirectory("tomcat").toString());
         tomcat.setPort(0);
@@ -58,6 +64,7 @@ final class TomcatApp {
         guard(context, "/scope", new Guard(validator, new Access(Files.readAllBytes(folder.resolve("scope.json")))));
         guard(context, "/role", new Guard(validator, new Access(Files.readAllBytes(folder.resolve("role.json")))));
         guard(context, "/hidden", new Guard(validator, null, "jwt", true));
+        guard(context, "/closed", new Guard(closed));
         tomcat.start();
         System.out.println("listening on 127.0.0.1:" + tomcat.getConnector().getLocalPort());
         tomcat.getServer().await();

@@ -7,11 +7,14 @@ const { Access, Validator } = require('../node');
 const { guard } = require('../node/guard');
 
 const read = (name) => fs.readFileSync(path.join(process.argv[2], name));
-const validator = new Validator(read('policy.json'), read('keys.json'));
+const open = () => new Validator(read('policy.json'), read('keys.json'));
+const validator = open(), closed = open();
+closed.close();
 const app = express();
 app.use('/scope', guard(validator, { access: new Access(read('scope.json')) }));
 app.use('/role', guard(validator, { access: new Access(read('role.json')) }));
 app.use('/hidden', guard(validator, { hidesToken: true }));
+app.use('/closed', guard(closed));
 app.all('/', guard(validator));
 app.use((request, response) => {
   response.json({ claims: request.auth, shown: request.get('Authorization') !== undefined || request.rawHeaders.some((it) => /^authorization$/i.test(it)) });

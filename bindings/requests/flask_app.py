@@ -21,12 +21,25 @@ def answer(path):
     return json.dumps({"claims": flask.request.environ["fowharimu.claims"], "shown": "Authorization" in flask.request.headers})
 
 
+def opened():
+    """The validator of the folder."""
+    return Validator(*((FOLDER / it).read_bytes() for it in ("policy.json", "keys.json")))
+
+
+def closed():
+    """One that says nothing of a token."""
+    validator = opened()
+    validator.close()
+    return validator
+
+
 def guards():
     """The guards of the paths."""
-    validator = Validator(*((FOLDER / it).read_bytes() for it in ("policy.json", "keys.json")))
+    validator = opened()
     behind = app.wsgi_app
     rules = {f"/{it}": Guard(behind, validator, Access((FOLDER / f"{it}.json").read_bytes())) for it in ("scope", "role")}
-    return {**rules, "/hidden": Guard(behind, validator, hides_token=True), "/": Guard(behind, validator)}
+    others = {"/hidden": Guard(behind, validator, hides_token=True), "/closed": Guard(behind, closed()), "/": Guard(behind, validator)}
+    return {**rules, **others}
 
 
 def by_path(paths):

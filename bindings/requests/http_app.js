@@ -7,11 +7,14 @@ const { Access, Validator } = require('../node');
 const { guard } = require('../node/guard');
 
 const read = (name) => fs.readFileSync(path.join(process.argv[2], name));
-const validator = new Validator(read('policy.json'), read('keys.json'));
+const open = () => new Validator(read('policy.json'), read('keys.json'));
+const validator = open(), closed = open();
+closed.close();
 const guards = {
   '/scope': guard(validator, { access: new Access(read('scope.json')) }),
   '/role': guard(validator, { access: new Access(read('role.json')) }),
   '/hidden': guard(validator, { hidesToken: true }),
+  '/closed': guard(closed),
 };
 const plain = guard(validator);
 

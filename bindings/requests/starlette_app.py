@@ -28,11 +28,23 @@ def guarded(validator, **how):
     return app
 
 
+def opened():
+    """The validator of the folder."""
+    return Validator(*((FOLDER / it).read_bytes() for it in ("policy.json", "keys.json")))
+
+
+def closed():
+    """One that says nothing of a token."""
+    validator = opened()
+    validator.close()
+    return validator
+
+
 def guards():
     """The guards of the paths."""
-    validator = Validator(*((FOLDER / it).read_bytes() for it in ("policy.json", "keys.json")))
+    validator = opened()
     rules = {f"/{it}": guarded(validator, access=Access((FOLDER / f"{it}.json").read_bytes())) for it in ("scope", "role")}
-    return {**rules, "/hidden": guarded(validator, hides_token=True), "/": guarded(validator)}
+    return {**rules, "/hidden": guarded(validator, hides_token=True), "/closed": guarded(closed()), "/": guarded(validator)}
 
 
 PATHS = guards()

@@ -37,19 +37,27 @@ func rule(name string) *fowharimu.Access {
 	return access
 }
 
-func main() {
-	if len(os.Args) != 2 {
-		log.Fatal("usage: nethttp FOLDER")
-	}
+// open opens the validator of the folder.
+func open() *fowharimu.Validator {
 	validator, err := fowharimu.Open(read("policy.json"), read("keys.json"))
 	if err != nil {
 		log.Fatal(err)
 	}
+	return validator
+}
+
+func main() {
+	if len(os.Args) != 2 {
+		log.Fatal("usage: nethttp FOLDER")
+	}
+	validator, closed := open(), open()
+	closed.Close()
 	behind := http.HandlerFunc(answer)
 	http.Handle("/", guard.Bearer(validator)(behind))
 	http.Handle("/scope", guard.Bearer(validator, guard.Access(rule("scope.json")))(behind))
 	http.Handle("/role", guard.Bearer(validator, guard.Access(rule("role.json")))(behind))
 	http.Handle("/hidden", guard.Bearer(validator, guard.HideToken())(behind))
+	http.Handle("/closed", guard.Bearer(closed)(behind))
 	listener, err := net.Listen("tcp", "127.0.0.1:0")
 	if err != nil {
 		log.Fatal(err)

@@ -24,15 +24,15 @@ impl Guards {
             fs::read(folder.join("policy.json"))?,
             fs::read(folder.join("keys.json"))?,
         );
-        let open = || Validator::open(&policy, &keys);
+        let validator = Arc::new(Validator::open(&policy, &keys)?);
         let rule = |name| -> Result<Access, Box<dyn error::Error>> {
             Ok(Access::open(&fs::read(folder.join(name))?)?)
         };
         Ok(Guards {
-            plain: Guard::new(open()?),
-            scope: Guard::new(open()?).access(rule("scope.json")?),
-            role: Guard::new(open()?).access(rule("role.json")?),
-            hidden: Guard::new(open()?).hide_token(),
+            plain: Guard::new(Arc::clone(&validator)),
+            scope: Guard::new(Arc::clone(&validator)).access(rule("scope.json")?),
+            role: Guard::new(Arc::clone(&validator)).access(rule("role.json")?),
+            hidden: Guard::new(Arc::clone(&validator)).hide_token(),
         })
     }
 

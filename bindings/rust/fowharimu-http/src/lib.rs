@@ -17,6 +17,7 @@
 use fowharimu::{Access, Claims, Error, Validator};
 use http::header::{AUTHORIZATION, WWW_AUTHENTICATE};
 use http::{HeaderMap, HeaderValue, Request, Response, StatusCode};
+use std::sync::Arc;
 
 const INVALID_REQUEST: &str = "Bearer error=\"invalid_request\"";
 const INVALID_TOKEN: &str = "Bearer error=\"invalid_token\"";
@@ -26,8 +27,8 @@ const SCHEME: &[u8] = b"bearer";
 /// A validator, and an access rule where there is one, that requests are held against. Threads share it.
 #[derive(Debug)]
 pub struct Guard {
-    validator: Validator,
-    access: Option<Access>,
+    validator: Arc<Validator>,
+    access: Option<Arc<Access>>,
     realm: String,
     hides_token: bool,
 }
@@ -44,10 +45,10 @@ pub struct Refusal {
 }
 
 impl Guard {
-    /// A guard that asks for an accepted token, in the realm `jwt`.
-    pub fn new(validator: Validator) -> Guard {
+    /// A guard that asks for an accepted token, in the realm `jwt`. Several guards may have one validator, as an `Arc`.
+    pub fn new(validator: impl Into<Arc<Validator>>) -> Guard {
         Guard {
-            validator,
+            validator: validator.into(),
             access: None,
             realm: "jwt".to_owned(),
             hides_token: false,
@@ -55,9 +56,9 @@ impl Guard {
     }
 
     /// Has the claims meet an access rule too; where they don't, the answer is 403.
-    pub fn access(self, rule: Access) -> Guard {
+    pub fn access(self, rule: impl Into<Arc<Access>>) -> Guard {
         Guard {
-            access: Some(rule),
+            access: Some(rule.into()),
             ..self
         }
     }
