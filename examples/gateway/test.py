@@ -20,6 +20,8 @@ from typing import Any, Dict, List, Optional, Tuple
 
 EXAMPLES = pathlib.Path(__file__).resolve().parent.parent
 POLICY, KEYS = EXAMPLES / "login.policy", EXAMPLES / "rfc7515-a1.keys"
+# A gateway that sees two headers as two answers 400, and one that sees them joined by a comma, as WSGI does, 401.
+TWICE = {"two headers": 400}
 ANY, NONE, INVALID = "Bearer ", 'Bearer realm="gateway"', 'Bearer error="invalid_token"'
 
 Header = Tuple[str, str]
@@ -82,7 +84,7 @@ def cases() -> Dict[str, Tuple[List[Header], int, Optional[str]]]:
 def is_right(port: int, name: str, headers: List[Header], status: int, challenge: Optional[str]) -> bool:
     """Whether the answer is as it has to be; it is printed where it isn't."""
     said, header, body = asked(port, headers)
-    right = said == status and (header or "").startswith(challenge or "") and (header is None) == (challenge is None)
+    right = said in (status, TWICE.get(name)) and (header or "").startswith(challenge or "") and (header is None) == (challenge is None)
     if right and status == 200:
         right = json.loads(body)["sub"] == "ann"
     if not right:

@@ -1,0 +1,162 @@
+// Package guard lets HTTP requests through where their token is accepted (RFC 6750).
+//
+//	http.Handle("/api/", guard.Bearer(validator)(api))
+//
+// The claims of a request that was let through are guard.ClaimsOf(r.Context()).
+package guard
+
+import (
+	"context"
+	"errors"
+	"net/http"
+	"strings"
+
+	"example.org/fowharimu"
+)
+
+const (
+	invalidRequest    = `Bearer error="invalid_request"`
+	invalidToken      = `Bearer error="invalid_token"`
+	insufficientScope = `Bearer error="insufficient_scope"`
+)
+
+// ErrForm says that what stands behind the scheme is no b64token (RFC 6750, section 2.1).
+var ErrForm = errors.New("guard: the credentials are no b64token")
+
+// Option says how requests are guarded.
+type Option func(*guard)
+
+type guard struct {
+	validator *fowharimu.Validator
+	access    *fowharimu.Access
+	realm     string
+	hides     bool
+	tell      func(*http.Request, error)
+	next      http.Handler
+}
+
+// Access has the claims meet an access rule too; where they don't, the answer is 403.
+func Access(rule *fowharimu.Access) Option {
+	return func(g *guard) { g.access = rule }
+}
+
+// Realm is the realm that a request without a token is told: jwt without this. It has no quotation mark and no backslash.
+func Realm(realm string) Option {
+	return func(g *guard) { g.realm = realm }
+}
+
+// HideToken keeps the header Authorization from the handler behind.
+func HideToken() Option {
+	return func(g *guard) { g.hides = true }
+}
+
+// OnRefusal is told why a token isn't taken: a fowharimu.Refusal, a *fowharimu.DeniedError, ErrForm, or another error where nothing is said of the
+// token. It is called before the answer, by many goroutines.
+func OnRefusal(tell func(*http.Request, error)) Option {
+	return func(g *guard) { g.tell = tell }
+}
+
+// claimsKey is under what the context of a request that was let through has its claims.
+type claimsKey struct{}
+
+// ClaimsOf gives the claims of a request that was let through, by its context, and says whether it was.
+func ClaimsOf(c context.Context) (fowharimu.Claims, bool) {
+	claims, found := c.Value(claimsKey{}).(fowharimu.Claims)
+	return claims, found
+}
+
+// Bearer lets a request through where the token behind the scheme Bearer is accepted now. Else it answers 400, 401 or 403, with WWW-Authenticate
+// (RFC 6750, section 3), and 500 where nothing can be said of the token.
+func Bearer(validator *fowharimu.Validator, how ...Option) func(http.Handler) http.Handler {
+	chosen := guard{validator: validator, realm: "jwt", tell: func(*http.Request, error) {}}
+	for _, choose := range how {
+		choose(&chosen)
+	}
+	return func(next http.Handler) http.Handler {
+		g := chosen
+		g.next = next
+		return &g
+	}
+}
+
+// ServeHTTP answers a request, or lets it through.
+func (g *guard) ServeHTTP(w http.ResponseWriter, r *http.Request) {
+	values := r.Header.Values("Authorization")
+	if len(values) > 1 {
+		refuse(w, http.StatusBadRequest, invalidRequest)
+		return
+	}
+	token, found := bearer(strings.Join(values, ""))
+	if !found {
+		refuse(w, http.StatusUnauthorized, `Bearer realm="`+g.realm+`"`)
+		return
+	}
+	claims, err := g.validate(token)
+	if err != nil {
+		g.tell(r, err)
+		answer(w, err)
+		return
+	}
+	g.next.ServeHTTP(w, g.shown(r.WithContext(context.WithValue(r.Context(), claimsKey{}, claims))))
+}
+
+// validate gives the claims of an accepted token that meet the rule.
+func (g *guard) validate(token string) (fowharimu.Claims, error) {
+	if !isB64token(token) {
+		return fowharimu.Claims{}, ErrForm
+	}
+	if g.access == nil {
+		return g.validator.Validate(token)
+	}
+	return g.validator.ValidateFor(token, g.access)
+}
+
+// shown is the request as the handler behind sees it. It is a copy already, and its headers are copied where they change.
+func (g *guard) shown(r *http.Request) *http.Request {
+	if g.hides {
+		r.Header = r.Header.Clone()
+		r.Header.Del("Authorization")
+	}
+	return r
+}
+
+// answer says why a request isn't let through.
+func answer(w http.ResponseWriter, err error) {
+	var denied *fowharimu.DeniedError
+	var undecided *fowharimu.UndecidedError
+	var refusal fowharimu.Refusal
+	switch {
+	case errors.As(err, &denied) && denied.Scope != "":
+		refuse(w, http.StatusForbidden, insufficientScope+`, scope="`+strings.Join(denied.Scopes, " ")+`"`)
+	case errors.As(err, &denied):
+		refuse(w, http.StatusForbidden, insufficientScope)
+	case errors.As(err, &undecided):
+		http.Error(w, "nothing can be said of the token", http.StatusInternalServerError)
+	case errors.Is(err, ErrForm), errors.As(err, &refusal):
+		refuse(w, http.StatusUnauthorized, invalidToken)
+	default:
+		http.Error(w, "nothing can be said of the token", http.StatusInternalServerError)
+	}
+}
+
+func refuse(w http.ResponseWriter, status int, challenge string) {
+	w.Header().Set("WWW-Authenticate", challenge)
+	w.WriteHeader(status)
+}
+
+// bearer is what stands behind the scheme, and whether the scheme is Bearer, in any case of its letters.
+func bearer(value string) (string, bool) {
+	scheme, token, _ := strings.Cut(strings.Trim(value, " \t"), " ")
+	return strings.TrimLeft(token, " "), strings.EqualFold(scheme, "Bearer")
+}
+
+// isB64token says whether a token is spelled as the header has it (RFC 6750, section 2.1). Of no octets the library says that the token is empty.
+func isB64token(token string) bool {
+	padless := strings.TrimRight(token, "=")
+	return (padless != "" || token == "") && strings.IndexFunc(padless, isOther) < 0
+}
+
+func isOther(c rune) bool {
+	isLetter := 'A' <= c && c <= 'Z' || 'a' <= c && c <= 'z'
+	return !isLetter && !('0' <= c && c <= '9') && !strings.ContainsRune("-._~+/", c)
+}

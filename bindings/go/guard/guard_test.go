@@ -1,0 +1,83 @@
+package guard
+
+import (
+	"errors"
+	"net/http"
+	"net/http/httptest"
+	"os"
+	"testing"
+
+	"example.org/fowharimu"
+)
+
+// TestRefusalsAreTold has the realm and the refusals of a validator whose tokens ended in 2011.
+func TestRefusalsAreTold(t *testing.T) {
+	validator := open(t)
+	var told []error
+	handler := Bearer(validator, Realm("shop"), OnRefusal(func(_ *http.Request, why error) { told = append(told, why) }))(http.NotFoundHandler())
+	if got := ask(handler, nil); got.Code != 401 || got.Header().Get("WWW-Authenticate") != `Bearer realm="shop"` || len(told) != 0 {
+		t.Error("without a token:", got.Code, got.Header(), told)
+	}
+	token, err := os.ReadFile("../../../examples/rfc7515-a1.jwt")
+	if err != nil {
+		t.Fatal(err)
+	}
+	got := ask(handler, []string{"Bearer " + string(token)})
+	var refusal fowharimu.Refusal
+	if got.Code != 401 || len(told) != 1 || !errors.As(told[0], &refusal) || refusal.FaultName() != "Expired" {
+		t.Error("an expired token:", got.Code, told)
+	}
+	if got := ask(handler, []string{"Bearer *"}); got.Code != 401 || !errors.Is(told[1], ErrForm) {
+		t.Error("no b64token:", got.Code, told)
+	}
+}
+
+// TestClosed has a validator that says nothing: nobody is let through.
+func TestClosed(t *testing.T) {
+	validator := open(t)
+	validator.Close()
+	if got := ask(Bearer(validator)(http.NotFoundHandler()), []string{"Bearer a.b.c"}); got.Code != 500 {
+		t.Error(got.Code)
+	}
+}
+
+// TestClaimsOfNobody has a context without claims.
+func TestClaimsOfNobody(t *testing.T) {
+	if claims, found := ClaimsOf(httptest.NewRequest("GET", "/", nil).Context()); found || claims.Raw() != nil {
+		t.Error(claims, found)
+	}
+}
+
+// TestB64tokens has the spellings of RFC 6750, section 2.1.
+func TestB64tokens(t *testing.T) {
+	for token, wanted := range map[string]bool{"": true, "a": true, "aZ09-._~+/==": true, "=": false, "a=b": false, "a b": false, "a,b": false, "é": false, "\xff": false, "a\t": false} {
+		if isB64token(token) != wanted {
+			t.Errorf("%q is %t", token, !wanted)
+		}
+	}
+}
+
+func open(t *testing.T) *fowharimu.Validator {
+	t.Helper()
+	read := func(name string) []byte {
+		octets, err := os.ReadFile("../../../examples/rfc7515-a1." + name)
+		if err != nil {
+			t.Fatal(err)
+		}
+		return octets
+	}
+	validator, err := fowharimu.Open(read("policy"), read("keys"))
+	if err != nil {
+		t.Fatal(err)
+	}
+	return validator
+}
+
+func ask(handler http.Handler, values []string) *httptest.ResponseRecorder {
+	request, answer := httptest.NewRequest("GET", "/", nil), httptest.NewRecorder()
+	if values != nil {
+		request.Header["Authorization"] = values
+	}
+	handler.ServeHTTP(answer, request)
+	return answer
+}

@@ -1,0 +1,138 @@
+package org.example.fowharimu.servlet;
+
+import jakarta.servlet.Filter;
+import jakarta.servlet.FilterChain;
+import jakarta.servlet.ServletException;
+import jakarta.servlet.ServletRequest;
+import jakarta.servlet.ServletResponse;
+import jakarta.servlet.http.HttpServletRequest;
+import jakarta.servlet.http.HttpServletResponse;
+import java.io.IOException;
+import java.util.Collections;
+import java.util.List;
+import java.util.regex.Matcher;
+import java.util.regex.Pattern;
+import org.example.fowharimu.Access;
+import org.example.fowharimu.Denied;
+import org.example.fowharimu.Refused;
+import org.example.fowharimu.Validator;
+
+/**
+ * Lets HTTP requests through where their token is accepted (RFC 6750). Their claims, a JSON text, are the request's attribute {@link #CLAIMS}.
+ *
+ * <p>Else the answer is 400, 401 or 403, with {@code WWW-Authenticate} (RFC 6750, section 3). Where nothing is said of a token, for want of memory or
+ * since the validator is closed, the exception is the container's, which answers 500. Threads share a filter. It doesn't close what it is given.
+ *
+ * <pre>{@code
+ * context.addFilter("jwt", new Guard(new Validator(policy, keys)))
+ *     .addMappingForUrlPatterns(EnumSet.of(DispatcherType.REQUEST), false, "/api/*");
+ * }</pre>
+ */
+public class Guard implements Filter {
+    /** The name of the attribute that has the claims of a request that was let through. */
+    public static final String CLAIMS = "org.example.fowharimu.claims";
+
+    private static final String INVALID_REQUEST = "Bearer error=\"invalid_request\"";
+    private static final String INVALID_TOKEN = "Bearer error=\"invalid_token\"";
+    private static final String INSUFFICIENT_SCOPE = "Bearer error=\"insufficient_scope\"";
+    // (of no octets the library says that the token is empty)
+    private static final Pattern B64TOKEN = Pattern.compile("(?:[A-Za-z0-9._~+/-]+=*)?");
+    private static final Pattern CREDENTIALS = Pattern.compile("bearer(?: +(.*))?", Pattern.CASE_INSENSITIVE | Pattern.DOTALL);
+    private static final Pattern QUOTABLE = Pattern.compile("[ !#-\\[\\]-~]*");
+
+    private final Validator validator;
+    private final Access access;
+    private final String realm;
+    private final boolean hidesToken;
+
+    /**
+     * A filter that asks for an accepted token.
+     *
+     * @param validator the validator, which the filter doesn't close
+     */
+    public Guard(Validator validator) {
+        this(validator, null);
+    }
+
+    /**
+     * A filter that asks for an accepted token whose claims meet an access rule.
+     *
+     * @param validator the validator, which the filter doesn't close
+     * @param access the access rule; null where there is none
+     */
+    public Guard(Validator validator, Access access) {
+        this(validator, access, "jwt", false);
+    }
+
+    /**
+     * A filter that asks for an accepted token whose claims meet an access rule.
+     *
+     * @param validator the validator, which the filter doesn't close
+     * @param access the access rule; null where there is none
+     * @param realm the realm that a request without a token is told
+     * @param hidesToken whether what is behind isn't shown {@code Authorization}
+     * @throws IllegalArgumentException for a realm that a quoted string can't have
+     */
+    public Guard(Validator validator, Access access, String realm, boolean hidesToken) {
+        if (!QUOTABLE.matcher(realm).matches()) {
+            throw new IllegalArgumentException("a realm has printable characters of ASCII, and neither quotation marks nor backslashes");
+        }
+        this.validator = validator;
+        this.access = access;
+        this.realm = realm;
+        this.hidesToken = hidesToken;
+    }
+
+    @Override
+    public void doFilter(ServletRequest request, ServletResponse response, FilterChain chain) throws IOException, ServletException {
+        HttpServletRequest asked = (HttpServletRequest) request;
+        HttpServletResponse answer = (HttpServletResponse) response;
+        List<String> values = Collections.list(asked.getHeaders("Authorization"));
+        if (values.size() > 1) {
+            refuse(answer, HttpServletResponse.SC_BAD_REQUEST, INVALID_REQUEST);
+            return;
+        }
+        Matcher credentials = CREDENTIALS.matcher(String.join("", values));
+        if (!credentials.matches()) {
+            refuse(answer, HttpServletResponse.SC_UNAUTHORIZED, "Bearer realm=\"" + realm + "\"");
+            return;
+        }
+        String token = credentials.group(1) == null ? "" : credentials.group(1);
+        if (isAccepted(asked, answer, token)) {
+            chain.doFilter(hidesToken ? new Hiding(asked) : asked, response);
+        }
+    }
+
+    /**
+     * Is told why a token isn't taken, before the answer; this one does nothing. Of what is no b64token (RFC 6750, section 2.1) it isn't told.
+     *
+     * @param request the request
+     * @param why a {@link Refused} or a {@link Denied}
+     */
+    protected void refused(HttpServletRequest request, Exception why) {}
+
+    /** Whether the token is accepted and meets the rule; the claims are the request's attribute then, and else the answer is given. */
+    private boolean isAccepted(HttpServletRequest request, HttpServletResponse answer, String token) {
+        if (!B64TOKEN.matcher(token).matches()) {
+            refuse(answer, HttpServletResponse.SC_UNAUTHORIZED, INVALID_TOKEN);
+            return false;
+        }
+        try {
+            request.setAttribute(CLAIMS, access == null ? validator.validate(token) : validator.validate(token, access));
+            return true;
+        } catch (Refused refusal) {
+            refused(request, refusal);
+            refuse(answer, HttpServletResponse.SC_UNAUTHORIZED, INVALID_TOKEN);
+        } catch (Denied denial) {
+            refused(request, denial);
+            String scope = denial.scope().isEmpty() ? "" : ", scope=\"" + String.join(" ", denial.scopes()) + "\"";
+            refuse(answer, HttpServletResponse.SC_FORBIDDEN, INSUFFICIENT_SCOPE + scope);
+        }
+        return false;
+    }
+
+    private static void refuse(HttpServletResponse answer, int status, String challenge) {
+        answer.setStatus(status);
+        answer.setHeader("WWW-Authenticate", challenge);
+    }
+}

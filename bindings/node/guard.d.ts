@@ -1,0 +1,24 @@
+/** Lets HTTP requests through where their token is accepted (RFC 6750): for Express, Connect, and whatever else takes `(req, res, next)`. */
+import type { IncomingMessage, ServerResponse } from 'node:http';
+import type { Access, Claims, Denied, TokenRefused, Validator } from '.';
+
+/** A request that was let through has its claims as `auth`. */
+export interface Guarded extends IncomingMessage {
+  auth?: Claims;
+}
+export interface Guarding {
+  /** An access rule that the claims have to meet: where they don't, the answer is 403. */
+  access?: Access;
+  /** The realm that a request without a token is told: `jwt` without this. */
+  realm?: string;
+  /** Whether what is behind isn't shown `Authorization`. */
+  hidesToken?: boolean;
+  /** Is told why a token isn't taken, before the answer. */
+  onRefusal?: (error: TokenRefused | Denied, request: IncomingMessage) => void;
+}
+/**
+ * Calls `next()` where the token behind the scheme Bearer is accepted now. Else the answer is 400, 401 or 403, with `WWW-Authenticate` (RFC 6750,
+ * section 3). Where nothing is said of the token, for want of memory or since the validator is closed, it is `next(error)`. Throws TypeError for a
+ * realm that a quoted string can't have.
+ */
+export function guard(validator: Validator, how?: Guarding): (request: Guarded, response: ServerResponse, next: (error?: unknown) => void) => void;

@@ -1,0 +1,72 @@
+'use strict';
+/** Lets HTTP requests through where their token is accepted (RFC 6750). guard.d.ts says what each call does. */
+
+const { Denied, TokenRefused } = require('.');
+
+const INVALID_REQUEST = 'Bearer error="invalid_request"';
+const INVALID_TOKEN = 'Bearer error="invalid_token"';
+const INSUFFICIENT_SCOPE = 'Bearer error="insufficient_scope"';
+// (of no octets the library says that the token is empty)
+const B64TOKEN = /^(?:[A-Za-z0-9._~+/-]+=*)?$/;
+const QUOTABLE = /^[ !#-[\]-~]*$/;
+const CREDENTIALS = /^bearer(?: +(.*))?$/is;
+
+/** The values of all headers Authorization: `headers` has the first alone. */
+function authorizations({ rawHeaders }) {
+  const values = [];
+  for (let place = 0; place < rawHeaders.length; place += 2) {
+    if (rawHeaders[place].toLowerCase() === 'authorization') values.push(rawHeaders[place + 1]);
+  }
+  return values;
+}
+
+function hide(request) {
+  const others = [];
+  for (let place = 0; place < request.rawHeaders.length; place += 2) {
+    if (request.rawHeaders[place].toLowerCase() !== 'authorization') others.push(request.rawHeaders[place], request.rawHeaders[place + 1]);
+  }
+  request.rawHeaders = others;
+  delete request.headers.authorization;
+}
+
+function refuse(response, status, challenge) {
+  response.statusCode = status;
+  response.setHeader('WWW-Authenticate', challenge);
+  response.end();
+}
+
+/** Answers where a token isn't taken; another error says nothing of the token, and is the caller's. */
+function answer(response, error) {
+  if (error instanceof Denied) {
+    const scope = error.scope === undefined ? '' : `, scope="${error.scopes.join(' ')}"`;
+    refuse(response, 403, INSUFFICIENT_SCOPE + scope);
+  } else if (error instanceof TokenRefused) {
+    refuse(response, 401, INVALID_TOKEN);
+  } else {
+    return false;
+  }
+  return true;
+}
+
+function guard(validator, { access, realm = 'jwt', hidesToken = false, onRefusal = () => {} } = {}) {
+  if (!QUOTABLE.test(realm)) throw new TypeError('a realm has printable characters of ASCII, and neither quotation marks nor backslashes');
+  return (request, response, next) => {
+    const values = authorizations(request);
+    if (values.length > 1) return refuse(response, 400, INVALID_REQUEST);
+    const credentials = CREDENTIALS.exec(values[0] ?? '');
+    if (credentials === null) return refuse(response, 401, `Bearer realm="${realm}"`);
+    const token = credentials[1] ?? '';
+    if (!B64TOKEN.test(token)) return refuse(response, 401, INVALID_TOKEN);
+    try {
+      request.auth = access === undefined ? validator.validate(token) : validator.validate(token, { access });
+    } catch (error) {
+      if (error instanceof Denied || error instanceof TokenRefused) onRefusal(error, request);
+      if (!answer(response, error)) next(error);
+      return undefined;
+    }
+    if (hidesToken) hide(request);
+    return next();
+  };
+}
+
+module.exports = { guard };

@@ -1,0 +1,72 @@
+import jakarta.servlet.DispatcherType;
+import jakarta.servlet.Filter;
+import jakarta.servlet.http.HttpServlet;
+import jakarta.servlet.http.HttpServletRequest;
+import jakarta.servlet.http.HttpServletResponse;
+import java.io.IOException;
+import java.nio.file.Files;
+import java.nio.file.Path;
+import org.apache.catalina.Context;
+import org.apache.catalina.startup.Tomcat;
+import org.apache.tomcat.util.descriptor.web.FilterDef;
+import org.apache.tomcat.util.descriptor.web.FilterMap;
+import org.example.fowharimu.Access;
+import org.example.fowharimu.Validator;
+import org.example.fowharimu.servlet.Guard;
+
+/** The application of the cases, over Tomcat: TomcatApp FOLDER */
+final class TomcatApp {
+    private static final int LONGEST_HEAD = 32_768;
+
+    private TomcatApp() {}
+
+    /** What stands behind the guards. */
+    private static final class Answer extends HttpServlet {
+        private static final long serialVersionUID = 1;
+
+        @Override
+        protected void service(HttpServletRequest request, HttpServletResponse response) throws IOException {
+            String claims = (String) request.getAttribute(Guard.CLAIMS);
+            response.getWriter().print("{\"claims\":" + claims + ",\"shown\":" + (request.getHeader("Authorization") != null) + "}");
+        }
+    }
+
+    private static Validator open(Path folder) throws Exception {
+        return new Validator(Files.readAllBytes(folder.resolve("policy.json")), Files.readAllBytes(folder.resolve("keys.json")));
+    }
+
+    private static void guard(Context context, String path, Filter filter) {
+        FilterDef def = new FilterDef();
+        def.setFilterName("guard of " + path);
+        def.setFilter(filter);
+        FilterMap map = new FilterMap();
+        map.setFilterName("guard of " + path);
+        map.addURLPattern(path);
+        map.setDispatcher(DispatcherType.REQUEST.name());
+        context.addFilterDef(def);
+        context.addFilterMap(map);
+    }
+
+    public static void main(String[] words) throws Exception {
+        Path folder = Path.of(words[0]);
+        Validator validator = open(folder);
+        Validator closed = open(folder);
+        closed.close();
+        Tomcat tomcat = new Tomcat();
+        tomcat.setBaseDir(Files.createTempDirectory("tomcat").toString());
+        tomcat.setPort(0);
+        tomcat.getConnector().setProperty("address", "127.0.0.1");
+        tomcat.getConnector().setProperty("maxHttpHeaderSize", String.valueOf(LONGEST_HEAD));
+        Context context = tomcat.addContext("", null);
+        Tomcat.addServlet(context, "answer", new Answer()).addMapping("/");
+        // (the empty pattern is the root alone)
+        guard(context, "", new Guard(validator));
+        guard(context, "/scope", new Guard(validator, new Access(Files.readAllBytes(folder.resolve("scope.json")))));
+        guard(context, "/role", new Guard(validator, new Access(Files.readAllBytes(folder.resolve("role.json")))));
+        guard(context, "/hidden", new Guard(validator, null, "jwt", true));
+        guard(context, "/closed", new Guard(closed));
+        tomcat.start();
+        System.out.println("listening on 127.0.0.1:" + tomcat.getConnector().getLocalPort());
+        tomcat.getServer().await();
+    }
+}
