@@ -37,7 +37,10 @@ function refuse(response, status, challenge) {
 
 /** Answers where a token isn't taken; another error says nothing of the token, and is the caller's. */
 function answer(response, error) {
-  if (error instanceof Denied) {
+  if (error instanceof TokenRefused && error.fault === 'KeysTooOld') {
+    response.statusCode = 503;
+    response.end();
+  } else if (error instanceof Denied) {
     const scope = error.scope === undefined ? '' : `, scope="${error.scopes.join(' ')}"`;
     refuse(response, 403, INSUFFICIENT_SCOPE + scope);
   } else if (error instanceof TokenRefused) {
@@ -57,15 +60,23 @@ function guard(validator, { access, realm = 'jwt', hidesToken = false, onRefusal
     if (credentials === null) return refuse(response, 401, `Bearer realm="${realm}"`);
     const token = credentials[1] ?? '';
     if (!B64TOKEN.test(token)) return refuse(response, 401, INVALID_TOKEN);
-    try {
-      request.auth = access === undefined ? validator.validate(token) : validator.validate(token, { access });
-    } catch (error) {
+    const admit = (claims) => {
+      request.auth = claims;
+      if (hidesToken) hide(request);
+      return next();
+    };
+    const turnAway = (error) => {
       if (error instanceof Denied || error instanceof TokenRefused) onRefusal(error, request);
       if (!answer(response, error)) next(error);
-      return undefined;
+    };
+    let claims;
+    try {
+      claims = access === undefined ? validator.validate(token) : validator.validate(token, { access });
+    } catch (error) {
+      return turnAway(error);
     }
-    if (hidesToken) hide(request);
-    return next();
+    // (keys by URL promise the claims)
+    return claims instanceof Promise ? claims.then(admit, turnAway).catch(next) : admit(claims);
   };
 }
 

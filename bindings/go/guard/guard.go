@@ -23,11 +23,17 @@ const (
 // ErrForm says that what stands behind the scheme is no b64token (RFC 6750, section 2.1).
 var ErrForm = errors.New("guard: the credentials are no b64token")
 
+// Validator is what a guard asks: a *fowharimu.Validator, or *fowharimu.RemoteKeys.
+type Validator interface {
+	Validate(token string) (fowharimu.Claims, error)
+	ValidateFor(token string, access *fowharimu.Access) (fowharimu.Claims, error)
+}
+
 // Option says how requests are guarded.
 type Option func(*guard)
 
 type guard struct {
-	validator *fowharimu.Validator
+	validator Validator
 	access    *fowharimu.Access
 	realm     string
 	hides     bool
@@ -66,8 +72,8 @@ func ClaimsOf(c context.Context) (fowharimu.Claims, bool) {
 }
 
 // Bearer lets a request through where the token behind the scheme Bearer is accepted now. Else it answers 400, 401 or 403, with WWW-Authenticate
-// (RFC 6750, section 3), and 500 where nothing can be said of the token.
-func Bearer(validator *fowharimu.Validator, how ...Option) func(http.Handler) http.Handler {
+// (RFC 6750, section 3), 503 where keys by URL are too old, and 500 where nothing can be said of the token.
+func Bearer(validator Validator, how ...Option) func(http.Handler) http.Handler {
 	chosen := guard{validator: validator, realm: "jwt", tell: func(*http.Request, error) {}}
 	for _, choose := range how {
 		choose(&chosen)
@@ -124,8 +130,11 @@ func (g *guard) shown(r *http.Request) *http.Request {
 func answer(w http.ResponseWriter, err error) {
 	var denied *fowharimu.DeniedError
 	var undecided *fowharimu.UndecidedError
+	var tooOld *fowharimu.TooOldError
 	var refusal fowharimu.Refusal
 	switch {
+	case errors.As(err, &tooOld):
+		http.Error(w, "the keys are too old", http.StatusServiceUnavailable)
 	case errors.As(err, &denied) && denied.Scope != "":
 		refuse(w, http.StatusForbidden, insufficientScope+`, scope="`+strings.Join(denied.Scopes, " ")+`"`)
 	case errors.As(err, &denied):

@@ -41,6 +41,24 @@ func TestClosed(t *testing.T) {
 	}
 }
 
+// old stands for keys by URL that are too old.
+type old struct{}
+
+func (old) Validate(string) (fowharimu.Claims, error) {
+	return fowharimu.Claims{}, new(fowharimu.TooOldError)
+}
+
+func (old) ValidateFor(string, *fowharimu.Access) (fowharimu.Claims, error) {
+	return fowharimu.Claims{}, new(fowharimu.TooOldError)
+}
+
+// TestKeysTooOld has keys that say nothing of the token: it isn't the token's fault.
+func TestKeysTooOld(t *testing.T) {
+	if got := ask(Bearer(old{})(http.NotFoundHandler()), []string{"Bearer a.b.c"}); got.Code != 503 || got.Header().Get("WWW-Authenticate") != "" {
+		t.Error(got.Code, got.Header())
+	}
+}
+
 // TestClaimsOfNobody has a context without claims.
 func TestClaimsOfNobody(t *testing.T) {
 	if claims, found := ClaimsOf(httptest.NewRequest("GET", "/", nil).Context()); found || claims.Raw() != nil {

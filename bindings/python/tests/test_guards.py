@@ -8,6 +8,7 @@ from typing import Any, Dict, List, Optional
 
 from fowharimu import Denied, SignatureRefused, TokenRefused, Undecided
 from fowharimu import asgi, wsgi
+from fowharimu.remote import KeysTooOld
 
 CLAIMS = {"sub": "ann"}
 GOOD = [(b"authorization", b"Bearer good")]
@@ -72,7 +73,7 @@ class Wsgi(unittest.TestCase):
         """What a guard answers to a token for which its validator raises an error."""
         told: List[Any] = []
         guard = wsgi.Guard(lambda *_: [], Stand(error))  # type: ignore[arg-type]
-        list(guard({"HTTP_AUTHORIZATION": "Bearer bad"}, lambda status, headers: told.append((status, dict(headers)["WWW-Authenticate"]))))
+        list(guard({"HTTP_AUTHORIZATION": "Bearer bad"}, lambda status, headers: told.append((status, dict(headers).get("WWW-Authenticate")))))
         return told
 
     def test_what_says_nothing_of_a_token_is_the_server_s(self) -> None:
@@ -84,6 +85,11 @@ class Wsgi(unittest.TestCase):
         self.assertEqual(self.through(SignatureRefused("BadSignature", 0)), [("401 Unauthorized", 'Bearer error="invalid_token"')])
         denied = Denied("ScopeMissing", "read", None, ("read", "write"))
         self.assertEqual(self.through(denied), [("403 Forbidden", 'Bearer error="insufficient_scope", scope="read write"')])
+
+    def test_keys_that_are_too_old_are_the_service_s(self) -> None:
+        self.assertEqual(self.through(KeysTooOld("KeysTooOld")), [("503 Service Unavailable", None)])
+        (begun, _) = asked(asgi.Guard(behind, Stand(KeysTooOld("KeysTooOld"))), "http", [(b"authorization", b"Bearer bad")])
+        self.assertEqual((begun["status"], begun["headers"]), (503, [(b"content-length", b"0")]))
 
     def test_why_is_told_to_the_logger(self) -> None:
         with self.assertLogs("fowharimu", "INFO") as logged:

@@ -4,7 +4,7 @@ from __future__ import annotations
 
 import logging
 import re
-from typing import List, Optional
+from typing import List, Optional, Protocol
 
 from . import Access, Claims, Denied, TokenRefused, Undecided, Validator
 
@@ -17,10 +17,16 @@ _INVALID_REQUEST = 'Bearer error="invalid_request"'
 _INSUFFICIENT_SCOPE = 'Bearer error="insufficient_scope"'
 
 
-class Challenged(Exception):
-    """The request isn't let through: it is answered with this status and this `WWW-Authenticate`."""
+class Validates(Protocol):
+    """What a guard asks: a `Validator`, or `RemoteKeys`."""
 
-    def __init__(self, status: int, challenge: str) -> None:
+    def validate(self, token: str, now: None = None, access: Optional[Access] = None) -> Claims: ...
+
+
+class Challenged(Exception):
+    """The request isn't let through: it is answered with this status and this `WWW-Authenticate`, if any."""
+
+    def __init__(self, status: int, challenge: Optional[str] = None) -> None:
         super().__init__(status, challenge)
         self.status = status
         self.challenge = challenge
@@ -29,12 +35,14 @@ class Challenged(Exception):
 class Bearer:
     """Asks a validator, and an access rule where there is one, for the token behind the scheme Bearer."""
 
-    def __init__(self, validator: Validator, access: Optional[Access], realm: str) -> None:
+    def __init__(self, validator: Validates, access: Optional[Access], realm: str) -> None:
         if not _QUOTABLE.fullmatch(realm):
             raise ValueError("a realm has printable characters of ASCII, and neither quotation marks nor backslashes")
         self._validator = validator
         self._access = access
         self._realm = realm
+        # (keys by URL may be fetched for a token)
+        self.may_wait = not isinstance(validator, Validator)
 
     def claims(self, values: List[str]) -> Claims:
         """The claims of the request whose headers Authorization have these values. Raises Challenged, and MemoryError, Closed and Undecided where
@@ -50,6 +58,8 @@ class Bearer:
             raise Challenged(403, _INSUFFICIENT_SCOPE + scope) from denial
         except TokenRefused as refusal:
             _LOG.info("%s", refusal)
+            if refusal.fault == "KeysTooOld":
+                raise Challenged(503) from refusal
             raise Challenged(401, _INVALID_TOKEN) from refusal
 
     def _token(self, values: List[str]) -> str:

@@ -2,15 +2,17 @@
 
     app.add_middleware(Guard, validator=Validator(policy, keys))
 
-The claims are `request.state.claims`. A call takes microseconds, so it stays in the event loop: `max_calls` in the policy bounds it.
+The claims are `request.state.claims`. A call of a validator takes microseconds, so it stays in the event loop: `max_calls` in the policy bounds it. One of
+keys by URL may wait for a fetch, and goes to a thread of asyncio's.
 """
 
 from __future__ import annotations
 
+import asyncio
 from typing import Any, Awaitable, Callable, Dict, Optional
 
-from . import Access, Validator
-from ._bearer import Bearer, Challenged
+from . import Access
+from ._bearer import Bearer, Challenged, Validates
 
 Message = Dict[str, Any]
 Receive = Callable[[], Awaitable[Message]]
@@ -24,7 +26,7 @@ _POLICY_VIOLATION = 1008
 class Guard:
     """An application before another, which is asked only where the request's token is accepted now, and its claims meet the access rule.
 
-    Else the answer is 400, 401 or 403, with `WWW-Authenticate` (RFC 6750, section 3); a WebSocket is closed before it is open. Where nothing is
+    Else the answer is 400, 401 or 403, with `WWW-Authenticate` (RFC 6750, section 3), or 503 where keys by URL are too old; a WebSocket is closed before it is open. Where nothing is
     said of a token, for want of memory, the exception is the server's, which answers 500. With `hides_token` the application isn't shown
     `Authorization`.
     """
@@ -32,7 +34,7 @@ class Guard:
     def __init__(
         self,
         app: Application,
-        validator: Validator,
+        validator: Validates,
         access: Optional[Access] = None,
         *,
         realm: str = "jwt",
@@ -48,7 +50,7 @@ class Guard:
             return
         values = [value.decode("latin-1") for name, value in scope["headers"] if name.lower() == b"authorization"]
         try:
-            claims = self._bearer.claims(values)
+            claims = await asyncio.to_thread(self._bearer.claims, values) if self._bearer.may_wait else self._bearer.claims(values)
         except Challenged as why:
             await _refuse(scope, send, why)
             return
@@ -61,6 +63,7 @@ async def _refuse(scope: Message, send: Send, why: Challenged) -> None:
     if scope["type"] == "websocket":
         await send({"type": "websocket.close", "code": _POLICY_VIOLATION})
         return
-    headers = [(b"www-authenticate", why.challenge.encode()), (b"content-length", b"0")]
+    challenge = [] if why.challenge is None else [(b"www-authenticate", why.challenge.encode())]
+    headers = [*challenge, (b"content-length", b"0")]
     await send({"type": "http.response.start", "status": why.status, "headers": headers})
     await send({"type": "http.response.body", "body": b""})

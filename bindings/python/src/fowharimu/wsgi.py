@@ -9,27 +9,27 @@ from __future__ import annotations
 
 from typing import Any, Callable, Dict, Iterable, Optional
 
-from . import Access, Validator
-from ._bearer import Bearer, Challenged
+from . import Access
+from ._bearer import Bearer, Challenged, Validates
 
 Environ = Dict[str, Any]
 StartResponse = Callable[..., Any]
 Application = Callable[[Environ, StartResponse], Iterable[bytes]]
 
-_STATUS = {400: "400 Bad Request", 401: "401 Unauthorized", 403: "403 Forbidden"}
+_STATUS = {400: "400 Bad Request", 401: "401 Unauthorized", 403: "403 Forbidden", 503: "503 Service Unavailable"}
 
 
 class Guard:
     """An application before another, which is asked only where the request's token is accepted now, and its claims meet the access rule.
 
-    Else the answer is 400, 401 or 403, with `WWW-Authenticate` (RFC 6750, section 3). Where nothing is said of a token, for want of memory, the
+    Else the answer is 400, 401 or 403, with `WWW-Authenticate` (RFC 6750, section 3), or 503 where keys by URL are too old. Where nothing is said of a token, for want of memory, the
     exception is the server's, which answers 500. With `hides_token` the application isn't shown `Authorization`.
     """
 
     def __init__(
         self,
         application: Application,
-        validator: Validator,
+        validator: Validates,
         access: Optional[Access] = None,
         *,
         realm: str = "jwt",
@@ -44,7 +44,8 @@ class Guard:
         try:
             claims = self._bearer.claims([] if value is None else [value])
         except Challenged as why:
-            start_response(_STATUS[why.status], [("WWW-Authenticate", why.challenge), ("Content-Length", "0")])
+            challenge = [] if why.challenge is None else [("WWW-Authenticate", why.challenge)]
+            start_response(_STATUS[why.status], [*challenge, ("Content-Length", "0")])
             return []
         shown = {name: it for name, it in environ.items() if not (self._hides_token and name == "HTTP_AUTHORIZATION")}
         return self._application({**shown, "fowharimu.claims": claims}, start_response)
