@@ -244,6 +244,8 @@ func asksForKeys(err error) bool {
 // current gives the validator by which a token is judged first.
 func (r *RemoteKeys) current() (*Validator, error) {
 	r.mutex.Lock()
+	// (before a fetch begins, so that it is the old one)
+	v := r.validator.Load()
 	var under *fetch
 	if time.Since(r.got) >= r.how.RefreshAfter {
 		under = r.begun()
@@ -260,11 +262,12 @@ func (r *RemoteKeys) current() (*Validator, error) {
 		if isOld {
 			return nil, new(TooOldError)
 		}
+		v = r.validator.Load()
 	}
-	if v := r.validator.Load(); v != nil {
-		return v, nil
+	if v == nil {
+		return nil, ErrClosed
 	}
-	return nil, ErrClosed
+	return v, nil
 }
 
 // renew waits for newer keys than those that were used, where a fetch is under way or may begin.

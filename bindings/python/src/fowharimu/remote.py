@@ -298,15 +298,16 @@ class RemoteKeys:
 
     def _current(self) -> Validator:
         """The validator by which a token is judged first. Raises KeysTooOld, and Closed."""
-        now = time.monotonic()
-        if now - self._got >= self._refresh_after:
+        # (before a fetch begins, so that it is the old one)
+        validator, age = self._validator, time.monotonic() - self._got
+        if age >= self._refresh_after:
             fetch = self._begun()
-            if now - self._got >= self._max_age:
+            if age >= self._max_age:
                 if fetch is not None:
                     self._wait(fetch)
                 if time.monotonic() - self._got >= self._max_age:
                     raise KeysTooOld("KeysTooOld")
-        validator = self._validator
+                validator = self._validator
         if validator is None:
             raise Closed
         return validator
