@@ -714,6 +714,19 @@ def access() -> Iterator[Case]:
             yield Denying(f"access/{alg}/{name}", policy_of(alg, max_calls=8), key_set(key_text(alg)), NOW, written(RULES[name]), signed_by)
 
 
+# ---- profiles
+
+
+def profiles() -> Iterator[Case]:
+    """Each token of examples/profiles under its policy, and held against its access rule where there is one."""
+    for path in sorted((TOP / "examples/profiles").glob("*/policy.json")):
+        folder, rule = path.parent, path.with_name("access.json")
+        documents = (path.read_bytes(), (folder / "keys.json").read_bytes())
+        for token in sorted((folder / "tokens").glob("*.jwt")):
+            name, text = f"profiles/{folder.name}/{token.stem}", token.read_bytes()
+            yield Denying(name, *documents, NOW, rule.read_bytes(), text) if rule.exists() else Judging(name, *documents, NOW, text)
+
+
 # ---- issuing
 
 
@@ -738,7 +751,7 @@ def issuing() -> Iterator[Case]:
     yield Issuing("issuing/typ-quoted", policy, key_set(good), 1, 1, 0, b'a"\\b\xc3\xa9', CLAIMS)
 
 
-GROUPS = [octets, parts, forms, signatures, headers, claims, policies, key_sets, ceilings, access, issuing]
+GROUPS = [octets, parts, forms, signatures, headers, claims, policies, key_sets, ceilings, access, issuing, profiles]
 
 
 def all_cases() -> list[Case]:
