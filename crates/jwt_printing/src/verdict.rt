@@ -61,9 +61,7 @@ fn accepted_line(
 ) -> Result<Reply, AllocError>
     ensures { IfOk result (λ a. reply_view a ≡ accepted_line signature key tries work) }
 {
-    let text = format!(in alloc;
-        "accepted sig={signature} key={key} tries={tries} work={work}\n"
-    )?;
+    let text = format!(in alloc; "accepted sig={signature} key={key} tries={tries} work={work}\n")?;
     Ok(Reply {
         text: text.into_bytes(),
         status: 0,
