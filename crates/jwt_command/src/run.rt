@@ -32,7 +32,7 @@ use std::alloc::{AllocError, Global};
 /// program's name. No verifiers and no documents are at hand: with `--public-keys` the answer is as without, and a file that is named
 /// can't be read. There is no clock: `verify` has to have `--now`.
 ///
-/// 0: done; 1: refused; 2: wrong words, and `w` has what is said of them, or a refused key of `mac`; 3: a read or a write failed;
+/// 0: done; 1: refused or denied; 2: wrong words, and `w` has what is said of them, or a refused key of `mac`; 3: a read or a write failed;
 /// 4: want of memory. The whole answer is in hand before any of it goes out.
 pub fn run<R: Source, W: Sink>(alloc: Global, words: &[&str], r: &mut R, w: &mut W) -> u8
     // What the words ask for is answered.
