@@ -15,5 +15,6 @@ the_denial rule ms (Some d) none some granted first = sym ((some d).1 first)
 
 pub returns-in-Some : goal.returns-in-Some
 returns-in-Some c =
-    the_denial c.in-Some.rule.now c.args.claims.now c.denial.result (c.denials_are_said.ensures.granted c.in-Some.rule.now c.args.claims.now) (c.denials_are_said.ensures.denied c.in-Some.rule.now c.args.claims.now)
-    c.denial.ensures.granted c.denial.ensures.first
+    rw c.in-Some.is
+    (the_denial c.in-Some.rule.now c.args.claims.now c.denial.result (c.denials_are_said.ensures.granted c.in-Some.rule.now c.args.claims.now) (c.denials_are_said.ensures.denied c.in-Some.rule.now c.args.claims.now)
+    c.denial.ensures.granted c.denial.ensures.first)

@@ -1,4 +1,4 @@
-use Rattle.std.proofs.Common.{◌∙◌, ap, ap₂, option_map, None, Option}
+use Rattle.std.proofs.Common.{◌∙◌, ap₂, option_map, None, Option}
 use Rattle.std.specs.Prelude.{codes}
 use Rattle.clap.specs.Words.{Text, found_of}
 use Rattle.clap.proofs.WalkLemmas.{first_value-rows}
