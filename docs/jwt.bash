@@ -9,7 +9,7 @@ _jwt() {
         issue:--alg | jwk:--new) choices="HS256 HS384 HS512" ;;
         jwk:--alg) choices="RS256 RS384 RS512 PS256 PS384 PS512 ES256 ES384 ES512 EdDSA" ;;
         issue:--form) choices="compact json flattened" ;;
-        verify:--policy | verify:--keys | verify:--token | issue:--keys | mac:--key-file | jwk:--file)
+        verify:--policy | verify:--keys | verify:--access | verify:--token | issue:--keys | mac:--key-file | jwk:--file)
             mapfile -t COMPREPLY < <(compgen -f -- "$word")
             return
             ;;
@@ -18,7 +18,7 @@ _jwt() {
         mac:*) choices="--k --key-file --limit" ;;
         keys:*) choices="--json" ;;
         show:*) choices="--limit --json" ;;
-        verify:*) choices="--now --public-keys --lines --json --policy --keys --token" ;;
+        verify:*) choices="--now --public-keys --lines --json --policy --keys --access --token" ;;
         issue:*) choices="--alg --typ --form --keys" ;;
         jwk:*) choices="--file --der --alg --kid --kid-thumbprint --bare --new --json" ;;
         esac

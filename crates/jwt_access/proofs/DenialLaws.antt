@@ -14,7 +14,7 @@ use Rattle.jwt_access.specs.DenialWords.{IsReached, IsDenial}
 use Rattle.jwt_access.specs.declared.denial.Denial.{Denial}
 use Rattle.jwt_access.specs.declared.denial.Denial.TheVariants.{ScopeMissing, ClaimMissing, ClaimNotAllowed}
 use Rattle.jwt_access.proofs.RowsLemmas.{first_of_both}
-use Rattle.jwt_access.proofs.GrantedLaws.{is_granted, is_met, is_allowed_by, scope_decides, met_decides, claim_is, is_claim, scopes_none}
+use Rattle.jwt_access.proofs.GrantedLaws.{granted, is_granted, is_met, is_allowed_by, scope_decides, met_decides, claim_is, is_claim, scopes_none}
 
 -- ---- scopes
 
@@ -154,3 +154,11 @@ pub denied_ungranted : (rule : Rule) (ms : Members) (a : Denial) → IsDenial ru
 denied_ungranted rule ms (ScopeMissing s) h g = h.2 (g.scopes s (contains_at rule.scopes h.0 s h.1))
 denied_ungranted rule ms (ClaimMissing n) h g = absent_unmet rule.scope_claim ms h.1 n h.3 h.4 (g.claims h.1 (let r = h.2 in contains_at rule.claims h.0 h.1 r.is))
 denied_ungranted rule ms (ClaimNotAllowed n) h g = h.6 (g.claims h.1 (let r = h.3 in contains_at rule.claims h.0 h.1 r.is))
+
+-- the denial in words is the table's answer
+pub is_denial : (rule : Rule) (ms : Members) (denial : Denial) → IsDenial rule ms denial → denial_of rule ms ≡ Some denial
+is_denial rule ms denial h = go (denial_of rule ms) refl
+  where
+    go : (o : Option Denial) → denial_of rule ms ≡ o → denial_of rule ms ≡ Some denial
+    go None is = absurd (denied_ungranted rule ms denial h (granted rule ms is))
+    go (Some d) is = is ∙ ap Some (one_denial rule ms d denial (denial_is rule ms d is) h)

@@ -1,4 +1,4 @@
--- The table of rows of why claims don't meet a rule. Only private clauses cite it.
+-- The table of rows of why claims don't meet a rule. The law `denials_are_said` says its answer in words.
 use Rattle.std.specs.Prelude.{ℕ, List, [], ◌∷◌, ◌++◌, map, not, is_none, Option}
 use Rattle.std.specs.Str.{bytes_eq}
 use Rattle.serde_json.specs.Data.{Members}

@@ -18,11 +18,11 @@ pub mod MemberKinds
 pub mod Document
 -- the names of faults and of denials
 pub mod FaultNames
+-- the table of rows of why claims don't meet a rule, which a law says in words
+pub mod Denials
 -- ---- What contracts of private functions cite, which nobody has to believe
 
 -- tests of claims
 pub mod Claims
--- the table of rows of why claims don't meet a rule
-pub mod Denials
 -- the parts of a rule as contracts see them
 pub mod Views

@@ -1,14 +1,21 @@
 -- What `jwk` answers, by what its steps do.
-use Rattle.std.proofs.Common.{◌≡◌, ◌≢◌, ◌≤◌, ◌<◌, ◌⊎◌, inl, inr, sym, subst, ℕ, Bool, true, false, List, length, Option, None, Some, Result, Ok, Err, IfOk, IfSome}
+use Rattle.std.proofs.Common.{◌≡◌, ◌≢◌, ◌≤◌, ◌<◌, ◌⊎◌, ◌∙◌, inl, inr, refl, sym, ap, subst, arith, ℕ, Bool, true, false, List, length, Option, None, Some, Result, Ok, Err, IfOk, IfSome}
 use Rattle.std.specs.Prelude.{codes}
 use Rattle.jwt_jwk.specs.declared.fault.JwkFault.{JwkFault}
 use Rattle.jwt_jwk.specs.declared.fault.JwkFault.TheVariants.{OutOfMemory}
+use Rattle.jwt_jwk.specs.FaultNames.{jwk_fault_name, remedy}
 use Rattle.jwt_words.specs.Words.{JwkOrder}
 use Rattle.jwt_printing.specs.Jwk.{jwk_line, jwk_refused}
 use Rattle.jwt_printing.specs.Printed.{Answer}
 use Rattle.jwt_printing.specs.Printer.{printer}
-use Rattle.jwt_command.specs.Jwk.{AreKeys, IsPrinted, IsRefusal, JwkOfInput, JwkOfKeys, JwkOfOctets}
+use Rattle.jwt_command.specs.Jwk.{AreKeys, IsPrinted, JwkOfInput, JwkOfKeys, JwkOfOctets}
 use Rattle.jwt_words.specs.declared.printing.Printing.{Printing}
+use Rattle.jwt_words.specs.declared.printing.Printing.TheVariants.{Json, Lines}
+
+refused_status : (printing : Printing) (name : List ℕ) (remedy : Option (List ℕ)) → (jwk_refused printing name remedy).status ≡ 1
+refused_status Json name remedy = refl
+refused_status Lines name None = refl
+refused_status Lines name (Some text) = refl
 
 module _ {A E : Type 0} (view : A → Answer) (order : JwkOrder) where
   -- what is printed of keys
@@ -16,10 +23,21 @@ module _ {A E : Type 0} (view : A → Answer) (order : JwkOrder) where
   printed_is (Ok a) octets json h is = inl (json, h, is)
   printed_is (Err e) octets json h is = tt
 
+  -- ---- the status of what is printed and of what isn't
+
+  -- what is printed is done
+  pub printed_done : (r : Result A E) (json : List ℕ) → IfOk r (λ a. view a ≡ jwk_line json) → IfOk r (λ a. (view a).status ≢ 3)
+  printed_done (Ok a) json is = λ three. absurd (omega (arith, ap (λ (w : Answer). w.status) is, three))
+  printed_done (Err e) json is = tt
+
+  pub refused_done : (r : Result A E) (printing : Printing) (name : List ℕ) (remedy : Option (List ℕ)) → IfOk r (λ a. view a ≡ jwk_refused printing name remedy) → IfOk r (λ a. (view a).status ≢ 3)
+  refused_done (Ok a) printing name remedy is = λ three. absurd (omega (arith, ap (λ (w : Answer). w.status) is ∙ refused_status printing name remedy, three))
+  refused_done (Err e) printing name remedy is = tt
+
   -- what isn't printed
   pub refused_is : (r : Result A E) (octets : List ℕ) (fault : JwkFault) → (AreKeys order octets → fault ≡ OutOfMemory) → IfOk r (λ a. fault ≢ OutOfMemory)
-      → IfOk r (λ a. IsRefusal order.printing (view a)) → IfOk r (λ a. JwkOfKeys order octets (view a))
-  refused_is (Ok a) octets fault only never line = inr ((λ are. never (only are)), line)
+      → IfOk r (λ a. view a ≡ jwk_refused order.printing (jwk_fault_name fault) (remedy fault)) → IfOk r (λ a. JwkOfKeys order octets (view a))
+  refused_is (Ok a) octets fault only never line = inr ((λ are. never (only are)), (fault, never, line))
   refused_is (Err e) octets fault only never line = tt
 
   pub within_is : (r : Result A E) (octets : List ℕ) → length octets ≤ 4194304 → IfOk r (λ a. JwkOfKeys order octets (view a)) → IfOk r (λ a. JwkOfOctets order octets (view a))

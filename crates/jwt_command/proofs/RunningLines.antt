@@ -3,12 +3,14 @@ use Rattle.std.proofs.Common.{◌≡◌, ◌⊎◌, inl, inr, sym, subst, ℕ, B
 use Rattle.jwt_mac.specs.Verifying.{Meaning}
 use Rattle.jwt_keys.specs.KeySets.{KeyList}
 use Rattle.jwt_keys.specs.declared.fault.KeysFault.{KeysFault}
+use Rattle.jwt_access.specs.Rules.{Rule}
+use Rattle.jwt_access.specs.declared.access_fault.AccessFault.{AccessFault}
 use Rattle.jwt_policy.specs.Settings.{Settings}
 use Rattle.jwt_policy.specs.declared.policy_fault.PolicyFault.{PolicyFault}
 use Rattle.jwt_words.specs.InHand.{Held, unread}
 use Rattle.jwt_command.specs.Lines.{GivesLines, with_held}
 use Rattle.jwt_printing.specs.Printed.{Answer, out_of_memory}
-use Rattle.jwt_command.specs.RunLines.{LinesByKeys, LinesByPolicy, LinesInHand, LinesNamed, Outcome, Printed, RunsLines}
+use Rattle.jwt_command.specs.RunLines.{LinesByKeys, LinesByPolicy, LinesByRule, LinesInHand, LinesNamed, Outcome, Printed, RunsLines}
 use Rattle.jwt_printing.specs.Printer.{printer, printed_file_fault}
 use Rattle.jwt_command.specs.Verify.{asked_for, terms_of_keys}
 use Rattle.jwt_words.specs.Words.{LinesOrder}
@@ -28,33 +30,53 @@ or_else : (A B C : Type 0) → (B → C) → A ⊎ B → A ⊎ C
 or_else A B C f (inl a) = inl a
 or_else A B C f (inr b) = inr (f b)
 
-pub policy_is_refused : {A E : Type 0} (view : A → Answer) (printing : Printing) (verifiers : List Meaning) (says : ℕ → List ℕ → ℕ → Type 0) (now : Option ℕ) (known : Option (List ℕ)) (policy : Result Settings PolicyFault) (set : Result KeyList KeysFault)
+pub policy_is_refused : {A E : Type 0} (view : A → Answer) (printing : Printing) (verifiers : List Meaning) (says : ℕ → List ℕ → ℕ → Type 0) (now : Option ℕ) (known : Option (List ℕ)) (policy : Result Settings PolicyFault) (set : Result KeyList KeysFault) (rule : Result (Option Rule) AccessFault)
     (fault : PolicyFault) (reply : Result A E) (unread : Bool) (o : Outcome) → policy ≡ Err fault → IfOk reply (λ r. view r ≡ (printer printing).policy_refused fault)
     → IfOk reply (λ r. Printed (view r) o) → IfErr reply (λ e. Printed out_of_memory o)
-    → IfSome known (λ x. Printed out_of_memory o ⊎ LinesByPolicy printing verifiers says now policy set x unread o)
-policy_is_refused view printing verifiers says now known policy set fault reply unread o is line printed lacks =
-    where_known known (λ x. Printed out_of_memory o ⊎ LinesByPolicy printing verifiers says now policy set x unread o) (λ x.
-    or_else (Printed out_of_memory o) (Printed ((printer printing).policy_refused fault) o) (LinesByPolicy printing verifiers says now policy set x unread o)
-    (λ h. subst (λ (p : Result Settings PolicyFault). LinesByPolicy printing verifiers says now p set x unread o) (sym is) h) (given view reply ((printer printing).policy_refused fault) o line printed lacks))
+    → IfSome known (λ x. Printed out_of_memory o ⊎ LinesByPolicy printing verifiers says now policy set rule x unread o)
+policy_is_refused view printing verifiers says now known policy set rule fault reply unread o is line printed lacks =
+    where_known known (λ x. Printed out_of_memory o ⊎ LinesByPolicy printing verifiers says now policy set rule x unread o) (λ x.
+    or_else (Printed out_of_memory o) (Printed ((printer printing).policy_refused fault) o) (LinesByPolicy printing verifiers says now policy set rule x unread o)
+    (λ h. subst (λ (p : Result Settings PolicyFault). LinesByPolicy printing verifiers says now p set rule x unread o) (sym is) h) (given view reply ((printer printing).policy_refused fault) o line printed lacks))
 
-pub keys_are_refused : {A E : Type 0} (view : A → Answer) (printing : Printing) (verifiers : List Meaning) (says : ℕ → List ℕ → ℕ → Type 0) (now : Option ℕ) (known : Option (List ℕ)) (policy : Result Settings PolicyFault) (set : Result KeyList KeysFault)
+pub keys_are_refused : {A E : Type 0} (view : A → Answer) (printing : Printing) (verifiers : List Meaning) (says : ℕ → List ℕ → ℕ → Type 0) (now : Option ℕ) (known : Option (List ℕ)) (policy : Result Settings PolicyFault) (set : Result KeyList KeysFault) (rule : Result (Option Rule) AccessFault)
     (p : Settings) (fault : KeysFault) (reply : Result A E) (unread : Bool) (o : Outcome) → policy ≡ Ok p → set ≡ Err fault
     → IfOk reply (λ r. view r ≡ (printer printing).keys_refused fault) → IfOk reply (λ r. Printed (view r) o) → IfErr reply (λ e. Printed out_of_memory o)
-    → IfSome known (λ x. Printed out_of_memory o ⊎ LinesByPolicy printing verifiers says now policy set x unread o)
-keys_are_refused view printing verifiers says now known policy set p fault reply unread o policy_is set_is line printed lacks =
-    where_known known (λ x. Printed out_of_memory o ⊎ LinesByPolicy printing verifiers says now policy set x unread o) (λ x.
-    or_else (Printed out_of_memory o) (Printed ((printer printing).keys_refused fault) o) (LinesByPolicy printing verifiers says now policy set x unread o)
-    (λ h. subst (λ (q : Result Settings PolicyFault). LinesByPolicy printing verifiers says now q set x unread o) (sym policy_is)
-    (subst (λ (s : Result KeyList KeysFault). LinesByKeys printing verifiers says now p s x unread o) (sym set_is) h)) (given view reply ((printer printing).keys_refused fault) o line printed lacks))
+    → IfSome known (λ x. Printed out_of_memory o ⊎ LinesByPolicy printing verifiers says now policy set rule x unread o)
+keys_are_refused view printing verifiers says now known policy set rule p fault reply unread o policy_is set_is line printed lacks =
+    where_known known (λ x. Printed out_of_memory o ⊎ LinesByPolicy printing verifiers says now policy set rule x unread o) (λ x.
+    or_else (Printed out_of_memory o) (Printed ((printer printing).keys_refused fault) o) (LinesByPolicy printing verifiers says now policy set rule x unread o)
+    (λ h. subst (λ (q : Result Settings PolicyFault). LinesByPolicy printing verifiers says now q set rule x unread o) (sym policy_is)
+    (subst (λ (s : Result KeyList KeysFault). LinesByKeys printing verifiers says now p s rule x unread o) (sym set_is) h)) (given view reply ((printer printing).keys_refused fault) o line printed lacks))
 
-pub lines_are_given : (printing : Printing) (verifiers : List Meaning) (says : ℕ → List ℕ → ℕ → Type 0) (now : Option ℕ) (known : Option (List ℕ)) (policy : Result Settings PolicyFault) (set : Result KeyList KeysFault)
+pub lines_are_given : (printing : Printing) (verifiers : List Meaning) (says : ℕ → List ℕ → ℕ → Type 0) (now : Option ℕ) (known : Option (List ℕ)) (policy : Result Settings PolicyFault) (set : Result KeyList KeysFault) (rule : Result (Option Rule) AccessFault)
     (p : Settings) (keys : KeyList) (unread : Bool) (o : Outcome) → policy ≡ Ok p → set ≡ Ok keys
-    → IfSome known (λ x. GivesLines (λ m l. (printer printing).token (terms_of_keys verifiers m p keys) l) (printer printing).read_failed (with_held p.run.limit says) now x unread o.before o.after o.failed o.status)
-    → IfSome known (λ x. Printed out_of_memory o ⊎ LinesByPolicy printing verifiers says now policy set x unread o)
-lines_are_given printing verifiers says now None policy set p keys unread o policy_is set_is given = tt
-lines_are_given printing verifiers says now (Some x) policy set p keys unread o policy_is set_is given =
-    inr (subst (λ (q : Result Settings PolicyFault). LinesByPolicy printing verifiers says now q set x unread o) (sym policy_is)
-    (subst (λ (s : Result KeyList KeysFault). LinesByKeys printing verifiers says now p s x unread o) (sym set_is) given))
+    → IfSome known (λ x. Printed out_of_memory o ⊎ LinesByRule printing verifiers says now p keys rule x unread o)
+    → IfSome known (λ x. Printed out_of_memory o ⊎ LinesByPolicy printing verifiers says now policy set rule x unread o)
+lines_are_given printing verifiers says now None policy set rule p keys unread o policy_is set_is given = tt
+lines_are_given printing verifiers says now (Some x) policy set rule p keys unread o policy_is set_is given =
+    or_else (Printed out_of_memory o) (LinesByRule printing verifiers says now p keys rule x unread o) (LinesByPolicy printing verifiers says now policy set rule x unread o)
+    (λ h. subst (λ (q : Result Settings PolicyFault). LinesByPolicy printing verifiers says now q set rule x unread o) (sym policy_is)
+    (subst (λ (s : Result KeyList KeysFault). LinesByKeys printing verifiers says now p s rule x unread o) (sym set_is) h)) given
+
+-- ---- the rule
+
+pub rule_is_refused : {A E : Type 0} (view : A → Answer) (printing : Printing) (verifiers : List Meaning) (says : ℕ → List ℕ → ℕ → Type 0) (now : Option ℕ) (known : Option (List ℕ)) (p : Settings) (keys : KeyList) (rule : Result (Option Rule) AccessFault)
+    (fault : AccessFault) (reply : Result A E) (unread : Bool) (o : Outcome) → rule ≡ Err fault → IfOk reply (λ r. view r ≡ (printer printing).access_refused fault)
+    → IfOk reply (λ r. Printed (view r) o) → IfErr reply (λ e. Printed out_of_memory o)
+    → IfSome known (λ x. Printed out_of_memory o ⊎ LinesByRule printing verifiers says now p keys rule x unread o)
+rule_is_refused view printing verifiers says now known p keys rule fault reply unread o is line printed lacks =
+    where_known known (λ x. Printed out_of_memory o ⊎ LinesByRule printing verifiers says now p keys rule x unread o) (λ x.
+    or_else (Printed out_of_memory o) (Printed ((printer printing).access_refused fault) o) (LinesByRule printing verifiers says now p keys rule x unread o)
+    (λ h. subst (λ (k : Result (Option Rule) AccessFault). LinesByRule printing verifiers says now p keys k x unread o) (sym is) h) (given view reply ((printer printing).access_refused fault) o line printed lacks))
+
+pub lines_by_rule_are_given : (printing : Printing) (verifiers : List Meaning) (says : ℕ → List ℕ → ℕ → Type 0) (now : Option ℕ) (known : Option (List ℕ)) (p : Settings) (keys : KeyList) (rule : Result (Option Rule) AccessFault)
+    (asked : Option Rule) (unread : Bool) (o : Outcome) → rule ≡ Ok asked
+    → IfSome known (λ x. GivesLines (λ m l. (printer printing).token asked (terms_of_keys verifiers m p keys) l) (printer printing).read_failed (with_held p.run.limit says) now x unread o.before o.after o.failed o.status)
+    → IfSome known (λ x. Printed out_of_memory o ⊎ LinesByRule printing verifiers says now p keys rule x unread o)
+lines_by_rule_are_given printing verifiers says now None p keys rule asked unread o is given = tt
+lines_by_rule_are_given printing verifiers says now (Some x) p keys rule asked unread o is given =
+    inr (subst (λ (k : Result (Option Rule) AccessFault). LinesByRule printing verifiers says now p keys k x unread o) (sym is) given)
 
 pub file_is_unread : {A E : Type 0} (view : A → Answer) (built_in : List Meaning) (says : ℕ → List ℕ → ℕ → Type 0) (order : LinesOrder) (held : Held) (known : Option (List ℕ)) (name : List ℕ)
     (reply : Result A E) (failed : Bool) (o : Outcome) → Some name ≡ unread order.files held → IfOk reply (λ r. view r ≡ printed_file_fault order.printing name)
@@ -64,14 +86,14 @@ file_is_unread view built_in says order held known name reply failed o is line p
     or_else (Printed out_of_memory o) (Printed (printed_file_fault order.printing name) o) (LinesNamed (unread order.files held) built_in says order held x failed o)
     (λ h. subst (λ (u : Option (List ℕ)). LinesNamed u built_in says order held x failed o) is h) (given view reply (printed_file_fault order.printing name) o line printed lacks))
 
-policy_lacks : (printing : Printing) (verifiers : List Meaning) (says : ℕ → List ℕ → ℕ → Type 0) (now : Option ℕ) (policy keys : Option (List ℕ)) (x : List ℕ) (unread : Bool) (o : Outcome)
-    → policy ≡ None → Printed (printer printing).read_failed o → LinesInHand printing verifiers says now policy keys x unread o
-policy_lacks printing verifiers says now policy keys x unread o is printed = subst (λ (p : Option (List ℕ)). LinesInHand printing verifiers says now p keys x unread o) (sym is) printed
+policy_lacks : (printing : Printing) (verifiers : List Meaning) (says : ℕ → List ℕ → ℕ → Type 0) (now : Option ℕ) (policy keys access : Option (List ℕ)) (x : List ℕ) (unread : Bool) (o : Outcome)
+    → policy ≡ None → Printed (printer printing).read_failed o → LinesInHand printing verifiers says now policy keys access x unread o
+policy_lacks printing verifiers says now policy keys access x unread o is printed = subst (λ (p : Option (List ℕ)). LinesInHand printing verifiers says now p keys access x unread o) (sym is) printed
 
-keys_lack : (printing : Printing) (verifiers : List Meaning) (says : ℕ → List ℕ → ℕ → Type 0) (now : Option ℕ) (policy keys : Option (List ℕ)) (x : List ℕ) (unread : Bool) (o : Outcome)
-    → keys ≡ None → Printed (printer printing).read_failed o → LinesInHand printing verifiers says now policy keys x unread o
-keys_lack printing verifiers says now None keys x unread o is printed = printed
-keys_lack printing verifiers says now (Some p) keys x unread o is printed = subst (λ (k : Option (List ℕ)). LinesInHand printing verifiers says now (Some p) k x unread o) (sym is) printed
+keys_lack : (printing : Printing) (verifiers : List Meaning) (says : ℕ → List ℕ → ℕ → Type 0) (now : Option ℕ) (policy keys access : Option (List ℕ)) (x : List ℕ) (unread : Bool) (o : Outcome)
+    → keys ≡ None → Printed (printer printing).read_failed o → LinesInHand printing verifiers says now policy keys access x unread o
+keys_lack printing verifiers says now None keys access x unread o is printed = printed
+keys_lack printing verifiers says now (Some p) keys access x unread o is printed = subst (λ (k : Option (List ℕ)). LinesInHand printing verifiers says now (Some p) k access x unread o) (sym is) printed
 
 pub without_policy : {A E : Type 0} (view : A → Answer) (built_in : List Meaning) (says : ℕ → List ℕ → ℕ → Type 0) (order : LinesOrder) (held : Held) (known : Option (List ℕ)) (reply : Result A E) (failed : Bool) (o : Outcome)
     → None ≡ unread order.files held → held.policy ≡ None → IfOk reply (λ r. view r ≡ (printer order.printing).read_failed) → IfOk reply (λ r. Printed (view r) o)
@@ -80,7 +102,7 @@ without_policy view built_in says order held known reply failed o is lacking ans
     where_known known (λ x. RunsLines built_in says order held x failed o) (λ x.
     or_else (Printed out_of_memory o) (Printed (printer order.printing).read_failed o) (LinesNamed (unread order.files held) built_in says order held x failed o)
     (λ h. subst (λ (u : Option (List ℕ)). LinesNamed u built_in says order held x failed o) is
-    (policy_lacks order.printing (asked_for order.public_keys built_in) says order.now held.policy held.keys x failed o lacking h)) (given view reply (printer order.printing).read_failed o answer printed lacks))
+    (policy_lacks order.printing (asked_for order.public_keys built_in) says order.now held.policy held.keys held.access x failed o lacking h)) (given view reply (printer order.printing).read_failed o answer printed lacks))
 
 pub without_keys : {A E : Type 0} (view : A → Answer) (built_in : List Meaning) (says : ℕ → List ℕ → ℕ → Type 0) (order : LinesOrder) (held : Held) (known : Option (List ℕ)) (reply : Result A E) (failed : Bool) (o : Outcome)
     → None ≡ unread order.files held → held.keys ≡ None → IfOk reply (λ r. view r ≡ (printer order.printing).read_failed) → IfOk reply (λ r. Printed (view r) o)
@@ -89,4 +111,4 @@ without_keys view built_in says order held known reply failed o is lacking answe
     where_known known (λ x. RunsLines built_in says order held x failed o) (λ x.
     or_else (Printed out_of_memory o) (Printed (printer order.printing).read_failed o) (LinesNamed (unread order.files held) built_in says order held x failed o)
     (λ h. subst (λ (u : Option (List ℕ)). LinesNamed u built_in says order held x failed o) is
-    (keys_lack order.printing (asked_for order.public_keys built_in) says order.now held.policy held.keys x failed o lacking h)) (given view reply (printer order.printing).read_failed o answer printed lacks))
+    (keys_lack order.printing (asked_for order.public_keys built_in) says order.now held.policy held.keys held.access x failed o lacking h)) (given view reply (printer order.printing).read_failed o answer printed lacks))

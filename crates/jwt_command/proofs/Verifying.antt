@@ -23,9 +23,10 @@ use Rattle.jwt_verify.specs.declared.report.InputFault.TheVariants.{Read, TooLon
 use Rattle.jwt_verify.specs.declared.report.Fault.TheVariants.{OutOfMemory, Text, Form, WorkExceeded, CallsExceeded, VerifierMemory, Signature, Claim}
 use Rattle.jwt_verify.specs.declared.report.Verdict.{Verdict}
 use Rattle.jwt_verify.specs.declared.report.Verdict.TheVariants.{Accepted, Refused}
+use Rattle.jwt_access.specs.Rules.{Rule}
 use Rattle.jwt_policy.specs.Settings.{Settings}
 use Rattle.jwt_words.specs.InHand.{Held}
-use Rattle.jwt_command.specs.Documents.{TakesDocument, behind, document, document_most, last_document, last_most}
+use Rattle.jwt_command.specs.Documents.{TakesDocument, behind, document, document_most, last_document}
 use Rattle.jwt_text.specs.Intake.{TakesAtMost}
 use Rattle.jwt_command.specs.Issue.{issue_answer, issue_under}
 use Rattle.jwt_issue.specs.Options.{OptionParts}
@@ -35,7 +36,7 @@ use Rattle.jwt_command.specs.Verify.{keys_answer, payload_in, under_keys, under_
 use Rattle.jwt_printing.specs.Verdicts.{keys_refused, token_answer, verify_line}
 use Rattle.jwt_printing.specs.Printed.{Answer}
 use Rattle.jwt_command.specs.Keys.{list_answer, listed}
-use Rattle.jwt_command.specs.Stops.{behind_keys, behind_policy, keys_most, verify_most}
+use Rattle.jwt_command.specs.Stops.{behind_keys, behind_policy, keys_most, token_most, verify_most}
 use Rattle.jwt_command.specs.TakenLines.{TakesLine}
 use Rattle.jwt_command.proofs.LineLemmas.{line_taken}
 use Rattle.jwt_words.specs.declared.printing.Printing.{Printing}
@@ -48,7 +49,7 @@ more_taken first second most x rest failed within y a (inl is) = inl is
 more_taken first second most x rest failed within y (n, n_within, is) (inr (m, m_within, rest_is)) = inr (n + m, omega (arith, n_within, m_within, within), rest_is ∙ ap Some (ap (drop m) (ap (λ o. option_map_or (λ l. l) o y) is) ∙ drop-drop m n x))
 
 pub under_policy_taken : (h : Held) (x : List ℕ) (p : Settings) (rest : Option (List ℕ)) (failed : Bool) → policy_of (document h.policy x) ≡ Ok p
-    → (failed ≡ true) ⊎ TakesAtMost (document_most 65536 h.policy x + keys_most (last_most (p.run.limit + 1) h.token) h.keys (behind h.policy x)) x rest → (failed ≡ true) ⊎ TakesAtMost (verify_most h x) x rest
+    → (failed ≡ true) ⊎ TakesAtMost (document_most 65536 h.policy x + keys_most (token_most h p) h.keys (behind h.policy x)) x rest → (failed ≡ true) ⊎ TakesAtMost (verify_most h x) x rest
 under_policy_taken h x p rest failed is t = subst (λ r. (failed ≡ true) ⊎ TakesAtMost (document_most 65536 h.policy x + behind_policy h r (behind h.policy x)) x rest) (sym is) t
 
 pub most_is : (n most : ℕ) (x : List ℕ) (rest : Option (List ℕ)) (failed : Bool) → n ≤ most → (failed ≡ true) ⊎ TakesAtMost n x rest → (failed ≡ true) ⊎ TakesAtMost most x rest
@@ -116,7 +117,7 @@ policy_too_long z long = let is : nat_lt 65536 (length z) ≡ true = grind (arit
 pub keys_line_too_long : (tell : Printer) (vs : List Meaning) (now : ℕ) (h : Held) (p : Settings) (x : List ℕ) (failed : Bool) → failed ≡ false → 4194304 < length (document h.keys x)
     → tell.keys_refused keys.TooLong ≡ unless_read_failed tell failed (keys_answer tell vs now h p x)
 keys_line_too_long tell vs now h p x failed works long =
-    sym (ap (λ f. unless_read_failed tell f (keys_answer tell vs now h p x)) works ∙ ap (λ k. under_keys tell vs now p k (last_document h.token (behind h.keys x))) (keys_too_long (document h.keys x) long))
+    sym (ap (λ f. unless_read_failed tell f (keys_answer tell vs now h p x)) works ∙ ap (λ k. under_keys tell vs now h p k (last_document h.token (behind h.keys x))) (keys_too_long (document h.keys x) long))
 
 pub policy_line_too_long : (tell : Printer) (vs : List Meaning) (now : ℕ) (h : Held) (x : List ℕ) (failed : Bool) → failed ≡ false → 65536 < length (document h.policy x)
     → tell.policy_refused policy.TooLong ≡ verify_answer tell vs now h failed x
@@ -156,28 +157,28 @@ failed_read v es sts found (inl read, tries, states) = read
 failed_read v es sts found (inr memory, tries, states) = absurd (subst FoundMemory memory found)
 
 -- the line of a report, where memory was there, is that of the verdict on what the source gave
-pub answered : (q : Terms) (x : List ℕ) → TellsReports → (failed : Bool) (r : Report) (octets : ℕ) → (r.verdict ≢ Refused (Text Read) → IsReport q x q.policy.run.work r)
+pub answered : (rule : Option Rule) (q : Terms) (x : List ℕ) → TellsReports → (failed : Bool) (r : Report) (octets : ℕ) → (r.verdict ≢ Refused (Text Read) → IsReport q x q.policy.run.work r)
     → (failed ≡ true → Failed r.verdict r.tries.items r.states.items) → (r.verdict ≡ Refused (Text Read) → failed ≡ true) → octets ≡ work r.tries.items → FoundMemory r.verdict
-    → (a : Answer) → a ≡ verify_line r.verdict (length r.tries.items) octets → a ≡ unless_read_failed in_lines failed (token_answer q x)
-answered q x tells failed r octets report fails read counted found a line = elim (read_or r.verdict) [
-  | inl e ↦ line ∙ ap (λ v. verify_line v (length r.tries.items) octets) e ∙ sym (ap (λ f. unless_read_failed in_lines f (token_answer q x)) (read e))
+    → (a : Answer) → a ≡ verify_line rule r.verdict (length r.tries.items) octets → a ≡ unless_read_failed in_lines failed (token_answer rule q x)
+answered rule q x tells failed r octets report fails read counted found a line = elim (read_or r.verdict) [
+  | inl e ↦ line ∙ ap (λ v. verify_line rule v (length r.tries.items) octets) e ∙ sym (ap (λ f. unless_read_failed in_lines f (token_answer rule q x)) (read e))
   | inr n ↦ (let t = tells q x q.policy.run.work r (report n) found in
-      let same : a ≡ token_answer q x = line ∙ ap (λ n. verify_line r.verdict (length r.tries.items) n) counted ∙ ap (λ v. verify_line v (length r.tries.items) (work r.tries.items)) t.0
-      ∙ ap (λ es. verify_line (verdict_of q x q.policy.run.work) (length es) (work es)) t.1 in
+      let same : a ≡ token_answer rule q x = line ∙ ap (λ n. verify_line rule r.verdict (length r.tries.items) n) counted ∙ ap (λ v. verify_line rule v (length r.tries.items) (work r.tries.items)) t.0
+      ∙ ap (λ es. verify_line rule (verdict_of q x q.policy.run.work) (length es) (work es)) t.1 in
       working failed (λ is. n (failed_read r.verdict r.tries.items r.states.items found (fails is))) same)
 ]
   where
-    working : (failed : Bool) → (failed ≡ true → ⊥) → a ≡ token_answer q x → a ≡ unless_read_failed in_lines failed (token_answer q x)
+    working : (failed : Bool) → (failed ≡ true → ⊥) → a ≡ token_answer rule q x → a ≡ unless_read_failed in_lines failed (token_answer rule q x)
     working true never same = absurd (never refl)
     working false never same = same
 
 -- the same of a report on octets in hand
-pub answered_in_hand : (q : Terms) (x : List ℕ) → TellsReports → (r : Report) (octets : ℕ) → IsReport q x q.policy.run.work r
-    → octets ≡ work r.tries.items → FoundMemory r.verdict → (a : Answer) → a ≡ verify_line r.verdict (length r.tries.items) octets → a ≡ token_answer q x
-answered_in_hand q x tells r octets report counted found a line =
+pub answered_in_hand : (rule : Option Rule) (q : Terms) (x : List ℕ) → TellsReports → (r : Report) (octets : ℕ) → IsReport q x q.policy.run.work r
+    → octets ≡ work r.tries.items → FoundMemory r.verdict → (a : Answer) → a ≡ verify_line rule r.verdict (length r.tries.items) octets → a ≡ token_answer rule q x
+answered_in_hand rule q x tells r octets report counted found a line =
     let t = tells q x q.policy.run.work r report found in
-    line ∙ ap (λ n. verify_line r.verdict (length r.tries.items) n) counted ∙ ap (λ v. verify_line v (length r.tries.items) (work r.tries.items)) t.0
-    ∙ ap (λ es. verify_line (verdict_of q x q.policy.run.work) (length es) (work es)) t.1
+    line ∙ ap (λ n. verify_line rule r.verdict (length r.tries.items) n) counted ∙ ap (λ v. verify_line rule v (length r.tries.items) (work r.tries.items)) t.0
+    ∙ ap (λ es. verify_line rule (verdict_of q x q.policy.run.work) (length es) (work es)) t.1
 
 -- the same in JSON
 -- the payload of the token that was read for a verdict is that of the token that the octets are
@@ -190,12 +191,12 @@ read_payload p x v None tells found is = none_read (token_of p x) refl
     none_read (Ok token) e = absurd (is (λ lacks. subst FoundMemory lacks found) token ((tells p x token).0 e))
     none_read (Err fault) e = refl
 
-pub answered_in_json : (q : Terms) (x payload : List ℕ) → TellsReports → (r : Report) (octets : ℕ) → IsReport q x q.policy.run.work r → payload ≡ payload_of q x
-    → octets ≡ work r.tries.items → FoundMemory r.verdict → (a : Answer) → a ≡ verdict_json r.verdict payload r.states.items r.tries.items octets → a ≡ token_json q x
-answered_in_json q x payload tells r octets report payload_is counted found a line =
+pub answered_in_json : (rule : Option Rule) (q : Terms) (x payload : List ℕ) → TellsReports → (r : Report) (octets : ℕ) → IsReport q x q.policy.run.work r → payload ≡ payload_of q x
+    → octets ≡ work r.tries.items → FoundMemory r.verdict → (a : Answer) → a ≡ verdict_json rule r.verdict payload r.states.items r.tries.items octets → a ≡ token_json rule q x
+answered_in_json rule q x payload tells r octets report payload_is counted found a line =
     let t = tells q x q.policy.run.work r report found in
-    line ∙ ap (λ p. verdict_json r.verdict p r.states.items r.tries.items octets) payload_is
-    ∙ ap (λ n. verdict_json r.verdict (payload_of q x) r.states.items r.tries.items n) counted
-    ∙ ap (λ v. verdict_json v (payload_of q x) r.states.items r.tries.items (work r.tries.items)) t.0
-    ∙ ap (λ sts. verdict_json (verdict_of q x q.policy.run.work) (payload_of q x) sts r.tries.items (work r.tries.items)) t.2
-    ∙ ap (λ es. verdict_json (verdict_of q x q.policy.run.work) (payload_of q x) (states (table q x) q.policy.run.work q.policy.max_calls) es (work es)) t.1
+    line ∙ ap (λ p. verdict_json rule r.verdict p r.states.items r.tries.items octets) payload_is
+    ∙ ap (λ n. verdict_json rule r.verdict (payload_of q x) r.states.items r.tries.items n) counted
+    ∙ ap (λ v. verdict_json rule v (payload_of q x) r.states.items r.tries.items (work r.tries.items)) t.0
+    ∙ ap (λ sts. verdict_json rule (verdict_of q x q.policy.run.work) (payload_of q x) sts r.tries.items (work r.tries.items)) t.2
+    ∙ ap (λ es. verdict_json rule (verdict_of q x q.policy.run.work) (payload_of q x) (states (table q x) q.policy.run.work q.policy.max_calls) es (work es)) t.1

@@ -1,5 +1,5 @@
 -- What `jwt jwk` answers.
-use Rattle.std.specs.Prelude.{◌≡◌, ◌≤◌, ◌<◌, ◌⊎◌, ℕ, ◌==◌, Bool, true, false, List, ◌∷◌, length, codes, Option, Some, None, option_and_then, if◌then◌else◌}
+use Rattle.std.specs.Prelude.{◌≡◌, ◌≢◌, ◌≤◌, ◌<◌, ◌⊎◌, ℕ, ◌==◌, Bool, true, false, List, ◌∷◌, length, codes, Option, Some, None, option_and_then, if◌then◌else◌}
 use Rattle.serde_json.specs.Data.{object}
 use Rattle.serde_json.specs.Written.{compact_text}
 use Rattle.jwt_mac.specs.Algorithm.{digest_size, name_of}
@@ -8,6 +8,9 @@ use Rattle.jwt_mac.specs.declared.algorithm.Alg.{Alg}
 use Rattle.key_der.specs.Der.{IsPublicKey}
 use Rattle.key_pem.specs.declared.label.Label.{Label}
 use Rattle.jwt_jwk.specs.Jwk.{jwk, thumbprint_of_key}
+use Rattle.jwt_jwk.specs.FaultNames.{jwk_fault_name, remedy}
+use Rattle.jwt_jwk.specs.declared.fault.JwkFault.{JwkFault}
+use Rattle.jwt_jwk.specs.declared.fault.JwkFault.TheVariants.{OutOfMemory}
 use Rattle.jwt_jwk.specs.Converted.{IsEncoding, IsFileOf, IsJwkOf, IsJwkOfPem, IsPemOf, IsSetOf, set_text}
 use Rattle.jwt_words.specs.InHand.{Held, unread}
 use Rattle.jwt_words.specs.Words.{JwkOrder, KidChoice, KidNamed, KidThumbprint, NoKid, SecretOrder}
@@ -49,9 +52,9 @@ AreKeysAs false false octets = (key : KeyOctets) × (keys : List KeyOctets) × I
 abbrev pub AreKeys : JwkOrder → List ℕ → Type 0
 AreKeys order = AreKeysAs order.der order.bare
 
--- the line of a refusal, by some name
+-- the line of one fault, but for want of memory: with its name and its remedy
 abbrev pub IsRefusal : Printing → Answer → Type 0
-IsRefusal printing a = (name : List ℕ) × (remedy : Option (List ℕ)) × (a ≡ jwk_refused printing name remedy)
+IsRefusal printing a = (fault : JwkFault) × (fault ≢ OutOfMemory) × (a ≡ jwk_refused printing (jwk_fault_name fault) (remedy fault))
 
 -- what is printed of octets; or they aren't what is asked for, and are refused
 abbrev pub JwkOfKeys : JwkOrder → List ℕ → Answer → Type 0

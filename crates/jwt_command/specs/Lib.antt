@@ -1,3 +1,4 @@
+pub mod Access
 pub mod Answered
 pub mod Documents
 pub mod Input

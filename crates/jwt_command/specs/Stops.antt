@@ -5,7 +5,10 @@ use Rattle.jwt_keys.specs.declared.fault.KeysFault.{KeysFault}
 use Rattle.jwt_policy.specs.Document.{policy_of}
 use Rattle.jwt_policy.specs.Settings.{Settings}
 use Rattle.jwt_policy.specs.declared.policy_fault.PolicyFault.{PolicyFault}
+use Rattle.jwt_access.specs.Rules.{Rule}
+use Rattle.jwt_access.specs.declared.access_fault.AccessFault.{AccessFault}
 use Rattle.jwt_words.specs.InHand.{Held, unread}
+use Rattle.jwt_command.specs.Access.{rule_in_hand}
 use Rattle.jwt_command.specs.Documents.{behind, document, document_most, last_most, most_unless_unread}
 use Rattle.jwt_command.specs.Mac.{behind_key, key_spelled, mac_most}
 use Rattle.jwt_words.specs.Words.{Issue, Keys, Mac, MacFile, Order, Show, Verify, Version, files_in_order}
@@ -19,9 +22,18 @@ behind_keys most (Err fault) = 0
 abbrev pub keys_most : ℕ → Option (List ℕ) → List ℕ → ℕ
 keys_most most held x = document_most 4194304 held x + behind_keys most (key_set_of (document held x))
 
--- behind a policy: a key set, and one octet past the policy's limit
+-- behind an access rule, of so many octets at most
+abbrev pub behind_rule : ℕ → Result (Option Rule) AccessFault → ℕ
+behind_rule most (Ok rule) = most
+behind_rule most (Err fault) = 0
+
+-- behind the key set of `verify`: one octet past the policy's limit
+abbrev pub token_most : Held → Settings → ℕ
+token_most held p = behind_rule (last_most (p.run.limit + 1) held.token) (rule_in_hand held.access)
+
+-- behind a policy: a key set, and the token
 abbrev pub behind_policy : Held → Result Settings PolicyFault → List ℕ → ℕ
-behind_policy held (Ok p) x = keys_most (last_most (p.run.limit + 1) held.token) held.keys x
+behind_policy held (Ok p) x = keys_most (token_most held p) held.keys x
 behind_policy held (Err fault) x = 0
 
 abbrev pub verify_most : Held → List ℕ → ℕ

@@ -11,6 +11,7 @@ use Rattle.jwt_policy.specs.declared.policy_fault.PolicyFault.{PolicyFault}
 use Rattle.jwt_verify.specs.Verdict.{Terms}
 use Rattle.jwt_printing.specs.Printed.{Answer}
 use Rattle.jwt_words.specs.InHand.{Held}
+use Rattle.jwt_command.specs.Access.{rule_in_hand, under_rule}
 use Rattle.jwt_command.specs.Documents.{behind, document, last_document}
 use Rattle.jwt_printing.specs.Printer.{Printer, unless_read_failed}
 
@@ -30,13 +31,13 @@ asked_for false verifiers = []
 abbrev pub terms_of_keys : List Meaning → ℕ → Settings → KeyList → Terms
 terms_of_keys verifiers now p set = record { policy = p; keys = set.keys; now = pos now; verifiers = verifiers }
 
-abbrev pub under_keys : Printer → List Meaning → ℕ → Settings → Result KeyList KeysFault → List ℕ → Answer
-under_keys tell verifiers now p (Ok set) x = tell.token (terms_of_keys verifiers now p set) x
-under_keys tell verifiers now p (Err fault) x = tell.keys_refused fault
+abbrev pub under_keys : Printer → List Meaning → ℕ → Held → Settings → Result KeyList KeysFault → List ℕ → Answer
+under_keys tell verifiers now held p (Ok set) x = under_rule tell (terms_of_keys verifiers now p set) (rule_in_hand held.access) x
+under_keys tell verifiers now held p (Err fault) x = tell.keys_refused fault
 
--- the key set is in hand, or the first line of x
+-- the key set is in hand, or the first line of x; an access rule is in hand, if one is asked
 abbrev pub keys_answer : Printer → List Meaning → ℕ → Held → Settings → List ℕ → Answer
-keys_answer tell verifiers now held p x = under_keys tell verifiers now p (key_set_of (document held.keys x)) (last_document held.token (behind held.keys x))
+keys_answer tell verifiers now held p x = under_keys tell verifiers now held p (key_set_of (document held.keys x)) (last_document held.token (behind held.keys x))
 
 abbrev pub under_policy : Printer → List Meaning → ℕ → Held → Result Settings PolicyFault → List ℕ → Answer
 under_policy tell verifiers now held (Ok p) x = keys_answer tell verifiers now held p x

@@ -1,5 +1,5 @@
 //! The command `jwk`: public keys in PEM or DER as JWKs, and new secrets.
-ghost use Rattle.std.specs.Prelude.{◌≡◌, ◌≢◌, ◌≤◌, ◌⊎◌, true, false, IfOk, IfSome, IsOkUnless, None, length, option_map};
+ghost use Rattle.std.specs.Prelude.{◌≡◌, ◌≢◌, ◌≤◌, ◌⊎◌, true, false, IfOk, IfSome, IsOkUnless, None, is_some, length, option_map};
 ghost use Rattle.serde_json.specs.Data.{object};
 ghost use Rattle.jwt_text.specs.Intake.{TakesAtMost};
 ghost use Rattle.jwt_mac.specs.Algorithm.{digest_size, is_hmac_alg};
@@ -7,9 +7,11 @@ ghost use Rattle.jwt_jwk.specs.Converted.{kid_of};
 ghost use Rattle.jwt_jwk.specs.Jwk.{text_of};
 ghost use Rattle.jwt_words.specs.InHand.{unread};
 ghost use Rattle.jwt_words.specs.Seen.{held_view, jwk_view, kid_view, secret_view};
+ghost use Rattle.jwt_jwk.specs.FaultNames.{jwk_fault_name, remedy};
+ghost use Rattle.jwt_printing.specs.Jwk.{jwk_refused};
 ghost use Rattle.jwt_printing.specs.Views.{reply_view};
 ghost use Rattle.jwt_command.specs.Documents.{last_most};
-ghost use Rattle.jwt_command.specs.Jwk.{AreKeys, AreKeysAs, IsPrinted, IsPrintedAs, IsRefusal, JwkAnswer, JwkInHand, JwkOfInput, JwkOfKeys, JwkOfOctets, bare_or_set, jwk_most, kid_by, secret_answer, secret_jwk, secret_line, secret_in};
+ghost use Rattle.jwt_command.specs.Jwk.{AreKeys, AreKeysAs, IsPrinted, IsPrintedAs, JwkAnswer, JwkInHand, JwkOfInput, JwkOfKeys, JwkOfOctets, bare_or_set, jwk_most, kid_by, secret_answer, secret_jwk, secret_line, secret_in};
 
 use crate::input::whole::read_input;
 use jwt_jwk::{
@@ -98,7 +100,8 @@ fn of_keys(alloc: Global, order: JwkOrder<'_>, octets: &[u8]) -> Result<Vec<u8>,
 
 /// The line of a refusal, but for want of memory.
 fn refusal(alloc: Global, printing: Printing, fault: JwkFault) -> Result<Reply, AllocError>
-    ensures line { IfOk result (λ a. IsRefusal printing (reply_view a)) }
+    ensures line { IfOk result (λ a. reply_view a ≡ jwk_refused printing (jwk_fault_name fault) (remedy fault)) }
+    ensures done { IfOk result (λ a. a.status ≢ 3) }
     ensures memory { IfOk result (λ _. fault ≢ JwkFault.OutOfMemory) }
 {
     match fault {
@@ -109,7 +112,8 @@ fn refusal(alloc: Global, printing: Printing, fault: JwkFault) -> Result<Reply, 
 
 /// The answer of public keys.
 fn keys_answer(alloc: Global, order: JwkOrder<'_>, octets: &[u8]) -> Result<Reply, AllocError>
-    ensures { IfOk result (λ a. JwkOfKeys (jwk_view order.entry) octets.now (reply_view a)) }
+    ensures answer { IfOk result (λ a. JwkOfKeys (jwk_view order.entry) octets.now (reply_view a)) }
+    ensures done { IfOk result (λ a. a.status ≢ 3) }
 {
     match of_keys(alloc, order, octets) {
         Ok(json) => jwk_line(json),
@@ -119,7 +123,8 @@ fn keys_answer(alloc: Global, order: JwkOrder<'_>, octets: &[u8]) -> Result<Repl
 
 /// The answer of octets, of which there may be too many.
 fn octets_answer(alloc: Global, order: JwkOrder<'_>, octets: &[u8]) -> Result<Reply, AllocError>
-    ensures { IfOk result (λ a. JwkOfOctets (jwk_view order.entry) octets.now (reply_view a)) }
+    ensures answer { IfOk result (λ a. JwkOfOctets (jwk_view order.entry) octets.now (reply_view a)) }
+    ensures done { IfOk result (λ a. a.status ≢ 3) }
 {
     if octets.len() <= GREATEST_LIMIT as usize {
         keys_answer(alloc, order, octets)
@@ -138,6 +143,7 @@ fn input_answer<R: Source>(
         JwkOfInput (jwk_view order.entry) (R.failed r.new) x (reply_view a))) }
     ensures taken { IfSome (R.remaining r.old)
         (λ x. (R.failed r.new ≡ true) ⊎ TakesAtMost 4194305 x (R.remaining r.new)) }
+    ensures failed { IfOk result (λ a. a.status ≡ 3 → R.failed r.new ≡ true) }
 {
     match read_input(alloc, GREATEST_LIMIT, r) {
         Ok(input) => octets_answer(alloc, order, input.octets()),
@@ -158,6 +164,7 @@ fn held_answer<R: Source>(
         JwkInHand (jwk_view order.entry) (option_map (λ t. t.now) held.entry) (R.failed r.new) x (reply_view a))) }
     ensures taken { IfSome (R.remaining r.old) (λ x. (R.failed r.new ≡ true)
         ⊎ TakesAtMost (last_most 4194305 (option_map (λ t. t.now) held.entry)) x (R.remaining r.new)) }
+    ensures failed { IfOk result (λ a. a.status ≡ 3 → R.failed r.new ≡ true) }
 {
     match held {
         Some(octets) => octets_answer(alloc, order, octets),
@@ -176,6 +183,8 @@ pub(crate) fn jwk<R: Source>(
         JwkAnswer (jwk_view order.entry) (held_view held.entry) (R.failed r.new) x (reply_view a))) }
     ensures taken { IfSome (R.remaining r.old) (λ x. (R.failed r.new ≡ true)
         ⊎ TakesAtMost (jwk_most (held_view held.entry) (jwk_view order.entry)) x (R.remaining r.new)) }
+    ensures failed { IfOk result (λ a. a.status ≡ 3 → (R.failed r.new ≡ true)
+        ⊎ (is_some (unread (jwk_view order.entry).files (held_view held.entry)) ≡ true)) }
 {
     match unread(order.files, held) {
         Some(name) => printed_file_fault(alloc, order.printing, name),

@@ -9,6 +9,7 @@
 //! What the words ask for is read in `jwt_words`, what is printed is written in `jwt_printing`; here stands what is answered.
 #![tactic(auto)]
 
+mod access;
 pub mod documents;
 pub mod input;
 mod issue;

@@ -32,7 +32,7 @@ use std::alloc::{AllocError, Global};
 /// program's name. No verifiers and no documents are at hand: with `--public-keys` the answer is as without, and a file that is named
 /// can't be read. There is no clock: `verify` has to have `--now`.
 ///
-/// 0: done; 1: refused; 2: wrong words, and `w` has what is said of them, or a refused key of `mac`; 3: a read or a write failed;
+/// 0: done; 1: refused or denied; 2: wrong words, and `w` has what is said of them, or a refused key of `mac`; 3: a read or a write failed;
 /// 4: want of memory. The whole answer is in hand before any of it goes out.
 pub fn run<R: Source, W: Sink>(alloc: Global, words: &[&str], r: &mut R, w: &mut W) -> u8
     // What the words ask for is answered.
@@ -73,6 +73,9 @@ pub fn run<R: Source, W: Sink>(alloc: Global, words: &[&str], r: &mut R, w: &mut
         → request_of None (map (λ word. word.now) words.now) ≡ Some (Once printing order)
         → result ≡ 3 → (R.failed r.new ≡ true) ⊎ ((W.failed w.new ≡ true)
         ⊎ (is_some (unread (files_in_order order) none_held) ≡ true)) }
+    ensures jwk_failed { (order : JwkOrder) → request_of None (map (λ word. word.now) words.now) ≡ Some (Jwk order)
+        → result ≡ 3 → (R.failed r.new ≡ true) ⊎ ((W.failed w.new ≡ true)
+        ⊎ (is_some (unread order.files none_held) ≡ true)) }
 {
     let built_in: [Box<dyn Verifier>; 0] = [];
     run_with(
@@ -147,6 +150,10 @@ pub fn run_with<R: Source, W: Sink, C: Clock>(
         ≡ Some (Once printing order)
         → result ≡ 3 → (R.failed r.new ≡ true) ⊎ ((W.failed w.new ≡ true)
         ⊎ (is_some (unread (files_in_order order) (held_view held.entry)) ≡ true)) }
+    ensures jwk_failed { (order : JwkOrder) → request_of (seconds_of clock) (map (λ word. word.now) words.now)
+        ≡ Some (Jwk order)
+        → result ≡ 3 → (R.failed r.new ≡ true) ⊎ ((W.failed w.new ≡ true)
+        ⊎ (is_some (unread order.files (held_view held.entry)) ≡ true)) }
 {
     run_read(
         alloc,
@@ -210,6 +217,9 @@ pub fn run_read<R: Source, W: Sink, C: Clock>(
         → IsReading words.entry (Some (Once printing order))
         → result ≡ 3 → (R.failed r.new ≡ true) ⊎ ((W.failed w.new ≡ true)
         ⊎ (is_some (unread (files_in_order order) (held_view held.entry)) ≡ true)) }
+    ensures jwk_failed { (order : JwkOrder) → IsReading words.entry (Some (Jwk order))
+        → result ≡ 3 → (R.failed r.new ≡ true) ⊎ ((W.failed w.new ≡ true)
+        ⊎ (is_some (unread order.files (held_view held.entry)) ≡ true)) }
 {
     match words {
         Ok(Request::Once { printing, order }) => {

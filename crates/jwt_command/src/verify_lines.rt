@@ -1,26 +1,30 @@
 //! The command `verify --lines`: a verdict for each line of an input.
-ghost use Rattle.std.specs.Prelude.{◌≡◌, ◌+◌, ◌<◌, ◌⊎◌, ℕ, List, [], OnErr, OnOk, false, true, length, map, take, Err, IfNone, IfSome, None, Ok, Some};
+ghost use Rattle.std.specs.Prelude.{◌≡◌, ◌+◌, ◌<◌, ◌⊎◌, ℕ, List, [], OnErr, OnOk, false, true, length, map, option_map, take, Err, IfNone, IfSome, None, Ok, Some};
 ghost use Rattle.std.specs.Io.KnownBytes.{Appends, prepend_known};
 ghost use Rattle.jwt_keys.specs.KeySets.{key_set, key_set_of};
 ghost use Rattle.jwt_policy.specs.Document.{policy_of};
+ghost use Rattle.jwt_command.specs.Access.{rule_in_hand};
 ghost use Rattle.jwt_command.specs.Lines.{CutReady, GivesLines, IsMoment, LineAnswered, MayHaveSent, SendsReady, StopsBy, with_held};
 ghost use Rattle.jwt_printing.specs.Printed.{out_of_memory};
-ghost use Rattle.jwt_command.specs.RunLines.{LinesByPolicy, Printed, RunsLines};
+ghost use Rattle.jwt_command.specs.RunLines.{LinesByPolicy, LinesByRule, Printed, RunsLines};
 ghost use Rattle.jwt_words.specs.Seen.{lines_view, held_view, seconds_of};
 ghost use Rattle.jwt_command.specs.TakenLines.{after_line, first_line};
 ghost use Rattle.jwt_printing.specs.Printer.{printer};
+ghost use Rattle.jwt_printing.specs.Views.{rule_view};
 ghost use Rattle.jwt_command.specs.Verify.{terms_of_keys};
 
+use crate::access::rule_in_hand;
 use crate::input::buffered::Ahead;
 use crate::input::line::LineFault;
 use crate::run::asked_for;
 use crate::verify::on_octets;
+use jwt_access::{AccessFault, AccessRule};
 use jwt_keys::{KeySet, KeysFault};
 use jwt_mac::Verifier;
 use jwt_policy::{Policy, PolicyFault};
 use jwt_printing::{
-    give, lack_memory, printed_file_fault, printed_keys_fault, printed_policy_fault,
-    printed_read_fault,
+    give, lack_memory, printed_access_fault, printed_file_fault, printed_keys_fault,
+    printed_policy_fault, printed_read_fault,
 };
 use jwt_text::{Sink, Source, write_out};
 use jwt_words::{Held, LinesOrder, Moment, Printing, unread};
@@ -73,12 +77,13 @@ fn answer_line<C: Clock>(
     clock: &mut C,
     policy: &Policy,
     keys: &KeySet,
+    rule: Option<&AccessRule>,
     number: u64,
     line: &[u8],
     ready: &mut Vec<u8>,
 ) -> Result<(), LineFault>
     ensures answered { OnOk result (LineAnswered
-        (λ m l. (printer printing).token
+        (λ m l. (printer printing).token (rule_view rule.entry)
         (terms_of_keys (map meaning verifiers.now) m policy.now (key_set keys.now)) l)
         (C.says number line.now) (seconds_of now) line.now
         (Some ready.old.items) (Some ready.new.items)) }
@@ -88,7 +93,7 @@ fn answer_line<C: Clock>(
     let Some(moment) = moment(now, clock, number, line) else {
         return Err(LineFault::Read);
     };
-    let Ok(reply) = on_octets(alloc, printing, verifiers, moment, policy, keys, line) else {
+    let Ok(reply) = on_octets(alloc, printing, verifiers, moment, policy, keys, rule, line) else {
         return Err(LineFault::OutOfMemory);
     };
     match ready.extend_from_slice(reply.text.as_slice()) {
@@ -195,11 +200,12 @@ fn answer_lines<R: Source, W: Sink, C: Clock>(
     clock: &mut C,
     policy: &Policy,
     keys: &KeySet,
+    rule: Option<&AccessRule>,
     r: &mut R,
     w: &mut W,
 ) -> u8
     ensures { IfSome (R.remaining r.old) (λ x. GivesLines
-        (λ m l. (printer printing).token
+        (λ m l. (printer printing).token (rule_view rule.entry)
         (terms_of_keys (map meaning verifiers.now) m policy.now (key_set keys.now)) l)
         (printer printing).read_failed (with_held policy.now.run.limit C.says) (seconds_of now) x
         (R.failed r.new)
@@ -225,6 +231,7 @@ fn answer_lines<R: Source, W: Sink, C: Clock>(
                     clock,
                     policy,
                     keys,
+                    rule,
                     number,
                     line.as_slice(),
                     &mut ready,
@@ -239,6 +246,54 @@ fn answer_lines<R: Source, W: Sink, C: Clock>(
     stop_lines(alloc, printing, LineFault::OutOfMemory, &mut ready, w)
 }
 
+// Answers each line under a policy, a key set, and an access rule, which is read once, where one is in hand.
+fn lines_by_rule<R: Source, W: Sink, C: Clock>(
+    alloc: Global,
+    printing: Printing,
+    verifiers: &[Box<dyn Verifier>],
+    now: Option<Moment>,
+    clock: &mut C,
+    policy: &Policy,
+    keys: &KeySet,
+    access: Option<&[u8]>,
+    r: &mut R,
+    w: &mut W,
+) -> u8
+    ensures { IfSome (R.remaining r.old) (λ x.
+        Printed out_of_memory
+        (record {
+          before = W.contents w.old;
+          after = W.contents w.new;
+          failed = W.failed w.new;
+          status = result;
+        })
+        ⊎ LinesByRule printing (map meaning verifiers.now) C.says (seconds_of now) policy.now
+        (key_set keys.now) (rule_in_hand (option_map (λ t. t.now) access.entry)) x (R.failed r.new)
+        (record {
+          before = W.contents w.old;
+          after = W.contents w.new;
+          failed = W.failed w.new;
+          status = result;
+        })) }
+{
+    match rule_in_hand(alloc, access) {
+        Ok(rule) => answer_lines(
+            alloc,
+            printing,
+            verifiers,
+            now,
+            clock,
+            policy,
+            keys,
+            rule.as_ref(),
+            r,
+            w,
+        ),
+        Err(AccessFault::OutOfMemory) => lack_memory(w),
+        Err(fault) => give(w, printed_access_fault(alloc, printing, &fault)),
+    }
+}
+
 // Answers each line under a policy and a key set in hand.
 fn lines_in_hand<R: Source, W: Sink, C: Clock>(
     alloc: Global,
@@ -248,6 +303,7 @@ fn lines_in_hand<R: Source, W: Sink, C: Clock>(
     clock: &mut C,
     policy: &[u8],
     keys: &[u8],
+    access: Option<&[u8]>,
     r: &mut R,
     w: &mut W,
 ) -> u8
@@ -261,7 +317,8 @@ fn lines_in_hand<R: Source, W: Sink, C: Clock>(
         })
         ⊎ LinesByPolicy printing (map meaning verifiers.now) C.says (seconds_of now)
         (policy_of policy.now)
-        (key_set_of keys.now) x (R.failed r.new)
+        (key_set_of keys.now) (rule_in_hand (option_map (λ t. t.now) access.entry)) x
+        (R.failed r.new)
         (record {
           before = W.contents w.old;
           after = W.contents w.new;
@@ -275,7 +332,9 @@ fn lines_in_hand<R: Source, W: Sink, C: Clock>(
         Err(fault) => return give(w, printed_policy_fault(alloc, printing, &fault)),
     };
     match KeySet::read(alloc, keys) {
-        Ok(keys) => answer_lines(alloc, printing, verifiers, now, clock, &policy, &keys, r, w),
+        Ok(keys) => lines_by_rule(
+            alloc, printing, verifiers, now, clock, &policy, &keys, access, r, w,
+        ),
         Err(KeysFault::OutOfMemory) => lack_memory(w),
         Err(fault) => give(w, printed_keys_fault(alloc, printing, &fault)),
     }
@@ -314,6 +373,7 @@ pub(crate) fn run_lines<R: Source, W: Sink, C: Clock>(
                 clock,
                 policy,
                 keys,
+                held.access,
                 r,
                 w,
             ),

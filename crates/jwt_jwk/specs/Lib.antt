@@ -4,6 +4,8 @@
 pub mod Jwk
 -- PEM files of one and of several public keys, and what is printed of them
 pub mod Converted
+-- the names of faults, and the remedies
+pub mod FaultNames
 -- ---- What contracts of private functions cite, which nobody has to believe
 
 -- what is said of a text that is no block

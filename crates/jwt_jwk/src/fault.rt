@@ -1,5 +1,8 @@
 //! Why there is no JWK.
 
+ghost use Rattle.std.specs.Prelude.{◌≡◌, option_map};
+ghost use Rattle.jwt_jwk.specs.FaultNames.{jwk_fault_name, key_name, pem_name, remedy};
+
 use key_der::Refusal;
 use key_pem::PemFault;
 
@@ -17,7 +20,9 @@ pub enum JwkFault {
 }
 
 /// The name of a reason why a text is no block.
-fn pem_name(fault: PemFault) -> &'static str {
+fn pem_name(fault: PemFault) -> &'static str
+    ensures { result.now ≡ pem_name fault }
+{
     match fault {
         PemFault::PrivateKey => "PrivateKey",
         PemFault::Certificate => "Certificate",
@@ -29,7 +34,9 @@ fn pem_name(fault: PemFault) -> &'static str {
 }
 
 /// The name of a reason why octets are no public key.
-fn key_name(refusal: Refusal) -> &'static str {
+fn key_name(refusal: Refusal) -> &'static str
+    ensures { result.now ≡ key_name refusal }
+{
     match refusal {
         Refusal::Element => "Element",
         Refusal::Trailing => "Trailing",
@@ -47,7 +54,9 @@ fn key_name(refusal: Refusal) -> &'static str {
 
 impl JwkFault {
     /// Its name, as the command prints it.
-    pub fn name(self) -> &'static str {
+    pub fn name(self) -> &'static str
+        ensures { result.now ≡ jwk_fault_name self }
+    {
         match self {
             JwkFault::Pem(fault) => pem_name(fault),
             JwkFault::Key(refusal) => key_name(refusal),
@@ -57,7 +66,9 @@ impl JwkFault {
     }
 
     /// The command of OpenSSL that makes a public key of such a text, where there is one.
-    pub fn remedy(self) -> Option<&'static str> {
+    pub fn remedy(self) -> Option<&'static str>
+        ensures { option_map (λ t. t.now) result ≡ remedy self }
+    {
         match self {
             JwkFault::Pem(PemFault::PrivateKey) => Some("openssl pkey -pubout"),
             JwkFault::Pem(PemFault::Certificate) => Some("openssl x509 -pubkey -noout"),

@@ -12,6 +12,11 @@ use Rattle.jwt_policy.specs.declared.policy_fault.PolicyFault.{PolicyFault}
 use Rattle.jwt_policy.specs.declared.policy_fault.PolicyFault.TheVariants as policy
 use Rattle.jwt_policy.specs.declared.claim_fault.ClaimFault.{ClaimFault}
 use Rattle.jwt_policy.specs.declared.claim_fault.ClaimFault.TheVariants as claim
+use Rattle.jwt_access.specs.FaultNames.{access_fault_name, denial_name}
+use Rattle.jwt_access.specs.declared.access_fault.AccessFault.{AccessFault}
+use Rattle.jwt_access.specs.declared.access_fault.AccessFault.TheVariants as access
+use Rattle.jwt_access.specs.declared.denial.Denial.{Denial}
+use Rattle.jwt_access.specs.declared.denial.Denial.TheVariants as lack
 use Rattle.jwt_verify.specs.FaultNames.{fault_name}
 use Rattle.jwt_verify.specs.declared.report.Fault.{Fault}
 use Rattle.jwt_verify.specs.declared.report.Fault.TheVariants as fault
@@ -44,6 +49,25 @@ policy_fault_place _ = []
 
 abbrev pub policy_fault_parts : PolicyFault → List (List ℕ)
 policy_fault_parts f = policy_fault_name f ∷ policy_fault_place f
+
+abbrev pub access_fault_place : AccessFault → List (List ℕ)
+access_fault_place (access.Member name) = codes " member=" ∷ quoted_text name ∷ []
+access_fault_place (access.Range name) = codes " member=" ∷ quoted_text name ∷ []
+access_fault_place (access.Claim name) = codes " member=" ∷ quoted_text name ∷ []
+access_fault_place (access.ClaimRange name) = codes " member=" ∷ quoted_text name ∷ []
+access_fault_place _ = []
+
+abbrev pub access_fault_parts : AccessFault → List (List ℕ)
+access_fault_parts f = access_fault_name f ∷ access_fault_place f
+
+-- what claims lack of an access rule: a scope, or a claim
+abbrev pub denial_place : Denial → List (List ℕ)
+denial_place (lack.ScopeMissing scope) = codes " scope=" ∷ quoted_text scope ∷ []
+denial_place (lack.ClaimMissing name) = codes " claim=" ∷ quoted_text name ∷ []
+denial_place (lack.ClaimNotAllowed name) = codes " claim=" ∷ quoted_text name ∷ []
+
+abbrev pub denial_parts : Denial → List (List ℕ)
+denial_parts d = denial_name d ∷ denial_place d
 
 abbrev pub claim_fault_place : ClaimFault → List (List ℕ)
 claim_fault_place (claim.ClaimKind c) = codes " claim=" ∷ quoted_text (claim_name c) ∷ []

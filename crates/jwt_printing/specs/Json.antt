@@ -16,6 +16,12 @@ use Rattle.jwt_policy.specs.declared.policy_fault.PolicyFault.{PolicyFault}
 use Rattle.jwt_policy.specs.declared.policy_fault.PolicyFault.TheVariants as policy
 use Rattle.jwt_policy.specs.declared.claim_fault.ClaimFault.{ClaimFault}
 use Rattle.jwt_policy.specs.declared.claim_fault.ClaimFault.TheVariants as claim
+use Rattle.jwt_access.specs.FaultNames.{access_fault_name, denial_name}
+use Rattle.jwt_access.specs.Rules.{Rule}
+use Rattle.jwt_access.specs.declared.access_fault.AccessFault.{AccessFault}
+use Rattle.jwt_access.specs.declared.access_fault.AccessFault.TheVariants as access
+use Rattle.jwt_access.specs.declared.denial.Denial.{Denial}
+use Rattle.jwt_access.specs.declared.denial.Denial.TheVariants as lack
 use Rattle.jwt_verify.specs.FaultNames.{fault_name}
 use Rattle.jwt_verify.specs.Table.{states, work}
 use Rattle.jwt_verify.specs.Verdict.{Terms, table, token_of, token_or_none, verdict_of}
@@ -27,6 +33,7 @@ use Rattle.jwt_verify.specs.declared.report.SigState.TheVariants.{Barred, NoKey,
 use Rattle.jwt_verify.specs.declared.report.Try.{Try}
 use Rattle.jwt_verify.specs.declared.report.Verdict.{Verdict}
 use Rattle.jwt_verify.specs.declared.report.Verdict.TheVariants.{Accepted, Refused}
+use Rattle.jwt_printing.specs.Denied.{lacking}
 use Rattle.jwt_printing.specs.Nearest.{nearest_member}
 use Rattle.jwt_printing.specs.Printed.{Answer, out_of_memory}
 use Rattle.jwt_printing.specs.Verdicts.{paid_tries}
@@ -97,6 +104,20 @@ policy_place (policy.Member name) = text (codes "member") name ∷ some_text (co
 policy_place (policy.Range name) = text (codes "member") name ∷ []
 policy_place _ = []
 
+-- the member, or the claim that it asks for
+abbrev pub access_place : AccessFault → List Named
+access_place (access.Member name) = text (codes "member") name ∷ []
+access_place (access.Range name) = text (codes "member") name ∷ []
+access_place (access.Claim name) = text (codes "member") name ∷ []
+access_place (access.ClaimRange name) = text (codes "member") name ∷ []
+access_place _ = []
+
+-- what claims lack of an access rule: a scope, or a claim
+abbrev pub lacked : Denial → Named
+lacked (lack.ScopeMissing scope) = text (codes "scope") scope
+lacked (lack.ClaimMissing name) = text (codes "claim") name
+lacked (lack.ClaimNotAllowed name) = text (codes "claim") name
+
 -- ---- what a run left
 
 abbrev pub state_members : SigState → List Named
@@ -121,15 +142,24 @@ evidence sts es octets = list (codes "signatures") (map state_json sts) ∷ list
 abbrev pub value_of : List ℕ → Json
 value_of t = if is_utf8 t then unwrap_or (document t) null else null
 
--- of an accepted token alone, its claims
-abbrev pub verdict_members : Verdict → List ℕ → List Named
-verdict_members (Accepted i j claims) payload =
+-- of a token that is accepted and lacks nothing alone, its claims
+abbrev pub accepted_members : Option Denial → (i j : ℕ) → List ℕ → List Named
+accepted_members None i j payload =
     text (codes "verdict") (codes "accepted") ∷ count (codes "signature") i ∷ count (codes "key") j ∷ (codes "claims", value_of payload) ∷ []
-verdict_members (Refused f) payload = text (codes "verdict") (codes "refused") ∷ text (codes "fault") (fault_name f) ∷ place_of f
+accepted_members (Some denial) i j payload =
+    text (codes "verdict") (codes "denied") ∷ text (codes "denial") (denial_name denial) ∷ lacked denial ∷ count (codes "signature") i ∷ count (codes "key") j ∷ []
 
-abbrev pub verdict_status : Verdict → ℕ
-verdict_status (Accepted i j claims) = 0
-verdict_status (Refused f) = 1
+abbrev pub verdict_members : Option Rule → Verdict → List ℕ → List Named
+verdict_members rule (Accepted i j claims) payload = accepted_members (lacking rule claims) i j payload
+verdict_members rule (Refused f) payload = text (codes "verdict") (codes "refused") ∷ text (codes "fault") (fault_name f) ∷ place_of f
+
+abbrev pub accepted_status : Option Denial → ℕ
+accepted_status None = 0
+accepted_status (Some denial) = 1
+
+abbrev pub verdict_status : Option Rule → Verdict → ℕ
+verdict_status rule (Accepted i j claims) = accepted_status (lacking rule claims)
+verdict_status rule (Refused f) = 1
 
 -- ---- the answers
 
@@ -142,23 +172,23 @@ read_failed_json = failed_json []
 abbrev pub file_failed_json : List ℕ → Answer
 file_failed_json name = failed_json (text (codes "file") name ∷ [])
 
-abbrev pub said_json : Verdict → List ℕ → List SigState → List Try → ℕ → Answer
-said_json v payload sts es octets = json_line (verdict_members v payload ++ evidence sts es octets) (verdict_status v)
+abbrev pub said_json : Option Rule → Verdict → List ℕ → List SigState → List Try → ℕ → Answer
+said_json rule v payload sts es octets = json_line (verdict_members rule v payload ++ evidence sts es octets) (verdict_status rule v)
 
 -- want of memory is printed as ever
-abbrev pub verdict_json : Verdict → List ℕ → List SigState → List Try → ℕ → Answer
-verdict_json (Refused fault.OutOfMemory) payload sts es octets = out_of_memory
-verdict_json (Refused fault.VerifierMemory) payload sts es octets = out_of_memory
-verdict_json (Refused (fault.Text Read)) payload sts es octets = read_failed_json
-verdict_json v payload sts es octets = said_json v payload sts es octets
+abbrev pub verdict_json : Option Rule → Verdict → List ℕ → List SigState → List Try → ℕ → Answer
+verdict_json rule (Refused fault.OutOfMemory) payload sts es octets = out_of_memory
+verdict_json rule (Refused fault.VerifierMemory) payload sts es octets = out_of_memory
+verdict_json rule (Refused (fault.Text Read)) payload sts es octets = read_failed_json
+verdict_json rule v payload sts es octets = said_json rule v payload sts es octets
 
 -- the payload of the token that x is
 abbrev pub payload_of : Terms → List ℕ → List ℕ
 payload_of q x = (token_or_none (token_of q.policy x)).payload
 
-abbrev pub token_json : Terms → List ℕ → Answer
-token_json q x =
-    verdict_json (verdict_of q x q.policy.run.work) (payload_of q x) (states (table q x) q.policy.run.work q.policy.max_calls) (paid_tries q x) (work (paid_tries q x))
+abbrev pub token_json : Option Rule → Terms → List ℕ → Answer
+token_json rule q x =
+    verdict_json rule (verdict_of q x q.policy.run.work) (payload_of q x) (states (table q x) q.policy.run.work q.policy.max_calls) (paid_tries q x) (work (paid_tries q x))
 
 abbrev pub document_refused : List ℕ → List ℕ → List Named → Answer
 document_refused name reason more =
@@ -169,3 +199,6 @@ keys_refused_json f = document_refused (codes "keys") (keys_fault_name f) []
 
 abbrev pub policy_refused_json : PolicyFault → Answer
 policy_refused_json f = document_refused (codes "policy") (policy_fault_name f) (policy_place f)
+
+abbrev pub access_refused_json : AccessFault → Answer
+access_refused_json f = document_refused (codes "access") (access_fault_name f) (access_place f)

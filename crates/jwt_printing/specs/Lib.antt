@@ -1,3 +1,4 @@
+pub mod Denied
 pub mod Faults
 pub mod Json
 pub mod JsonTokens

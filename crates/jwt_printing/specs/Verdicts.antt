@@ -1,9 +1,12 @@
--- The line of a verdict, and those of a policy and of a key set that are refused.
-use Rattle.std.specs.Prelude.{ℕ, List, [], ◌∷◌, length, codes}
+-- The line of a verdict, and those of a policy, of a key set and of an access rule that are refused.
+use Rattle.std.specs.Prelude.{ℕ, List, [], ◌∷◌, length, codes, Option, Some, None}
 use Rattle.std.specs.Fmt.{decimal}
 use Rattle.jwt_keys.specs.FaultNames.{keys_fault_name}
 use Rattle.jwt_keys.specs.declared.fault.KeysFault.{KeysFault}
 use Rattle.jwt_policy.specs.declared.policy_fault.PolicyFault.{PolicyFault}
+use Rattle.jwt_access.specs.Rules.{Rule}
+use Rattle.jwt_access.specs.declared.access_fault.AccessFault.{AccessFault}
+use Rattle.jwt_access.specs.declared.denial.Denial.{Denial}
 use Rattle.jwt_verify.specs.Table.{paid, work}
 use Rattle.jwt_verify.specs.Verdict.{Terms, table, verdict_of}
 use Rattle.jwt_verify.specs.declared.report.InputFault.TheVariants.{Read}
@@ -12,7 +15,8 @@ use Rattle.jwt_verify.specs.declared.report.Fault.TheVariants.{OutOfMemory, Veri
 use Rattle.jwt_verify.specs.declared.report.Try.{Try}
 use Rattle.jwt_verify.specs.declared.report.Verdict.{Verdict}
 use Rattle.jwt_verify.specs.declared.report.Verdict.TheVariants.{Accepted, Refused}
-use Rattle.jwt_printing.specs.Faults.{fault_parts, joined_parts, policy_fault_parts}
+use Rattle.jwt_printing.specs.Denied.{lacking}
+use Rattle.jwt_printing.specs.Faults.{access_fault_parts, denial_parts, fault_parts, joined_parts, policy_fault_parts}
 use Rattle.jwt_printing.specs.Printed.{Answer, line, out_of_memory, read_failed}
 
 abbrev pub counts : (tries work : ℕ) → List (List ℕ)
@@ -27,19 +31,33 @@ fault_line VerifierMemory tries work = out_of_memory
 fault_line (Text Read) tries work = read_failed
 fault_line fault tries work = named_line fault tries work
 
-abbrev pub verify_line : Verdict → (tries work : ℕ) → Answer
-verify_line (Accepted i j claims) tries work = line (codes "accepted sig=" ∷ decimal i ∷ codes " key=" ∷ decimal j ∷ counts tries work) 0
-verify_line (Refused fault) tries work = fault_line fault tries work
+abbrev pub accepted_line : (i j tries work : ℕ) → Answer
+accepted_line i j tries work = line (codes "accepted sig=" ∷ decimal i ∷ codes " key=" ∷ decimal j ∷ counts tries work) 0
+
+abbrev pub denied_line : Denial → (i j tries work : ℕ) → Answer
+denied_line denial i j tries work = line (codes "denied " ∷ joined_parts (denial_parts denial) ∷ codes " sig=" ∷ decimal i ∷ codes " key=" ∷ decimal j ∷ counts tries work) 1
+
+abbrev pub unless_lacking : Option Denial → (i j tries work : ℕ) → Answer
+unless_lacking None i j tries work = accepted_line i j tries work
+unless_lacking (Some denial) i j tries work = denied_line denial i j tries work
+
+-- An access rule is held against the claims of an accepted token alone: it is told as accepted where it lacks nothing, and else as denied.
+abbrev pub verify_line : Option Rule → Verdict → (tries work : ℕ) → Answer
+verify_line rule (Accepted i j claims) tries work = unless_lacking (lacking rule claims) i j tries work
+verify_line rule (Refused fault) tries work = fault_line fault tries work
 
 -- the tries that the policy's `work` and `max_calls` pay
 abbrev pub paid_tries : Terms → List ℕ → List Try
 paid_tries q x = paid (table q x) q.policy.run.work q.policy.max_calls
 
-abbrev pub token_answer : Terms → List ℕ → Answer
-token_answer q x = verify_line (verdict_of q x q.policy.run.work) (length (paid_tries q x)) (work (paid_tries q x))
+abbrev pub token_answer : Option Rule → Terms → List ℕ → Answer
+token_answer rule q x = verify_line rule (verdict_of q x q.policy.run.work) (length (paid_tries q x)) (work (paid_tries q x))
 
 abbrev pub keys_refused : KeysFault → Answer
 keys_refused fault = line (codes "refused Keys " ∷ keys_fault_name fault ∷ []) 1
 
 abbrev pub policy_refused : PolicyFault → Answer
 policy_refused fault = line (codes "refused Policy " ∷ joined_parts (policy_fault_parts fault) ∷ []) 1
+
+abbrev pub access_refused : AccessFault → Answer
+access_refused fault = line (codes "refused Access " ∷ joined_parts (access_fault_parts fault) ∷ []) 1

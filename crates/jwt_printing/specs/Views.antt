@@ -1,4 +1,7 @@
 -- What contracts see of this crate's own values.
+use Rattle.std.specs.Prelude.{Option, option_map}
+use Rattle.std.specs.Borrow.{Bor}
+use Rattle.jwt_access.specs.Rules.{Rule}
 use Rattle.jwt_printing.specs.declared.mac.Digest.{Digest as CodeDigest}
 use Rattle.jwt_printing.specs.declared.reply.Reply.{Reply}
 use Rattle.jwt_printing.specs.Mac.{Digest}
@@ -9,3 +12,7 @@ digest_view d = record { tag = d.tag; equal = d.equal }
 
 abbrev pub reply_view : Reply → Answer
 reply_view r = record { text = r.text.items; status = r.status }
+
+-- an access rule, where there is one
+abbrev pub rule_view : Option (Bor Rule) → Option Rule
+rule_view rule = option_map (λ r. r.now) rule

@@ -6,14 +6,17 @@ ghost use Rattle.jwt_verify.specs.Reports.{FoundMemory};
 ghost use Rattle.jwt_verify.specs.declared.report.InputFault.TheVariants.{Read};
 ghost use Rattle.jwt_verify.specs.declared.report.Fault.TheVariants.{Text};
 ghost use Rattle.jwt_verify.specs.declared.report.Verdict.TheVariants.{Refused};
-ghost use Rattle.jwt_printing.specs.Json.{claim_place, count, evidence, file_failed_json, form_place, keys_refused_json, list, place_of, policy_place, policy_refused_json, read_failed_json, said_json, some_text, state_json, state_members, text, try_json, value_of, verdict_json, verdict_members, verdict_status};
+ghost use Rattle.jwt_access.specs.FaultNames.{denial_name};
+ghost use Rattle.jwt_printing.specs.Json.{accepted_members, accepted_status, access_place, access_refused_json, claim_place, count, evidence, file_failed_json, form_place, keys_refused_json, lacked, list, place_of, policy_place, policy_refused_json, read_failed_json, said_json, some_text, state_json, state_members, text, try_json, value_of, verdict_json, verdict_members, verdict_status};
 ghost use Rattle.jwt_printing.specs.JsonTokens.{named_tokens};
 ghost use Rattle.jwt_printing.specs.Nearest.{nearest_member};
-ghost use Rattle.jwt_printing.specs.Views.{reply_view};
+ghost use Rattle.jwt_printing.specs.Views.{reply_view, rule_view};
 
+use crate::denied::lacking;
 use crate::json_out::JsonOut;
 use crate::nearest::nearest_member;
 use crate::reply::Reply;
+use jwt_access::{AccessFault, AccessRule, Denial};
 use jwt_jws::{FormFault, Place};
 use jwt_keys::KeysFault;
 use jwt_policy::{ClaimFault, PolicyFault};
@@ -190,6 +193,54 @@ fn put_accepted(
     out.value(alloc, "claims", payload)
 }
 
+// What claims lack of a rule: its name, and the scope or the claim.
+fn put_lacked(out: &mut JsonOut, denial: &Denial<'_>) -> Result<(), AllocError>
+    ensures { OnOk result (out.new ≡ out.old ++ named_tokens (lacked denial.now ∷ [])) }
+{
+    match denial {
+        Denial::ScopeMissing(scope) => out.text("scope", scope.text()),
+        Denial::ClaimMissing(claim) | Denial::ClaimNotAllowed(claim) => {
+            out.text("claim", claim.text())
+        }
+    }
+}
+
+fn put_denied(
+    out: &mut JsonOut,
+    denial: &Denial<'_>,
+    signature: u32,
+    key: u32,
+) -> Result<(), AllocError>
+    ensures { OnOk result
+        (out.new ≡ out.old ++ named_tokens (text (codes "verdict") (codes "denied")
+        ∷ text (codes "denial") (denial_name denial.now) ∷ lacked denial.now
+        ∷ count (codes "signature") signature ∷ count (codes "key") key ∷ [])) }
+{
+    out.text("verdict", "denied")?;
+    out.text("denial", denial.name())?;
+    put_lacked(out, denial)?;
+    put_pair(out, signature, key)
+}
+
+// Of an accepted token: its claims where they lack nothing, and else what they lack.
+fn put_unless_lacking(
+    alloc: Global,
+    out: &mut JsonOut,
+    denial: &Option<Denial<'_>>,
+    signature: u32,
+    key: u32,
+    payload: &[u8],
+) -> Result<(), AllocError>
+    ensures { OnOk result
+        (out.new ≡ out.old
+        ++ named_tokens (accepted_members denial.now signature key payload.now)) }
+{
+    match denial {
+        Some(denial) => put_denied(out, denial, signature, key),
+        None => put_accepted(alloc, out, signature, key, payload),
+    }
+}
+
 fn put_refused(out: &mut JsonOut, fault: &Fault<'_>) -> Result<(), AllocError>
     ensures { OnOk result
         (out.new ≡ out.old ++ named_tokens (text (codes "verdict") (codes "refused")
@@ -203,56 +254,83 @@ fn put_refused(out: &mut JsonOut, fault: &Fault<'_>) -> Result<(), AllocError>
 fn put_verdict(
     alloc: Global,
     out: &mut JsonOut,
+    rule: Option<&AccessRule>,
     verdict: &Verdict<'_>,
     payload: &[u8],
 ) -> Result<(), AllocError>
-    ensures { OnOk result
-        (out.new ≡ out.old ++ named_tokens (verdict_members verdict.now payload.now)) }
+    ensures { OnOk result (out.new ≡ out.old
+        ++ named_tokens (verdict_members (rule_view rule.entry) verdict.now payload.now)) }
 {
     match verdict {
-        Verdict::Accepted { signature, key, .. } => put_accepted(
-            alloc, out, *signature, *key, payload,
+        Verdict::Accepted {
+            signature,
+            key,
+            claims,
+        } => put_unless_lacking(
+            alloc,
+            out,
+            &lacking(rule, claims),
+            *signature,
+            *key,
+            payload,
         ),
         Verdict::Refused(fault) => put_refused(out, fault),
     }
 }
 
-fn verdict_status(verdict: &Verdict<'_>) -> u8
-    ensures { result ≡ verdict_status verdict.now }
+fn accepted_status(denial: &Option<Denial<'_>>) -> u8
+    ensures { result ≡ accepted_status denial.now }
+{
+    match denial {
+        Some(_) => 1,
+        None => 0,
+    }
+}
+
+fn verdict_status(rule: Option<&AccessRule>, verdict: &Verdict<'_>) -> u8
+    ensures { result ≡ verdict_status (rule_view rule.entry) verdict.now }
 {
     match verdict {
-        Verdict::Accepted { .. } => 0,
+        Verdict::Accepted { claims, .. } => accepted_status(&lacking(rule, claims)),
         Verdict::Refused(_) => 1,
     }
 }
 
 // The line of a report on a token with this payload.
-fn said(alloc: Global, report: &Report<'_>, payload: &[u8], work: u64) -> Result<Reply, AllocError>
+fn said(
+    alloc: Global,
+    report: &Report<'_>,
+    rule: Option<&AccessRule>,
+    payload: &[u8],
+    work: u64,
+) -> Result<Reply, AllocError>
     ensures { IfOk result (λ a. reply_view a
-        ≡ said_json report.now.verdict payload.now report.now.states.items report.now.tries.items
-        work) }
+        ≡ said_json (rule_view rule.entry) report.now.verdict payload.now
+        report.now.states.items report.now.tries.items work) }
 {
     let mut out = JsonOut::object(alloc)?;
-    put_verdict(alloc, &mut out, &report.verdict, payload)?;
+    put_verdict(alloc, &mut out, rule, &report.verdict, payload)?;
     put_evidence(
         &mut out,
         report.states.as_slice(),
         report.tries.as_slice(),
         work,
     )?;
-    out.reply(verdict_status(&report.verdict))
+    out.reply(verdict_status(rule, &report.verdict))
 }
 
-/// The line of a report on a token with this payload. Where memory was refused there is none.
+/// The line of a report on a token with this payload, where the claims of an accepted token are held against a rule, if there is one.
+/// Where memory was refused there is none.
 pub fn report_json(
     alloc: Global,
     report: &Report<'_>,
+    rule: Option<&AccessRule>,
     payload: &[u8],
     work: u64,
 ) -> Result<Reply, AllocError>
     ensures line { IfOk result (λ a. reply_view a
-        ≡ verdict_json report.now.verdict payload.now report.now.states.items
-        report.now.tries.items work) }
+        ≡ verdict_json (rule_view rule.entry) report.now.verdict payload.now
+        report.now.states.items report.now.tries.items work) }
     ensures memory { IfOk result (λ a. FoundMemory report.now.verdict) }
     ensures failed { IfOk result (λ a. a.status ≡ 3 → report.now.verdict ≡ Refused (Text Read)) }
 {
@@ -267,7 +345,7 @@ pub fn report_json(
             | Fault::CallsExceeded(..)
             | Fault::Signature(..)
             | Fault::Claim(_),
-        ) => said(alloc, report, payload, work),
+        ) => said(alloc, report, rule, payload, work),
     }
 }
 
@@ -312,5 +390,30 @@ pub(crate) fn policy_refused_json(alloc: Global, fault: &PolicyFault) -> Result<
     out.text("document", "policy")?;
     out.text("fault", fault.name())?;
     put_policy_place(alloc, &mut out, fault)?;
+    out.reply(1)
+}
+
+// The member that a fault of an access rule names, or the claim that it asks for.
+fn put_access_place(out: &mut JsonOut, fault: &AccessFault) -> Result<(), AllocError>
+    ensures { OnOk result (out.new ≡ out.old ++ named_tokens (access_place fault.now)) }
+{
+    match fault {
+        AccessFault::Member(member)
+        | AccessFault::Range(member)
+        | AccessFault::Claim(member)
+        | AccessFault::ClaimRange(member) => out.text("member", member.text()),
+        _ => Ok(()),
+    }
+}
+
+/// The line of a refused access rule.
+pub(crate) fn access_refused_json(alloc: Global, fault: &AccessFault) -> Result<Reply, AllocError>
+    ensures { IfOk result (λ a. reply_view a ≡ access_refused_json fault.now) }
+{
+    let mut out = JsonOut::object(alloc)?;
+    out.text("verdict", "refused")?;
+    out.text("document", "access")?;
+    out.text("fault", fault.name())?;
+    put_access_place(&mut out, fault)?;
     out.reply(1)
 }

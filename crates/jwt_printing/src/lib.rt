@@ -4,6 +4,7 @@
 //! A [`Reply`] is a whole answer with its status; [`give`] and [`send`] send it.
 #![tactic(auto)]
 
+mod denied;
 mod faults;
 mod json_keys;
 mod json_out;
@@ -11,6 +12,7 @@ mod json_show;
 mod json_verdict;
 mod jwk;
 mod keys;
+pub mod laws;
 mod mac;
 mod nearest;
 mod pieces;
@@ -26,8 +28,8 @@ pub use jwk::{jwk_line, random_failed, refused_jwk};
 pub use keys::printed_set;
 pub use mac::{Digest, digest_line, refused_key};
 pub use refusals::{
-    printed_file_fault, printed_keys_fault, printed_policy_fault, printed_read_fault,
-    refused_claims,
+    printed_access_fault, printed_file_fault, printed_keys_fault, printed_policy_fault,
+    printed_read_fault, refused_claims,
 };
 pub use reply::Reply;
 pub use sending::{give, lack_memory, send};

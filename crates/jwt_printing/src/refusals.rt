@@ -1,16 +1,17 @@
 //! What a command answers besides a verdict, in JSON or in lines.
 ghost use Rattle.std.specs.Prelude.{◌≡◌, IfOk};
 ghost use Rattle.jwt_printing.specs.Printer.{file_failed, printer, printed_file_fault};
-ghost use Rattle.jwt_printing.specs.Verdicts.{policy_refused};
+ghost use Rattle.jwt_printing.specs.Verdicts.{access_refused, policy_refused};
 ghost use Rattle.jwt_printing.specs.Views.{reply_view};
 ghost use Rattle.jwt_printing.specs.Faults.{claim_fault_parts, joined_parts};
 ghost use Rattle.jwt_printing.specs.Printed.{refused};
 
-use crate::faults::{claim_fault_text, policy_fault_text};
+use crate::faults::{access_fault_text, claim_fault_text, policy_fault_text};
 use crate::json_verdict::{
-    file_failed_json, keys_refused_json, policy_refused_json, read_failed_json,
+    access_refused_json, file_failed_json, keys_refused_json, policy_refused_json, read_failed_json,
 };
 use crate::reply::Reply;
+use jwt_access::AccessFault;
 use jwt_keys::KeysFault;
 use jwt_policy::{ClaimFault, PolicyFault};
 use jwt_text::quoted;
@@ -70,6 +71,28 @@ pub fn printed_policy_fault(
     match printing {
         Printing::Json => policy_refused_json(alloc, fault),
         Printing::Lines => refused_policy(alloc, fault),
+    }
+}
+
+/// The line of a refused access rule.
+pub(crate) fn refused_access(alloc: Global, fault: &AccessFault) -> Result<Reply, AllocError>
+    ensures { IfOk result (λ a. reply_view a ≡ access_refused fault.now) }
+{
+    let name = access_fault_text(alloc, fault)?;
+    Reply::around(alloc, "refused Access ", name.as_slice(), "\n", 1)
+}
+
+/// An access rule is refused.
+pub fn printed_access_fault(
+    alloc: Global,
+    printing: Printing,
+    fault: &AccessFault,
+) -> Result<Reply, AllocError>
+    ensures { IfOk result (λ a. reply_view a ≡ (printer printing).access_refused fault.now) }
+{
+    match printing {
+        Printing::Json => access_refused_json(alloc, fault),
+        Printing::Lines => refused_access(alloc, fault),
     }
 }
 

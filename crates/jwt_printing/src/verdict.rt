@@ -4,11 +4,13 @@ ghost use Rattle.jwt_verify.specs.Reports.{FoundMemory};
 ghost use Rattle.jwt_verify.specs.declared.report.InputFault.TheVariants.{Read};
 ghost use Rattle.jwt_verify.specs.declared.report.Fault.TheVariants.{Text};
 ghost use Rattle.jwt_verify.specs.declared.report.Verdict.TheVariants.{Refused};
-ghost use Rattle.jwt_printing.specs.Verdicts.{fault_line, named_line, verify_line};
-ghost use Rattle.jwt_printing.specs.Views.{reply_view};
+ghost use Rattle.jwt_printing.specs.Verdicts.{accepted_line, denied_line, fault_line, named_line, verify_line};
+ghost use Rattle.jwt_printing.specs.Views.{reply_view, rule_view};
 
-use crate::faults::fault_text;
+use crate::denied::lacking;
+use crate::faults::{denial_text, fault_text};
 use crate::reply::Reply;
+use jwt_access::{AccessRule, Denial};
 use jwt_verify::{Fault, InputFault, Report, Verdict};
 use std::alloc::{AllocError, Global};
 
@@ -49,24 +51,63 @@ fn fault_line(
     }
 }
 
-/// The line of a report. Where memory was refused there is none.
-pub fn report_line(alloc: Global, report: &Report<'_>, work: u64) -> Result<Reply, AllocError>
+// The line of an acceptance.
+fn accepted_line(
+    alloc: Global,
+    signature: u32,
+    key: u32,
+    tries: usize,
+    work: u64,
+) -> Result<Reply, AllocError>
+    ensures { IfOk result (λ a. reply_view a ≡ accepted_line signature key tries work) }
+{
+    let text = format!(in alloc; "accepted sig={signature} key={key} tries={tries} work={work}\n")?;
+    Ok(Reply {
+        text: text.into_bytes(),
+        status: 0,
+    })
+}
+
+// The line of an acceptance whose claims lack this.
+fn denied_line(
+    alloc: Global,
+    denial: &Denial<'_>,
+    signature: u32,
+    key: u32,
+    tries: usize,
+    work: u64,
+) -> Result<Reply, AllocError>
+    ensures { IfOk result (λ a. reply_view a ≡ denied_line denial.now signature key tries work) }
+{
+    let name = denial_text(alloc, denial)?;
+    let counts = format!(in alloc; " sig={signature} key={key} tries={tries} work={work}\n")?;
+    Reply::around(alloc, "denied ", name.as_slice(), counts.as_str(), 1)
+}
+
+/// The line of a report, where the claims of an accepted token are held against a rule, if there is one. Where memory was refused there
+/// is none.
+pub fn report_line(
+    alloc: Global,
+    report: &Report<'_>,
+    rule: Option<&AccessRule>,
+    work: u64,
+) -> Result<Reply, AllocError>
     ensures line { IfOk result (λ a. reply_view a
-        ≡ verify_line report.now.verdict (length report.now.tries.items) work) }
+        ≡ verify_line (rule_view rule.entry) report.now.verdict (length report.now.tries.items)
+        work) }
     ensures memory { IfOk result (λ a. FoundMemory report.now.verdict) }
     ensures failed { IfOk result (λ a. a.status ≡ 3 → report.now.verdict ≡ Refused (Text Read)) }
 {
     let tries = report.tries.len();
     match &report.verdict {
-        Verdict::Accepted { signature, key, .. } => {
-            let text = format!(in alloc;
-                "accepted sig={signature} key={key} tries={tries} work={work}\n"
-            )?;
-            Ok(Reply {
-                text: text.into_bytes(),
-                status: 0,
-            })
-        }
+        Verdict::Accepted {
+            signature,
+            key,
+            claims,
+        } => match lacking(rule, claims) {
+            Some(denial) => denied_line(alloc, &denial, *signature, *key, tries, work),
+            None => accepted_line(alloc, *signature, *key, tries, work),
+        },
         Verdict::Refused(fault) => fault_line(alloc, fault, tries, work),
     }
 }

@@ -135,12 +135,14 @@ fn run_words<R: Source, W: Sink>(
     let files = files_to_read(&request);
     let policy = document(rt, files.policy, 65_536)?;
     let keys = document(rt, files.keys, 4_194_304)?;
+    let access = document(rt, files.access, 65_536)?;
     let token = document(rt, files.token, 1_048_576)?;
     let key = document(rt, files.key, key_limit(&request))?;
     let mut fresh = [0; 64];
     let held = Held {
         policy: octets(&policy),
         keys: octets(&keys),
+        access: octets(&access),
         token: octets(&token),
         key: octets(&key),
         random: random(rt, &request, &mut fresh),

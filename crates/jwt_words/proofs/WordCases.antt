@@ -111,7 +111,7 @@ pub no_moment : request_of None (codes "jwt" ∷ codes "verify" ∷ []) ≡ None
 unfolding clap_on_literals
 no_moment = refl
 
-pub files_named : request_of None (codes "jwt" ∷ codes "verify" ∷ codes "--now" ∷ codes "7" ∷ codes "--policy" ∷ codes "p" ∷ codes "--keys=k" ∷ []) ≡ Some (Once Lines (Verify 7 false (record { policy = Some (codes "p"); keys = Some (codes "k"); token = None; key = None })))
+pub files_named : request_of None (codes "jwt" ∷ codes "verify" ∷ codes "--now" ∷ codes "7" ∷ codes "--policy" ∷ codes "p" ∷ codes "--keys=k" ∷ []) ≡ Some (Once Lines (Verify 7 false (record { policy = Some (codes "p"); keys = Some (codes "k"); access = None; token = None; key = None })))
 unfolding clap_on_literals
 files_named = refl
 
@@ -147,13 +147,29 @@ pub lines_alone : request_of (Some 7) (codes "jwt" ∷ codes "verify" ∷ codes 
 unfolding clap_on_literals
 lines_alone = refl
 
-pub lines_json : request_of (Some 7) (codes "jwt" ∷ codes "verify" ∷ codes "--lines" ∷ codes "--json" ∷ codes "--policy=p" ∷ codes "--keys=k" ∷ []) ≡ Some (EachLine (record { now = None; public_keys = false; printing = Json; files = record { policy = Some (codes "p"); keys = Some (codes "k"); token = None; key = None } }))
+pub lines_json : request_of (Some 7) (codes "jwt" ∷ codes "verify" ∷ codes "--lines" ∷ codes "--json" ∷ codes "--policy=p" ∷ codes "--keys=k" ∷ []) ≡ Some (EachLine (record { now = None; public_keys = false; printing = Json; files = record { policy = Some (codes "p"); keys = Some (codes "k"); access = None; token = None; key = None } }))
 unfolding clap_on_literals
 lines_json = refl
 
 pub lines_token : request_of (Some 7) (codes "jwt" ∷ codes "verify" ∷ codes "--lines" ∷ codes "--policy=p" ∷ codes "--keys=k" ∷ codes "--token=t" ∷ []) ≡ None
 unfolding clap_on_literals
 lines_token = refl
+
+pub access_named : request_of None (codes "jwt" ∷ codes "verify" ∷ codes "--now" ∷ codes "7" ∷ codes "--access=a" ∷ []) ≡ Some (Once Lines (Verify 7 false (record no_files { access = Some (codes "a") })))
+unfolding clap_on_literals
+access_named = refl
+
+pub access_twice : request_of None (codes "jwt" ∷ codes "verify" ∷ codes "--now" ∷ codes "7" ∷ codes "--access" ∷ codes "a" ∷ codes "--access" ∷ codes "b" ∷ []) ≡ None
+unfolding clap_on_literals
+access_twice = refl
+
+pub access_of_keys : request_of None (codes "jwt" ∷ codes "keys" ∷ codes "--access" ∷ codes "a" ∷ []) ≡ None
+unfolding clap_on_literals
+access_of_keys = refl
+
+pub lines_access : request_of (Some 7) (codes "jwt" ∷ codes "verify" ∷ codes "--lines" ∷ codes "--policy=p" ∷ codes "--keys=k" ∷ codes "--access=a" ∷ []) ≡ Some (EachLine (record { now = None; public_keys = false; printing = Lines; files = record { policy = Some (codes "p"); keys = Some (codes "k"); access = Some (codes "a"); token = None; key = None } }))
+unfolding clap_on_literals
+lines_access = refl
 
 pub jwk_alone : request_of None (codes "jwt" ∷ codes "jwk" ∷ []) ≡ Some (Jwk (record { printing = Lines; der = false; bare = false; kid = NoKid; alg = None; files = no_files }))
 unfolding clap_on_literals

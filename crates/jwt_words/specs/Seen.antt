@@ -23,7 +23,7 @@ abbrev pub seconds_of : Option Moment → Option ℕ
 seconds_of moment = option_map (λ m. m.seconds) moment
 
 abbrev pub files_view : CodeFiles → Files
-files_view f = record { policy = option_map (λ t. t.now) f.policy; keys = option_map (λ t. t.now) f.keys; token = option_map (λ t. t.now) f.token; key = option_map (λ t. t.now) f.key }
+files_view f = record { policy = option_map (λ t. t.now) f.policy; keys = option_map (λ t. t.now) f.keys; access = option_map (λ t. t.now) f.access; token = option_map (λ t. t.now) f.token; key = option_map (λ t. t.now) f.key }
 
 abbrev pub seen : Asked → Order
 seen (asked.Mac key limit) = Mac key.now limit
@@ -67,4 +67,4 @@ IsWrong OutOfMemory = ⊥
 IsWrong (Wrong text) = Unit {0}
 
 abbrev pub held_view : CodeHeld → Held
-held_view h = record { policy = option_map (λ t. t.now) h.policy; keys = option_map (λ t. t.now) h.keys; token = option_map (λ t. t.now) h.token; key = option_map (λ t. t.now) h.key; random = option_map (λ t. t.now) h.random }
+held_view h = record { policy = option_map (λ t. t.now) h.policy; keys = option_map (λ t. t.now) h.keys; access = option_map (λ t. t.now) h.access; token = option_map (λ t. t.now) h.token; key = option_map (λ t. t.now) h.key; random = option_map (λ t. t.now) h.random }

@@ -64,6 +64,10 @@ keys_rule = option (codes "keys")
 abbrev pub token_rule : Rule
 token_rule = option (codes "token")
 
+-- the file of an access rule
+abbrev pub access_rule : Rule
+access_rule = option (codes "access")
+
 abbrev pub alg_rule : Rule
 alg_rule = record (option (codes "alg")) { required = true }
 
@@ -121,8 +125,12 @@ verify_on_input has_clock = with_rule (with_rule (new_app (codes "verify")) (now
 abbrev pub verify_on_files : Bool → App
 verify_on_files has_clock = with_rule (with_rule (with_rule (verify_on_input has_clock) policy_rule) keys_rule) token_rule
 
+-- with an access rule too
+abbrev pub verify_with_access : Bool → App
+verify_with_access has_clock = with_rule (verify_on_files has_clock) access_rule
+
 abbrev pub verify_app : Bool → App
-verify_app has_clock = with_rule (with_rule (verify_on_files has_clock) lines_rule) json_rule
+verify_app has_clock = with_rule (with_rule (verify_with_access has_clock) lines_rule) json_rule
 
 abbrev pub issue_app : App
 issue_app = with_rule (with_rule (with_rule (with_rule (new_app (codes "issue")) alg_rule) typ_rule) form_rule) keys_rule
@@ -152,11 +160,12 @@ jwt_app has_clock = with_subcommand (with_subcommand (with_subcommand (with_subc
 pub record Files : Type 0 where
   pub policy : Option Text
   pub keys : Option Text
+  pub access : Option Text
   pub token : Option Text
   pub key : Option Text
 
 abbrev pub no_files : Files
-no_files = record { policy = None; keys = None; token = None; key = None }
+no_files = record { policy = None; keys = None; access = None; token = None; key = None }
 
 pub data Order : Type 0 where
   Mac : Text → ℕ → Order
@@ -207,7 +216,7 @@ abbrev pub moment_in : Option ℕ → List Row → Option ℕ
 moment_in clock rows = if is_some (first_of (codes "now") rows) then number_in now_range (one_of (codes "now") rows) else clock
 
 abbrev pub files_in : List Row → Files
-files_in rows = record { policy = first_of (codes "policy") rows; keys = first_of (codes "keys") rows; token = first_of (codes "token") rows; key = None }
+files_in rows = record { policy = first_of (codes "policy") rows; keys = first_of (codes "keys") rows; access = first_of (codes "access") rows; token = first_of (codes "token") rows; key = None }
 
 abbrev pub verify_order : Option ℕ → List Row → Option Order
 verify_order clock rows = option_map (λ now. Verify now (is_set (codes "public-keys") rows) (files_in rows)) (moment_in clock rows)
@@ -227,7 +236,7 @@ abbrev pub form_in : List Row → Option Form
 form_in rows = option_and_then form_named (first_of (codes "form") rows)
 
 abbrev pub keys_file_in : List Row → Files
-keys_file_in rows = record { policy = None; keys = first_of (codes "keys") rows; token = None; key = None }
+keys_file_in rows = record { policy = None; keys = first_of (codes "keys") rows; access = None; token = None; key = None }
 
 abbrev pub issue_order : List Row → Option Order
 issue_order rows = option_and_then (λ alg. option_map (λ form. Issue alg (first_of (codes "typ") rows) form (keys_file_in rows)) (form_in rows)) (alg_in rows)
@@ -311,7 +320,7 @@ public_alg_chosen None = Some None
 public_alg_chosen (Some name) = if is_public_alg (alg_named name) then Some (Some name) else None
 
 abbrev pub key_file_in : Option Text → Files
-key_file_in name = record { policy = None; keys = None; token = None; key = name }
+key_file_in name = record { policy = None; keys = None; access = None; token = None; key = name }
 
 abbrev pub jwk_order : List Row → Option JwkOrder
 jwk_order rows = option_and_then (λ alg. option_map (λ kid. record { printing = printing_in rows; der = is_set (codes "der") rows; bare = is_set (codes "bare") rows; kid = kid; alg = alg; files = key_file_in (first_of (codes "file") rows) }) (kid_in rows)) (public_alg_chosen (first_of (codes "alg") rows))

@@ -14,6 +14,9 @@ pub struct Held<'a> {
     /// The key set's; more than 4,194,304 are too many.
     pub keys: Option<&'a [u8]>,
 
+    /// The access rule's; more than 65,536 are too many.
+    pub access: Option<&'a [u8]>,
+
     /// The token's; more than the policy's limit are too many.
     pub token: Option<&'a [u8]>,
 
@@ -33,6 +36,7 @@ impl<'a> Held<'a> {
         Held {
             policy: None,
             keys: None,
+            access: None,
             token: None,
             key: None,
             random: None,
@@ -63,6 +67,7 @@ pub fn unread<'a>(files: Files<'a>, held: Held<'_>) -> Option<&'a str>
 {
     let key = unread_or(files.key, held.key, None);
     let last = unread_or(files.token, held.token, key);
-    let later = unread_or(files.keys, held.keys, last);
+    let asked = unread_or(files.access, held.access, last);
+    let later = unread_or(files.keys, held.keys, asked);
     unread_or(files.policy, held.policy, later)
 }

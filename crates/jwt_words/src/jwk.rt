@@ -179,6 +179,7 @@ fn key_file_in<'a>(name: Option<&'a str>) -> Files<'a>
     Files {
         policy: None,
         keys: None,
+        access: None,
         token: None,
         key: name,
     }

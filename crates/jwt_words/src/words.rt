@@ -4,7 +4,7 @@ ghost use Rattle.clap.specs.Words.{app_of, found_of, new_rule, one_of, rows_of, 
 ghost use Rattle.clap.specs.declared.builder.action.ArgAction.TheVariants.{SetTrue};
 ghost use Rattle.clap.specs.declared.builder.command.Command.TheViews.{out-Command as fields_of};
 ghost use Rattle.clap.specs.declared.builder.ValueParser.TheVariants.{Unsigned};
-ghost use Rattle.jwt_words.specs.Words.{HasLimits, alg_in, alg_rule, asks_version, clap_request, files_in, files_in_order, files_in_request, flag, form_in, form_named, form_rule, is_named, is_set, issue_app, issue_order, json_rule, jwk_request, jwt_app, keyed, keys_app, keys_file_in, keys_rule, limit_rule, lines_order, mac_app, mac_order, moment_in, named_moment, no_files, now_range, now_rule, number_in, octets_asked, option, order_in, printing_in, public_keys_rule, request_in, request_of, show_app, show_order, top_app, verify_app, verify_on_files, verify_on_input, verify_order};
+ghost use Rattle.jwt_words.specs.Words.{HasLimits, alg_in, alg_rule, asks_version, clap_request, files_in, files_in_order, files_in_request, flag, form_in, form_named, form_rule, is_named, is_set, issue_app, issue_order, json_rule, jwk_request, jwt_app, keyed, keys_app, keys_file_in, keys_rule, limit_rule, lines_order, mac_app, mac_order, moment_in, named_moment, no_files, now_range, now_rule, number_in, octets_asked, option, order_in, printing_in, public_keys_rule, request_in, request_of, show_app, show_order, top_app, verify_app, verify_on_files, verify_on_input, verify_order, verify_with_access};
 ghost use Rattle.jwt_words.specs.Examples.{Examples};
 ghost use Rattle.jwt_words.specs.Seen.{IsWrong, files_view, HasRange, lines_view, requested, seconds_of, seen};
 
@@ -28,6 +28,9 @@ pub struct Files<'a> {
     /// The file of the key set.
     pub keys: Option<&'a str>,
 
+    /// The file of the access rule.
+    pub access: Option<&'a str>,
+
     /// The file of the token.
     pub token: Option<&'a str>,
 
@@ -43,6 +46,7 @@ impl<'a> Files<'a> {
         Files {
             policy: None,
             keys: None,
+            access: None,
             token: None,
             key: None,
         }
@@ -232,13 +236,22 @@ fn verify_on_files<'a>(alloc: Global, has_clock: bool) -> Result<Command<'a>, Al
         .arg(option(alloc, "token", "FILE", token))
 }
 
+// With an access rule too.
+fn verify_with_access<'a>(alloc: Global, has_clock: bool) -> Result<Command<'a>, AllocError>
+    ensures shape { IfOk result (λ c. app_of c ≡ verify_with_access has_clock) }
+    ensures local { IfOk result (λ c. (fields_of c).has_globals ≡ false) }
+{
+    let access = "The file of an access rule, which the claims of an accepted token have to meet";
+    verify_on_files(alloc, has_clock)?.arg(option(alloc, "access", "FILE", access))
+}
+
 fn verify_command<'a>(alloc: Global, has_clock: bool) -> Result<Command<'a>, AllocError>
     ensures shape { IfOk result (λ c. app_of c ≡ verify_app has_clock) }
     ensures local { IfOk result (λ c. (fields_of c).has_globals ≡ false) }
 {
     let lines =
         "Answers each line of standard input as a token, before the next is waited for; needs --policy and --keys";
-    verify_on_files(alloc, has_clock)?
+    verify_with_access(alloc, has_clock)?
         .arg(flag(alloc, "lines", lines))?
         .arg(json_option(alloc))
 }
@@ -627,10 +640,12 @@ fn chosen_files<'a>(options: &ArgMatches<'a>) -> Files<'a>
 {
     let policy = options.get_str("policy");
     let keys = options.get_str("keys");
+    let access = options.get_str("access");
     let token = options.get_str("token");
     Files {
         policy,
         keys,
+        access,
         token,
         key: None,
     }
@@ -684,6 +699,7 @@ fn chosen_keys_file<'a>(options: &ArgMatches<'a>) -> Files<'a>
     Files {
         policy: None,
         keys,
+        access: None,
         token: None,
         key: None,
     }

@@ -20,3 +20,8 @@ pub returns-clause-jwk_stops : goal.returns-clause-jwk_stops
 returns-clause-jwk_stops g c = λ order asked.
     subst (λ (h : Held). IfSome (g.R.Source.remaining c.args.r.now) (λ x. (g.R.Source.failed c.run_with.new.r ≡ true)
     ⊎ TakesAtMost (jwk_most h order) x (g.R.Source.remaining c.run_with.new.r))) c.none.ensures (c.run_with.ensures.jwk_stops order asked)
+
+pub returns-clause-jwk_failed : goal.returns-clause-jwk_failed
+returns-clause-jwk_failed g c = λ order asked status.
+    subst (λ (h : Held). (g.R.Source.failed c.run_with.new.r ≡ true) ⊎ ((g.W.Sink.failed c.run_with.new.w ≡ true)
+    ⊎ (is_some (unread order.files h) ≡ true))) c.none.ensures (c.run_with.ensures.jwk_failed order asked status)

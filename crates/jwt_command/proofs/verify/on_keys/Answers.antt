@@ -1,9 +1,9 @@
-use Rattle.std.proofs.Common.{rules, ◌≡◌, ◌+◌, inr, map, subst, IfOk, ◌∙◌, sym, ap}
+use Rattle.std.proofs.Common.{rules, ◌≡◌, inr, map, subst, IfOk, ◌∙◌, sym, ap}
 use Rattle.std.proofs.lemmas.Option.{IfSome_then}
 use Rattle.jwt_printing.specs.Printed.{Answer}
 use Rattle.jwt_keys.specs.KeySets.{key_set, key_set_of}
-use Rattle.jwt_command.specs.Documents.{document, last_most}
-use Rattle.jwt_command.specs.Stops.{behind_keys}
+use Rattle.jwt_command.specs.Documents.{document}
+use Rattle.jwt_command.specs.Stops.{behind_keys, token_most}
 use Rattle.jwt_printing.specs.Printer.{printer}
 use Rattle.jwt_words.specs.Seen.{held_view}
 use Rattle.jwt_printing.specs.Views.{reply_view}
@@ -17,24 +17,24 @@ returns-in-Err-TooLong-clause-line g c =
     subst (λ (a : Answer). IfOk c.printed_keys_fault.result (λ r. reply_view r ≡ a)) (keys_line_too_long (printer c.args.printing) (map (λ b. (goal.Verifier-dyn g (b.vtable, b.value)).meaning b.value) c.args.verifiers.now) c.args.now.seconds (held_view c.args.held) c.args.policy.now x _ long.1 long.0) c.printed_keys_fault.ensures)
 
 pub returns-in-Err-TooLong-clause-stops : goal.returns-in-Err-TooLong-clause-stops
-returns-in-Err-TooLong-clause-stops g c = IfSome_then (g.R.Source.remaining c.args.r.now) c.in-Err-TooLong.ensures.taken (λ x h. document_stops 4194304 (behind_keys (last_most (c.args.policy.now.run.limit + 1) (held_view c.args.held).token) (key_set_of (document (held_view c.args.held).keys x))) (held_view c.args.held).keys x _ _ h)
+returns-in-Err-TooLong-clause-stops g c = IfSome_then (g.R.Source.remaining c.args.r.now) c.in-Err-TooLong.ensures.taken (λ x h. document_stops 4194304 (behind_keys (token_most (held_view c.args.held) c.args.policy.now) (key_set_of (document (held_view c.args.held).keys x))) (held_view c.args.held).keys x _ _ h)
 
 pub returns-in-Err-OutOfMemory-clause-stops : goal.returns-in-Err-OutOfMemory-clause-stops
-returns-in-Err-OutOfMemory-clause-stops g c = IfSome_then (g.R.Source.remaining c.args.r.now) c.in-Err-OutOfMemory.ensures.taken (λ x h. document_stops 4194304 (behind_keys (last_most (c.args.policy.now.run.limit + 1) (held_view c.args.held).token) (key_set_of (document (held_view c.args.held).keys x))) (held_view c.args.held).keys x _ _ h)
+returns-in-Err-OutOfMemory-clause-stops g c = IfSome_then (g.R.Source.remaining c.args.r.now) c.in-Err-OutOfMemory.ensures.taken (λ x h. document_stops 4194304 (behind_keys (token_most (held_view c.args.held) c.args.policy.now) (key_set_of (document (held_view c.args.held).keys x))) (held_view c.args.held).keys x _ _ h)
 
 pub returns-in-Ok-read-clause-stops : goal.returns-in-Ok-read-clause-stops
 returns-in-Ok-read-clause-stops g c =
     IfSome_then (g.R.Source.remaining c.args.r.now) c.in-Ok.ensures.document
     (λ x h.
-    behind_keys_taken (last_most (c.args.policy.now.run.limit + 1) (held_view c.args.held).token) (held_view c.args.held).keys x _ _ _ _ (key_set c.in-Ok-read.keys)
-    h (ap key_set_of (sym c.octets.ensures) ∙ c.in-Ok-read.ensures.answer) c.on_last.ensures.stops)
+    behind_keys_taken (token_most (held_view c.args.held) c.args.policy.now) (held_view c.args.held).keys x _ _ _ _ (key_set c.in-Ok-read.keys)
+    h (ap key_set_of (sym c.octets.ensures) ∙ c.in-Ok-read.ensures.answer) c.on_rule.ensures.stops)
 
 pub returns-in-Err-OutOfMemory-read-clause-stops : goal.returns-in-Err-OutOfMemory-read-clause-stops
-returns-in-Err-OutOfMemory-read-clause-stops g c = IfSome_then (g.R.Source.remaining c.args.r.now) c.in-Ok.ensures.document (λ x h. document_stops 4194304 (behind_keys (last_most (c.args.policy.now.run.limit + 1) (held_view c.args.held).token) (key_set_of (document (held_view c.args.held).keys x))) (held_view c.args.held).keys x _ _ (inr h.taken))
+returns-in-Err-OutOfMemory-read-clause-stops g c = IfSome_then (g.R.Source.remaining c.args.r.now) c.in-Ok.ensures.document (λ x h. document_stops 4194304 (behind_keys (token_most (held_view c.args.held) c.args.policy.now) (key_set_of (document (held_view c.args.held).keys x))) (held_view c.args.held).keys x _ _ (inr h.taken))
 
 pub returns : goal.returns
 returns g c = record {
   line = search rules;
   failed = search rules;
-  stops = IfSome_then (g.R.Source.remaining c.args.r.now) c.in-Ok.ensures.document (λ x h. document_stops 4194304 (behind_keys (last_most (c.args.policy.now.run.limit + 1) (held_view c.args.held).token) (key_set_of (document (held_view c.args.held).keys x))) (held_view c.args.held).keys x _ _ (inr h.taken));
+  stops = IfSome_then (g.R.Source.remaining c.args.r.now) c.in-Ok.ensures.document (λ x h. document_stops 4194304 (behind_keys (token_most (held_view c.args.held) c.args.policy.now) (key_set_of (document (held_view c.args.held).keys x))) (held_view c.args.held).keys x _ _ (inr h.taken));
 }

@@ -4,7 +4,7 @@ use Rattle.jwt_verify.specs.Reports.{IsReport, terms as terms_at}
 use Rattle.std.proofs.lemmas.Option.{IfSome_then}
 use Rattle.jwt_keys.specs.KeySets.{key_set}
 use Rattle.jwt_command.specs.Verify.{terms_of_keys}
-use Rattle.jwt_printing.specs.Views.{reply_view}
+use Rattle.jwt_printing.specs.Views.{reply_view, rule_view}
 use Rattle.jwt_command.proofs.Verifying.{front_taken, answered, both_ok}
 use Rattle.jwt_command.proofs.verify.on_token.Goals as goal
 
@@ -21,7 +21,7 @@ returns-clause-line g c =
     let z : to_z w64 c.args.now.seconds ≡ pos c.args.now.seconds = to_z_pos w64 c.args.now.seconds (omega (arith, c.args.now.in_range)) in
     IfSome_then (g.R.Source.remaining c.args.r.now) c.validate-report.ensures.report
     (λ x report. both_ok c.report_line.result c.report_line.ensures.line c.report_line.ensures.memory
-    (λ a line found. answered q x c.tells_reports.ensures _ r c.octets.result
+    (λ a line found. answered (rule_view c.args.rule) q x c.tells_reports.ensures _ r c.octets.result
     (λ n. subst (λ w. IsReport q x w r) (c.new-budget.ensures.ceiling ∙ c.work.ensures.value)
     (subst (λ m. IsReport (terms_at c.args.policy.now c.args.keys.now m vs) x c.new-budget.result.ceiling r) z (report n)))
     c.validate-report.ensures.failed c.validate-report.ensures.read (c.octets.ensures ∙ c.validate-report.ensures.octets) found (reply_view a) line))

@@ -1,9 +1,9 @@
-use Rattle.std.proofs.Common.{rules, ◌≡◌, ◌+◌, ◌∙◌, sym, ap, Ok, inr, map, subst, IfOk}
+use Rattle.std.proofs.Common.{rules, ◌≡◌, ◌∙◌, sym, ap, Ok, inr, map, subst, IfOk}
 use Rattle.std.proofs.lemmas.Option.{IfSome_then}
 use Rattle.jwt_printing.specs.Printed.{Answer}
 use Rattle.jwt_policy.specs.Document.{policy_of}
-use Rattle.jwt_command.specs.Documents.{behind, document, last_most}
-use Rattle.jwt_command.specs.Stops.{behind_policy, keys_most}
+use Rattle.jwt_command.specs.Documents.{behind, document}
+use Rattle.jwt_command.specs.Stops.{behind_policy, keys_most, token_most}
 use Rattle.jwt_printing.specs.Printer.{printer}
 use Rattle.jwt_words.specs.Seen.{held_view}
 use Rattle.jwt_printing.specs.Views.{reply_view}
@@ -37,7 +37,7 @@ returns-in-Ok-read-clause-stops g c =
     let is : Ok c.in-Ok-read.policy ≡ policy_of c.octets.result.now = c.in-Ok-read.ensures.answer (λ bad. cc bad) in
     let text : c.octets.result.now ≡ document (held_view c.args.held).policy x = c.octets.ensures ∙ h.octets_are in
     under_policy_taken (held_view c.args.held) x c.in-Ok-read.policy _ _ (sym (is ∙ ap policy_of text))
-    (document_then_stops 65536 (λ y. keys_most (last_most (c.in-Ok-read.policy.run.limit + 1) (held_view c.args.held).token) (held_view c.args.held).keys y) (held_view c.args.held).policy x _ _ _ _ h c.on_keys.ensures.stops))
+    (document_then_stops 65536 (λ y. keys_most (token_most (held_view c.args.held) c.in-Ok-read.policy) (held_view c.args.held).keys y) (held_view c.args.held).policy x _ _ _ _ h c.on_keys.ensures.stops))
 
 pub returns-in-Err-OutOfMemory-read-clause-stops : goal.returns-in-Err-OutOfMemory-read-clause-stops
 returns-in-Err-OutOfMemory-read-clause-stops g c = IfSome_then (g.R.Source.remaining c.args.r.now) c.in-Ok.ensures.document (λ x h. document_stops 65536 (behind_policy (held_view c.args.held) (policy_of (document (held_view c.args.held).policy x)) (behind (held_view c.args.held).policy x)) (held_view c.args.held).policy x _ _ (inr h.taken))

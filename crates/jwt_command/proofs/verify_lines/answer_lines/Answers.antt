@@ -6,6 +6,7 @@ use Rattle.jwt_words.specs.Seen.{seconds_of}
 use Rattle.jwt_command.specs.Lines.{LineAnswered, with_held}
 use Rattle.jwt_printing.specs.Printed.{Answer}
 use Rattle.jwt_printing.specs.Printer.{printer}
+use Rattle.jwt_printing.specs.Views.{rule_view}
 use Rattle.jwt_command.specs.declared.input.line.LineFault.TheVariants.{OutOfMemory}
 use Rattle.jwt_command.specs.Verify.{terms_of_keys}
 use Rattle.jwt_command.proofs.AnsweredLines.{Answering, Bounded, answering_kept, answering_more, answering_none, lines_cut, lines_done, lines_memory, lines_stopped}
@@ -15,13 +16,13 @@ use Rattle.jwt_command.proofs.verify_lines.answer_lines.Goals as goal
 pub returns-in_default : goal.returns-in_default
 returns-in_default g c =
     let vs = map (λ b. (goal.Verifier-dyn g (b.vtable, b.value)).meaning b.value) c.args.verifiers.now in
-    let at : ℕ → List ℕ → Answer = λ m l. (printer c.args.printing).token (terms_of_keys vs m c.args.policy.now (key_set c.args.keys.now)) l in
+    let at : ℕ → List ℕ → Answer = λ m l. (printer c.args.printing).token (rule_view c.args.rule) (terms_of_keys vs m c.args.policy.now (key_set c.args.keys.now)) l in
     lines_memory at (printer c.args.printing).read_failed (with_held c.args.policy.now.run.limit g.C.Clock.says) (seconds_of c.args.now) (g.R.Source.remaining c.args.r.now) _ _ _ _ _ c.lack_memory.ensures
 
 pub lines-init : goal.lines-init
 lines-init g c =
     let vs = map (λ b. (goal.Verifier-dyn g (b.vtable, b.value)).meaning b.value) c.args.verifiers.now in
-    let at : ℕ → List ℕ → Answer = λ m l. (printer c.args.printing).token (terms_of_keys vs m c.args.policy.now (key_set c.args.keys.now)) l in
+    let at : ℕ → List ℕ → Answer = λ m l. (printer c.args.printing).token (rule_view c.args.rule) (terms_of_keys vs m c.args.policy.now (key_set c.args.keys.now)) l in
     record {
       answering = answering_none at (with_held c.args.policy.now.run.limit g.C.Clock.says) (seconds_of c.args.now) (g.R.Source.remaining c.args.r.now) c.in-Ok.ahead (g.W.Sink.contents c.args.w.now) c.new-ready.result.items c.in-Ok.ensures c.new-ready.ensures.items;
     }
@@ -29,7 +30,7 @@ lines-init g c =
 pub returns-then-not-send_in_time : goal.returns-then-not-send_in_time
 returns-then-not-send_in_time g c =
     let vs = map (λ b. (goal.Verifier-dyn g (b.vtable, b.value)).meaning b.value) c.args.verifiers.now in
-    let at : ℕ → List ℕ → Answer = λ m l. (printer c.args.printing).token (terms_of_keys vs m c.args.policy.now (key_set c.args.keys.now)) l in
+    let at : ℕ → List ℕ → Answer = λ m l. (printer c.args.printing).token (rule_view c.args.rule) (terms_of_keys vs m c.args.policy.now (key_set c.args.keys.now)) l in
     let says = with_held c.args.policy.now.run.limit g.C.Clock.says in
     let known = g.R.Source.remaining c.args.r.now in
     let left = prepend_known c.lines.ahead (g.R.Source.remaining c.lines.r) in
@@ -38,7 +39,7 @@ returns-then-not-send_in_time g c =
 pub returns-in-Err-answer_line : goal.returns-in-Err-answer_line
 returns-in-Err-answer_line g c =
     let vs = map (λ b. (goal.Verifier-dyn g (b.vtable, b.value)).meaning b.value) c.args.verifiers.now in
-    let at : ℕ → List ℕ → Answer = λ m l. (printer c.args.printing).token (terms_of_keys vs m c.args.policy.now (key_set c.args.keys.now)) l in
+    let at : ℕ → List ℕ → Answer = λ m l. (printer c.args.printing).token (rule_view c.args.rule) (terms_of_keys vs m c.args.policy.now (key_set c.args.keys.now)) l in
     let says = with_held c.args.policy.now.run.limit g.C.Clock.says in
     let known = g.R.Source.remaining c.args.r.now in
     let left = prepend_known c.lines.ahead (g.R.Source.remaining c.lines.r) in
@@ -50,7 +51,7 @@ returns-in-Err-answer_line g c =
 pub returns-in-Ok-false : goal.returns-in-Ok-false
 returns-in-Ok-false g c =
     let vs = map (λ b. (goal.Verifier-dyn g (b.vtable, b.value)).meaning b.value) c.args.verifiers.now in
-    let at : ℕ → List ℕ → Answer = λ m l. (printer c.args.printing).token (terms_of_keys vs m c.args.policy.now (key_set c.args.keys.now)) l in
+    let at : ℕ → List ℕ → Answer = λ m l. (printer c.args.printing).token (rule_view c.args.rule) (terms_of_keys vs m c.args.policy.now (key_set c.args.keys.now)) l in
     let says = with_held c.args.policy.now.run.limit g.C.Clock.says in
     let known = g.R.Source.remaining c.args.r.now in
     let left = prepend_known c.lines.ahead (g.R.Source.remaining c.lines.r) in
@@ -61,7 +62,7 @@ returns-in-Ok-false g c =
 pub returns-in-Err : goal.returns-in-Err
 returns-in-Err g c =
     let vs = map (λ b. (goal.Verifier-dyn g (b.vtable, b.value)).meaning b.value) c.args.verifiers.now in
-    let at : ℕ → List ℕ → Answer = λ m l. (printer c.args.printing).token (terms_of_keys vs m c.args.policy.now (key_set c.args.keys.now)) l in
+    let at : ℕ → List ℕ → Answer = λ m l. (printer c.args.printing).token (rule_view c.args.rule) (terms_of_keys vs m c.args.policy.now (key_set c.args.keys.now)) l in
     let says = with_held c.args.policy.now.run.limit g.C.Clock.says in
     let known = g.R.Source.remaining c.args.r.now in
     let left = prepend_known c.lines.ahead (g.R.Source.remaining c.lines.r) in
@@ -72,12 +73,12 @@ returns-in-Err g c =
 pub lines-preserved : goal.lines-preserved
 lines-preserved g c =
     let vs = map (λ b. (goal.Verifier-dyn g (b.vtable, b.value)).meaning b.value) c.args.verifiers.now in
-    let at : ℕ → List ℕ → Answer = λ m l. (printer c.args.printing).token (terms_of_keys vs m c.args.policy.now (key_set c.args.keys.now)) l in
+    let at : ℕ → List ℕ → Answer = λ m l. (printer c.args.printing).token (rule_view c.args.rule) (terms_of_keys vs m c.args.policy.now (key_set c.args.keys.now)) l in
     let says = with_held c.args.policy.now.run.limit g.C.Clock.says in
     let known = g.R.Source.remaining c.args.r.now in
     let left = prepend_known c.lines.ahead (g.R.Source.remaining c.lines.r) in
     let run = answering_kept at says (seconds_of c.args.now) c.lines.number known left _ (g.W.Sink.contents c.lines.w) (g.W.Sink.contents c.send_in_time.new.w) c.lines.ready.items c.send_in_time.new.ready.items c.lines.invariant.answering (c.send_in_time.ensures.sent (search (c.if-not-send_in_time.false))) in
-    let same : Bounded c.args.policy.now.run.limit at = (λ m l. printed_bounded c.args.printing (terms_of_keys vs m c.args.policy.now (key_set c.args.keys.now)) l) in
+    let same : Bounded c.args.policy.now.run.limit at = (λ m l. printed_bounded c.args.printing (rule_view c.args.rule) (terms_of_keys vs m c.args.policy.now (key_set c.args.keys.now)) l) in
     let taken = IfSome_then left c.take_line.ensures.line (λ y f. f (c.in-Ok-true.is ∙ ap Ok c.in-Ok-true.field-0-test)) in
     let line = subst (λ n. IfSome left (λ y. Line n y c.take_line.new.line.items (prepend_known c.take_line.new.ahead (g.R.Source.remaining c.take_line.new.r)))) c.limit-limit.ensures.value taken in
     record {
@@ -88,7 +89,7 @@ lines-preserved g c =
 pub returns : goal.returns
 returns g c =
     let vs = map (λ b. (goal.Verifier-dyn g (b.vtable, b.value)).meaning b.value) c.args.verifiers.now in
-    let at : ℕ → List ℕ → Answer = λ m l. (printer c.args.printing).token (terms_of_keys vs m c.args.policy.now (key_set c.args.keys.now)) l in
+    let at : ℕ → List ℕ → Answer = λ m l. (printer c.args.printing).token (rule_view c.args.rule) (terms_of_keys vs m c.args.policy.now (key_set c.args.keys.now)) l in
     let says = with_held c.args.policy.now.run.limit g.C.Clock.says in
     let known = g.R.Source.remaining c.args.r.now in
     let left = prepend_known c.lines.ahead (g.R.Source.remaining c.lines.r) in

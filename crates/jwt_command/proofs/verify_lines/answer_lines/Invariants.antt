@@ -4,6 +4,7 @@ use Rattle.jwt_keys.specs.KeySets.{key_set}
 use Rattle.jwt_words.specs.Seen.{seconds_of}
 use Rattle.jwt_command.specs.Lines.{with_held}
 use Rattle.jwt_printing.specs.Printer.{printer}
+use Rattle.jwt_printing.specs.Views.{rule_view}
 use Rattle.jwt_command.specs.Verify.{terms_of_keys}
 use Rattle.jwt_command.proofs.AnsweredLines.{Answering}
 use Rattle.jwt_command.proofs.verify_lines.answer_lines.Given as goal
@@ -11,6 +12,6 @@ use Rattle.jwt_command.proofs.verify_lines.answer_lines.Given as goal
 -- the lines that were taken are answered, as many as the number of the next, and the answers that haven't gone out are ready
 abbrev pub invariant-lines : goal.invariant-lines
 invariant-lines g l = record {
-  answering : Answering (λ m x. (printer l.fn.printing).token (terms_of_keys (map (λ b. (goal.Verifier-dyn g (b.vtable, b.value)).meaning b.value) l.fn.verifiers) m l.fn.policy (key_set l.fn.keys)) x)
+  answering : Answering (λ m x. (printer l.fn.printing).token (rule_view l.fn.rule) (terms_of_keys (map (λ b. (goal.Verifier-dyn g (b.vtable, b.value)).meaning b.value) l.fn.verifiers) m l.fn.policy (key_set l.fn.keys)) x)
       (with_held l.fn.policy.run.limit g.C.Clock.says) (seconds_of l.fn.now) l.number (g.R.Source.remaining l.fn.r) (prepend_known l.ahead (g.R.Source.remaining l.r)) (g.W.Sink.contents l.fn.w) (g.W.Sink.contents l.w) l.ready.items;
 }
