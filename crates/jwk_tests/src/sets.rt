@@ -79,6 +79,7 @@ fn is_right(alloc: Global, row: &Row) -> bool {
     }
 }
 
+/// A file gives all its keys, or is refused for the first text that is no such key.
 #[test]
 fn a_file_gives_its_keys_or_the_first_refusal(rt: HostRuntime) -> Result<(), Fail> {
     for row in &ROWS {

@@ -11,7 +11,7 @@ pub(crate) struct Given<'a> {
     pub(crate) token: &'a [u8],
 }
 
-// The place of the first line feed.
+/// The place of the first line feed.
 fn first_feed(octets: &[u8]) -> Option<usize>
     ensures place { result ≡ position (λ octet. octet == 10) octets.now }
     ensures within { IfSome result (λ at. at < length octets.now) }
@@ -19,7 +19,7 @@ fn first_feed(octets: &[u8]) -> Option<usize>
     octets.iter().position(|octet| *octet == b'\n')
 }
 
-// The octets before the first line feed, and those behind it.
+/// The octets before the first line feed, and those behind it.
 fn line(octets: &[u8]) -> Option<(&[u8], &[u8])>
     ensures { option_map line_view result ≡ line_of octets.now }
 {

@@ -22,6 +22,7 @@ use jwt_text::{Reader, Sink, Source, Writer};
 use std::process::ExitCode;
 use std::{env, io};
 
+/// Ends with 2 where the words name no workload, and with 4 where memory was refused.
 fn main(rt: HostRuntime) -> ExitCode {
     let mut r = Reader::new(rt.stdin());
     let mut w = Writer::new(rt.stdout());
@@ -33,6 +34,7 @@ fn main(rt: HostRuntime) -> ExitCode {
     }
 }
 
+/// Runs the workload that these words name, over these streams, and gives the status.
 fn run_words<R: Source, W: Sink>(rt: &HostRuntime, r: &mut R, w: &mut W) -> io::Result<u8> {
     let args: Vec<String> = env::args(rt)?.collect(rt.alloc())?;
     let words: Vec<&str> = args.iter().map(|word| word.as_str()).collect(rt.alloc())?;

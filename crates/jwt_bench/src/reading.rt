@@ -24,7 +24,7 @@ use jwt_policy::{ClaimFault, Policy, PolicyFault};
 use jwt_text::{GREATEST_LIMIT, Intake, Scratch, Source, TextFault, decode};
 use std::alloc::Global;
 
-// All runs.
+/// All runs.
 fn repeat(
     alloc: Global,
     order: Order,
@@ -45,7 +45,7 @@ fn repeat(
     Ok(totals)
 }
 
-// The claims of a token.
+/// The claims of a token.
 fn claims(alloc: Global, signed: &Signed<'_>) -> Result<ClaimSet, RunFault>
     ensures { IfOk result (λ c. claim_set_of (token signed.now).payload ≡ Ok c) }
 {
@@ -57,7 +57,7 @@ fn claims(alloc: Global, signed: &Signed<'_>) -> Result<ClaimSet, RunFault>
     }
 }
 
-// What a text of a token spells.
+/// What a text of a token spells.
 fn octets_of(alloc: Global, text: &[u8]) -> Result<Vec<u8>, RunFault>
     ensures { IfOk result (λ v. spelled text.now ≡ Ok v.items) }
 {
@@ -68,7 +68,7 @@ fn octets_of(alloc: Global, text: &[u8]) -> Result<Vec<u8>, RunFault>
     }
 }
 
-// What a run over a signed token takes; `claims` and `header` are read from it before.
+/// What a run over a signed token takes; `claims` and `header` are read from it before.
 fn ready_over<'a>(
     given: Given<'a>,
     policy: &'a Policy,
@@ -103,7 +103,7 @@ fn ready_over<'a>(
     })
 }
 
-// What the protected text of a token's first signature spells.
+/// What the protected text of a token's first signature spells.
 fn header_of(alloc: Global, signed: &Signed<'_>) -> Result<Vec<u8>, RunFault>
     ensures { IfOk result
         (λ v. IfSome (slice_get (token signed.now).signatures 0)
@@ -115,7 +115,7 @@ fn header_of(alloc: Global, signed: &Signed<'_>) -> Result<Vec<u8>, RunFault>
     }
 }
 
-// The runs over a signed token.
+/// The runs over a signed token.
 fn on_signed(
     alloc: Global,
     order: Order,
@@ -137,7 +137,7 @@ fn on_signed(
     repeat(alloc, order, &ready, built_in)
 }
 
-// The policy of a document.
+/// The policy of a document.
 fn policy_in(alloc: Global, document: &[u8]) -> Result<Policy, RunFault>
     ensures { IfOk result (λ p. policy_of document.now ≡ Ok p) }
 {
@@ -148,7 +148,7 @@ fn policy_in(alloc: Global, document: &[u8]) -> Result<Policy, RunFault>
     }
 }
 
-// The key set of a document.
+/// The key set of a document.
 fn keys_in(alloc: Global, document: &[u8]) -> Result<KeySet, RunFault>
     ensures { IfOk result (λ s. key_set_of document.now ≡ Ok (key_set s)) }
 {
@@ -159,7 +159,7 @@ fn keys_in(alloc: Global, document: &[u8]) -> Result<KeySet, RunFault>
     }
 }
 
-// The runs over an input in its three parts.
+/// The runs over an input in its three parts.
 fn on_given(
     alloc: Global,
     order: Order,
@@ -180,7 +180,7 @@ fn on_given(
     }
 }
 
-// The runs over the octets of an input.
+/// The runs over the octets of an input.
 fn on_octets(
     alloc: Global,
     order: Order,

@@ -46,7 +46,7 @@ pub(crate) struct Ready<'a> {
     pub(crate) signature: &'a [u8],
 }
 
-// Whether a verdict accepts.
+/// Whether a verdict accepts.
 fn is_accepted(verdict: &Verdict<'_>) -> Result<bool, RunFault>
     ensures value { IfOk result (λ accepted. accepted ≡ is_accepted verdict.now) }
     ensures memory { IfOk result (λ accepted. FoundMemory verdict.now) }
@@ -60,7 +60,7 @@ fn is_accepted(verdict: &Verdict<'_>) -> Result<bool, RunFault>
     }
 }
 
-// What a run that hashes came to.
+/// What a run that hashes came to.
 fn ran(accepted: bool, budget: &CountDown) -> Ran
     ensures value { result
         ≡ ran accepted (⟦<CountDown as Budget>⟧.octets budget.now)
@@ -74,7 +74,7 @@ fn ran(accepted: bool, budget: &CountDown) -> Ran
     }
 }
 
-// What a run that only reads came to.
+/// What a run that only reads came to.
 fn has_read(accepted: bool) -> Ran
     ensures { result ≡ ran accepted 0 0 }
 {
@@ -85,7 +85,7 @@ fn has_read(accepted: bool) -> Ran
     }
 }
 
-// Whether the octets are an object text.
+/// Whether the octets are an object text.
 fn is_object(alloc: Global, octets: &[u8]) -> Result<bool, RunFault>
     ensures { IfOk result (λ is. is ≡ is_ok (object_of octets.now)) }
 {
@@ -99,6 +99,7 @@ fn is_object(alloc: Global, octets: &[u8]) -> Result<bool, RunFault>
 impl Ready<'_> {
     ghost use Rattle.jwt_bench.specs.Views.{ready_view};
 
+    /// Judges the token, by a verifier.
     fn judge_by(&self, alloc: Global, verifiers: &[Box<dyn Verifier>]) -> Result<Ran, RunFault>
         ensures value { IfOk result
             (λ ran. ran ≡ judged_by (map meaning verifiers.now) (ready_view self.now)) }
@@ -119,6 +120,7 @@ impl Ready<'_> {
         Ok(ran(accepted, &budget))
     }
 
+    /// Judges the token, by HMAC alone.
     fn judge(&self, alloc: Global) -> Result<Ran, RunFault>
         ensures value { IfOk result (λ ran. ran ≡ judged (ready_view self.now)) }
         ensures within { IfOk result (λ ran. ran.octets ≤ 1000000000000) }
@@ -127,6 +129,7 @@ impl Ready<'_> {
         self.judge_by(alloc, &verifiers)
     }
 
+    /// Judges a signed token that was read before.
     fn signed(&self, alloc: Global, scratch: &mut Scratch) -> Result<Ran, RunFault>
         ensures value { IfOk result (λ ran. ran ≡ judged (ready_view self.now)) }
         ensures within { IfOk result (λ ran. ran.octets ≤ 1000000000000) }
@@ -148,6 +151,7 @@ impl Ready<'_> {
         Ok(ran(accepted, &budget))
     }
 
+    /// Validates the token from a source.
     fn validate(&self, alloc: Global) -> Result<Ran, RunFault>
         ensures value { IfOk result (λ ran. ran ≡ judged (ready_view self.now)) }
         ensures within { IfOk result (λ ran. ran.octets ≤ 1000000000000) }
@@ -169,6 +173,7 @@ impl Ready<'_> {
         Ok(ran(accepted, &budget))
     }
 
+    /// Reads the token.
     fn parse(&self, alloc: Global) -> Result<Ran, RunFault>
         ensures { IfOk result
             (λ ran. ran ≡ read_ran
@@ -181,6 +186,7 @@ impl Ready<'_> {
         }
     }
 
+    /// Reads the payload as an object.
     fn object(&self, alloc: Global) -> Result<Ran, RunFault>
         ensures { IfOk result (λ ran. ran ≡ ran_of [] ObjectRuns (ready_view self.now)) }
     {
@@ -189,6 +195,7 @@ impl Ready<'_> {
         Ok(has_read(header && claims))
     }
 
+    /// Reads the key set.
     fn keys(&self, alloc: Global) -> Result<Ran, RunFault>
         ensures { IfOk result (λ ran. ran ≡ read_ran (key_set_of self.now.given.keys.now)) }
     {
@@ -199,6 +206,7 @@ impl Ready<'_> {
         }
     }
 
+    /// Reads the policy.
     fn policy(&self, alloc: Global) -> Result<Ran, RunFault>
         ensures { IfOk result (λ ran. ran ≡ read_ran (policy_of self.now.given.policy.now)) }
     {
@@ -209,6 +217,7 @@ impl Ready<'_> {
         }
     }
 
+    /// Issues a token.
     fn issue(&self, alloc: Global) -> Result<Ran, RunFault>
         ensures value { IfOk result (λ ran. ran ≡ issued (ready_view self.now)) }
         ensures within { IfOk result (λ ran. ran.octets ≤ 1000000000000) }
@@ -221,6 +230,7 @@ impl Ready<'_> {
         }
     }
 
+    /// Makes the tag of the signing input under a secret, and compares it with the signature.
     fn hash(&self, secret: &[u8]) -> Ran
         ensures value { result ≡ hashed (ready_view self.now) secret.now }
         ensures within { result.octets ≤ 1000000000000 }
@@ -235,6 +245,7 @@ impl Ready<'_> {
         }
     }
 
+    /// The same with the first key's secret; nothing where that key is none.
     fn hmac(&self) -> Ran
         ensures value { result ≡ ran_of [] HmacRuns (ready_view self.now) }
         ensures within { result.octets ≤ 1000000000000 }

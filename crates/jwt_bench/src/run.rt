@@ -11,7 +11,7 @@ use jwt_mac::Verifier;
 use jwt_text::{Sink, Source, write_out};
 use std::alloc::Global;
 
-// Runs what is asked for, and prints what it came to.
+/// Runs what is asked for, and prints what it came to.
 fn run_order<R: Source, W: Sink>(
     alloc: Global,
     order: Order,

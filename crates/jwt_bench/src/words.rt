@@ -15,7 +15,7 @@ pub(crate) struct Order {
     pub(crate) count: u32,
 }
 
-// A count of at most `MOST_RUNS`, in digits.
+/// A count of at most `MOST_RUNS`, in digits.
 fn count_in(text: &str) -> Option<u32>
     ensures { MatchOption result ((n : ℕ) → ¬ IsCount text.now n) (λ n. IsCount text.now n) }
 {

@@ -22,7 +22,7 @@ pub struct Point {
 // The bits of the order of the base point.
 const ORDER_BITS: u32 = 253;
 
-// d of the curve's equation.
+/// d of the curve's equation.
 pub fn curve_d() -> Field
     ensures { element result ≡ d }
 {
@@ -36,7 +36,7 @@ pub fn curve_d() -> Field
     }
 }
 
-// Twice d.
+/// Twice d.
 fn twice_d() -> Field
     ensures { element result ≡ times 2 d }
 {
@@ -50,7 +50,7 @@ fn twice_d() -> Field
     }
 }
 
-// The base point's x.
+/// The base point's x.
 fn base_x_element() -> Field
     ensures { element result ≡ base_x }
 {
@@ -64,7 +64,7 @@ fn base_x_element() -> Field
     }
 }
 
-// The base point's y.
+/// The base point's y.
 fn base_y_element() -> Field
     ensures { element result ≡ base_y }
 {
@@ -81,7 +81,7 @@ fn base_y_element() -> Field
 impl Point {
     ghost use Rattle.jwt_ed25519.specs.Elements.{coordinates};
 
-    // The point of an x and a y.
+    /// The point of an x and a y.
     pub fn of(x: Field, y: Field) -> Point
         ensures { coordinates result ≡ point (element x) (element y) }
     {
@@ -93,14 +93,14 @@ impl Point {
         }
     }
 
-    // The base point.
+    /// The base point.
     pub fn base() -> Point
         ensures { coordinates result ≡ point base_x base_y }
     {
         Point::of(base_x_element(), base_y_element())
     }
 
-    // The neutral point.
+    /// The neutral point.
     fn neutral() -> Point
         ensures { coordinates result ≡ neutral }
     {
@@ -112,7 +112,7 @@ impl Point {
         }
     }
 
-    // The sum of two points.
+    /// The sum of two points.
     pub fn add(self, other: Point) -> Point
         ensures { coordinates result ≡ add (coordinates self) (coordinates other) }
     {
@@ -132,7 +132,7 @@ impl Point {
         }
     }
 
-    // The double of a point.
+    /// The double of a point.
     pub fn double(self) -> Point
         ensures { coordinates result ≡ double (coordinates self) }
     {
@@ -151,7 +151,7 @@ impl Point {
         }
     }
 
-    // The point with -x in place of x.
+    /// The point with -x in place of x.
     pub fn negated(self) -> Point
         ensures { coordinates result ≡ negated (coordinates self) }
     {
@@ -163,7 +163,7 @@ impl Point {
         }
     }
 
-    // The multiple, by the bits of the scalar from the lowest.
+    /// The multiple, by the bits of the scalar from the lowest.
     pub fn multiple(self, scalar: Limbs) -> Point
         ensures { coordinates result ≡ multiple (number scalar) (coordinates self) }
     {
@@ -181,7 +181,7 @@ impl Point {
         sum
     }
 
-    // Whether eight times the point is the neutral point.
+    /// Whether eight times the point is the neutral point.
     pub fn is_small(self) -> bool
         ensures { result ≡ is_small (coordinates self) }
     {

@@ -7,14 +7,14 @@ ghost use Rattle.jwt_ed25519.specs.Meanings.{names_eddsa, accepts_ed25519};
 use crate::verifying::verifies;
 use jwt_mac::{Alg, Answer, EdCurve, KeyView, Message, Verifier};
 
-// Whether it is EdDSA.
+/// Whether it is EdDSA.
 fn is_eddsa(alg: Alg) -> bool
     ensures { result ≡ names_eddsa alg }
 {
     matches!(alg, Alg::EdDSA)
 }
 
-// Whether a signature is accepted.
+/// Whether a signature is accepted.
 fn is_accepted(alg: Alg, key: &KeyView, message: Message, signature: &[u8]) -> bool
     ensures { result
         ≡ accepts_ed25519 alg (key_octets key.now) (signing_input (message_octets message.entry))
@@ -29,7 +29,7 @@ fn is_accepted(alg: Alg, key: &KeyView, message: Message, signature: &[u8]) -> b
     }
 }
 
-// What is said of a signature.
+/// What is said of a signature.
 fn answer(accepted: bool) -> Answer
     ensures { AnswersBy accepted false result }
 {

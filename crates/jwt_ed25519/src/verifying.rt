@@ -13,7 +13,7 @@ use crate::point::Point;
 use crate::scalar::{from_digest, order};
 use jwt_mac::sha512_behind;
 
-// The digest of R, the key and the message, modulo L.
+/// The digest of R, the key and the message, modulo L.
 #[tactic(auto, unfolding(crate::specs::Verifying::challenge))]
 fn challenge(r: &[u8], key: &[u8], parts: [&[u8]; 3]) -> Limbs
     ensures { number result ≡ challenge r.now key.now (all_octets parts.entry) }
@@ -21,7 +21,7 @@ fn challenge(r: &[u8], key: &[u8], parts: [&[u8]; 3]) -> Limbs
     from_digest(&sha512_behind(r, key, parts))
 }
 
-// Whether R is the encoding of [S]B - [k]A.
+/// Whether R is the encoding of [S]B - [k]A.
 #[tactic(auto, unfolding(crate::specs::Verifying::holds))]
 fn holds(a: Point, r: &[u8], s: Limbs, k: Limbs) -> bool
     requires { length r.now ≡ 32 }

@@ -14,6 +14,7 @@ use std::{fs, io};
 // The moment: a second before the token of RFC 7515, appendix A.2, expires. A service asks its clock.
 const NOW: i64 = 1_300_819_379;
 
+/// Validates the example token, and prints what it comes to.
 fn main(rt: HostRuntime) -> Result<(), Stop> {
     let policy = Policy::read(rt.alloc(), &fs::read(&rt, "policy.json")?)?;
     let keys = KeySet::read(rt.alloc(), &fs::read(&rt, "keys.json")?)?;
@@ -28,7 +29,7 @@ fn main(rt: HostRuntime) -> Result<(), Stop> {
     Ok(())
 }
 
-// Says what becomes of the token on standard input.
+/// Says what becomes of the token on standard input.
 fn answer(rt: &HostRuntime, validator: &Validator) -> io::Result<()> {
     let report = report_on(rt.alloc(), validator, &mut Reader::new(rt.stdin()), NOW);
     match &report.verdict {

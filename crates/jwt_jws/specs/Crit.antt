@@ -15,7 +15,7 @@ use Rattle.jwt_text.specs.Members.{list_at}
 -- some text stands twice in the list
 abbrev pub repeats_text : List Data → Bool
 repeats_text [] = false
-repeats_text (d ∷ ds) = option_map_or (λ text. list_any (λ e. option_map_or (λ t. bytes_eq t text) (as_str e) false) ds) (as_str d) false || repeats_text ds
+repeats_text (first ∷ rest) = option_map_or (λ text. list_any (λ e. option_map_or (λ t. bytes_eq t text) (as_str e) false) rest) (as_str first) false || repeats_text rest
 
 -- some name stands twice in the list `crit` of the header
 abbrev pub crit_repeats : Members → Bool

@@ -23,21 +23,21 @@ pub record Token : Type 0 where
 
 -- what a signature signs: the protected text, a period, the payload text (RFC 7515, section 5.1)
 abbrev pub message_of : Token → SignatureParts → MessageOctets
-message_of t s = record { protected = s.protected_text; payload = t.payload_text }
+message_of token signature = record { protected = signature.protected_text; payload = token.payload_text }
 
 -- ---- the JOSE header, which is the union of the protected and the unprotected header (RFC 7515, section 4)
 
 abbrev pub in_unprotected : List ℕ → SignatureParts → Bool
-in_unprotected name s = option_map_or (has name) s.unprotected false
+in_unprotected name signature = option_map_or (has name) signature.unprotected false
 
 abbrev pub in_header : List ℕ → SignatureParts → Bool
-in_header name s = has name s.protected || in_unprotected name s
+in_header name signature = has name signature.protected || in_unprotected name signature
 
 -- the algorithm's name, from the protected header alone (RFC 7515, section 4.1.1)
 abbrev pub alg_text : SignatureParts → Option (List ℕ)
-alg_text s = text_at (codes "alg") s.protected
+alg_text signature = text_at (codes "alg") signature.protected
 
 -- the key id, from either header (RFC 7515, section 4.1.4)
 abbrev pub kid : SignatureParts → Option (List ℕ)
-kid s = option_and_then as_str
-    (option_or (get_member (codes "kid") s.protected) (option_and_then (get_member (codes "kid")) s.unprotected))
+kid signature = option_and_then as_str
+    (option_or (get_member (codes "kid") signature.protected) (option_and_then (get_member (codes "kid")) signature.unprotected))

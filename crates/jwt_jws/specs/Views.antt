@@ -14,34 +14,34 @@ use Rattle.jwt_jws.specs.declared.json.SpelledSignature.{SpelledSignature}
 use Rattle.jwt_jws.specs.declared.json.SpelledJson.{SpelledJson}
 
 abbrev pub parts : Signature → SignatureParts
-parts s = record { protected_text = part_octets s.protected_text; protected = s.protected; unprotected = s.unprotected; octets = s.octets.items }
+parts signature = record { protected_text = part_octets signature.protected_text; protected = signature.protected; unprotected = signature.unprotected; octets = signature.octets.items }
 
 abbrev pub token : Signed → Token
-token t = record { form = t.form; payload_text = part_octets t.payload_text; payload = t.payload.items; signatures = parts t.first ∷ map parts t.more.items }
+token signed = record { form = signed.form; payload_text = part_octets signed.payload_text; payload = signed.payload.items; signatures = parts signed.first ∷ map parts signed.more.items }
 
 -- the signatures that are still to come
 abbrev pub signatures_left : Signatures → List SignatureParts
-signatures_left s = drop s.number (token s.signed.now).signatures
+signatures_left left = drop left.number (token left.signed.now).signatures
 
 -- no octet of the signing input is copied
 abbrev pub AreLent : Signed → Type 0
-AreLent t = IsLent t.payload_text × All (λ (s : Signature). IsLent s.protected_text) (t.first ∷ t.more.items)
+AreLent signed = IsLent signed.payload_text × All (λ (s : Signature). IsLent s.protected_text) (signed.first ∷ signed.more.items)
 
 -- ---- while a token is read
 
 abbrev pub header_view : Unprotected → Option (Option Members)
 header_view Absent = None
 header_view OtherKind = Some None
-header_view (AnObject o) = Some (Some o)
+header_view (AnObject members) = Some (Some members)
 
 abbrev pub texts_view : LentTexts → CompactTexts
-texts_view s = record { protected = s.protected.now; payload = s.payload.now; signature = s.signature.now }
+texts_view texts = record { protected = texts.protected.now; payload = texts.payload.now; signature = texts.signature.now }
 
 abbrev pub compact_view : LentTexts → SpelledToken
-compact_view s = compact_token s.protected.now s.payload.now s.signature.now
+compact_view texts = compact_token texts.protected.now texts.payload.now texts.signature.now
 
 abbrev pub spelled_view : SpelledSignature → Spelled
-spelled_view s = record { protected = s.protected.now; header = header_view s.header; signature = s.signature.now }
+spelled_view texts = record { protected = texts.protected.now; header = header_view texts.header; signature = texts.signature.now }
 
 abbrev pub json_view : SpelledJson → SpelledToken
-json_view t = record { form = t.form; payload = t.payload.now; signatures = map spelled_view t.signatures.items }
+json_view texts = record { form = texts.form; payload = texts.payload.now; signatures = map spelled_view texts.signatures.items }

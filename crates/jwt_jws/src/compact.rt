@@ -21,13 +21,14 @@ pub struct CompactTexts<'a> {
     pub signature: &'a [u8],
 }
 
+/// The place of the first period, if there is one.
 fn first_period(octets: &[u8]) -> Option<usize>
     ensures { result ≡ position is_period octets.now }
 {
     memchr(b'.', octets)
 }
 
-// The octets before the first period, and those after it.
+/// The octets before the first period, and those after it.
 #[tactic(auto, using(crate::proofs::Periods::period_found, crate::proofs::Periods::no_period))]
 fn cut(octets: &[u8]) -> Option<(&[u8], &[u8])>
     ensures { MatchOption result

@@ -17,7 +17,7 @@ pub(crate) fn crit_repeats(alloc: Global, header: &Object) -> Result<bool, Alloc
     }
 }
 
-// Whether some text stands twice in the list. Each text is looked up among those that follow it.
+/// Whether some text stands twice in the list. Each text is looked up among those that follow it.
 fn repeats_text(alloc: Global, list: &jwt_text::List<'_>) -> Result<bool, AllocError>
     ensures { IfOk result (λ twice. twice ≡ repeats_text list.now) }
 {
@@ -34,7 +34,7 @@ fn repeats_text(alloc: Global, list: &jwt_text::List<'_>) -> Result<bool, AllocE
     Ok(false)
 }
 
-// Adds a text, and answers whether it is new.
+/// Adds a text, and answers whether it is new.
 fn add<'a>(seen: &mut BTreeMap<&'a str, ()>, text: &'a str) -> Result<bool, AllocError>
     ensures new { IfOk result (λ new. new ≡ not (has_text seen.old text.now)) }
     ensures all { OnOk result

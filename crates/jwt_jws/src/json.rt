@@ -31,6 +31,7 @@ pub(crate) struct SpelledJson<'a> {
     pub(crate) signatures: Vec<SpelledSignature<'a>>,
 }
 
+/// The octets of a member that has to be a text.
 fn text_of<'a>(object: &ObjectRef<'a>, name: &str) -> Result<&'a [u8], FormFault>
     ensures { Answers FormFault.OutOfMemory (λ s. s.now) result
         (some_or WrongMembers (text_at name.now object.now)) }
@@ -41,6 +42,7 @@ fn text_of<'a>(object: &ObjectRef<'a>, name: &str) -> Result<&'a [u8], FormFault
     }
 }
 
+/// The member `header`: absent, an object, or of another kind.
 fn header_member<'a>(object: &ObjectRef<'a>) -> Unprotected<'a>
     ensures { header_view result ≡ option_map as_object (get_member (codes "header") object.now) }
 {
@@ -53,7 +55,7 @@ fn header_member<'a>(object: &ObjectRef<'a>) -> Unprotected<'a>
     }
 }
 
-// The texts of a signature, from the object that it stands in.
+/// The texts of a signature, from the object that it stands in.
 #[tactic(auto, unfolding(crate::specs::Forms::spelled_signature))]
 fn spelled_of<'a>(object: &ObjectRef<'a>) -> Result<SpelledSignature<'a>, FormFault>
     ensures { Answers FormFault.OutOfMemory spelled_view result (spelled_signature object.now) }
@@ -72,6 +74,7 @@ fn spelled_of<'a>(object: &ObjectRef<'a>) -> Result<SpelledSignature<'a>, FormFa
     })
 }
 
+/// The texts of the signature that an element of `signatures` is.
 fn element_of<'a>(list: &jwt_text::List<'a>, i: usize) -> Result<SpelledSignature<'a>, FormFault>
     requires { i < length list.now }
     ensures { (d : Data)
@@ -84,6 +87,7 @@ fn element_of<'a>(list: &jwt_text::List<'a>, i: usize) -> Result<SpelledSignatur
     }
 }
 
+/// The texts of all signatures of the list, in order.
 fn spelled_elements<'a>(
     alloc: Global,
     list: &jwt_text::List<'a>,
@@ -99,6 +103,7 @@ fn spelled_elements<'a>(
     Ok(spelled)
 }
 
+/// The token that an object in flattened form is (RFC 7515, section 7.2.2).
 #[tactic(auto, unfolding(crate::specs::Forms::flattened))]
 fn flattened_of<'a>(alloc: Global, object: &ObjectRef<'a>) -> Result<SpelledJson<'a>, FormFault>
     ensures value { Answers FormFault.OutOfMemory json_view result (flattened object.now) }
@@ -115,6 +120,7 @@ fn flattened_of<'a>(alloc: Global, object: &ObjectRef<'a>) -> Result<SpelledJson
     })
 }
 
+/// The token that an object in general form is, with at most so many signatures (RFC 7515, section 7.2.1).
 #[tactic(auto, unfolding(crate::specs::Forms::general))]
 fn general_of<'a>(
     alloc: Global,
@@ -183,12 +189,14 @@ pub(crate) fn json_object(
     }
 }
 
+/// Whether an octet is JSON white space (RFC 8259, section 2).
 fn is_space(c: u8) -> bool
     ensures { result ≡ (c == 9 || c == 10 || c == 13 || c == 32) }
 {
     matches!(c, 9 | 10 | 13 | 32)
 }
 
+/// The first octet that isn't JSON white space, if there is one.
 fn first_no_space(octets: &[u8]) -> Option<u8>
     ensures { result ≡ find (λ c. not (c == 9 || c == 10 || c == 13 || c == 32)) octets.now }
 {

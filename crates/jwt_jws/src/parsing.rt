@@ -16,6 +16,7 @@ use crate::unprotected::Unprotected;
 use jwt_text::{ObjectRef, Part, Scratch};
 use std::alloc::Global;
 
+/// The token in compact form, by its three texts, which it borrows.
 #[inline(always)]
 #[tactic(auto, unfolding(crate::specs::Forms::signed_of))]
 fn compact_signed<'a>(
@@ -48,6 +49,7 @@ fn compact_signed<'a>(
     })
 }
 
+/// A signature of a token in JSON form, with its own copy of the protected text.
 fn owned_signature<'a>(
     alloc: Global,
     form: Form,
@@ -70,7 +72,7 @@ fn owned_signature<'a>(
     )
 }
 
-// The signatures after the first.
+/// The signatures after the first.
 fn later_signatures<'a>(
     alloc: Global,
     form: Form,
@@ -90,6 +92,7 @@ fn later_signatures<'a>(
     Ok(signatures)
 }
 
+/// The token in JSON form, by its texts, which it copies.
 #[tactic(auto, unfolding(crate::specs::Forms::signed_of))]
 fn json_signed<'a>(
     alloc: Global,

@@ -84,7 +84,7 @@ impl<'a> Signed<'a> {
         }
     }
 
-    // Of those after the first, the one at this place, from 0.
+    /// Of those after the first, the one at this place, from 0.
     fn later(&self, place: usize) -> Option<&Signature<'a>>
         ensures { option_map (λ s. parts s.now) result
             ≡ slice_get (map parts self.now.more.items) place }

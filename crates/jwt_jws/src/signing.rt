@@ -39,6 +39,7 @@ fn octets_into(text: &[u8], place: Place, buffer: &mut Vec<u8>) -> Result<(), Fo
     }
 }
 
+/// The protected header of signature `i`, by the octets of its text.
 #[inline(always)]
 fn header_of(
     alloc: Global,
@@ -56,7 +57,7 @@ fn header_of(
     }
 }
 
-// The buffer is for the octets that the text spells.
+/// The buffer is for the octets that the text spells.
 #[inline(always)]
 #[tactic(auto, unfolding(crate::specs::Forms::protected_of))]
 fn protected_header(
@@ -76,6 +77,7 @@ fn protected_header(
     header_of(alloc, buffer.as_slice(), i, scratch)
 }
 
+/// A copy of the unprotected header of signature `i`, `None` where it is absent.
 #[inline(always)]
 fn unprotected_header(
     alloc: Global,
@@ -95,6 +97,7 @@ fn unprotected_header(
     }
 }
 
+/// Whether a name stands in both headers (RFC 7515, section 7.2.1).
 fn names_overlap(protected: &Object, unprotected: &Option<Object>) -> bool
     ensures { result ≡ overlap protected.now unprotected.now }
 {

@@ -33,6 +33,31 @@ has_other_kind key_type ms =
 abbrev pub of_key_type : (KeyType → Members → Bool) → Members → Bool
 of_key_type test ms = option_map_or (λ key_type. test key_type ms) (key_type_at ms) false
 
+-- the entry is no object
+abbrev pub is_no_object : Option Members → Bool
+is_no_object entry = is_none entry
+
+-- `kty` is absent (RFC 7517, section 4.1)
+abbrev pub lacks_kty : Members → Bool
+lacks_kty ms = not (has (codes "kty") ms)
+
+abbrev pub is_kty_no_text : Members → Bool
+is_kty_no_text ms = is_none (text_at (codes "kty") ms)
+
+-- `kty` names no key type of RFC 7518, section 6.1, or RFC 8037, section 2
+abbrev pub is_kty_unknown : Members → Bool
+is_kty_unknown ms = is_none (key_type_at ms)
+
+abbrev pub lacks_member : Members → Bool
+lacks_member ms = of_key_type lacks ms
+
+abbrev pub has_member_of_other_kind : Members → Bool
+has_member_of_other_kind ms = of_key_type has_other_kind ms
+
+-- `crv` names no curve of the key type (RFC 7518, section 6.2.1.1; RFC 8037, section 2)
+abbrev pub is_crv_unknown : Members → Bool
+is_crv_unknown ms = is_none (kind_at ms)
+
 -- ---- spelling and sizes
 
 -- the octets that a member spells, where it is a text that spells any
@@ -57,12 +82,12 @@ has_other_size kind ms = not (list_all (λ name. allows_size kind (length (membe
 -- rows 2 to 7
 abbrev pub shape_rows : Members → List (Row SkipReason)
 shape_rows ms =
-    (not (has (codes "kty") ms) ⇒ MemberMissing)
-    ∷ (is_none (text_at (codes "kty") ms) ⇒ MemberKind)
-    ∷ (is_none (key_type_at ms) ⇒ KtyUnknown)
-    ∷ (of_key_type lacks ms ⇒ MemberMissing)
-    ∷ (of_key_type has_other_kind ms ⇒ MemberKind)
-    ∷ (is_none (kind_at ms) ⇒ CrvUnknown)
+    (lacks_kty ms ⇒ MemberMissing)
+    ∷ (is_kty_no_text ms ⇒ MemberKind)
+    ∷ (is_kty_unknown ms ⇒ KtyUnknown)
+    ∷ (lacks_member ms ⇒ MemberMissing)
+    ∷ (has_member_of_other_kind ms ⇒ MemberKind)
+    ∷ (is_crv_unknown ms ⇒ CrvUnknown)
     ∷ []
 
 -- rows 8 and 9, of a key of this kind
@@ -81,7 +106,7 @@ object_rows ms = shape_rows ms ++ octet_rows_of (kind_at ms) ms
 
 -- all nine rows, of an entry that is no object or has these members
 abbrev pub skip_rows : Option Members → List (Row SkipReason)
-skip_rows entry = (is_none entry ⇒ NotObject) ∷ object_rows (unwrap_or entry no_members)
+skip_rows entry = (is_no_object entry ⇒ NotObject) ∷ object_rows (unwrap_or entry no_members)
 
 -- the first of rows 2 to 7 that holds
 unfoldable pub shape_skip_of : Members → Option SkipReason

@@ -22,7 +22,7 @@ const INNER_MASK: u8 = 0x36;
 
 const OUTER_MASK: u8 = 0x5c;
 
-// The hash of one piece.
+/// The hash of one piece.
 fn hash_piece<H: HashFunction>(piece: &[u8]) -> Tag
     ensures digest { result ≡ H.hash piece.now }
     ensures short { length result ≤ 64 }
@@ -32,7 +32,7 @@ fn hash_piece<H: HashFunction>(piece: &[u8]) -> Tag
     hasher.finish()
 }
 
-// The octets, followed by zero octets.
+/// The octets, followed by zero octets.
 fn zero_padded(octets: &[u8]) -> [u8; MOST_BLOCK]
     requires { length octets.now ≤ MOST_BLOCK }
     ensures { result ≡ octets.now ++ replicate (MOST_BLOCK - length octets.now) 0 }
@@ -42,7 +42,7 @@ fn zero_padded(octets: &[u8]) -> [u8; MOST_BLOCK]
     room
 }
 
-// The key as a block, hashed first where it is longer than one: the first `block` octets of the result.
+/// The key as a block, hashed first where it is longer than one: the first `block` octets of the result.
 #[tactic(auto, using(crate::proofs::Octets::block_of_padded))]
 fn key_block<H: HashFunction>(block: usize, key: &[u8]) -> [u8; MOST_BLOCK]
     requires least { 64 ≤ block }
@@ -57,7 +57,7 @@ fn key_block<H: HashFunction>(block: usize, key: &[u8]) -> [u8; MOST_BLOCK]
     }
 }
 
-// Each octet, xor the mask.
+/// Each octet, xor the mask.
 fn mask_octets(octets: &[u8; MOST_BLOCK], mask: u8) -> [u8; MOST_BLOCK]
     ensures { result ≡ masked mask octets.now }
 {
@@ -68,8 +68,8 @@ fn mask_octets(octets: &[u8; MOST_BLOCK], mask: u8) -> [u8; MOST_BLOCK]
     out
 }
 
-// HMAC over a hash function with blocks of so many octets. The inner and the outer hasher run over the
-// pieces as they stand.
+/// HMAC over a hash function with blocks of so many octets. The inner and the outer hasher run over the
+/// pieces as they stand.
 fn mac_with<H: HashFunction>(block: usize, key: &[u8], parts: [&[u8]; 3]) -> Tag
     requires least { 64 ≤ block }
     requires most { block ≤ MOST_BLOCK }
@@ -91,7 +91,7 @@ fn mac_with<H: HashFunction>(block: usize, key: &[u8], parts: [&[u8]; 3]) -> Tag
     outer.finish()
 }
 
-// The tag of the parts' message, whatever it costs.
+/// The tag of the parts' message, whatever it costs.
 #[tactic(auto, unfolding(crate::specs::Algorithm::tag_of))]
 fn tag_with(alg: Alg, key: &[u8], parts: [&[u8]; 3]) -> Tag
     requires { IsTrue (is_hmac_alg alg) }
@@ -106,7 +106,7 @@ fn tag_with(alg: Alg, key: &[u8], parts: [&[u8]; 3]) -> Tag
     }
 }
 
-// How many octets the parts have, if a `u64` holds their number.
+/// How many octets the parts have, if a `u64` holds their number.
 fn total_len(parts: [&[u8]; 3]) -> Option<u64>
     ensures { SomeIff result (length (all_octets parts.entry) < 2 ^ 64)
         (length (all_octets parts.entry)) }

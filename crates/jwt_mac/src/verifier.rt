@@ -67,7 +67,7 @@ pub fn ask<B: Budget>(
     verifier.verify(alg, key, message, signature)
 }
 
-// Whether this one names the algorithm.
+/// Whether this one names the algorithm.
 fn is_for(verifier: &Box<dyn Verifier>, alg: Alg) -> bool
     ensures { result ≡ (meaning verifier.now).named alg }
 {

@@ -30,13 +30,17 @@ is_no_number name ms = has name ms && is_none (option_and_then as_number (get_me
 abbrev pub is_no_date : List ℕ → Members → Bool
 is_no_date name ms = has name ms && is_none (whole_at name ms)
 
--- ---- the table, claim by claim; `aud` is a text or a list of texts
+-- `aud` is there, and neither a text nor a list of texts (RFC 7519, section 4.1.3)
+abbrev pub is_no_audience : Members → Bool
+is_no_audience ms = is_no_text (codes "aud") ms && not (some_passes are_texts (list_at (codes "aud") ms))
+
+-- ---- the table, claim by claim
 
 abbrev pub kind_rows : Members → List (Row ClaimFault)
 kind_rows ms =
     (is_no_text (codes "iss") ms ⇒ ClaimKind Iss)
     ∷ (is_no_text (codes "sub") ms ⇒ ClaimKind Sub)
-    ∷ ((is_no_text (codes "aud") ms && not (some_passes are_texts (list_at (codes "aud") ms))) ⇒ ClaimKind Aud)
+    ∷ (is_no_audience ms ⇒ ClaimKind Aud)
     ∷ (is_no_number (codes "exp") ms ⇒ ClaimKind Exp)
     ∷ (is_no_date (codes "exp") ms ⇒ ClaimDate Exp)
     ∷ (is_no_number (codes "nbf") ms ⇒ ClaimKind Nbf)

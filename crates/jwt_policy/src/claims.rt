@@ -1,10 +1,9 @@
 //! The claims of a payload (RFC 7519, section 4).
 
-ghost use Rattle.std.specs.Prelude.{◌≡◌, ◌&&◌, not, option_map, IsErrOf, codes};
-ghost use Rattle.jwt_text.specs.Members.{are_texts, list_at, text_at, whole_at, is_no_text};
-ghost use Rattle.jwt_policy.specs.ClaimKinds.{claims_of, kind_fault, is_no_number, is_no_date};
+ghost use Rattle.std.specs.Prelude.{◌≡◌, option_map, IsErrOf, codes};
+ghost use Rattle.jwt_text.specs.Members.{text_at, whole_at};
+ghost use Rattle.jwt_policy.specs.ClaimKinds.{claims_of, kind_fault, is_no_audience, is_no_number, is_no_date};
 ghost use Rattle.jwt_policy.specs.Audiences.{audience_data, aud_at};
-ghost use Rattle.jwt_policy.specs.Texts.{some_passes};
 
 use crate::claim_fault::{Claim, ClaimFault};
 use crate::texts::is_no_text;
@@ -157,8 +156,7 @@ impl Claims {
 
 /// Whether `aud` is there and neither a text nor a list of texts.
 fn is_no_audience(claims: &ObjectRef<'_>) -> bool
-    ensures { result ≡ (is_no_text (codes "aud") claims.now
-        && not (some_passes are_texts (list_at (codes "aud") claims.now))) }
+    ensures { result ≡ is_no_audience claims.now }
 {
     is_no_text(claims, "aud")
         && match claims.list("aud") {

@@ -43,3 +43,4 @@ pub use mode::Mode;
 pub use policy::Policy;
 pub use policy_fault::{MemberName, PolicyFault};
 pub use sig_fault::SigFault;
+pub use texts::is_among;

@@ -6,9 +6,9 @@ ghost use Rattle.jwt_policy.specs.Texts.{is_among};
 
 use jwt_text::ObjectRef;
 
-/// Whether a text is among these.
+/// Whether a text is among these, compared octet by octet. It takes no memory.
 #[tactic(auto, using(std::proofs::lemmas::List::at_drop_more, std::proofs::lemmas::List::at_drop_all))]
-pub(crate) fn is_among(texts: &[String], text: &str) -> bool
+pub fn is_among(texts: &[String], text: &str) -> bool
     ensures { result ≡ is_among (map string_bytes texts.now) text.now }
 {
     for each in texts {

@@ -20,7 +20,7 @@ impl Model for Digest {
 }
 
 impl Digest {
-    // The digest's octets, in order.
+    /// The digest's octets, in order.
     pub fn octets(&self) -> &[u8]
         ensures is { result.now ≡ self.now }
         ensures short { length self.now ≤ 64 }
@@ -28,7 +28,7 @@ impl Digest {
         &self.octets[..self.len]
     }
 
-    // A digest of these octets.
+    /// A digest of these octets.
     pub fn of(octets: &[u8]) -> Digest
         requires { length octets.now ≤ 64 }
         ensures { result ≡ octets.now }

@@ -36,7 +36,7 @@ const INFO_512: [u8; 19] = [
 impl Hash {
     ghost use Rattle.jwt_rsa.specs.Hashing.{digest_of, digest_size, digest_info};
 
-    // The digest of the octets that the parts make, joined.
+    /// The digest of the octets that the parts make, joined.
     #[tactic(auto, unfolding(crate::specs::Hashing::digest_of))]
     pub fn digest(self, parts: [&[u8]; 3]) -> Digest
         ensures is { result ≡ digest_of self (all_octets parts.entry) }
@@ -49,7 +49,7 @@ impl Hash {
         }
     }
 
-    // The octets in a digest.
+    /// The octets in a digest.
     pub fn size(self) -> usize
         ensures is { result ≡ digest_size self }
         ensures range { (32 ≤ result) × (result ≤ 64) }
@@ -61,7 +61,7 @@ impl Hash {
         }
     }
 
-    // The DER encoding of DigestInfo up to the digest.
+    /// The DER encoding of DigestInfo up to the digest.
     pub fn info(self) -> &'static [u8]
         ensures { result.now ≡ digest_info self }
     {

@@ -8,7 +8,7 @@ use crate::hash::Hash;
 use crate::public_key::PublicKey;
 use rsa_number::MOST_OCTETS;
 
-// What stands before an end, if octets end so.
+/// What stands before an end, if octets end so.
 pub fn before<'a>(octets: &'a [u8], end: &[u8]) -> Option<&'a [u8]>
     ensures { MatchOption result ((front : List ℕ) → octets.now ≢ front ++ end.now)
         (λ front. octets.now ≡ front.now ++ end.now) }
@@ -16,7 +16,7 @@ pub fn before<'a>(octets: &'a [u8], end: &[u8]) -> Option<&'a [u8]>
     octets.strip_suffix(end)
 }
 
-// What stands behind a start, if octets start so.
+/// What stands behind a start, if octets start so.
 fn behind<'a>(octets: &'a [u8], start: &[u8]) -> Option<&'a [u8]>
     ensures { MatchOption result ((rest : List ℕ) → octets.now ≢ start.now ++ rest)
         (λ rest. octets.now ≡ start.now ++ rest.now) }
@@ -24,7 +24,7 @@ fn behind<'a>(octets: &'a [u8], start: &[u8]) -> Option<&'a [u8]>
     octets.strip_prefix(start)
 }
 
-// The padding of an encoded message, if it has the frame, the DER encoding and the digest.
+/// The padding of an encoded message, if it has the frame, the DER encoding and the digest.
 fn padding_of<'a>(em: &'a [u8], info: &[u8], digest: &[u8]) -> Option<&'a [u8]>
     ensures { MatchOption result ((p : List ℕ) → em.now ≢ framed p info.now digest.now)
         (λ p. em.now ≡ framed p.now info.now digest.now) }
@@ -41,7 +41,7 @@ fn padding_of<'a>(em: &'a [u8], info: &[u8], digest: &[u8]) -> Option<&'a [u8]>
     behind(third, &[0, 1])
 }
 
-// Whether octets are the encoding of a digest, of their length.
+/// Whether octets are the encoding of a digest, of their length.
 fn is_encoded(em: &[u8], info: &[u8], digest: &[u8]) -> bool
     ensures { IsTrue result ↔ (em.now ≡ encoded info.now digest.now (length em.now)) }
 {
@@ -51,7 +51,7 @@ fn is_encoded(em: &[u8], info: &[u8], digest: &[u8]) -> bool
     }
 }
 
-// RSASSA-PKCS1-V1_5-VERIFY (RFC 8017, section 8.2.2), of the octets that the parts make, joined.
+/// RSASSA-PKCS1-V1_5-VERIFY (RFC 8017, section 8.2.2), of the octets that the parts make, joined.
 #[tactic(auto, unfolding(crate::specs::Pkcs1::pkcs1_accepts))]
 pub fn accepts(hash: Hash, n: &[u8], e: &[u8], parts: [&[u8]; 3], signature: &[u8]) -> bool
     ensures { result ≡ pkcs1_accepts hash n.now e.now (all_octets parts.entry) signature.now }

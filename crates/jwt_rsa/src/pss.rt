@@ -11,7 +11,7 @@ use crate::pkcs1::before;
 use crate::public_key::PublicKey;
 use rsa_number::{MOST_OCTETS, Modulus};
 
-// Xors octets with a digest's first.
+/// Xors octets with a digest's first.
 fn xor_with(octets: &mut [u8], mask: &[u8])
     requires { length octets.old ≤ length mask.now }
     ensures { octets.new ≡ xored octets.old mask.now }
@@ -21,7 +21,7 @@ fn xor_with(octets: &mut [u8], mask: &[u8])
     }
 }
 
-// Xors octets with MGF1's.
+/// Xors octets with MGF1's.
 fn unmask(hash: Hash, seed: &[u8], octets: &mut [u8])
     requires { length octets.old ≤ 1024 }
     ensures { octets.new ≡ xored octets.old (mgf1 hash seed.now (length octets.old)) }
@@ -36,7 +36,7 @@ fn unmask(hash: Hash, seed: &[u8], octets: &mut [u8])
     }
 }
 
-// Whether octets are zeros and a one.
+/// Whether octets are zeros and a one.
 fn is_padding(octets: &[u8]) -> bool
     ensures { IsTrue result ↔ (octets.now ≡ replicate (length octets.now - 1) 0 ++ 1 ∷ []) }
 {
@@ -46,7 +46,7 @@ fn is_padding(octets: &[u8]) -> bool
     }
 }
 
-// Sets the leftmost bits to zero.
+/// Sets the leftmost bits to zero.
 fn clear_top(octets: &mut [u8], unused: usize)
     requires some { 0 < length octets.old }
     requires bits { unused < 8 }
@@ -55,7 +55,7 @@ fn clear_top(octets: &mut [u8], unused: usize)
     octets[0] = (u32::from(octets[0]) % (1 << (8 - unused))) as u8;
 }
 
-// EMSA-PSS-VERIFY, with room for DB.
+/// EMSA-PSS-VERIFY, with room for DB.
 #[tactic(auto, unfolding(crate::specs::Pss::pss_verified))]
 fn is_verified(hash: Hash, m_hash: &[u8], em: &[u8], unused: usize, db: &mut [u8]) -> bool
     requires least { 2 * digest_size hash + 2 ≤ length em.now }
@@ -80,8 +80,8 @@ fn is_verified(hash: Hash, m_hash: &[u8], em: &[u8], unused: usize, db: &mut [u8
     hash.digest([&[0; 8], m_hash, &db[salt..]]).octets() == h
 }
 
-// What follows RSAVP1 (RFC 8017, section 8.1.2, steps 2c and 3), of a number in as many octets as the
-// modulus.
+/// What follows RSAVP1 (RFC 8017, section 8.1.2, steps 2c and 3), of a number in as many octets as the
+/// modulus.
 #[tactic(auto, unfolding(crate::specs::Pss::pss_represents))]
 fn represents(hash: Hash, n: &Modulus, m_hash: &[u8], em: &[u8]) -> bool
     requires { length em.now ≡ length n.now }
@@ -103,7 +103,7 @@ fn represents(hash: Hash, n: &Modulus, m_hash: &[u8], em: &[u8]) -> bool
     }
 }
 
-// RSASSA-PSS-VERIFY (RFC 8017, section 8.1.2), of the octets that the parts make, joined.
+/// RSASSA-PSS-VERIFY (RFC 8017, section 8.1.2), of the octets that the parts make, joined.
 #[tactic(auto, unfolding(crate::specs::Pss::pss_accepts))]
 pub fn accepts(hash: Hash, n: &[u8], e: &[u8], parts: [&[u8]; 3], signature: &[u8]) -> bool
     ensures { result ≡ pss_accepts hash n.now e.now (all_octets parts.entry) signature.now }

@@ -17,7 +17,7 @@ pub struct PublicKey<'a> {
 }
 
 impl<'a> PublicKey<'a> {
-    // The key of these octets, which zeros may lead; None exactly where it isn't taken.
+    /// The key of these octets, which zeros may lead; None exactly where it isn't taken.
     pub fn of(n: &'a [u8], e: &[u8]) -> Option<PublicKey<'a>>
         ensures { SomeIff result (IsTrue (is_key (os2ip n.now) (os2ip e.now)))
             (record { n = without_zeros n.now; e = os2ip e.now }) }
@@ -31,7 +31,7 @@ impl<'a> PublicKey<'a> {
         }
     }
 
-    // The octets of the modulus.
+    /// The octets of the modulus.
     pub fn size(&self) -> usize
         ensures is { result ≡ length self.now.n }
         ensures least { 256 ≤ length self.now.n }
@@ -41,8 +41,8 @@ impl<'a> PublicKey<'a> {
         self.n.size()
     }
 
-    // OS2IP, RSAVP1 and I2OSP (RFC 8017, section 8.1.2, steps 1 to 2c, and section 8.2.2, steps 1 to 2c), in as many octets as
-    // the modulus: false where the signature hasn't as many, or its number isn't less than the modulus.
+    /// OS2IP, RSAVP1 and I2OSP (RFC 8017, section 8.1.2, steps 1 to 2c, and section 8.2.2, steps 1 to 2c), in as many octets as
+    /// the modulus: false where the signature hasn't as many, or its number isn't less than the modulus.
     pub fn recover(&self, em: &mut [u8], signature: &[u8]) -> bool
         requires { length em.old ≡ length self.now.n }
         ensures asked { IsTrue result ↔

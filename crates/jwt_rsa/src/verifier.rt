@@ -8,21 +8,21 @@ use crate::hash::Hash;
 use crate::{pkcs1, pss};
 use jwt_mac::{Alg, Answer, KeyView, Message, Verifier};
 
-// Whether it is RS256, RS384 or RS512.
+/// Whether it is RS256, RS384 or RS512.
 fn is_rs(alg: Alg) -> bool
     ensures { result ≡ names_rs alg }
 {
     matches!(alg, Alg::RS256 | Alg::RS384 | Alg::RS512)
 }
 
-// Whether it is PS256, PS384 or PS512.
+/// Whether it is PS256, PS384 or PS512.
 fn is_ps(alg: Alg) -> bool
     ensures { result ≡ names_ps alg }
 {
     matches!(alg, Alg::PS256 | Alg::PS384 | Alg::PS512)
 }
 
-// Whether a signature by RS256, RS384 or RS512 is accepted.
+/// Whether a signature by RS256, RS384 or RS512 is accepted.
 fn is_accepted_rs(alg: Alg, key: &KeyView, message: Message, signature: &[u8]) -> bool
     ensures { result
         ≡ accepts_rs alg (key_octets key.now) (signing_input (message_octets message.entry))
@@ -39,7 +39,7 @@ fn is_accepted_rs(alg: Alg, key: &KeyView, message: Message, signature: &[u8]) -
     }
 }
 
-// Whether a signature by PS256, PS384 or PS512 is accepted.
+/// Whether a signature by PS256, PS384 or PS512 is accepted.
 fn is_accepted_ps(alg: Alg, key: &KeyView, message: Message, signature: &[u8]) -> bool
     ensures { result
         ≡ accepts_ps alg (key_octets key.now) (signing_input (message_octets message.entry))
@@ -56,7 +56,7 @@ fn is_accepted_ps(alg: Alg, key: &KeyView, message: Message, signature: &[u8]) -
     }
 }
 
-// What is said of a signature.
+/// What is said of a signature.
 fn answer(accepted: bool) -> Answer
     ensures { AnswersBy accepted false result }
 {

@@ -265,11 +265,13 @@ fn assert_signed(rt: &impl Abort, alloc: Global, rows: &[Row], signed: bool) -> 
     Ok(())
 }
 
+/// The signatures of RFC 8032, section 7.1, and others that are valid.
 #[test]
 fn signatures_are_accepted(rt: HostRuntime) -> Result<(), Fail> {
     assert_signed(&rt, rt.alloc(), &SIGNATURES, true)
 }
 
+/// Other lengths, points, scalars and messages are refused.
 #[test]
 fn other_octets_are_refused(rt: HostRuntime) -> Result<(), Fail> {
     assert_signed(&rt, rt.alloc(), &OTHERS, false)
@@ -289,6 +291,7 @@ fn is_of_72(key: &[u8], signature: &[u8]) -> bool {
     verifies(key, [&[0x72], &[], &[]], signature)
 }
 
+/// A signature with any one octet changed is refused.
 #[test]
 fn each_octet_of_a_signature_counts(rt: HostRuntime) -> Result<(), Fail> {
     let alloc = rt.alloc();
@@ -302,6 +305,7 @@ fn each_octet_of_a_signature_counts(rt: HostRuntime) -> Result<(), Fail> {
     Ok(())
 }
 
+/// A signature is refused under a key with any one octet changed.
 #[test]
 fn each_octet_of_a_key_counts(rt: HostRuntime) -> Result<(), Fail> {
     let alloc = rt.alloc();
@@ -314,6 +318,7 @@ fn each_octet_of_a_key_counts(rt: HostRuntime) -> Result<(), Fail> {
     Ok(())
 }
 
+/// The verifier names `EdDSA` and no other algorithm.
 #[test]
 fn it_names_eddsa(rt: HostRuntime) {
     assert!(rt; Ed25519.names(Alg::EdDSA));
@@ -336,6 +341,7 @@ fn on_curve(x: &[u8], curve: EdCurve) -> KeyView<'_> {
     KeyView::Okp { curve, x }
 }
 
+/// A key of Ed448 is refused.
 #[test]
 fn it_takes_its_curve(rt: HostRuntime) -> Result<(), Fail> {
     let x = decode(rt.alloc(), KEY_1.as_bytes())?;
@@ -384,6 +390,7 @@ fn told(alloc: Global, keys: &str, token: &str) -> Result<(&'static str, Option<
     told_by(alloc, Box::new(alloc, Ed25519)?, policy, keys, token)
 }
 
+/// Tokens that are signed by Ed25519, the one of RFC 8037, appendix A.4, among them.
 #[test]
 fn tokens(rt: HostRuntime) -> Result<(), Fail> {
     let alloc = rt.alloc();

@@ -1237,66 +1237,79 @@ fn assert_rows(rt: &impl Abort, alloc: Global, rows: &[Row], wanted: bool) -> Re
     Ok(())
 }
 
+/// Valid signatures by P-256, the first part.
 #[test]
 fn es256_accepts_signatures_1(rt: HostRuntime) -> Result<(), Fail> {
     assert_rows(&rt, rt.alloc(), &ES256_SIGNATURES_1, true)
 }
 
+/// Valid signatures by P-256, the second part.
 #[test]
 fn es256_accepts_signatures_2(rt: HostRuntime) -> Result<(), Fail> {
     assert_rows(&rt, rt.alloc(), &ES256_SIGNATURES_2, true)
 }
 
+/// Valid signatures by P-256, the third part.
 #[test]
 fn es256_accepts_signatures_3(rt: HostRuntime) -> Result<(), Fail> {
     assert_rows(&rt, rt.alloc(), &ES256_SIGNATURES_3, true)
 }
 
+/// Valid signatures by P-384.
 #[test]
 fn es384_accepts_signatures(rt: HostRuntime) -> Result<(), Fail> {
     assert_rows(&rt, rt.alloc(), &ES384_SIGNATURES, true)
 }
 
+/// Valid signatures by P-521.
 #[test]
 fn es512_accepts_signatures(rt: HostRuntime) -> Result<(), Fail> {
     assert_rows(&rt, rt.alloc(), &ES512_SIGNATURES, true)
 }
 
+/// Other signatures, keys and messages by P-256, the first part.
 #[test]
 fn es256_refuses_others_1(rt: HostRuntime) -> Result<(), Fail> {
     assert_rows(&rt, rt.alloc(), &ES256_OTHERS_1, false)
 }
 
+/// Other signatures, keys and messages by P-256, the second part.
 #[test]
 fn es256_refuses_others_2(rt: HostRuntime) -> Result<(), Fail> {
     assert_rows(&rt, rt.alloc(), &ES256_OTHERS_2, false)
 }
 
+/// Other signatures, keys and messages by P-256, the third part.
 #[test]
 fn es256_refuses_others_3(rt: HostRuntime) -> Result<(), Fail> {
     assert_rows(&rt, rt.alloc(), &ES256_OTHERS_3, false)
 }
 
+/// Other signatures, keys and messages by P-256, the fourth part.
 #[test]
 fn es256_refuses_others_4(rt: HostRuntime) -> Result<(), Fail> {
     assert_rows(&rt, rt.alloc(), &ES256_OTHERS_4, false)
 }
 
+/// Other signatures, keys and messages by P-384, the first part.
 #[test]
 fn es384_refuses_others_1(rt: HostRuntime) -> Result<(), Fail> {
     assert_rows(&rt, rt.alloc(), &ES384_OTHERS_1, false)
 }
 
+/// Other signatures, keys and messages by P-384, the second part.
 #[test]
 fn es384_refuses_others_2(rt: HostRuntime) -> Result<(), Fail> {
     assert_rows(&rt, rt.alloc(), &ES384_OTHERS_2, false)
 }
 
+/// Other signatures, keys and messages by P-521, the first part.
 #[test]
 fn es512_refuses_others_1(rt: HostRuntime) -> Result<(), Fail> {
     assert_rows(&rt, rt.alloc(), &ES512_OTHERS_1, false)
 }
 
+/// Other signatures, keys and messages by P-521, the second part.
 #[test]
 fn es512_refuses_others_2(rt: HostRuntime) -> Result<(), Fail> {
     assert_rows(&rt, rt.alloc(), &ES512_OTHERS_2, false)
@@ -1359,6 +1372,7 @@ fn is_valid_with_key_changed(alloc: Global, row: &Row, at: usize) -> Result<bool
     Ok(is_signature(row.alg, (&other, &y), &message, &signature))
 }
 
+/// A signature with any one octet changed is refused.
 #[test]
 fn each_octet_of_a_signature_counts(rt: HostRuntime) -> Result<(), Fail> {
     for row in &EACH_CURVE {
@@ -1370,6 +1384,7 @@ fn each_octet_of_a_signature_counts(rt: HostRuntime) -> Result<(), Fail> {
     Ok(())
 }
 
+/// A signature is refused under a key with any one octet changed.
 #[test]
 fn each_octet_of_a_key_counts(rt: HostRuntime) -> Result<(), Fail> {
     for row in &EACH_CURVE {
@@ -1381,6 +1396,7 @@ fn each_octet_of_a_key_counts(rt: HostRuntime) -> Result<(), Fail> {
     Ok(())
 }
 
+/// The verifier names `ES256`, `ES384` and `ES512`, and no other algorithm.
 #[test]
 fn it_names_its_three_algorithms(rt: HostRuntime) {
     assert!(rt; Ecdsa.names(Alg::ES256) && Ecdsa.names(Alg::ES384) && Ecdsa.names(Alg::ES512));
@@ -1422,6 +1438,7 @@ fn answer_on(alloc: Global, alg: Alg, curve: Curve) -> Result<Answer, Fail> {
     ))
 }
 
+/// A key on another curve than the algorithm's is refused.
 #[test]
 fn it_takes_the_curve_of_the_algorithm(rt: HostRuntime) -> Result<(), Fail> {
     let alloc = rt.alloc();
@@ -1548,6 +1565,7 @@ static JUDGED: [Judged; 7] = [
     },
 ];
 
+/// Tokens that are signed by the three algorithms, that of RFC 7515, appendix A.3, among them.
 #[test]
 fn tokens(rt: HostRuntime) -> Result<(), Fail> {
     for row in &JUDGED {

@@ -864,6 +864,7 @@ fn assert_answers(rt: &impl Abort, alloc: Global, rows: &[Row]) -> Result<(), Fa
     Ok(())
 }
 
+/// Valid signatures by both paddings and each hash.
 #[test]
 fn signatures_are_accepted(rt: HostRuntime) -> Result<(), Fail> {
     assert_answers(&rt, rt.alloc(), &BY_2048_BITS)?;
@@ -872,6 +873,7 @@ fn signatures_are_accepted(rt: HostRuntime) -> Result<(), Fail> {
     assert_answers(&rt, rt.alloc(), &PSS_BY_4096_BITS)
 }
 
+/// Valid signatures by keys of sizes and exponents that are seldom met.
 #[test]
 fn signatures_by_keys_of_other_sizes_are_accepted(rt: HostRuntime) -> Result<(), Fail> {
     assert_answers(&rt, rt.alloc(), &BY_2049_BITS)?;
@@ -879,6 +881,7 @@ fn signatures_by_keys_of_other_sizes_are_accepted(rt: HostRuntime) -> Result<(),
     assert_answers(&rt, rt.alloc(), &BY_OTHER_KEYS)
 }
 
+/// Other paddings, lengths and messages are refused by PKCS #1 v1.5 (RFC 8017, section 8.2).
 #[test]
 fn other_octets_are_refused(rt: HostRuntime) -> Result<(), Fail> {
     assert_answers(&rt, rt.alloc(), &NO_PADDING)?;
@@ -887,12 +890,14 @@ fn other_octets_are_refused(rt: HostRuntime) -> Result<(), Fail> {
     assert_answers(&rt, rt.alloc(), &NO_LENGTH)
 }
 
+/// Other trailers, salts and lengths are refused by PSS (RFC 8017, section 8.1).
 #[test]
 fn other_octets_are_refused_by_pss(rt: HostRuntime) -> Result<(), Fail> {
     assert_answers(&rt, rt.alloc(), &NO_SALT)?;
     assert_answers(&rt, rt.alloc(), &NO_HASH)
 }
 
+/// Keys that are short, even, or have an exponent that isn't taken are refused.
 #[test]
 fn other_keys_are_refused(rt: HostRuntime) -> Result<(), Fail> {
     assert_answers(&rt, rt.alloc(), &NO_KEYS)?;
@@ -919,6 +924,7 @@ static NAMED: [(Alg, bool, bool); 9] = [
     (Alg::EdDSA, false, false),
 ];
 
+/// The verifiers name their algorithms, and no others.
 #[test]
 fn each_verifier_names_its_algorithms(rt: HostRuntime) -> Result<(), Fail> {
     for &(alg, pkcs1, pss) in &NAMED {
@@ -951,6 +957,7 @@ fn told(
     told_by(alloc, Box::new(alloc, Rsa)?, policy, keys, token)
 }
 
+/// Tokens that are signed by RSA, that of RFC 7515, appendix A.2, among them.
 #[test]
 fn tokens_of_the_standards(rt: HostRuntime) -> Result<(), Fail> {
     let alloc = rt.alloc();

@@ -15,6 +15,7 @@ pub struct Drip<'a> {
 }
 
 impl<'a> Drip<'a> {
+    /// A source of these octets, which fails at the pull after `left` more.
     pub fn new(rest: &'a [u8], left: usize) -> Drip<'a> {
         Drip {
             rest,
@@ -64,6 +65,7 @@ pub struct Endless {
 }
 
 impl Endless {
+    /// A source that nothing was pulled from yet.
     pub fn new() -> Endless {
         Endless { pulls: 0, given: 0 }
     }
@@ -97,6 +99,7 @@ pub struct Narrow {
 }
 
 impl Narrow {
+    /// A sink that holds nothing yet, and fails at the put after `left` more.
     pub fn new(alloc: Global, left: usize) -> Narrow {
         Narrow {
             held: Vec::new(alloc),

@@ -109,6 +109,7 @@ fn assert_causes(rt: &impl Abort, alloc: Global, rows: &[(&str, FormFault)]) -> 
     Ok(())
 }
 
+/// Octets that are no signed token are refused for the first cause that holds (RFC 7515, sections 5.2 and 7).
 #[test]
 fn names_the_first_cause(rt: HostRuntime) -> Result<(), Fail> {
     assert_causes(&rt, rt.alloc(), &CAUSES)
@@ -120,6 +121,7 @@ fn general(alloc: Global, count: usize) -> Result<String, AllocError> {
     format!(in alloc; r#"{{"payload":"e30","signatures":[{elements}]}}"#)
 }
 
+/// A token has at least one signature and at most as many as are allowed.
 #[test]
 fn counts_signatures(rt: HostRuntime) -> Result<(), Fail> {
     for (count, most, fault) in [
@@ -134,6 +136,7 @@ fn counts_signatures(rt: HostRuntime) -> Result<(), Fail> {
     Ok(())
 }
 
+/// A header nests as deep as any text that is read, and no deeper.
 #[test]
 fn reads_headers_nested_127_deep(rt: HostRuntime) -> Result<(), Fail> {
     for (lists, fault) in [(126, None), (127, Some(FormFault::Header(0)))] {
@@ -187,6 +190,7 @@ static TOKENS: [(&str, &str); 5] = [
     ),
 ];
 
+/// Compact, flattened and general form give the same payload and the same signatures.
 #[test]
 fn reads_each_form(rt: HostRuntime) -> Result<(), Fail> {
     for &(token, want) in &TOKENS {
@@ -213,6 +217,7 @@ fn has_messages(alloc: Global, octets: &[u8], count: u32) -> bool
     }
 }
 
+/// The signing input is the protected text, a period and the payload text (RFC 7515, section 5.1).
 #[test]
 fn each_signature_has_a_message(rt: HostRuntime) {
     assert!(rt; has_messages(rt.alloc(), TOKEN_A.as_bytes(), 1));
@@ -238,6 +243,7 @@ fn repeats_in(alloc: Global, header: &str) -> Result<bool, Fail> {
     Ok(signature.crit_repeats())
 }
 
+/// `crit` with a name twice is seen, and no other list is taken for one (RFC 7515, section 4.1.11).
 #[test]
 fn sees_a_name_that_stands_twice_in_crit(rt: HostRuntime) -> Result<(), Fail> {
     for &(header, twice) in &CRITS {
@@ -279,6 +285,7 @@ fn misplaced_in(alloc: Global, octets: &[u8]) -> Result<Option<&'static str>, Fa
     Ok(misplaced(signature))
 }
 
+/// A name is found in the protected and in the unprotected header; `alg` in the protected one alone.
 #[test]
 fn names_are_looked_up_in_both_headers(rt: HostRuntime) -> Result<(), Fail> {
     // The protected header {"alg":"HS256"}.
@@ -306,6 +313,7 @@ fn is_compact_alone(alloc: Global, octets: &[u8]) -> bool {
     }
 }
 
+/// In compact form there is no unprotected header (RFC 7515, section 7.1).
 #[test]
 fn a_compact_token_has_no_unprotected_header(rt: HostRuntime) {
     assert!(rt; is_compact_alone(rt.alloc(), TOKEN_A.as_bytes()));
@@ -319,7 +327,7 @@ fn counts_or_lacks(alloc: Global, octets: &[u8], count: u32) -> bool {
     }
 }
 
-// `refused-growths` refuses each allocation of this test in turn.
+/// `refused-growths` refuses each allocation of this test in turn.
 #[test]
 fn a_refused_growth_is_out_of_memory(rt: HostRuntime) {
     let general =

@@ -52,6 +52,7 @@ fn is_mixed(keys: &KeySet) -> bool {
         && has_one_secret(keys)
 }
 
+/// A key's number counts the readable entries, its place all of them.
 #[test]
 fn unreadable_entries_are_skipped_and_readable_ones_numbered(rt: HostRuntime) -> Result<(), Fail> {
     let keys = KeySet::read(rt.alloc(), MIXED.as_bytes())?;
@@ -127,6 +128,7 @@ fn assert_reasons(
     Ok(())
 }
 
+/// An entry is skipped for the first reason that holds.
 #[test]
 fn the_first_reason_of_an_entry(rt: HostRuntime) -> Result<(), Fail> {
     assert_reasons(&rt, rt.alloc(), &REASONS)
@@ -160,11 +162,13 @@ fn assert_documents(
     Ok(())
 }
 
+/// A document without a list `keys` is no key set (RFC 7517, section 5.1).
 #[test]
 fn a_document_that_is_no_key_set_is_refused(rt: HostRuntime) -> Result<(), Fail> {
     assert_documents(&rt, rt.alloc(), &DOCUMENTS)
 }
 
+/// A key set nests as deep as any text that is read, and no deeper.
 #[test]
 fn a_document_nests_127_deep(rt: HostRuntime) -> Result<(), Fail> {
     let alloc = rt.alloc();
@@ -190,6 +194,7 @@ fn skipped_of(alloc: Global, count: usize) -> Result<usize, KeysFault> {
     Ok(keys.skipped().len())
 }
 
+/// One entry more is refused.
 #[test]
 fn a_key_set_has_at_most_1024_entries(rt: HostRuntime) -> Result<(), Fail> {
     assert_eq!(rt; skipped_of(rt.alloc(), 1024), Ok(1024));
@@ -205,6 +210,7 @@ fn secret_fault(alloc: Global, characters: usize) -> Result<Option<SkipReason>, 
     Ok(keys.skipped().first().map(|skip| skip.reason))
 }
 
+/// A longer secret is skipped for its length.
 #[test]
 fn a_secret_has_at_most_4096_octets(rt: HostRuntime) -> Result<(), Fail> {
     assert_eq!(rt; secret_fault(rt.alloc(), 5462)?, None);
@@ -219,6 +225,7 @@ fn spaces_fault(alloc: Global, spaces: usize) -> Result<Option<KeysFault>, Fail>
     Ok(KeySet::read(alloc, document.as_bytes()).err())
 }
 
+/// One octet more is refused before anything is read.
 #[test]
 fn a_document_has_at_most_4194304_octets(rt: HostRuntime) -> Result<(), Fail> {
     assert_eq!(rt; spaces_fault(rt.alloc(), 4_194_293)?, None);
@@ -269,6 +276,7 @@ fn assert_thumbprints(rt: &impl Abort, alloc: Global, rows: &[(&str, &str)]) -> 
     Ok(())
 }
 
+/// The thumbprints that RFC 7638 and RFC 8037 print, and one of each other kind of key.
 #[test]
 fn thumbprints_of_the_standards(rt: HostRuntime) -> Result<(), Fail> {
     assert_thumbprints(&rt, rt.alloc(), &THUMBPRINTS)
@@ -306,6 +314,7 @@ fn unmet_search(keys: &KeySet) -> Option<(&'static str, bool, u32)> {
     None
 }
 
+/// Looked up by `kid`, the keys are those that a search through all of them finds, in the same order.
 #[test]
 fn the_index_and_the_plain_search_find_the_same_keys(rt: HostRuntime) -> Result<(), Fail> {
     let keys = key_set(rt.alloc(), SEARCHED)?;
@@ -341,6 +350,7 @@ fn unmet_name(keys: &KeySet) -> Option<(u32, &'static str)> {
     None
 }
 
+/// A key with a `kid` answers to that alone; one without it to its thumbprint, where the policy says so.
 #[test]
 fn a_key_answers_to_its_kid_or_else_to_its_thumbprint(rt: HostRuntime) -> Result<(), Fail> {
     let keys = key_set(rt.alloc(), NAMED)?;
@@ -385,6 +395,7 @@ fn assert_operations(
     Ok(())
 }
 
+/// `use` and `key_ops` permit an operation or they don't (RFC 7517, sections 4.2 and 4.3).
 #[test]
 fn permitted_operations(rt: HostRuntime) -> Result<(), Fail> {
     assert_operations(&rt, rt.alloc(), &OPERATIONS)
@@ -432,6 +443,7 @@ fn unmet_view(keys: &KeySet) -> Option<u32> {
     None
 }
 
+/// A key tells what its entry says.
 #[test]
 fn members_of_a_key(rt: HostRuntime) -> Result<(), Fail> {
     let keys = key_set(rt.alloc(), KINDS)?;

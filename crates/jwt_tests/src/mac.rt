@@ -135,7 +135,7 @@ static VECTORS: [Vector; 7] = [
     },
 ];
 
-// The vector's tag and its length come out, for exactly its cost and one call, and nothing is left.
+/// The vector's tag and its length come out, for exactly its cost and one call, and nothing is left.
 fn pays<B: Budget>(b: &mut B, vector: &Vector) -> bool
     requires { B.calls b.old ≡ 0 }
 {
@@ -149,7 +149,7 @@ fn pays<B: Budget>(b: &mut B, vector: &Vector) -> bool
     same && b.octets() == vector.cost && b.left() == 0 && b.calls() == 1
 }
 
-// The budget is too small by one octet, and stays new.
+/// The budget is too small by one octet, and stays new.
 fn refuses<B: Budget>(b: &mut B, vector: &Vector) -> bool
     requires { B.calls b.old ≡ 0 }
 {
@@ -163,6 +163,7 @@ fn refuses<B: Budget>(b: &mut B, vector: &Vector) -> bool
     spent && b.octets() == 0 && b.left() == vector.cost.saturating_sub(1) && b.calls() == 0
 }
 
+/// The vectors of RFC 4231, each at the cost that is stated and refused one octet below it.
 #[test]
 fn hmac_vectors_at_their_cost_by_both_budgets(rt: HostRuntime) {
     for vector in &VECTORS {
@@ -195,6 +196,7 @@ fn tag_equals(octets: &[u8]) -> bool {
     }
 }
 
+/// A tag that is shorter, longer or of other octets isn't equal.
 #[test]
 fn a_tag_is_no_prefix_and_no_other_octets(rt: HostRuntime) {
     let mut other = [0u8; 33];
@@ -225,6 +227,7 @@ static COSTS: [(Alg, u64, u64, Option<u64>); 11] = [
     (Alg::HS256, u64::MAX, 0, None),
 ];
 
+/// What a tag costs, by the lengths of the key and of the signing input (RFC 2104, section 2).
 #[test]
 fn costs(rt: HostRuntime) {
     for &(alg, key_len, message_len, want) in &COSTS {
@@ -245,6 +248,7 @@ static NAMES: [&str; 13] = [
 /// What names none.
 static NO_NAMES: [&str; 7] = ["", "none", "hs256", "HS256 ", "HS25", "ES256K", "EDDSA"];
 
+/// Each algorithm has its name, and no other text names one (RFC 7518, section 3.1).
 #[test]
 fn names(rt: HostRuntime) {
     for &name in &NAMES {
@@ -255,7 +259,7 @@ fn names(rt: HostRuntime) {
     }
 }
 
-// FIPS 180-4's example of one block, as SHA-256 of `abc`.
+/// FIPS 180-4's example of one block, as SHA-256 of `abc`.
 #[test]
 fn sha256_of_three_parts(rt: HostRuntime) {
     let digest = sha256([b"a", b"b", b"c"]);
@@ -313,7 +317,7 @@ impl Verifier for Lacking {
     }
 }
 
-// What the first verifier that names the algorithm says, None where none does.
+/// What the first verifier that names the algorithm says, None where none does.
 fn answer<B: Budget>(
     b: &mut B,
     verifiers: &[Box<dyn Verifier>],
@@ -405,6 +409,7 @@ fn unanswered_by_both(verifiers: &[Box<dyn Verifier>]) -> Option<Alg> {
     }
 }
 
+/// Of several verifiers the first that names the algorithm is asked, and no other.
 #[test]
 fn the_first_verifier_that_names_the_algorithm_answers(rt: HostRuntime) -> Result<(), Fail> {
     let verifiers = verifiers(rt.alloc())?;

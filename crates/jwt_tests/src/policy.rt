@@ -128,11 +128,13 @@ fn assert_documents(rt: &impl Abort, alloc: Global, rows: &[(&str, &str)]) -> Re
     Ok(())
 }
 
+/// Each document is a policy, or is refused for the first fault that holds.
 #[test]
 fn a_document_is_read_or_refused_for_its_first_fault(rt: HostRuntime) -> Result<(), Fail> {
     assert_documents(&rt, rt.alloc(), &DOCUMENTS)
 }
 
+/// One octet more is refused before anything is read.
 #[test]
 fn a_document_has_at_most_65536_octets(rt: HostRuntime) -> Result<(), Fail> {
     let alloc = rt.alloc();
@@ -155,6 +157,7 @@ fn numbers_of(policy: &Policy) -> (u32, u32, u64, u32, u32) {
     )
 }
 
+/// Whether mode, `typ`, line feed and what is asked of `kid` are the defaults.
 fn has_default_words(policy: &Policy) -> bool {
     policy.mode() == Mode::Any
         && policy.typ().is_none()
@@ -163,10 +166,12 @@ fn has_default_words(policy: &Policy) -> bool {
         && !policy.thumb_kid()
 }
 
+/// Whether there is no greatest age and no ceiling on calls.
 fn has_no_bounds(policy: &Policy) -> bool {
     policy.max_age().is_none() && policy.max_calls().is_none()
 }
 
+/// Whether no extension, issuer, audience or required claim is named.
 fn has_no_lists(policy: &Policy) -> bool {
     policy.understood().is_empty()
         && policy.issuers().is_empty()
@@ -187,11 +192,13 @@ fn has_defaults(alloc: Global) -> bool {
     }
 }
 
+/// A policy of `algs` alone has the default in each other place.
 #[test]
 fn a_policy_has_its_defaults(rt: HostRuntime) {
     assert!(rt; has_defaults(rt.alloc()));
 }
 
+/// Whether algorithms, mode, `typ`, line feed and what is asked of `kid` are what the full document says.
 fn has_full_words(policy: &Policy) -> bool {
     policy.algs() == [Alg::EdDSA, Alg::HS512].as_slice()
         && policy.mode() == Mode::All
@@ -201,10 +208,12 @@ fn has_full_words(policy: &Policy) -> bool {
         && policy.thumb_kid()
 }
 
+/// Whether the greatest age and the ceiling on calls are what the full document says.
 fn has_full_bounds(policy: &Policy) -> bool {
     policy.max_age() == Some(4_294_967_295) && policy.max_calls() == Some(32_768)
 }
 
+/// Whether issuers, audiences, types and required claims are what the full document says.
 fn has_full_lists(policy: &Policy) -> bool {
     policy.issuers().len() == 2
         && policy.understood().len() == 1
@@ -225,6 +234,7 @@ fn has_all(alloc: Global) -> bool {
     }
 }
 
+/// A policy of every member tells each of them.
 #[test]
 fn a_policy_says_what_its_document_says(rt: HostRuntime) {
     assert!(rt; has_all(rt.alloc()));
@@ -458,6 +468,7 @@ fn assert_bars(
     Ok(())
 }
 
+/// A signature's bar is the first that holds; of a signature that none bars there is none.
 #[test]
 fn the_first_bar_is_answered(rt: HostRuntime) -> Result<(), Fail> {
     assert_bars(&rt, rt.alloc(), &BARS)
@@ -577,6 +588,7 @@ fn assert_pairs(
     Ok(())
 }
 
+/// A key is eligible by kind and size, by its own members, and by `kid` where the signature has one.
 #[test]
 fn a_key_is_eligible_by_kind_members_and_kid(rt: HostRuntime) -> Result<(), Fail> {
     assert_pairs(&rt, rt.alloc(), &PAIRS)
@@ -702,6 +714,7 @@ fn assert_claims(
     Ok(())
 }
 
+/// Claims hold under a policy at a moment, or are refused for the first fault that holds (RFC 7519, section 4.1).
 #[test]
 fn claims_hold_or_are_refused_for_their_first_fault(rt: HostRuntime) -> Result<(), Fail> {
     assert_claims(&rt, rt.alloc(), &CLAIMS)
@@ -714,6 +727,7 @@ fn nested_fault(alloc: Global, lists: usize) -> Result<String, Fail> {
     fault_of(alloc, &policy, &payload, 0)
 }
 
+/// Claims nest as deep as any text that is read, and no deeper.
 #[test]
 fn claims_nest_127_deep(rt: HostRuntime) -> Result<(), Fail> {
     for (lists, want) in [(126, "none"), (127, "ClaimsShape")] {
@@ -723,14 +737,17 @@ fn claims_nest_127_deep(rt: HostRuntime) -> Result<(), Fail> {
     Ok(())
 }
 
+/// Whether `iss`, `sub` and `jti` are what the payload says.
 fn has_texts(claims: &Claims) -> bool {
     claims.iss() == Some("joe") && claims.sub() == Some("") && claims.jti() == Some("x")
 }
 
+/// Whether `exp`, `nbf` and `iat` are what the payload says.
 fn has_dates(claims: &Claims) -> bool {
     claims.exp() == Some(1_300_819_380) && claims.nbf() == Some(-1) && claims.iat().is_none()
 }
 
+/// Whether `aud` and a claim that isn't registered are what the payload says.
 fn has_audience_and_flag(claims: &Claims) -> bool {
     claims.object().flag("z") == Some(true)
         && matches!(claims.aud(), Some(Audience::Texts(list)) if list.text(1) == Some("b"))
@@ -746,6 +763,7 @@ fn are_said(alloc: Global) -> bool {
     }
 }
 
+/// Claims tell each registered claim, and the others by name.
 #[test]
 fn claims_say_what_their_payload_says(rt: HostRuntime) {
     assert!(rt; are_said(rt.alloc()));

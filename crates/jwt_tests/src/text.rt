@@ -30,6 +30,7 @@ struct Faltering {
 }
 
 impl Faltering {
+    /// The first call fails as an interrupted one does, and each one after it goes through.
     fn turn(&mut self, len: usize) -> io::Result<usize>
         ensures { IfOk result (λ n. n ≡ len) }
     {
@@ -68,6 +69,7 @@ fn put_fails(sink: &mut Writer<Faltering>) -> bool {
     sink.put(b"abc").is_none() && sink.failed()
 }
 
+/// A call of the system that was interrupted counts as a failure.
 #[test]
 fn an_interrupted_call_is_a_failure_and_not_tried_again(rt: HostRuntime) {
     let mut source = Reader::new(Faltering { works: false });
@@ -95,6 +97,7 @@ fn dripped(alloc: Global, limit: u32) -> Option<(Result<(), TextFault>, usize, u
     Some((answer, source.rest.len(), source.pulls))
 }
 
+/// From a source of one octet a pull, one octet past the limit is taken, and none after it.
 #[test]
 fn takes_one_octet_past_the_limit_in_as_many_pulls(rt: HostRuntime) {
     for &(limit, want, unread, pulls) in &DRIPS {
@@ -121,6 +124,7 @@ fn holds_all(alloc: Global) -> bool {
     intake.read_from(&mut source) == Ok(()) && intake.octets() == TOKEN_A.as_bytes()
 }
 
+/// Where a source fails, what it gave before is held.
 #[test]
 fn holds_what_came_before_a_failure(rt: HostRuntime) {
     for pulls in 0..180 {
@@ -139,6 +143,7 @@ fn endless(alloc: Global) -> Option<(usize, usize)> {
     }
 }
 
+/// A source that never ends is left one octet past the limit.
 #[test]
 fn stops_an_endless_source_after_few_pulls(rt: HostRuntime) {
     assert!(rt; matches!(endless(rt.alloc()), Some((1_048_577, pulls)) if pulls < 20));
@@ -154,11 +159,13 @@ fn is_fed_to_the_limit(alloc: Global) -> bool {
         && intake.octets() == TOKEN_A.as_bytes()
 }
 
+/// Fed piece by piece, no more than one octet past the limit is taken.
 #[test]
 fn feeds_up_to_one_octet_past_the_limit(rt: HostRuntime) {
     assert!(rt; is_fed_to_the_limit(rt.alloc()));
 }
 
+/// A slice is a source, and a vector a sink.
 #[test]
 fn reads_a_slice_and_writes_into_a_vector(rt: HostRuntime) -> Result<(), Fail> {
     let octets: &[u8] = b"abc";
@@ -192,6 +199,7 @@ fn writer_counts(count: usize) -> bool
     written == Err(Written { count }) && room[..count] == SENT[..count]
 }
 
+/// Where a sink fails, it is told how many octets went out before.
 #[test]
 fn counts_what_went_out_before_a_failure(rt: HostRuntime) {
     for count in 0..84 {
@@ -200,6 +208,7 @@ fn counts_what_went_out_before_a_failure(rt: HostRuntime) {
     }
 }
 
+/// A part gives the same octets whether it lends or owns them.
 #[test]
 fn a_part_lends_its_octets(rt: HostRuntime) -> Result<(), Fail> {
     let octets = decode(rt.alloc(), b"Zm9v")?;
@@ -231,6 +240,7 @@ fn assert_spellings(rt: &impl Abort, alloc: Global, rows: &[(&str, &str)]) -> Re
     Ok(())
 }
 
+/// Each octets have one spelling in base64url, which reads back (RFC 7515, section 2).
 #[test]
 fn spells_octets_in_one_way(rt: HostRuntime) -> Result<(), Fail> {
     assert_spellings(&rt, rt.alloc(), &SPELLINGS)?;
@@ -244,6 +254,7 @@ static NO_BASE64: [&str; 9] = [
     "A", "AB", "AA=", "AA==", "A A", "A+AA", "A/AA", "AAAA\n", "AAAAA",
 ];
 
+/// Padding, spare bits, white space and other signs are refused.
 #[test]
 fn what_is_no_base64url_is_refused(rt: HostRuntime) -> Result<(), Fail> {
     for text in &NO_BASE64 {
@@ -300,8 +311,8 @@ fn reads_on(
     answer == want && all.get(..held) == Some(read.octets()) && all.get(held..) == Some(source.rest)
 }
 
-// `rt try --test --fail-alloc N` refuses the Nth allocation: what came stays held, and the same call made again takes what is
-// missing.
+/// `rt try --test --fail-alloc N` refuses the Nth allocation: what came stays held, and the same call made again takes what is
+/// missing.
 #[test]
 fn a_refused_growth_loses_no_octets(rt: HostRuntime) -> Result<(), Fail> {
     let mut all = [0u8; 9000];
@@ -318,6 +329,7 @@ fn a_refused_growth_loses_no_octets(rt: HostRuntime) -> Result<(), Fail> {
     Ok(())
 }
 
+/// Where an allocation was refused, the fault is want of memory, and what stood there stands.
 #[test]
 fn a_refused_growth_changes_no_spelling(rt: HostRuntime) -> Result<(), Fail> {
     let alloc = rt.alloc();
@@ -334,6 +346,7 @@ fn a_refused_growth_changes_no_spelling(rt: HostRuntime) -> Result<(), Fail> {
 
 // ---- object texts
 
+/// The fault that reading the text ends with, `None` where it is read.
 fn fault(alloc: Global, octets: &[u8]) -> Option<TextFault> {
     object(alloc, octets).err()
 }
@@ -361,6 +374,7 @@ static NAMES: [(&str, Option<TextFault>); 10] = [
     (r#"{"a":{"x":1},"b":{"x":1}}"#, None),
 ];
 
+/// A name that stands twice, at any depth, refuses the text (RFC 7519, section 4).
 #[test]
 fn an_object_text_has_each_name_once(rt: HostRuntime) -> Result<(), Fail> {
     let alloc = rt.alloc();
@@ -399,6 +413,7 @@ static NO_UTF8: [&[u8]; 3] = [
     b"{\"\xed\xa0\x80\":1}",
 ];
 
+/// What isn't JSON by RFC 8259 is refused.
 #[test]
 fn what_is_no_json_is_refused(rt: HostRuntime) -> Result<(), Fail> {
     for text in &NO_JSON {
@@ -412,6 +427,7 @@ fn what_is_no_json_is_refused(rt: HostRuntime) -> Result<(), Fail> {
     Ok(())
 }
 
+/// One level more is refused.
 #[test]
 fn a_text_nests_127_deep(rt: HostRuntime) -> Result<(), Fail> {
     let alloc = rt.alloc();
@@ -445,6 +461,7 @@ static WHOLES: [(&str, Option<i64>, bool); 10] = [
     ("j", None, false),
 ];
 
+/// A whole number within 64 signed bits is told; any other number is a number and no whole one.
 #[test]
 fn numbers_are_whole_within_64_bits(rt: HostRuntime) -> Result<(), Fail> {
     let numbers = object(rt.alloc(), NUMBERS)?;
@@ -459,6 +476,7 @@ fn numbers_are_whole_within_64_bits(rt: HostRuntime) -> Result<(), Fail> {
 const MEMBERS: &[u8] =
     br#"{"t":"a\u0062","f":true,"l":["x",{"y":1},2],"o":{"b":1},"aud":[ "a" ],"none":[],"n":null}"#;
 
+/// Whether texts and flags are answered by name and kind.
 fn texts_and_flags_are_read(all: ObjectRef<'_>) -> bool {
     all.text("t") == Some("ab")
         && all.text("f").is_none()
@@ -466,6 +484,7 @@ fn texts_and_flags_are_read(all: ObjectRef<'_>) -> bool {
         && all.flag("t").is_none()
 }
 
+/// Whether the names are told in their order.
 fn names_are_read(all: ObjectRef<'_>) -> bool {
     all.has("n")
         && !all.has("N")
@@ -474,6 +493,7 @@ fn names_are_read(all: ObjectRef<'_>) -> bool {
         && all.object("l").is_none()
 }
 
+/// Whether the elements of a list are answered by place and kind.
 fn elements_are_read(list: &List<'_>) -> bool {
     list.len() == 3
         && !list.is_empty()
@@ -483,6 +503,7 @@ fn elements_are_read(list: &List<'_>) -> bool {
         && list.text(3).is_none()
 }
 
+/// Whether an object in the object is answered by its name.
 fn objects_are_read(list: &List<'_>) -> bool {
     match list.object(1) {
         Some(inner) => inner.whole("y") == Some(1) && list.object(2).is_none(),
@@ -490,6 +511,7 @@ fn objects_are_read(list: &List<'_>) -> bool {
     }
 }
 
+/// Whether lists are answered by name, and whether they hold texts alone.
 fn lists_are_read(all: ObjectRef<'_>) -> bool {
     match (all.list("l"), all.list("none")) {
         (Some(list), Some(none)) => {
@@ -502,6 +524,7 @@ fn lists_are_read(all: ObjectRef<'_>) -> bool {
     }
 }
 
+/// Each reader answers a member of its kind, and nothing of another one.
 #[test]
 fn readers_answer_by_name_and_kind(rt: HostRuntime) -> Result<(), Fail> {
     let all = object(rt.alloc(), MEMBERS)?;
@@ -511,6 +534,7 @@ fn readers_answer_by_name_and_kind(rt: HostRuntime) -> Result<(), Fail> {
     Ok(())
 }
 
+/// Whether a copy of an object in the object reads as that one.
 fn copy_is_read(copy: &Object, inner: ObjectRef<'_>, all: ObjectRef<'_>) -> bool {
     copy.member_count() == 1
         && copy.name(0) == Some("b")
@@ -530,6 +554,7 @@ fn is_copied(alloc: Global, all: ObjectRef<'_>) -> bool {
     }
 }
 
+/// A copy outlives the object that it was made of.
 #[test]
 fn an_object_in_an_object_is_copied(rt: HostRuntime) -> Result<(), Fail> {
     let all = object(rt.alloc(), MEMBERS)?;
@@ -548,6 +573,7 @@ static COMPACTS: [(&str, Option<&str>); 6] = [
     ("absent", None),
 ];
 
+/// What is written compactly reads back as the same.
 #[test]
 fn texts_and_lists_of_texts_have_a_compact_text(rt: HostRuntime) -> Result<(), Fail> {
     let all = object(rt.alloc(), MEMBERS)?;
@@ -569,6 +595,7 @@ static QUOTES: [(&str, &str); 4] = [
     ),
 ];
 
+/// Quotes, backslashes and control characters are escaped (RFC 8259, section 7).
 #[test]
 fn texts_are_quoted_as_json_writes_them(rt: HostRuntime) -> Result<(), Fail> {
     for &(text, want) in &QUOTES {
@@ -603,6 +630,7 @@ fn written_once(alloc: Global) -> Result<Vec<u8>, TextFault> {
 /// The text of these members.
 const WRITTEN: &[u8] = br#"{"aud":["x","y"],"b":true,"exp":5,"sub":"a"}"#;
 
+/// An object is written with its names in ascending order.
 #[test]
 fn an_object_is_written_by_its_names(rt: HostRuntime) -> Result<(), Fail> {
     let text = written_once(rt.alloc())?;
@@ -610,6 +638,7 @@ fn an_object_is_written_by_its_names(rt: HostRuntime) -> Result<(), Fail> {
     Ok(())
 }
 
+/// The text that an object is written as.
 fn written(alloc: Global) -> Result<Vec<u8>, TextFault> {
     let mut claims = ObjectOut::new(alloc);
     again!(claims.text("sub", "a"))?;
@@ -675,7 +704,7 @@ fn writes_again(alloc: Global) -> bool {
     }
 }
 
-// `rt try --test --fail-alloc N` refuses the Nth allocation: every other answer, and the text that is written, stay the same.
+/// `rt try --test --fail-alloc N` refuses the Nth allocation: every other answer, and the text that is written, stay the same.
 #[test]
 fn a_refused_growth_changes_no_later_answer(rt: HostRuntime) {
     let alloc = rt.alloc();

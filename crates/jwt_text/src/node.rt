@@ -44,6 +44,7 @@ pub(crate) type Nodes = SmallVec<Node, 4>;
 /// The members of an object.
 pub(crate) type Entries = Vec<Entry>;
 
+/// The value of `true` or `false`, `None` of any other node.
 pub(crate) fn as_flag(node: Node) -> Option<bool>
     ensures { result ≡ as_flag node }
 {
@@ -53,6 +54,7 @@ pub(crate) fn as_flag(node: Node) -> Option<bool>
     }
 }
 
+/// The value of a whole number within 64 signed bits, `None` of any other node.
 pub(crate) fn as_whole(node: Node) -> Option<i64>
     ensures { result ≡ as_whole node }
 {
@@ -67,12 +69,14 @@ pub(crate) fn as_whole(node: Node) -> Option<i64>
     }
 }
 
+/// Whether the node is a number.
 pub(crate) fn is_numeric(node: Node) -> bool
     ensures { result ≡ is_numeric node }
 {
     matches!(node, Node::Unsigned(_) | Node::Negative(_) | Node::Float(_))
 }
 
+/// Where a text's octets stand, `None` of any other node.
 pub(crate) fn as_text(node: Node) -> Option<Span>
     ensures { result ≡ as_text node }
 {
@@ -82,6 +86,7 @@ pub(crate) fn as_text(node: Node) -> Option<Span>
     }
 }
 
+/// Where a list's elements stand, `None` of any other node.
 pub(crate) fn as_list(node: Node) -> Option<Span>
     ensures { result ≡ as_list node }
 {
@@ -91,6 +96,7 @@ pub(crate) fn as_list(node: Node) -> Option<Span>
     }
 }
 
+/// Where an object's members stand, `None` of any other node.
 pub(crate) fn as_entries(node: Node) -> Option<Span>
     ensures { result ≡ as_entries node }
 {

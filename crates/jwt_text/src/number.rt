@@ -39,6 +39,7 @@ pub(crate) fn parse_number(text: &str) -> Option<Number>
     }
 }
 
+/// The number without a minus sign; `None` where it is too great for a float.
 #[inline(always)]
 fn above_zero(numeral: &Numeral<'_>) -> Option<Number>
     ensures { option_map num_of result ≡ number_from false numeral.now }
@@ -49,6 +50,7 @@ fn above_zero(numeral: &Numeral<'_>) -> Option<Number>
     }
 }
 
+/// The number behind a minus sign; `None` where it is too great for a float.
 #[inline(always)]
 fn below_zero(numeral: &Numeral<'_>) -> Option<Number>
     ensures { option_map num_of result ≡ number_from true numeral.now }
@@ -61,6 +63,7 @@ fn below_zero(numeral: &Numeral<'_>) -> Option<Number>
     nearest(true, numeral)
 }
 
+/// The nearest float, `None` where that isn't finite.
 #[inline(always)]
 fn nearest(negative: bool, numeral: &Numeral<'_>) -> Option<Number>
     ensures { option_map num_of result ≡ float_of negative numeral.now }
@@ -73,6 +76,7 @@ fn nearest(negative: bool, numeral: &Numeral<'_>) -> Option<Number>
     }
 }
 
+/// Whether the first octet is a minus sign.
 #[inline(always)]
 fn has_minus(octets: &[u8]) -> bool
     ensures value { result ≡ (slice_index octets.now 0 == 45) }

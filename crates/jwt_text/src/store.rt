@@ -165,6 +165,7 @@ impl Store {
         }
     }
 
+    /// The members of an object, by where they stand.
     pub(crate) fn entries(&self, span: Span) -> &[Entry]
         requires { span.start + span.len ≤ length self.now.entries.items }
         ensures { result.now ≡ piece self.now.entries.items span }

@@ -91,6 +91,7 @@ static DOCUMENTS: [(&str, &str); 46] = [
     ),
 ];
 
+/// Each document is an access rule, or is refused for the first fault that holds.
 #[test]
 fn a_document_is_read_or_refused_for_its_first_fault(rt: HostRuntime) -> Result<(), Fail> {
     let alloc = rt.alloc();
@@ -101,6 +102,7 @@ fn a_document_is_read_or_refused_for_its_first_fault(rt: HostRuntime) -> Result<
     Ok(())
 }
 
+/// One octet more is refused before anything is read.
 #[test]
 fn a_document_has_at_most_65536_octets(rt: HostRuntime) -> Result<(), Fail> {
     let alloc = rt.alloc();
@@ -192,6 +194,7 @@ static OF_ACCESS_TOKEN: [(&str, &str); 9] = [
     ),
 ];
 
+/// The claims that RFC 9068, section 2.2.3.1, prints, held against rules on its scopes.
 #[test]
 fn the_access_token_of_rfc_9068(rt: HostRuntime) -> Result<(), Fail> {
     assert_answers(&rt, rt.alloc(), ACCESS_TOKEN, &OF_ACCESS_TOKEN)
@@ -266,6 +269,7 @@ static OF_REALM: [(&str, &str); 15] = [
     ),
 ];
 
+/// Roles in an object inside the claims are found by a pointer (RFC 6901).
 #[test]
 fn a_token_with_roles_in_objects(rt: HostRuntime) -> Result<(), Fail> {
     assert_answers(&rt, rt.alloc(), REALM, &OF_REALM)
@@ -310,6 +314,7 @@ static OF_TENANT: [(&str, &str); 9] = [
     (r#"{"claims":{"xms":[7]}}"#, "granted"),
 ];
 
+/// Scopes in a claim of another name, as a text and as a list.
 #[test]
 fn a_token_with_scp_and_roles(rt: HostRuntime) -> Result<(), Fail> {
     assert_answers(&rt, rt.alloc(), TENANT, &OF_TENANT)
@@ -339,6 +344,7 @@ static OF_POOL: [(&str, &str); 5] = [
     ),
 ];
 
+/// A token that tells its use and its client in claims of its own.
 #[test]
 fn a_token_without_audience(rt: HostRuntime) -> Result<(), Fail> {
     assert_answers(&rt, rt.alloc(), POOL, &OF_POOL)
@@ -370,6 +376,7 @@ static OF_IDENTITY: [(&str, &str); 7] = [
     (r#"{"scopes":["openid"]}"#, "ScopeMissing openid"),
 ];
 
+/// Flags and numbers are held against values of their kind.
 #[test]
 fn an_identity_token(rt: HostRuntime) -> Result<(), Fail> {
     assert_answers(&rt, rt.alloc(), IDENTITY, &OF_IDENTITY)
@@ -404,6 +411,7 @@ static SCOPES: [(&str, bool); 22] = [
     (r#"{"scope":{"read":true},"scp":"read"}"#, false),
 ];
 
+/// No prefix, suffix or other spelling of a scope grants it.
 #[test]
 fn scopes_are_whole_words(rt: HostRuntime) -> Result<(), Fail> {
     let alloc = rt.alloc();
@@ -417,6 +425,7 @@ fn scopes_are_whole_words(rt: HostRuntime) -> Result<(), Fail> {
     Ok(())
 }
 
+/// A claim with two spaces in a row, a tab, or an element that is no text grants nothing.
 #[test]
 fn no_other_text_is_a_scope(rt: HostRuntime) -> Result<(), Fail> {
     let claims = claims_of(rt.alloc(), r#"{"scope":"read write"}"#)?;
@@ -457,6 +466,7 @@ static VALUES: [(&str, &str, &str); 18] = [
     (r#"["x"]"#, r#"{"b":"x"}"#, "ClaimMissing a"),
 ];
 
+/// 1 isn't true, and a text isn't the number that it spells.
 #[test]
 fn values_are_of_their_kinds(rt: HostRuntime) -> Result<(), Fail> {
     let alloc = rt.alloc();
@@ -468,6 +478,7 @@ fn values_are_of_their_kinds(rt: HostRuntime) -> Result<(), Fail> {
     Ok(())
 }
 
+/// A claim, and a step of a pointer, may have the empty name (RFC 6901, section 5).
 #[test]
 fn the_empty_name_is_a_name(rt: HostRuntime) -> Result<(), Fail> {
     let payload = r#"{"":"x","a":{"":"y"}}"#;
@@ -577,6 +588,7 @@ static WORDS: [(&str, &str, &str); 18] = [
     ),
 ];
 
+/// Of the claim that carries the scopes one word is enough for a rule on that claim.
 #[test]
 fn a_word_of_the_claim_that_carries_scopes_is_enough(rt: HostRuntime) -> Result<(), Fail> {
     let alloc = rt.alloc();
@@ -607,6 +619,7 @@ static OF_PROVISIONED: [(&str, &str); 4] = [
     ),
 ];
 
+/// Roles as objects (RFC 7643, section 4.1.2) grant nothing.
 #[test]
 fn roles_that_are_objects_are_denied(rt: HostRuntime) -> Result<(), Fail> {
     assert_answers(&rt, rt.alloc(), PROVISIONED, &OF_PROVISIONED)
@@ -623,6 +636,7 @@ fn long_payload(alloc: Global, count: usize, last: &str) -> Result<String, Fail>
     Ok(payload)
 }
 
+/// A claim of 1 MiB is held against a rule.
 #[test]
 fn a_long_claim_is_held_against_a_rule(rt: HostRuntime) -> Result<(), Fail> {
     let alloc = rt.alloc();
@@ -645,6 +659,7 @@ fn a_long_claim_is_held_against_a_rule(rt: HostRuntime) -> Result<(), Fail> {
 
 // ---- what a rule says of itself
 
+/// A rule tells the scopes that it asks for, in their order.
 #[test]
 fn a_rule_tells_its_scopes(rt: HostRuntime) -> Result<(), Fail> {
     let alloc = rt.alloc();
@@ -657,6 +672,7 @@ fn a_rule_tells_its_scopes(rt: HostRuntime) -> Result<(), Fail> {
     Ok(())
 }
 
+/// Each fault and each denial has its name and what it is about.
 #[test]
 fn faults_and_denials_are_printed(rt: HostRuntime) -> Result<(), Fail> {
     let alloc = rt.alloc();

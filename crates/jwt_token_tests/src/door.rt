@@ -92,6 +92,7 @@ static CASES: [(&str, &str, &str, i64, &str); 8] = [
     ),
 ];
 
+/// `validate` and `judge` say the same of each case.
 #[test]
 fn each_case_is_said_by_both_calls(rt: HostRuntime) -> Result<(), Fail> {
     let alloc = rt.alloc();

@@ -38,6 +38,7 @@ const TWO: &str =
 const MIXED: &str =
     r#"{"payload":"e30","signatures":[{"protected":"eyJhbGciOiJIUzI1NiIsImtpZCI6InoifQ","signature":"yR_En525gZO77tNpMQRqWnDdSF74ogUserW4rmcufrs"},{"protected":"eyJhbGciOiJIUzUxMiJ9","signature":"qsJLsAzJkTrPsL1a7aTk4GqhNiQPT7CmVzuoocL8HjbdEWkInaDqf_9ypJVrTXTIWz3G9wW4kF7wvUPJwSxYWg"}]}"#;
 
+/// The claims of these members.
 fn claims(alloc: Global, text: &str) -> Option<ClaimSet> {
     let octets = text.as_bytes().to_vec(alloc).ok()?;
     ClaimSet::from_octets(alloc, octets).ok()
@@ -120,6 +121,7 @@ fn issues(alloc: Global, order: Order, token: &str, cost: u64) -> bool {
     }
 }
 
+/// A token in compact form is the one that is stated, octet by octet.
 #[test]
 fn tokens_in_compact_form(rt: HostRuntime) {
     assert!(rt; issues(rt.alloc(), FIRST, COMPACT, 200));
@@ -139,6 +141,7 @@ const FLATTENED: Order = Order {
     ..FIRST
 };
 
+/// A token in flattened form is the one that is stated, octet by octet.
 #[test]
 fn tokens_in_flattened_form(rt: HostRuntime) {
     assert!(rt; issues(rt.alloc(), FLATTENED, FLAT, 184));
@@ -172,6 +175,7 @@ fn refuses(alloc: Global, form: Form, alg: Alg, key: u32, fault: IssueFault) -> 
     }
 }
 
+/// A key of another kind, size, use or algorithm signs nothing.
 #[test]
 fn keys_that_may_not_sign(rt: HostRuntime) {
     for &(alg, key, fault) in &UNFIT {
@@ -236,6 +240,7 @@ fn issues_general(alloc: Global, numbers: &[(Alg, u32)], token: &str, cost: u64)
     }
 }
 
+/// A token in general form has its signatures in the order of their keys.
 #[test]
 fn tokens_in_general_form(rt: HostRuntime) {
     for &(numbers, token, cost) in &GENERAL {
@@ -280,6 +285,7 @@ fn refuses_general(
     }
 }
 
+/// A token is refused for the first pair of options and key that may not sign.
 #[test]
 fn pairs_that_may_not_sign(rt: HostRuntime) {
     for &(numbers, ceiling, fault, paid) in &UNFIT_GENERAL {
@@ -312,6 +318,7 @@ fn length_over(alloc: Global, len: usize) -> Option<(Result<usize, IssueFault>, 
     Some((token.map(|octets| octets.len()), budget.octets()))
 }
 
+/// One octet more is refused.
 #[test]
 fn the_longest_token_has_1048576_octets(rt: HostRuntime) -> Result<(), Fail> {
     let (length, _) = length_over(rt.alloc(), 786_383).ok_or("no key")?;
@@ -334,6 +341,7 @@ fn gathered(alloc: Global) -> Result<ClaimSet, Fail> {
     Ok(builder.finish().ok().ok_or("no claims")?)
 }
 
+/// Claims of several documents are one object, in which no name stands twice.
 #[test]
 fn claims_are_gathered_by_name(rt: HostRuntime) -> Result<(), Fail> {
     let claims = gathered(rt.alloc())?;
@@ -356,6 +364,7 @@ fn refuses_list(alloc: Global) -> Result<bool, AllocError> {
     Ok(matches!(read, Err(ClaimFault::ClaimsShape)))
 }
 
+/// A registered claim of another kind isn't issued.
 #[test]
 fn claims_of_another_kind_are_refused(rt: HostRuntime) -> Result<(), Fail> {
     assert!(rt; refuses_text_for_date(rt.alloc())?);

@@ -182,6 +182,7 @@ fn unmet(alloc: Global) -> Result<Option<&'static str>, Fail> {
     Ok(None)
 }
 
+/// A remembered token gets the verdict that its claims have at that moment, and no signature is tried.
 #[test]
 fn a_token_that_comes_again_is_judged_by_its_claims(rt: HostRuntime) -> Result<(), Fail> {
     assert_eq!(rt; unmet(rt.alloc())?, None);
@@ -239,6 +240,7 @@ fn tell_valid(
     Ok(())
 }
 
+/// A remembered token asks nothing.
 #[test]
 fn what_was_told_once_is_asked_no_more(rt: HostRuntime) -> Result<(), Fail> {
     let alloc = rt.alloc();

@@ -162,6 +162,7 @@ fn unmet(alloc: Global) -> Result<Option<&'static str>, Fail> {
     Ok(None)
 }
 
+/// Each token asks for the first pair without an answer, and is judged by the answers.
 #[test]
 fn a_token_is_judged_by_what_was_told(rt: HostRuntime) -> Result<(), Fail> {
     assert_eq!(rt; unmet(rt.alloc())?, None);

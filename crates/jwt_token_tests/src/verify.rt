@@ -17,6 +17,7 @@ use std::alloc::{AllocError, Global};
 use std::cell::Cell;
 use std::test::Fail;
 
+/// Each case gets its verdict, its tries, its states and its work.
 #[test]
 fn each_case_gets_its_report(rt: HostRuntime) -> Result<(), Fail> {
     for cases in tables() {
@@ -26,6 +27,7 @@ fn each_case_gets_its_report(rt: HostRuntime) -> Result<(), Fail> {
     Ok(())
 }
 
+/// Under each ceiling on work and calls the run stops where it is stated.
 #[test]
 fn each_ceiling_of_four_keys_gets_its_report(rt: HostRuntime) -> Result<(), Fail> {
     for &(first, last, gives) in &STEPS {
@@ -72,7 +74,7 @@ static GROWING: [Case; 7] = [
     THUMBPRINT_AS_KID,
 ];
 
-// `refused-growths` refuses each allocation of this test in turn.
+/// `refused-growths` refuses each allocation of this test in turn.
 #[test]
 fn a_refused_growth_changes_no_report(rt: HostRuntime) -> Result<(), Fail> {
     let mut refused = 0usize;
@@ -91,6 +93,7 @@ struct Dripped {
     pulls: usize,
 }
 
+/// The report on a token that comes octet by octet.
 fn drip_in(
     alloc: Global,
     policy: &'static str,
@@ -107,6 +110,7 @@ fn drip_in(
     })
 }
 
+/// Where a source fails, nothing is tried.
 #[test]
 fn a_source_that_fails_is_a_read_fault(rt: HostRuntime) -> Result<(), Fail> {
     let policy = r#"{"algs":["HS256"],"limit":179}"#;
@@ -125,6 +129,7 @@ fn a_source_that_fails_is_a_read_fault(rt: HostRuntime) -> Result<(), Fail> {
     Ok(())
 }
 
+/// No octet after the one past the limit is taken.
 #[test]
 fn what_follows_one_octet_past_the_limit_is_unread(rt: HostRuntime) -> Result<(), Fail> {
     let more = repeated(rt.alloc(), "A", "", 1000)?;
@@ -147,6 +152,7 @@ fn wanted_of(count: usize) -> &'static str {
     }
 }
 
+/// No prefix of an accepted token is accepted.
 #[test]
 fn a_token_that_is_cut_is_not_accepted(rt: HostRuntime) -> Result<(), Fail> {
     for n in 0..TOKEN_A.len() {
@@ -280,6 +286,7 @@ static PAIRS: [(usize, u64, &str, &str); 3] = [
     ),
 ];
 
+/// 32 signatures and 1,024 keys: each pair is tried once.
 #[test]
 fn as_many_pairs_as_there_can_be(rt: HostRuntime) -> Result<(), Fail> {
     for &(count, ceiling, begins, budget) in &PAIRS {
@@ -314,6 +321,7 @@ fn judged_kids(alloc: Global, first: &str) -> Option<String> {
     judged_with(alloc, token, &keys, HS256, AMPLE, Counts::Up)
 }
 
+/// Where the signature has a `kid`, no key that doesn't answer to it is tried.
 #[test]
 fn keys_of_another_kid_are_not_tried(rt: HostRuntime) -> Result<(), Fail> {
     for &(first, begins, ends) in &KIDS {
@@ -326,6 +334,7 @@ fn keys_of_another_kid_are_not_tried(rt: HostRuntime) -> Result<(), Fail> {
     Ok(())
 }
 
+/// A source that never ends is refused one octet past the limit.
 #[test]
 fn a_source_that_never_ends_is_too_long(rt: HostRuntime) -> Result<(), Fail> {
     let alloc = rt.alloc();
@@ -367,6 +376,7 @@ impl Verifier for Counting {
     }
 }
 
+/// A verifier is asked as often as calls are counted, and no more than `max_calls` times.
 #[test]
 fn a_verifier_is_asked_once_for_each_call(rt: HostRuntime) -> Result<(), Fail> {
     let alloc = rt.alloc();

@@ -29,65 +29,65 @@ pub record QuestionParts : Type 0 where
   pub signature : List ℕ
 
 abbrev pub question_parts : Asked → QuestionParts
-question_parts a = record { alg = a.alg; key = key_octets a.key; message = message_octets a.message; signature = a.signature.now }
+question_parts asked = record { alg = asked.alg; key = key_octets asked.key; message = message_octets asked.message; signature = asked.signature.now }
 
 -- that of a copy
 unfoldable pub kept_parts : AskedCopy → QuestionParts
-kept_parts c = record { alg = c.alg; key = key_view c.key; message = record { protected = (arc_value c.protected).items; payload = (arc_value c.payload).items }; signature = (arc_value c.signature).items }
+kept_parts copy = record { alg = copy.alg; key = key_view copy.key; message = record { protected = (arc_value copy.protected).items; payload = (arc_value copy.payload).items }; signature = (arc_value copy.signature).items }
 
 -- the question with an answer
 abbrev pub told_of : QuestionParts → Bool → ToldParts
-told_of q valid = record { alg = q.alg; key = q.key; message = q.message; signature = q.signature; valid = valid }
+told_of question valid = record { alg = question.alg; key = question.key; message = question.message; signature = question.signature; valid = valid }
 
 abbrev pub question_of : Token → SignatureParts → KeyParts → Option QuestionParts
-question_of t s k = option_map (λ a. record { alg = a; key = k.octets; message = message_of t s; signature = s.octets }) (alg s)
+question_of token signature key = option_map (λ a. record { alg = a; key = key.octets; message = message_of token signature; signature = signature.octets }) (alg signature)
 
--- the question whether key j made signature i of the token; none where one of them isn't there, or the algorithm isn't known
+-- the question whether the key made the signature of the token, by their numbers; none where one of them isn't there, or the algorithm isn't known
 unfoldable pub question_at : Token → List KeyParts → ℕ → ℕ → Option QuestionParts
-question_at t keys i j = at_pair (question_of t) None t keys i j
+question_at token keys signature key = at_pair (question_of token) None token keys signature key
 
 -- by this algorithm no answer was told to whether the key made the signature over the message; HMAC needs none
 abbrev pub is_untold : List ToldParts → Token → SignatureParts → KeyParts → Alg → Bool
-is_untold ts t s k a = not (is_hmac_alg a) && is_none (answer_to ts a k.octets (message_of t s) s.octets)
+is_untold answers token signature key algorithm = not (is_hmac_alg algorithm) && is_none (answer_to answers algorithm key.octets (message_of token signature) signature.octets)
 
--- key j and signature i of the token raise a question that no answer was told to
+-- the key and the signature of these numbers raise a question that no answer was told to
 unfoldable pub is_open : List ToldParts → Token → List KeyParts → ℕ → ℕ → Bool
-is_open ts t keys i j = at_pair (λ s k. option_map_or (is_untold ts t s k) (alg s) false) false t keys i j
+is_open answers token keys signature key = at_pair (λ s k. option_map_or (is_untold answers token s k) (alg s) false) false token keys signature key
 
 -- the question of a try is open
 abbrev pub asks_open : List ToldParts → Token → List KeyParts → Try → Bool
-asks_open ts t keys e = is_open ts t keys e.signature e.key
+asks_open answers token keys entry = is_open answers token keys entry.signature entry.key
 
 -- the first of these tries whose question is open
 abbrev pub first_open : List ToldParts → Token → List KeyParts → List Try → Option Try
-first_open ts t keys es = find (asks_open ts t keys) es
+first_open answers token keys made = find (asks_open answers token keys) made
 
--- x is a token, and whether key j verifies signature i is a question that no answer was told to
+-- the octets are a token, and whether the key verifies the signature is a question that no answer was told to
 abbrev pub IsOpen : List ToldParts → Settings → List ℕ → List KeyParts → ℕ → ℕ → Type 0
-IsOpen ts p x keys i j = (token : Token) × IsToken p x token
-    × AtPair token keys i j (λ s k. (a : Alg) × (alg s ≡ Some a) × (is_hmac_alg a ≡ false) × (answer_to ts a k.octets (message_of token s) s.octets ≡ None))
+IsOpen answers policy octets keys signature key = (token : Token) × IsToken policy octets token
+    × AtPair token keys signature key (λ s k. (algorithm : Alg) × (alg s ≡ Some algorithm) × (is_hmac_alg algorithm ≡ false) × (answer_to answers algorithm k.octets (message_of token s) s.octets ≡ None))
 
 -- the question of none of these tries is open
 abbrev pub NoneOpen : List ToldParts → Settings → List ℕ → List KeyParts → List Try → Type 0
-NoneOpen ts p x keys es = All (λ e. ¬ IsOpen ts p x keys e.signature e.key) es
+NoneOpen answers policy octets keys made = All (λ e. ¬ IsOpen answers policy octets keys e.signature e.key) made
 
--- key j and signature i are those of the first of these tries whose question is open
+-- the key and the signature are those of the first of these tries whose question is open
 abbrev pub IsFirstOpen : List ToldParts → Settings → List ℕ → List KeyParts → List Try → ℕ → ℕ → Type 0
-IsFirstOpen ts p x keys es i j = (before after : List Try) × (e : Try) × (es ≡ before ++ e ∷ after) × (e.signature ≡ i) × (e.key ≡ j)
-    × NoneOpen ts p x keys before × IsOpen ts p x keys i j
+IsFirstOpen answers policy octets keys made signature key = (before after : List Try) × (entry : Try) × (made ≡ before ++ entry ∷ after) × (entry.signature ≡ signature) × (entry.key ≡ key)
+    × NoneOpen answers policy octets keys before × IsOpen answers policy octets keys signature key
 
 -- these are the tries of a run that finds memory, where what wasn't told counts as invalid
 abbrev pub AreTries : Terms → List ℕ → ℕ → List Try → Type 0
-AreTries q x w es = (r : Report) × IsReport q x w r × FoundMemory r.verdict × (r.tries.items ≡ es)
+AreTries terms octets ceiling made = (report : Report) × IsReport terms octets ceiling report × FoundMemory report.verdict × (report.tries.items ≡ made)
 
 -- all that a verdict rests on but the token and the budget's ceiling, where this is the one verifier
 abbrev pub terms_by : Meaning → Settings → List KeyParts → ℤ → Terms
-terms_by m p keys now = record { policy = p; keys = keys; now = now; verifiers = m ∷ [] }
+terms_by verifier policy keys now = record { policy = policy; keys = keys; now = now; verifiers = verifier ∷ [] }
 
 -- Right answers give the true verdict: where each answer is true and no try's question is open, the verdict that rests on what was
 -- told is the verdict that rests on what is true.
 abbrev pub RightAnswers : Type 0
-RightAnswers = (ts : List ToldParts) (truth : Truth) (p : Settings) (keys : List KeyParts) (now : ℤ) (x : List ℕ) (w : ℕ) (r : Report)
-    → AreRight truth ts → IsReport (terms_by (told_meaning ts) p keys now) x w r → FoundMemory r.verdict
-    → NoneOpen ts p x keys r.tries.items
-    → IsVerdict (terms_by (true_meaning truth) p keys now) x w r.verdict
+RightAnswers = (answers : List ToldParts) (truth : Truth) (policy : Settings) (keys : List KeyParts) (now : ℤ) (octets : List ℕ) (ceiling : ℕ) (report : Report)
+    → AreRight truth answers → IsReport (terms_by (told_meaning answers) policy keys now) octets ceiling report → FoundMemory report.verdict
+    → NoneOpen answers policy octets keys report.tries.items
+    → IsVerdict (terms_by (true_meaning truth) policy keys now) octets ceiling report.verdict

@@ -18,8 +18,8 @@ Means V D = DynBox V Global D → Meaning
 
 -- the terms of the verdict
 abbrev pub asked_terms : {V : Type 0} {D : V → Type 0} → Means V D → Asked V D → Terms
-asked_terms means a = terms a.policy.now a.keys.now a.moment (map means a.verifiers.now)
+asked_terms means asked = terms asked.policy.now asked.keys.now asked.moment (map means asked.verifiers.now)
 
 -- the pairs of the token and the keys
 unfoldable pub asked_table : {V : Type 0} {D : V → Type 0} → Means V D → Asked V D → Signed → Table
-asked_table means a signed = table_of a.policy.now (map means a.verifiers.now) (key_set a.keys.now).keys (token signed)
+asked_table means asked signed = table_of asked.policy.now (map means asked.verifiers.now) (key_set asked.keys.now).keys (token signed)

@@ -28,89 +28,89 @@ use Rattle.jwt_verify.specs.Walk.{IsNextKey}
 
 -- signatures by the algorithm are verified by HMAC, or by the first verifier that names it
 abbrev pub IsVerifier : List Meaning → Alg → Option Meaning → Type 0
-IsVerifier verifiers a None = is_hmac_alg a ≡ true
-IsVerifier verifiers a (Some v) = (is_hmac_alg a ≡ false) × (first_naming verifiers a ≡ Some v)
+IsVerifier verifiers algorithm None = is_hmac_alg algorithm ≡ true
+IsVerifier verifiers algorithm (Some verifier) = (is_hmac_alg algorithm ≡ false) × (first_naming verifiers algorithm ≡ Some verifier)
 
 -- it is this signature of its token, nothing bars it, and its algorithm and its verifier are these
-pub record IsOpen {V : Type 0} {D : V → Type 0} (means : Means V D) (a : Asked V D) (u : Unbarred V D) : Type 0 where
-  pub signature : slice_get (token u.signed.now).signatures u.number ≡ Some (parts u.signature.now)
-  pub unbarred : bar_of a.policy.now (parts u.signature.now) (map means a.verifiers.now) ≡ None
-  pub named : alg (parts u.signature.now) ≡ Some u.alg
-  pub verifier : IsVerifier (map means a.verifiers.now) u.alg (option_map (λ v. means v.now) u.verifier)
+pub record IsOpen {V : Type 0} {D : V → Type 0} (means : Means V D) (asked : Asked V D) (opened : Unbarred V D) : Type 0 where
+  pub signature : slice_get (token opened.signed.now).signatures opened.number ≡ Some (parts opened.signature.now)
+  pub unbarred : bar_of asked.policy.now (parts opened.signature.now) (map means asked.verifiers.now) ≡ None
+  pub named : alg (parts opened.signature.now) ≡ Some opened.alg
+  pub verifier : IsVerifier (map means asked.verifiers.now) opened.alg (option_map (λ v. means v.now) opened.verifier)
 
 -- it is this one of its token
 abbrev pub IsThere : Numbered → Type 0
-IsThere n = slice_get (token n.signed.now).signatures n.number ≡ Some (parts n.signature.now)
+IsThere numbered = slice_get (token numbered.signed.now).signatures numbered.number ≡ Some (parts numbered.signature.now)
 
-pub record IsUnbarred {V : Type 0} {D : V → Type 0} (means : Means V D) (a : Asked V D) (n : Numbered) (u : Unbarred V D) : Type 0 where
-  pub same_token : u.signed.now ≡ n.signed.now
-  pub same_number : u.number ≡ n.number
-  pub is_open : IsOpen means a u
+pub record IsUnbarred {V : Type 0} {D : V → Type 0} (means : Means V D) (asked : Asked V D) (numbered : Numbered) (opened : Unbarred V D) : Type 0 where
+  pub same_token : opened.signed.now ≡ numbered.signed.now
+  pub same_number : opened.number ≡ numbered.number
+  pub is_open : IsOpen means asked opened
 
 -- ---- the try of a pair
 
 -- tags are for HMAC, verifiers for other algorithms
 abbrev pub IsFor : {V : Type 0} {D : V → Type 0} → Alg → Way V D → Type 0
-IsFor a (way.Tag k) = is_hmac_alg a ≡ true
-IsFor a (way.Asked v key) = is_hmac_alg a ≡ false
+IsFor algorithm (way.Tag secret) = is_hmac_alg algorithm ≡ true
+IsFor algorithm (way.Asked verifier key) = is_hmac_alg algorithm ≡ false
 
 -- by the algorithm and the key: a secret gives a tag, and the verifier is asked about the key
 abbrev pub IsWay : {V : Type 0} {D : V → Type 0} → Means V D → Option Meaning → KeyOctets → Option (Way V D) → Type 0
-IsWay means verifier key None = (verifier ≡ None) × ((k : List ℕ) → key ≢ OctKey k)
-IsWay means verifier key (Some (way.Tag k)) = (verifier ≡ None) × (key ≡ OctKey k.now)
-IsWay means verifier key (Some (way.Asked v view)) = (verifier ≡ Some (means v.now)) × (key ≡ key_octets view)
+IsWay means verifier key None = (verifier ≡ None) × ((secret : List ℕ) → key ≢ OctKey secret)
+IsWay means verifier key (Some (way.Tag secret)) = (verifier ≡ None) × (key ≡ OctKey secret.now)
+IsWay means verifier key (Some (way.Asked asked view)) = (verifier ≡ Some (means asked.now)) × (key ≡ key_octets view)
 
 -- the signature is the tag, or the verifier accepts it
 abbrev pub way_accepts : {V : Type 0} {D : V → Type 0} → Means V D → Alg → MessageOctets → List ℕ → Way V D → Bool
-way_accepts means a m signature (way.Tag k) = bytes_eq signature (tag_of a k.now (signing_input m))
-way_accepts means a m signature (way.Asked v key) = (means v.now).accepts a (key_octets key) m signature
+way_accepts means algorithm message signature (way.Tag secret) = bytes_eq signature (tag_of algorithm secret.now (signing_input message))
+way_accepts means algorithm message signature (way.Asked verifier key) = (means verifier.now).accepts algorithm (key_octets key) message signature
 
 -- the verifier may lack memory
 abbrev pub way_may_lack : {V : Type 0} {D : V → Type 0} → Means V D → Alg → MessageOctets → List ℕ → Way V D → Bool
-way_may_lack means a m signature (way.Tag k) = false
-way_may_lack means a m signature (way.Asked v key) = (means v.now).may_lack a (key_octets key) m signature
+way_may_lack means algorithm message signature (way.Tag secret) = false
+way_may_lack means algorithm message signature (way.Asked verifier key) = (means verifier.now).may_lack algorithm (key_octets key) message signature
 
 -- the octets that the try feeds to HMAC (RFC 2104, section 2)
 abbrev pub way_cost : {V : Type 0} {D : V → Type 0} → Alg → MessageOctets → Way V D → ℕ
-way_cost a m (way.Tag k) = try_cost a (length k.now) (length (signing_input m))
-way_cost a m (way.Asked v key) = 0
+way_cost algorithm message (way.Tag secret) = try_cost algorithm (length secret.now) (length (signing_input message))
+way_cost algorithm message (way.Asked verifier key) = 0
 
 abbrev pub pair_accepts : {V : Type 0} {D : V → Type 0} → Means V D → Pair V D → Bool
-pair_accepts means p = way_accepts means p.alg (message_octets p.message) p.octets.now p.way
+pair_accepts means pair = way_accepts means pair.alg (message_octets pair.message) pair.octets.now pair.way
 
 abbrev pub pair_may_lack : {V : Type 0} {D : V → Type 0} → Means V D → Pair V D → Bool
-pair_may_lack means p = way_may_lack means p.alg (message_octets p.message) p.octets.now p.way
+pair_may_lack means pair = way_may_lack means pair.alg (message_octets pair.message) pair.octets.now pair.way
 
 abbrev pub pair_cost : {V : Type 0} {D : V → Type 0} → Pair V D → ℕ
-pair_cost p = way_cost p.alg (message_octets p.message) p.way
+pair_cost pair = way_cost pair.alg (message_octets pair.message) pair.way
 
 -- what is listed of its try
 abbrev pub pair_entry : {V : Type 0} {D : V → Type 0} → Pair V D → Try
-pair_entry p = record { signature = p.signature; key = p.key; cost = pair_cost p }
+pair_entry pair = record { signature = pair.signature; key = pair.key; cost = pair_cost pair }
 
--- the pair of signature i and its next eligible key, as the table has it
-pub record IsNextPair {V : Type 0} {D : V → Type 0} (means : Means V D) (t : Table) (i from : ℕ) (p : Pair V D) : Type 0 where
-  pub next : IsNextKey t i from p.key
-  pub signature : p.signature ≡ i
-  pub is_for : IsFor p.alg p.way
-  pub valid : t.valid i p.key ≡ pair_accepts means p
-  pub may_lack : t.may_lack i p.key ≡ pair_may_lack means p
-  pub cost : t.cost i p.key ≡ pair_cost p
+-- the pair of the signature and its next eligible key, as the table has it
+pub record IsNextPair {V : Type 0} {D : V → Type 0} (means : Means V D) (table : Table) (number from : ℕ) (pair : Pair V D) : Type 0 where
+  pub next : IsNextKey table number from pair.key
+  pub signature : pair.signature ≡ number
+  pub is_for : IsFor pair.alg pair.way
+  pub valid : table.valid number pair.key ≡ pair_accepts means pair
+  pub may_lack : table.may_lack number pair.key ≡ pair_may_lack means pair
+  pub cost : table.cost number pair.key ≡ pair_cost pair
 
--- what its try came to: es are the tries before it, and fs those after it
+-- what its try came to, by the tries before it and those after it
 abbrev pub IsTried : {V : Type 0} {D : V → Type 0} → Means V D → ℕ → Option ℕ → List Try → Pair V D → List Try → Tried → Type 0
-IsTried means ceiling calls es p fs Verified = (fs ≡ es ++ pair_entry p ∷ []) × (pair_accepts means p ≡ true)
-IsTried means ceiling calls es p fs Failed = (fs ≡ es ++ pair_entry p ∷ []) × (pair_accepts means p ≡ false)
-IsTried means ceiling calls es p fs (Stop (WorkExceeded i j)) =
-    (i ≡ p.signature) × (j ≡ p.key) × (fs ≡ es) × (ceiling < work es + pair_cost p) × (is_within calls (length es + 1) ≡ true)
-IsTried means ceiling calls es p fs (Stop (CallsExceeded i j)) = (i ≡ p.signature) × (j ≡ p.key) × (fs ≡ es) × (is_within calls (length es + 1) ≡ false)
-IsTried means ceiling calls es p fs (Stop (VerifierMemory i j)) =
-    (i ≡ p.signature) × (j ≡ p.key) × (fs ≡ es ++ pair_entry p ∷ []) × (pair_may_lack means p ≡ true)
-IsTried means ceiling calls es p fs (Stop Done) = ⊥
+IsTried means ceiling calls before pair after Verified = (after ≡ before ++ pair_entry pair ∷ []) × (pair_accepts means pair ≡ true)
+IsTried means ceiling calls before pair after Failed = (after ≡ before ++ pair_entry pair ∷ []) × (pair_accepts means pair ≡ false)
+IsTried means ceiling calls before pair after (Stop (WorkExceeded signature key)) =
+    (signature ≡ pair.signature) × (key ≡ pair.key) × (after ≡ before) × (ceiling < work before + pair_cost pair) × (is_within calls (length before + 1) ≡ true)
+IsTried means ceiling calls before pair after (Stop (CallsExceeded signature key)) = (signature ≡ pair.signature) × (key ≡ pair.key) × (after ≡ before) × (is_within calls (length before + 1) ≡ false)
+IsTried means ceiling calls before pair after (Stop (VerifierMemory signature key)) =
+    (signature ≡ pair.signature) × (key ≡ pair.key) × (after ≡ before ++ pair_entry pair ∷ []) × (pair_may_lack means pair ≡ true)
+IsTried means ceiling calls before pair after (Stop Done) = ⊥
 
 -- ---- all signatures
 
 -- what they come to, where each try was made
 abbrev pub IsSigned : Table → Signing → End → Type 0
-IsSigned t s Done = signing_view s ≡ signing_of t
-IsSigned t s _ = Unit {0}
+IsSigned table signing Done = signing_view signing ≡ signing_of table
+IsSigned table signing _ = Unit {0}

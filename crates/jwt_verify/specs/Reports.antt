@@ -28,7 +28,7 @@ use Rattle.jwt_verify.specs.Trying.{at_pair}
 use Rattle.jwt_verify.specs.Verdict.{Terms, without_line_feed}
 
 abbrev pub terms : Settings → KeySet → ℤ → List Meaning → Terms
-terms p keys now verifiers = record { policy = p; keys = map key_parts keys.keys.items; now = now; verifiers = verifiers }
+terms policy keys now verifiers = record { policy = policy; keys = map key_parts keys.keys.items; now = now; verifiers = verifiers }
 
 -- the verdict doesn't say that memory was refused, to the run or to a verifier that was asked
 abbrev pub FoundMemory : Verdict → Type 0
@@ -36,60 +36,60 @@ FoundMemory (Refused OutOfMemory) = ⊥
 FoundMemory (Refused VerifierMemory) = ⊥
 FoundMemory _ = Unit {0}
 
--- signature i is reached, and the run, which stops at the pair o if it does, goes through it and doesn't stop there
+-- the signature is reached, and the run, wherever it stops, goes through it and doesn't stop there
 abbrev pub GoesThrough : Table → Option Try → ℕ → Type 0
-GoesThrough t o i = (reached t i ≡ true) × ((e : Try) → o ≡ Some e → i < e.signature)
+GoesThrough table stop signature = (reached table signature ≡ true) × ((e : Try) → stop ≡ Some e → signature < e.signature)
 
--- the state of signature i: what becomes of it
+-- the state of the signature: what becomes of it, by the pair at which the run stops, if it does
 abbrev pub IsState : Table → Option Try → ℕ → SigState → Type 0
-IsState t o i Stopped = (e : Try) × (o ≡ Some e) × (e.signature ≡ i)
-IsState t o i NotReached = ((e : Try) × (o ≡ Some e) × (e.signature < i)) ⊎ ((reached t i ≡ false) × ((e : Try) → o ≡ Some e → e.signature ≢ i))
-IsState t o i (Barred f) = GoesThrough t o i × (t.bar i ≡ Some f)
-IsState t o i (Verified j) = GoesThrough t o i × (t.bar i ≡ None) × IsLeastKey t i j
-IsState t o i NoKey = GoesThrough t o i × (t.bar i ≡ None) × ((j : ℕ) → j < t.keys → t.eligible i j ≡ false)
-IsState t o i BadSignature = GoesThrough t o i × (t.bar i ≡ None) × (verified t i ≡ false) × ((j : ℕ) × (j < t.keys) × (t.eligible i j ≡ true))
+IsState table stop signature Stopped = (e : Try) × (stop ≡ Some e) × (e.signature ≡ signature)
+IsState table stop signature NotReached = ((e : Try) × (stop ≡ Some e) × (e.signature < signature)) ⊎ ((reached table signature ≡ false) × ((e : Try) → stop ≡ Some e → e.signature ≢ signature))
+IsState table stop signature (Barred fault) = GoesThrough table stop signature × (table.bar signature ≡ Some fault)
+IsState table stop signature (Verified key) = GoesThrough table stop signature × (table.bar signature ≡ None) × IsLeastKey table signature key
+IsState table stop signature NoKey = GoesThrough table stop signature × (table.bar signature ≡ None) × ((key : ℕ) → key < table.keys → table.eligible signature key ≡ false)
+IsState table stop signature BadSignature = GoesThrough table stop signature × (table.bar signature ≡ None) × (verified table signature ≡ false) × ((key : ℕ) × (key < table.keys) × (table.eligible signature key ≡ true))
 
 -- Where memory was there, the tries listed are those that are paid, and each signature has its state where the run stops at the try
 -- after them, if there is one. Where a verifier lacked memory, the last try is the one that it was asked for, and the run stopped
 -- there. After OutOfMemory nothing is said of the states.
 abbrev pub IsComplete : Table → ℕ → Option ℕ → List Try → List SigState → Verdict → Type 0
-IsComplete t w calls es sts (Refused OutOfMemory) = Unit {0}
-IsComplete t w calls es sts (Refused VerifierMemory) =
-    (before : List Try) × (e : Try) × (es ≡ before ++ e ∷ []) × (t.may_lack e.signature e.key ≡ true) × AllZip (IsState t (Some e)) (below t.signatures) sts
-IsComplete t w calls es sts _ = ArePaid t w calls es × AllZip (IsState t (slice_get (tries t) (length es))) (below t.signatures) sts
+IsComplete table ceiling calls made states (Refused OutOfMemory) = Unit {0}
+IsComplete table ceiling calls made states (Refused VerifierMemory) =
+    (before : List Try) × (e : Try) × (made ≡ before ++ e ∷ []) × (table.may_lack e.signature e.key ≡ true) × AllZip (IsState table (Some e)) (below table.signatures) states
+IsComplete table ceiling calls made states _ = ArePaid table ceiling calls made × AllZip (IsState table (slice_get (tries table) (length made))) (below table.signatures) states
 
--- The report on x, w being the budget's ceiling: its verdict, unless memory was refused, is that on x; of a signed token it lists
+-- The report on the octets under the budget's ceiling: its verdict, unless memory was refused, is theirs; of a signed token it lists
 -- a prefix of the tries that both ceilings allow, and what its run comes to; of anything else no try and no state; after
 -- OutOfMemory nothing is said of the states.
-pub record IsReport (q : Terms) (x : List ℕ) (w : ℕ) (r : Report) : Type 0 where
-  pub verdict : FoundMemory r.verdict → IsVerdict q x w r.verdict
-  pub run : (token : Token) (t : Table) → IsAsking q x token t → IsFront t r.tries.items × AreAllowed w q.policy.max_calls r.tries.items
-      × IsComplete t w q.policy.max_calls r.tries.items r.states.items r.verdict
-  pub blank : ((token : Token) → ¬ IsToken q.policy x token)
-      → (r.tries.items ≡ []) × ((r.verdict ≡ Refused OutOfMemory) ⊎ (FoundMemory r.verdict × (r.states.items ≡ [])))
+pub record IsReport (terms : Terms) (octets : List ℕ) (ceiling : ℕ) (report : Report) : Type 0 where
+  pub verdict : FoundMemory report.verdict → IsVerdict terms octets ceiling report.verdict
+  pub run : (token : Token) (table : Table) → IsAsking terms octets token table → IsFront table report.tries.items × AreAllowed ceiling terms.policy.max_calls report.tries.items
+      × IsComplete table ceiling terms.policy.max_calls report.tries.items report.states.items report.verdict
+  pub blank : ((token : Token) → ¬ IsToken terms.policy octets token)
+      → (report.tries.items ≡ []) × ((report.verdict ≡ Refused OutOfMemory) ⊎ (FoundMemory report.verdict × (report.states.items ≡ [])))
 
--- the token that was read for this verdict is the one that x is; none where x is none, or memory was refused
+-- the token that was read for this verdict is the one that the octets are; none where they are none, or memory was refused
 abbrev pub IsReadAs : Settings → List ℕ → Verdict → Option Signed → Type 0
-IsReadAs p x v (Some signed) = IsToken p x (token_view signed)
-IsReadAs p x v None = v ≢ Refused OutOfMemory → (token : Token) → ¬ IsToken p x token
+IsReadAs policy octets verdict (Some signed) = IsToken policy octets (token_view signed)
+IsReadAs policy octets verdict None = verdict ≢ Refused OutOfMemory → (token : Token) → ¬ IsToken policy octets token
 
 -- each of these tries is of an eligible pair
 abbrev pub AreEligible : Terms → List ℕ → List Try → Type 0
-AreEligible q x es = (token : Token) → IsToken q.policy x token → All (λ e. AtPair token q.keys e.signature e.key (λ s key. IsEligible q.policy s key q.verifiers)) es
+AreEligible terms octets made = (token : Token) → IsToken terms.policy octets token → All (λ e. AtPair token terms.keys e.signature e.key (λ s key. IsEligible terms.policy s key terms.verifiers)) made
 
 -- so many octets are within the bound on these tries: signatures times keys times the common cost, and each long key once for each
 -- of its tries
 abbrev pub IsBounded : Terms → List ℕ → List Try → ℕ → Type 0
-IsBounded q x es octets = (token : Token) → IsToken q.policy x token → octets
-    ≤ length token.signatures * length q.keys * common_cost q.policy token
-    + sum_by (λ e. at_pair long_key 0 token q.keys e.signature e.key) es
+IsBounded terms token_octets made octets = (token : Token) → IsToken terms.policy token_octets token → octets
+    ≤ length token.signatures * length terms.keys * common_cost terms.policy token
+    + sum_by (λ e. at_pair long_key 0 token terms.keys e.signature e.key) made
 
--- Reading x takes memory: it isn't too long and, without the line feed that is dropped, it is in JSON form or in compact form. So
+-- Reading takes memory: the octets aren't too long and, without the line feed that is dropped, they are in JSON form or in compact form. So
 -- want of memory stands in place of neither TooLong, Empty nor a wrong number of periods.
 abbrev pub TakesMemory : Settings → List ℕ → Type 0
-TakesMemory p x = (length x ≤ p.run.limit)
-    × ((opens_object (without_line_feed p.run.line_feed x) ≡ true) ⊎ ((h m g : List ℕ) × IsCompact (without_line_feed p.run.line_feed x) h m g))
+TakesMemory policy octets = (length octets ≤ policy.run.limit)
+    × ((opens_object (without_line_feed policy.run.line_feed octets) ≡ true) ⊎ ((protected payload signature : List ℕ) × IsCompact (without_line_feed policy.run.line_feed octets) protected payload signature))
 
 -- the source failed, or memory was refused before anything was tried
 abbrev pub Failed : Verdict → List Try → List SigState → Type 0
-Failed v es sts = ((v ≡ Refused (Text Read)) ⊎ (v ≡ Refused OutOfMemory)) × (es ≡ []) × (sts ≡ [])
+Failed verdict made states = ((verdict ≡ Refused (Text Read)) ⊎ (verdict ≡ Refused OutOfMemory)) × (made ≡ []) × (states ≡ [])

@@ -19,10 +19,10 @@ use Rattle.jwt_verify.specs.Verdict.{Terms, Signing, fault_of, first_in, signing
 use Rattle.jwt_verify.specs.Asks.{IsToken}
 use Rattle.jwt_verify.specs.Reports.{FoundMemory, IsReport, AreEligible, IsBounded}
 
--- the octets of x that are held, and what is still to come; or nothing is held, and at most the limit was taken
+-- the octets that are held, and what is still to come; or nothing is held, and at most the limit was taken
 abbrev pub Holds : Result Bounded Fault → ℕ → List ℕ → Option (List ℕ) → Type 0
-Holds (Ok held) limit x rest = (held.octets ≡ taken x limit) × (rest ≡ Some (drop (limit + 1) x))
-Holds (Err _) limit x rest = (front back : List ℕ) × (x ≡ front ++ back) × (rest ≡ Some back) × (length front ≤ limit)
+Holds (Ok held) limit octets rest = (held.octets ≡ taken octets limit) × (rest ≡ Some (drop (limit + 1) octets))
+Holds (Err _) limit octets rest = (front back : List ℕ) × (octets ≡ front ++ back) × (rest ≡ Some back) × (length front ≤ limit)
 
 -- why nothing is held, by whether the source had failed, and whether it has: where memory was refused, it didn't fail now
 abbrev pub IsSourceFault : Bool → Bool → Fault → Type 0
@@ -35,46 +35,46 @@ IsSourceFault before failed _ = ⊥
 -- A run that found memory lists all that is paid, and every state. Where a verifier lacked it, the last try is the one that it
 -- was asked for, and the states are those of a run that stopped there.
 abbrev pub IsWhole : Table → ℕ → Option ℕ → List Try → List SigState → Verdict → Type 0
-IsWhole t w calls es sts (Refused OutOfMemory) = Unit {0}
-IsWhole t w calls es sts (Refused VerifierMemory) =
-    (before : List Try) × (e : Try) × (es ≡ before ++ e ∷ []) × (t.may_lack e.signature e.key ≡ true) × (sts ≡ states_at t (Some e))
-IsWhole t w calls es sts _ = (es ≡ paid t w calls) × (sts ≡ states t w calls)
+IsWhole table ceiling calls made found (Refused OutOfMemory) = Unit {0}
+IsWhole table ceiling calls made found (Refused VerifierMemory) =
+    (before : List Try) × (e : Try) × (made ≡ before ++ e ∷ []) × (table.may_lack e.signature e.key ≡ true) × (found ≡ states_at table (Some e))
+IsWhole table ceiling calls made found _ = (made ≡ paid table ceiling calls) × (found ≡ states table ceiling calls)
 
--- the report on x, by these steps
-pub record IsListed (q : Terms) (x : List ℕ) (w : ℕ) (r : Report) : Type 0 where
-  pub verdict : FoundMemory r.verdict → r.verdict ≡ verdict_of q x w
-  pub whole : IsWhole (table q x) w q.policy.max_calls r.tries.items r.states.items r.verdict
-  pub front : (more : List Try) × (paid (table q x) w q.policy.max_calls ≡ r.tries.items ++ more)
+-- the report on the octets, by these steps
+pub record IsListed (terms : Terms) (octets : List ℕ) (ceiling : ℕ) (report : Report) : Type 0 where
+  pub verdict : FoundMemory report.verdict → report.verdict ≡ verdict_of terms octets ceiling
+  pub whole : IsWhole (table terms octets) ceiling terms.policy.max_calls report.tries.items report.states.items report.verdict
+  pub front : (more : List Try) × (paid (table terms octets) ceiling terms.policy.max_calls ≡ report.tries.items ++ more)
 
 -- what these steps leave is the report in words; its tries are of eligible pairs, and within the bound
 abbrev pub ReportsInWords : Type 0
-ReportsInWords = (q : Terms) (x : List ℕ) (w : ℕ) (r : Report) → IsListed q x w r
-    → IsReport q x w r × AreEligible q x r.tries.items × IsBounded q x r.tries.items (work r.tries.items)
+ReportsInWords = (terms : Terms) (octets : List ℕ) (ceiling : ℕ) (report : Report) → IsListed terms octets ceiling report
+    → IsReport terms octets ceiling report × AreEligible terms octets report.tries.items × IsBounded terms octets report.tries.items (work report.tries.items)
 
 -- what is past the octet behind the limit plays no part
 abbrev pub ReportsOnTaken : Type 0
-ReportsOnTaken = (q : Terms) (x : List ℕ) (w : ℕ) (r : Report) → IsReport q (taken x q.policy.run.limit) w r → IsReport q x w r
+ReportsOnTaken = (terms : Terms) (octets : List ℕ) (ceiling : ℕ) (report : Report) → IsReport terms (taken octets terms.policy.run.limit) ceiling report → IsReport terms octets ceiling report
 
 abbrev pub TakenTokens : Type 0
-TakenTokens = (q : Terms) (x : List ℕ) (token : Token) → IsToken q.policy x token → IsToken q.policy (taken x q.policy.run.limit) token
+TakenTokens = (terms : Terms) (octets : List ℕ) (token : Token) → IsToken terms.policy octets token → IsToken terms.policy (taken octets terms.policy.run.limit) token
 
 -- the report in words says what these steps leave, where memory was there
 abbrev pub TellsReports : Type 0
-TellsReports = (q : Terms) (x : List ℕ) (w : ℕ) (r : Report) → IsReport q x w r → FoundMemory r.verdict
-    → (r.verdict ≡ verdict_of q x w) × (r.tries.items ≡ paid (table q x) w q.policy.max_calls) × (r.states.items ≡ states (table q x) w q.policy.max_calls)
+TellsReports = (terms : Terms) (octets : List ℕ) (ceiling : ℕ) (report : Report) → IsReport terms octets ceiling report → FoundMemory report.verdict
+    → (report.verdict ≡ verdict_of terms octets ceiling) × (report.tries.items ≡ paid (table terms octets) ceiling terms.policy.max_calls) × (report.states.items ≡ states (table terms octets) ceiling terms.policy.max_calls)
 
 -- ---- the states of a run, one by one
 
 -- the key that verifies a signature in this state
 abbrev pub key_of : SigState → Option ℕ
-key_of (Verified j) = Some j
+key_of (Verified key) = Some key
 key_of _ = None
 
 abbrev pub key_in : List SigState → ℕ → Option ℕ
-key_in states i = option_and_then key_of (slice_get states i)
+key_in states signature = option_and_then key_of (slice_get states signature)
 
 abbrev pub fault_in : List SigState → ℕ → Option SigFault
-fault_in states i = option_and_then fault_of (slice_get states i)
+fault_in states signature = option_and_then fault_of (slice_get states signature)
 
 -- what the signatures in these states come to
 abbrev pub signing_by : Mode → List SigState → Signing

@@ -22,83 +22,83 @@ pub record Table : Type 0 where
   pub may_lack : ℕ → ℕ → Bool
   pub cost : ℕ → ℕ → ℕ
 
--- the numbers below n
+-- so many numbers, from 0
 unfoldable pub below : ℕ → List ℕ
-below n = range_with_len 0 n
+below count = range_with_len 0 count
 
--- key j is eligible and valid for signature i
+-- the key is eligible and valid for the signature
 unfoldable pub verifies : Table → ℕ → ℕ → Bool
-verifies t i j = t.eligible i j && t.valid i j
+verifies table signature key = table.eligible signature key && table.valid signature key
 
 -- some key is
 unfoldable pub verified : Table → ℕ → Bool
-verified t i = list_any (verifies t i) (below t.keys)
+verified table signature = list_any (verifies table signature) (below table.keys)
 
--- no signature before i is verified, or each one is, by the mode
+-- no signature before this one is verified, or each one is, by the mode
 unfoldable pub reached_in : Mode → Table → ℕ → Bool
-reached_in Any t i = not (list_any (verified t) (below i))
-reached_in All t i = list_all (verified t) (below i)
+reached_in Any table signature = not (list_any (verified table) (below signature))
+reached_in All table signature = list_all (verified table) (below signature)
 
 unfoldable pub reached : Table → ℕ → Bool
-reached t i = reached_in t.mode t i
+reached table signature = reached_in table.mode table signature
 
--- signature i is reached, key j is eligible, and no key before j is eligible and valid
+-- the signature is reached, the key is eligible, and no key before it is eligible and valid
 unfoldable pub tried : Table → ℕ → ℕ → Bool
-tried t i j = reached t i && (t.eligible i j && not (list_any (verifies t i) (below j)))
+tried table signature key = reached table signature && (table.eligible signature key && not (list_any (verifies table signature) (below key)))
 
 abbrev pub entry : Table → ℕ → ℕ → Try
-entry t i j = record { signature = i; key = j; cost = t.cost i j }
+entry table signature key = record { signature = signature; key = key; cost = table.cost signature key }
 
 -- all pairs in dictionary order
 unfoldable pub pairs : Table → List Try
-pairs t = flat_map (λ i. map (entry t i) (below t.keys)) (below t.signatures)
+pairs table = flat_map (λ signature. map (entry table signature) (below table.keys)) (below table.signatures)
 
 -- the tries: all pairs that are tried, in that order
 unfoldable pub tries : Table → List Try
-tries t = filter (λ e. tried t e.signature e.key) (pairs t)
+tries table = filter (λ e. tried table e.signature e.key) (pairs table)
 
 unfoldable pub work : List Try → ℕ
-work es = sum_by (λ e. e.cost) es
+work made = sum_by (λ e. e.cost) made
 
--- n is within a ceiling, where there is one
+-- so many calls are within the ceiling, where there is one
 unfoldable pub is_within : Option ℕ → ℕ → Bool
-is_within ceiling n = option_map_or (λ c. nat_le n c) ceiling true
+is_within ceiling calls = option_map_or (λ c. nat_le calls c) ceiling true
 
--- the first n tries are within both ceilings
+-- so many of the first tries are within both ceilings
 unfoldable pub affords : Table → ℕ → Option ℕ → ℕ → Bool
-affords t octets calls n = nat_le (work (take n (tries t))) octets && is_within calls n
+affords table octets calls count = nat_le (work (take count (tries table))) octets && is_within calls count
 
 -- the longest prefix of the tries within both ceilings
 unfoldable pub paid : Table → ℕ → Option ℕ → List Try
-paid t octets calls = take (prefix_len (affords t octets calls) (range_with_len 1 (length (tries t)))) (tries t)
+paid table octets calls = take (prefix_len (affords table octets calls) (range_with_len 1 (length (tries table)))) (tries table)
 
 -- the pair at which the run stops: the one after the paid ones
 unfoldable pub stop : Table → ℕ → Option ℕ → Option Try
-stop t octets calls = slice_get (tries t) (length (paid t octets calls))
+stop table octets calls = slice_get (tries table) (length (paid table octets calls))
 
 -- what becomes of a signature that is reached and not stopped: it is barred, some key verifies it, or none does, and some or none
 -- is eligible
 unfoldable pub outcome : Table → ℕ → SigState
-outcome t i = option_map_or Barred (t.bar i) (option_map_or Verified (find (verifies t i) (below t.keys)) (if list_any (t.eligible i) (below t.keys) then BadSignature else NoKey))
+outcome table signature = option_map_or Barred (table.bar signature) (option_map_or Verified (find (verifies table signature) (below table.keys)) (if list_any (table.eligible signature) (below table.keys) then BadSignature else NoKey))
 
--- what becomes of signature i, where the run stops at the pair o, if it does
+-- what becomes of the signature, by the pair at which the run stops, if it does
 unfoldable pub state_at : Table → Option Try → ℕ → SigState
-state_at t o i =
-    if option_map_or (λ e. e.signature == i) o false then Stopped
-    else if reached t i && not (option_map_or (λ e. nat_lt e.signature i) o false) then outcome t i
+state_at table stopped signature =
+    if option_map_or (λ e. e.signature == signature) stopped false then Stopped
+    else if reached table signature && not (option_map_or (λ e. nat_lt e.signature signature) stopped false) then outcome table signature
     else NotReached
 
 unfoldable pub states_at : Table → Option Try → List SigState
-states_at t o = map (state_at t o) (below t.signatures)
+states_at table stopped = map (state_at table stopped) (below table.signatures)
 
 abbrev pub states : Table → ℕ → Option ℕ → List SigState
-states t octets calls = states_at t (stop t octets calls)
+states table octets calls = states_at table (stop table octets calls)
 
 -- how a run ends that finds memory
 abbrev pub ending : Table → ℕ → Option ℕ → End
-ending t octets calls = option_map_or (λ e. if is_within calls (length (paid t octets calls) + 1) then WorkExceeded e.signature e.key else CallsExceeded e.signature e.key) (stop t octets calls) Done
+ending table octets calls = option_map_or (λ e. if is_within calls (length (paid table octets calls) + 1) then WorkExceeded e.signature e.key else CallsExceeded e.signature e.key) (stop table octets calls) Done
 
 -- what a run that finds memory leaves: the paid tries, the states and the ending; where a verifier found none, the tries end with the pair that was asked
 abbrev pub IsRun : Table → ℕ → Option ℕ → List Try → List SigState → End → Type 0
-IsRun t octets calls es sts (VerifierMemory i j) = ((before : List Try) × (es ≡ before ++ entry t i j ∷ [])) × (t.may_lack i j ≡ true) × (sts ≡ states_at t (Some (entry t i j)))
-IsRun t octets calls es sts r = (es ≡ paid t octets calls) × (sts ≡ states t octets calls) × (r ≡ ending t octets calls)
+IsRun table octets calls made found (VerifierMemory signature key) = ((before : List Try) × (made ≡ before ++ entry table signature key ∷ [])) × (table.may_lack signature key ≡ true) × (found ≡ states_at table (Some (entry table signature key)))
+IsRun table octets calls made found end = (made ≡ paid table octets calls) × (found ≡ states table octets calls) × (end ≡ ending table octets calls)

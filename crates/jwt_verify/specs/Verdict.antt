@@ -38,51 +38,51 @@ pub record Terms : Type 0 where
 
 -- ---- the token
 
--- x without one line feed at its end, where that is to be dropped
+-- the octets without one line feed at their end, where that is to be dropped
 abbrev pub without_line_feed : Bool → List ℕ → List ℕ
-without_line_feed drops x = if drops && option_map_or (λ octet. octet == 10) (slice_get x (length x - 1)) false then take (length x - 1) x else x
+without_line_feed drops octets = if drops && option_map_or (λ octet. octet == 10) (slice_get octets (length octets - 1)) false then take (length octets - 1) octets else octets
 
 abbrev pub formed : Result Token FormFault → Result Token Fault
-formed (Ok t) = Ok t
-formed (Err f) = Err (Form f)
+formed (Ok token) = Ok token
+formed (Err fault) = Err (Form fault)
 
--- the signed token that x is (RFC 7515, section 7), or why it is none
+-- the signed token that the octets are (RFC 7515, section 7), or why they are none
 unfoldable pub token_of : Settings → List ℕ → Result Token Fault
-token_of p x = if nat_lt p.run.limit (length x) then Err (Text TooLong) else formed (form_of p.run.max_signatures (without_line_feed p.run.line_feed x))
+token_of policy octets = if nat_lt policy.run.limit (length octets) then Err (Text TooLong) else formed (form_of policy.run.max_signatures (without_line_feed policy.run.line_feed octets))
 
 -- a token without signatures, in place of what is none
 abbrev pub no_token : Token
 no_token = record { form = Compact; payload_text = []; payload = []; signatures = [] }
 
 abbrev pub token_or_none : Result Token Fault → Token
-token_or_none (Ok t) = t
-token_or_none (Err f) = no_token
+token_or_none (Ok token) = token
+token_or_none (Err fault) = no_token
 
--- the pairs of x and the keys; none where x is no token
+-- the pairs of the token and the keys; none where the octets are no token
 unfoldable pub table : Terms → List ℕ → Table
-table q x = table_of q.policy q.verifiers q.keys (token_or_none (token_of q.policy x))
+table terms octets = table_of terms.policy terms.verifiers terms.keys (token_or_none (token_of terms.policy octets))
 
 -- ---- the signatures
 
 -- the first of these numbers that has an answer, with it
 abbrev pub first_in : {A : Type 0} → (ℕ → Option A) → List ℕ → Option (ℕ × A)
-first_in f [] = None
-first_in f (i ∷ is) = option_map_or (λ a. Some (i, a)) (f i) (first_in f is)
+first_in answer [] = None
+first_in answer (number ∷ numbers) = option_map_or (λ found. Some (number, found)) (answer number) (first_in answer numbers)
 
 -- why a signature in this state isn't verified
 abbrev pub fault_of : SigState → Option SigFault
-fault_of (Barred f) = Some f
+fault_of (Barred fault) = Some fault
 fault_of NoKey = Some sig_fault.NoKey
 fault_of BadSignature = Some sig_fault.BadSignature
 fault_of _ = None
 
 -- the least eligible and valid key of a signature
 abbrev pub key_at : Table → ℕ → Option ℕ
-key_at t i = find (verifies t i) (below t.keys)
+key_at table signature = find (verifies table signature) (below table.keys)
 
 -- why a signature isn't verified: its bar, or no key is eligible, or none of them is valid
 abbrev pub fault_at : Table → ℕ → Option SigFault
-fault_at t i = fault_of (outcome t i)
+fault_at table signature = fault_of (outcome table signature)
 
 -- what the signatures come to
 pub data Signing : Type 0 where
@@ -90,53 +90,53 @@ pub data Signing : Type 0 where
   Unverified : ℕ → SigFault → Signing
 
 abbrev pub unverified : Option (ℕ × SigFault) → Signing
-unverified (Some f) = Unverified f.0 f.1
+unverified (Some first) = Unverified first.0 first.1
 unverified None = Unverified 0 sig_fault.NoKey
 
 abbrev pub verified_or : Option (ℕ × SigFault) → Option (ℕ × ℕ) → Signing
-verified_or f (Some v) = VerifiedBy v.0 v.1
-verified_or f None = unverified f
+verified_or unverified_one (Some verified_one) = VerifiedBy verified_one.0 verified_one.1
+verified_or unverified_one None = unverified unverified_one
 
--- by the first verified signature v and the first one f that isn't verified: in mode Any v counts, in mode All f does
+-- by the first verified signature and the first that isn't verified: in mode Any the verified one counts, in mode All the other
 abbrev pub signing_in : Mode → Option (ℕ × ℕ) → Option (ℕ × SigFault) → Signing
-signing_in Any v f = verified_or f v
-signing_in All v None = verified_or None v
-signing_in All v (Some f) = Unverified f.0 f.1
+signing_in Any verified_one unverified_one = verified_or unverified_one verified_one
+signing_in All verified_one None = verified_or None verified_one
+signing_in All verified_one (Some unverified_one) = Unverified unverified_one.0 unverified_one.1
 
 unfoldable pub signing_of : Table → Signing
-signing_of t = signing_in t.mode (first_in (key_at t) (below t.signatures)) (first_in (fault_at t) (below t.signatures))
+signing_of table = signing_in table.mode (first_in (key_at table) (below table.signatures)) (first_in (fault_at table) (below table.signatures))
 
 -- ---- the verdict
 
 abbrev pub checked : (signature key : ℕ) → Members → Option ClaimFault → Verdict
-checked i j claims None = Accepted i j claims
-checked i j claims (Some f) = Refused (Claim f)
+checked signature key claims None = Accepted signature key claims
+checked signature key claims (Some fault) = Refused (Claim fault)
 
 abbrev pub claims_verdict : Settings → ℤ → (signature key : ℕ) → Result Members ClaimFault → Verdict
-claims_verdict p now i j (Ok claims) = checked i j claims (check_of p claims now)
-claims_verdict p now i j (Err f) = Refused (Claim f)
+claims_verdict policy now signature key (Ok claims) = checked signature key claims (check_of policy claims now)
+claims_verdict policy now signature key (Err fault) = Refused (Claim fault)
 
 -- the claims are looked at once the signatures are verified (RFC 7519, section 7.2)
 abbrev pub conclusion : Settings → ℤ → List ℕ → Signing → Verdict
-conclusion p now payload (VerifiedBy i j) = claims_verdict p now i j (claims_of payload)
-conclusion p now payload (Unverified i f) = Refused (Signature i f)
+conclusion policy now payload (VerifiedBy signature key) = claims_verdict policy now signature key (claims_of payload)
+conclusion policy now payload (Unverified signature fault) = Refused (Signature signature fault)
 
 -- a run that stopped gives a refusal
 abbrev pub unless_stopped : End → Verdict → Verdict
-unless_stopped (end.WorkExceeded i j) v = Refused (WorkExceeded i j)
-unless_stopped (end.CallsExceeded i j) v = Refused (CallsExceeded i j)
-unless_stopped (end.VerifierMemory i j) v = Refused VerifierMemory
-unless_stopped end.Done v = v
+unless_stopped (end.WorkExceeded signature key) verdict = Refused (WorkExceeded signature key)
+unless_stopped (end.CallsExceeded signature key) verdict = Refused (CallsExceeded signature key)
+unless_stopped (end.VerifierMemory signature key) verdict = Refused VerifierMemory
+unless_stopped end.Done verdict = verdict
 
--- the verdict on a signed token, where w is the budget's ceiling
+-- the verdict on a signed token under the budget's ceiling
 unfoldable pub token_verdict : Terms → ℕ → Token → Verdict
-token_verdict q w t = let table = table_of q.policy q.verifiers q.keys t in
-    unless_stopped (ending table w q.policy.max_calls) (conclusion q.policy q.now t.payload (signing_of table))
+token_verdict terms ceiling token = let asked = table_of terms.policy terms.verifiers terms.keys token in
+    unless_stopped (ending asked ceiling terms.policy.max_calls) (conclusion terms.policy terms.now token.payload (signing_of asked))
 
 abbrev pub decided : Terms → ℕ → Result Token Fault → Verdict
-decided q w (Ok t) = token_verdict q w t
-decided q w (Err f) = Refused f
+decided terms ceiling (Ok token) = token_verdict terms ceiling token
+decided terms ceiling (Err fault) = Refused fault
 
--- the verdict on x
+-- the verdict on the octets
 unfoldable pub verdict_of : Terms → List ℕ → ℕ → Verdict
-verdict_of q x w = decided q w (token_of q.policy x)
+verdict_of terms octets ceiling = decided terms ceiling (token_of terms.policy octets)

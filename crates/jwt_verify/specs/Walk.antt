@@ -18,75 +18,75 @@ use Rattle.jwt_verify.specs.Table.{Table, below, verifies, verified, reached, tr
 use Rattle.jwt_verify.specs.Paying.{IsFront, IsNext}
 
 abbrev pub is_tried : Table → Try → Bool
-is_tried t e = tried t e.signature e.key
+is_tried table entry = tried table entry.signature entry.key
 
--- the tries of signature i with the keys before j
+-- the tries of the signature with the keys before this one
 unfoldable pub row : Table → ℕ → ℕ → List Try
-row t i j = filter (is_tried t) (map (entry t i) (below j))
+row table signature key = filter (is_tried table) (map (entry table signature) (below key))
 
--- the tries of the signatures before i
+-- the tries of the signatures before this one
 unfoldable pub rows : Table → ℕ → List Try
-rows t i = flat_map (λ n. row t n t.keys) (below i)
+rows table signature = flat_map (λ n. row table n table.keys) (below signature)
 
--- the run has come to signature i and key j, and es are the tries before that pair
-pub record IsAt (t : Table) (i j : ℕ) (es : List Try) : Type 0 where
-  pub listed : es ≡ rows t i ++ row t i j
-  pub reached : reached t i ≡ true
-  pub unverified : list_any (verifies t i) (below j) ≡ false
+-- the run has come to this signature and this key, and has made the tries before that pair
+pub record IsAt (table : Table) (signature key : ℕ) (made : List Try) : Type 0 where
+  pub listed : made ≡ rows table signature ++ row table signature key
+  pub reached : reached table signature ≡ true
+  pub unverified : list_any (verifies table signature) (below key) ≡ false
 
--- the run is through with signature i, which it found verified or not
-pub record IsThrough (t : Table) (i : ℕ) (v : Bool) (es : List Try) : Type 0 where
-  pub listed : es ≡ rows t (i + 1)
-  pub reached : reached t i ≡ true
-  pub verified : verified t i ≡ v
+-- the run is through with the signature, which it found verified or not
+pub record IsThrough (table : Table) (signature : ℕ) (is_verified : Bool) (made : List Try) : Type 0 where
+  pub listed : made ≡ rows table (signature + 1)
+  pub reached : reached table signature ≡ true
+  pub verified : verified table signature ≡ is_verified
 
 -- whether the next signature is reached after one that is verified or not
 abbrev pub goes_on : Mode → Bool → Bool
-goes_on Any v = not v
-goes_on All v = v
+goes_on Any was_verified = not was_verified
+goes_on All was_verified = was_verified
 
--- no key from a up to b is eligible for signature i
+-- no key from the low number up to the high one is eligible for the signature
 abbrev pub NoneEligible : Table → ℕ → ℕ → ℕ → Type 0
-NoneEligible t i a b = (n : ℕ) → a ≤ n → n < b → t.eligible i n ≡ false
+NoneEligible table signature low high = (n : ℕ) → low ≤ n → n < high → table.eligible signature n ≡ false
 
 -- the least eligible key at or after a number
-pub record IsNextKey (t : Table) (i from j : ℕ) : Type 0 where
-  pub after : from ≤ j
-  pub within : j < t.keys
-  pub eligible : t.eligible i j ≡ true
-  pub least : NoneEligible t i from j
+pub record IsNextKey (table : Table) (signature from key : ℕ) : Type 0 where
+  pub after : from ≤ key
+  pub within : key < table.keys
+  pub eligible : table.eligible signature key ≡ true
+  pub least : NoneEligible table signature from key
 
 -- the budget has counted these tries, and they are within the ceilings
-pub record IsCounted (fed called ceiling : ℕ) (max_calls : Option ℕ) (es : List Try) : Type 0 where
-  pub octets : fed ≡ work es
-  pub calls : called ≡ length es
-  pub fits : work es ≤ ceiling
-  pub within : is_within max_calls (length es) ≡ true
+pub record IsCounted (fed called ceiling : ℕ) (max_calls : Option ℕ) (made : List Try) : Type 0 where
+  pub octets : fed ≡ work made
+  pub calls : called ≡ length made
+  pub fits : work made ≤ ceiling
+  pub within : is_within max_calls (length made) ≡ true
 
--- the tries es were listed, and the run asks for the pair of i and j next
-pub record IsPending (t : Table) (i j : ℕ) (es : List Try) : Type 0 where
-  pub at : IsAt t i j es
-  pub within : j < t.keys
-  pub eligible : t.eligible i j ≡ true
+-- these tries were made, and the run asks for this pair next
+pub record IsPending (table : Table) (signature key : ℕ) (made : List Try) : Type 0 where
+  pub at : IsAt table signature key made
+  pub within : key < table.keys
+  pub eligible : table.eligible signature key ≡ true
 
 -- how a run ended
 abbrev pub IsEnd : Table → ℕ → Option ℕ → List Try → End → Type 0
-IsEnd t ceiling calls es Done = es ≡ tries t
-IsEnd t ceiling calls es (WorkExceeded i j) = IsNext t es (entry t i j) × (ceiling < work es + t.cost i j) × (is_within calls (length es + 1) ≡ true)
-IsEnd t ceiling calls es (CallsExceeded i j) = IsNext t es (entry t i j) × (is_within calls (length es + 1) ≡ false)
-IsEnd t ceiling calls es (VerifierMemory i j) = IsFront t es × ((before : List Try) × (es ≡ before ++ entry t i j ∷ [])) × (t.may_lack i j ≡ true)
+IsEnd table ceiling calls made Done = made ≡ tries table
+IsEnd table ceiling calls made (WorkExceeded signature key) = IsNext table made (entry table signature key) × (ceiling < work made + table.cost signature key) × (is_within calls (length made + 1) ≡ true)
+IsEnd table ceiling calls made (CallsExceeded signature key) = IsNext table made (entry table signature key) × (is_within calls (length made + 1) ≡ false)
+IsEnd table ceiling calls made (VerifierMemory signature key) = IsFront table made × ((before : List Try) × (made ≡ before ++ entry table signature key ∷ [])) × (table.may_lack signature key ≡ true)
 
 -- the pair at which a run stopped
 abbrev pub stopped_at : Table → End → Option Try
-stopped_at t Done = None
-stopped_at t (WorkExceeded i j) = Some (entry t i j)
-stopped_at t (CallsExceeded i j) = Some (entry t i j)
-stopped_at t (VerifierMemory i j) = Some (entry t i j)
+stopped_at table Done = None
+stopped_at table (WorkExceeded signature key) = Some (entry table signature key)
+stopped_at table (CallsExceeded signature key) = Some (entry table signature key)
+stopped_at table (VerifierMemory signature key) = Some (entry table signature key)
 
--- what becomes of signature i, and the key that verifies it
-pub record IsSettled (t : Table) (i : ℕ) (s : Settled) : Type 0 where
-  pub state : settled_state s ≡ outcome t i
-  pub key : find (verifies t i) (below t.keys) ≡ settled_key s
+-- what becomes of the signature, and the key that verifies it
+pub record IsSettled (table : Table) (signature : ℕ) (settled : Settled) : Type 0 where
+  pub state : settled_state settled ≡ outcome table signature
+  pub key : find (verifies table signature) (below table.keys) ≡ settled_key settled
 
 -- what becomes of a signature, by its bar, whether a key is eligible, and the key that verifies it
 abbrev pub state_of : Option SigFault → Bool → Option ℕ → SigState
@@ -94,11 +94,11 @@ state_of bar seen found = option_map_or Barred bar (option_map_or Verified found
 
 -- how the tries of one signature ended
 abbrev pub IsRowEnd : Table → ℕ → ℕ → Option ℕ → List Try → RowEnd → Type 0
-IsRowEnd t i ceiling calls es (Through s) = IsThrough t i (is_verified s) es × IsSettled t i s
-IsRowEnd t i ceiling calls es (Stop r) = IsEnd t ceiling calls es r × (reached t i ≡ true) × ((j : ℕ) × (stopped_at t r ≡ Some (entry t i j)))
+IsRowEnd table signature ceiling calls made (Through settled) = IsThrough table signature (is_verified settled) made × IsSettled table signature settled
+IsRowEnd table signature ceiling calls made (Stop end) = IsEnd table ceiling calls made end × (reached table signature ≡ true) × ((key : ℕ) × (stopped_at table end ≡ Some (entry table signature key)))
 
 -- the states of the first signatures were recorded, and no later signature is reached
-pub record IsRecorded (t : Table) (o : Option Try) (sts : List SigState) : Type 0 where
-  pub short : length sts ≤ t.signatures
-  pub listed : sts ≡ map (state_at t o) (below (length sts))
-  pub rest : (m : ℕ) → length sts ≤ m → m < t.signatures → state_at t o m ≡ NotReached
+pub record IsRecorded (table : Table) (stop : Option Try) (states : List SigState) : Type 0 where
+  pub short : length states ≤ table.signatures
+  pub listed : states ≡ map (state_at table stop) (below (length states))
+  pub rest : (m : ℕ) → length states ≤ m → m < table.signatures → state_at table stop m ≡ NotReached

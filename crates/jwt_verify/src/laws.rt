@@ -137,7 +137,7 @@ pub fn tells_reports()
     claims_hold();
 }
 
-// What the code computes, step by step, is the report in words; and what is past the octet behind the limit plays no part in it.
+/// What the code computes, step by step, is the report in words; and what is past the octet behind the limit plays no part in it.
 pub(crate) fn reports_in_words()
     ensures listed { ReportsInWords }
     ensures taken { ReportsOnTaken }
