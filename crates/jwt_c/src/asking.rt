@@ -171,7 +171,10 @@ pub(crate) fn ask_about(
         result into.new out.old out.new }
 {
     match read_token(alloc, token, &desk.grounds.documents().policy) {
-        Ok(Some(signed)) => match (Question { signature, key }).about(&signed, &desk.grounds.documents().keys) {
+        Ok(Some(signed)) => match (Question { signature, key }).about(
+            &signed,
+            &desk.grounds.documents().keys,
+        ) {
             Some(asked) => write_public(alloc, &asked, out, into),
             None => 6,
         },
@@ -239,7 +242,10 @@ pub(crate) fn tell(
     ensures memories { (desk.new.memory ≡ desk.old.memory) × (desk.new.grounds ≡ desk.old.grounds) }
 {
     match read_token(alloc, token, &desk.grounds.documents().policy) {
-        Ok(Some(signed)) => match (Question { signature, key }).about(&signed, &desk.grounds.documents().keys) {
+        Ok(Some(signed)) => match (Question { signature, key }).about(
+            &signed,
+            &desk.grounds.documents().keys,
+        ) {
             Some(asked) => tell_of(alloc, &mut desk.answers, &asked, valid),
             None => 6,
         },

@@ -18,7 +18,10 @@ pub enum Evidence {
         claims: Option<Claims>,
     },
     /// A memory shares it. The claims count where the token is accepted.
-    Shared { basis: Arc<Basis>, accepted: bool },
+    Shared {
+        basis: Arc<Basis>,
+        accepted: bool,
+    },
 }
 
 /// What is kept of the last judging.

@@ -85,7 +85,11 @@ impl Last {
     {
         match &self.evidence {
             Evidence::Own { claims, .. } => claims.as_ref(),
-            Evidence::Shared { basis, accepted } => if *accepted { Some(&basis.claims) } else { None },
+            Evidence::Shared { basis, accepted } => if *accepted {
+                Some(&basis.claims)
+            } else {
+                None
+            },
         }
     }
 }
@@ -234,8 +238,12 @@ fn shared(
     ensures numbers { report_numbers result.said ≡ report_numbers numbers }
     ensures tries { result.said.tries ≡ length (arc_value basis).tries.items }
     ensures work { result.said.work ≡ work (arc_value basis).tries.items }
-    ensures last { result.last ≡ record { evidence = Shared basis accepted; missing = missing;
-        asked = None; remembered = remembered } }
+    ensures last { result.last ≡ record {
+      evidence = Shared basis accepted;
+      missing = missing;
+      asked = None;
+      remembered = remembered;
+    } }
 {
     let mut said = numbers;
     said.tries = basis.tries.len() as u64;

@@ -55,8 +55,9 @@ fn outcome_under<'p>(
             jwt_memory::judge(memory, alloc, octets, keys, policy, now, verifiers, budget)
         }
         None => {
-            let JudgedToken { report, token: _ } =
-                judge_signed(alloc, octets, keys, policy, now, verifiers, budget, scratch);
+            let JudgedToken { report, token: _ } = judge_signed(
+                alloc, octets, keys, policy, now, verifiers, budget, scratch,
+            );
             Outcome::Judged(report)
         }
     }
@@ -83,7 +84,14 @@ fn judging_under(
 {
     let mut budget = documents.policy.budget();
     let outcome = outcome_under(
-        alloc, memory, octets, documents, now, verifiers, &mut budget, scratch,
+        alloc,
+        memory,
+        octets,
+        documents,
+        now,
+        verifiers,
+        &mut budget,
+        scratch,
     );
     match judging_of(alloc, outcome, budget.octets()) {
         Ok(judging) => judging,
