@@ -357,7 +357,7 @@ fn report_on(alloc: Global, desk: &mut Desk, octets: &[u8], now: i64) -> Judging
 {
     let documents = desk.grounds.documents();
     let mut budget = documents.policy.budget();
-    let outcome = outcome_of(
+    match outcome_of(
         alloc,
         &mut desk.memory,
         octets,
@@ -366,14 +366,15 @@ fn report_on(alloc: Global, desk: &mut Desk, octets: &[u8], now: i64) -> Judging
         &desk.answers,
         &mut budget,
         &mut *desk.scratch,
-    );
-    let judging = match outcome {
-        Ok(outcome) => judging_of(alloc, outcome, budget.octets()),
-        Err(asks) => asking(alloc, asks, &documents.keys),
-    };
-    match judging {
-        Ok(judging) => judging,
-        Err(_) => bare(alloc, 3),
+    ) {
+        Ok(outcome) => match judging_of(alloc, outcome, budget.octets()) {
+            Ok(judging) => judging,
+            Err(_) => bare(alloc, 3),
+        },
+        Err(asks) => match asking(alloc, asks, &documents.keys) {
+            Ok(judging) => judging,
+            Err(_) => bare(alloc, 3),
+        },
     }
 }
 

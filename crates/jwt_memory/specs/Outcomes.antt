@@ -38,9 +38,7 @@ is_remembered (Judged report) = false
 is_remembered (Accepted basis) = false
 is_remembered (Remembered basis fault) = true
 
--- A token is remembered only where the memory holds all its octets, accepted under this ceiling, with this basis.
-abbrev pub IsFound : Memory → List ℕ → ℕ → Outcome → Type 0
-IsFound memory octets ceiling (Judged report) = Unit {0}
-IsFound memory octets ceiling (Accepted basis) = Unit {0}
-IsFound memory octets ceiling (Remembered basis fault) = (entry : Entry) × Holds memory entry
-    × (entry.octets.items ≡ octets) × (entry.ceiling ≡ ceiling) × (arc_value entry.basis ≡ arc_value basis)
+-- what is remembered is held by the memory: all these octets, accepted under this ceiling
+abbrev pub IsFound : Bool → Memory → List ℕ → ℕ → Type 0
+IsFound false memory octets ceiling = Unit {0}
+IsFound true memory octets ceiling = (entry : Entry) × Holds memory entry × (entry.octets.items ≡ octets) × (entry.ceiling ≡ ceiling)

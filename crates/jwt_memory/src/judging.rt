@@ -131,8 +131,8 @@ pub fn judge<'p, B: Budget>(
     ensures read { (report_in result).verdict ≢ Refused (Text Read) }
     ensures memory { (report_in result).verdict ≡ Refused OutOfMemory → TakesMemory policy.now octets.now }
 
-    // It is remembered only where the memory held what these octets were accepted by, under this ceiling.
-    ensures found { IsFound memory.old octets.now (B.ceiling budget.old) result }
+    // It is remembered only where the memory held these octets, accepted under this ceiling.
+    ensures found { IsFound (is_remembered result) memory.old octets.now (B.ceiling budget.old) }
 
     // Of what was paid in this call: no pair is tried twice, and each is eligible; the octets are within the bound, the calls within
     // the policy's ceiling.

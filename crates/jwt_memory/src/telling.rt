@@ -78,8 +78,8 @@ pub fn judge_told<'a, 'p>(
     ensures remembered { IfOk result (λ o. is_remembered o ≡ true → (truth : Truth)
         → AreTrulyKept truth policy.now keys.now memory.old → IsTrulyRemembered truth
         policy.now keys.now now octets.now (⟦<CountDown as Budget>⟧.ceiling budget.old) (report_in o)) }
-    ensures found { IfOk result (λ o. IsFound memory.old
-        octets.now (⟦<CountDown as Budget>⟧.ceiling budget.old) o) }
+    ensures found { IfOk result (λ o. IsFound (is_remembered o) memory.old
+        octets.now (⟦<CountDown as Budget>⟧.ceiling budget.old)) }
 
     // What is asked is the first try of a run by what was told of which nothing was told. It comes with the token.
     ensures tries { IfErr result (λ a. AreTries
