@@ -342,7 +342,7 @@ uint32_t fow_proved_judge(fow_validator *validator, const uint8_t *token, size_t
  *
  * What fow_judge remembers rests on what was told when the token was accepted: an answer that was told and was wrong stays wrong for as long as
  * the token is remembered, also after fow_forget. Accepted tokens and their claims lie in memory until they go, and aren't wiped. One of 179
- * octets takes some @SMALL@ octets in all, one of 1,300 with 26 claims some @LARGE@. Where there is no memory to keep one, it isn't kept, and the verdict
+ * octets takes some 850 octets in all, one of 1,300 with 26 claims some 3,200. Where there is no memory to keep one, it isn't kept, and the verdict
  * is the same. A kept token that has expired is refused by its claims, and stays until others push it out.
  *
  * Proved: FOW_OK: so many tokens of so many octets are remembered from now on, none yet, and nothing else has changed. FOW_OUT_OF_MEMORY: memory
