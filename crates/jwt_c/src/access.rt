@@ -83,7 +83,7 @@ pub(crate) fn put_scope(rule: &AccessRule, number: u32, out: &mut [u8], written:
 
 /// Holds the rule against claims. 0: they meet it; 7: they don't, and the number is that of the denial; 6: there are none.
 pub(crate) fn hold(rule: &AccessRule, claims: Option<&Claims>) -> (u32, u32)
-    ensures { IsHeldAgainst rule.now (option_map (λ c. c.now) claims) result.0 result.1 }
+    ensures { IsHeldAgainst rule.now (option_map (λ c. c.now) claims.entry) result.0 result.1 }
 {
     match claims {
         Some(claims) => match rule.denial(claims) {
@@ -102,7 +102,7 @@ pub(crate) fn put_denied(
     out: &mut [u8],
     written: &mut usize,
 ) -> u32
-    ensures { PutsDenied rule.now (option_map (λ c. c.now) claims) result written.new out.old out.new }
+    ensures { PutsDenied rule.now (option_map (λ c. c.now) claims.entry) result written.new out.old out.new }
 {
     match claims {
         Some(claims) => match rule.denial(claims) {

@@ -30,10 +30,15 @@ pub struct Grounds {
 
 impl Model for Grounds {
     ghost use Rattle.std.specs.Prelude.{Option};
+    ghost use Rattle.std.specs.Coded.{coded×, coded_option};
     ghost use Rattle.jwt_c.specs.declared.grounds.Documents.{Documents};
+    ghost use Rattle.jwt_c.specs.contracts.grounds.Documents as documents;
     ghost use Rattle.jwt_memory.specs.declared.memory.Memory.{Memory};
+    ghost use Rattle.jwt_memory.specs.contracts.memory.Memory as memory;
 
     ghost Value = { Documents × Option Memory };
+
+    ghost coded = { coded× documents.the_row.coded (coded_option memory.the_row.coded) };
 
     ghost use Rattle.std.specs.Arc.{arc_value};
     ghost use Rattle.jwt_c.specs.ProvedKept.{AreProvedKept};

@@ -86,7 +86,7 @@ pub(crate) fn put_claim(
     written: &mut usize,
 ) -> u32
     ensures claim { IsUtf8 name.now
-        → PutsSome (claim_at (option_map (λ c. c.now) claims) name.now) result written.new out.old out.new }
+        → PutsSome (claim_at (option_map (λ c. c.now) claims.entry) name.now) result written.new out.old out.new }
     ensures other { ¬ IsUtf8 name.now → result ≡ 6 }
 {
     let Ok(name) = from_utf8(name) else {
@@ -104,7 +104,7 @@ pub(crate) fn put_claim(
 
 /// A claim that is a whole number of 64 signed bits.
 pub(crate) fn number_at(claims: Option<&Claims>, name: &[u8]) -> Option<i64>
-    ensures claim { IsUtf8 name.now → result ≡ number_at (option_map (λ c. c.now) claims) name.now }
+    ensures claim { IsUtf8 name.now → result ≡ number_at (option_map (λ c. c.now) claims.entry) name.now }
     ensures other { ¬ IsUtf8 name.now → result ≡ None }
 {
     let Ok(name) = from_utf8(name) else {
