@@ -331,6 +331,32 @@ uint32_t fow_judge(fow_validator *validator, const uint8_t *token, size_t token_
  * policy, the key set, the moment and these verifiers. It never answers FOW_ASKS. FOW_NOT_OPEN, FOW_OUT_OF_MEMORY: as of fow_judge. */
 uint32_t fow_proved_judge(fow_validator *validator, const uint8_t *token, size_t token_len, int64_t now, fow_report *report);
 
+/* Remembers tokens from now on: of those that fow_judge accepts at most `tokens`, none longer than `octets` octets, and as many of those that
+ * fow_proved_judge accepts; the least used goes first. 0 tokens: none, as after fow_open and fow_open_beside, which remember nothing until this is
+ * called. What was remembered is forgotten. fow_forget leaves it. A validator that is opened beside another has a memory of its own.
+ *
+ * A token that is remembered is found by its octets, all of which are compared, and only its claims are looked at: nothing is hashed, nothing
+ * asked. The report is the one of the judging that accepted it, with what its claims come to at the new moment: its tries and its work are those
+ * that were paid then, and fow_remembered says that none was paid now. Only accepted tokens in compact form are remembered, so nobody pushes one
+ * out but by other accepted ones.
+ *
+ * What fow_judge remembers rests on what was told when the token was accepted: an answer that was told and was wrong stays wrong for as long as
+ * the token is remembered, also after fow_forget. Accepted tokens and their claims lie in memory until they go, and aren't wiped. One of 179
+ * octets takes some 850 octets in all, one of 1,300 with 26 claims some 3,200. Where there is no memory to keep one, it isn't kept, and the verdict
+ * is the same. A kept token that has expired is refused by its claims, and stays until others push it out.
+ *
+ * Proved: FOW_OK: so many tokens of so many octets are remembered from now on, none yet, and nothing else has changed. FOW_OUT_OF_MEMORY: memory
+ * was refused. FOW_NOT_OPEN: nothing is held. Where the answer isn't FOW_OK, the validator holds what it held. And of every judging: a verdict of
+ * fow_proved_judge is the one that its contract says, remembered or not. One of fow_judge that is remembered is the verdict under what is right,
+ * where each answer was right that was told of the tokens that are remembered when they were accepted; where each that is told now is right too,
+ * that stays so. A verdict is remembered only where the memory holds all octets of the token. (That it is remembered, and that the least used goes
+ * first, is tested.) */
+uint32_t fow_remember(fow_validator *validator, size_t tokens, size_t octets);
+
+/* Whether the last verdict came out of a memory: then nothing was tried and nothing paid for it, though fow_try_of gives the tries that were paid
+ * when the token was accepted. Proved: that is so; false where nothing is held. The validator holds what it held. */
+bool fow_remembered(fow_validator *validator);
+
 /* What became of signature `signature` of the token that was judged last. Proved: FOW_OK: that is what is kept of it, which
  * after an acceptance or a refusal is what validate's report says; FOW_ABSENT, and nothing else, where that has no such
  * signature. FOW_NOT_OPEN: nothing is held. */

@@ -1,4 +1,5 @@
-/* bench HMAC RSA [EC]: the least time of a call, in microseconds of processor time, on a token by HMAC and one by RS256, and of an access rule. With one by ES256
+/* bench HMAC RSA [EC]: the least time of a call, in microseconds of processor time, on a token by HMAC and one by RS256, of tokens that are remembered, and of an
+ * access rule. With one by ES256
  * this and that by RS256 are also judged by 1,024 keys of which none made the signature, where a caller says so without cryptography. */
 #include <fowharimu_openssl.h>
 #include <openssl/evp.h>
@@ -93,6 +94,53 @@ static void time_rsa(const char *name)
     fow_close(&validator);
 }
 
+/* A token that is remembered, by the loop over OpenSSL's answers or by the proved verifiers. */
+static void time_remembered(const char *label, const char *by_proof, const char *name)
+{
+    fow_validator validator = FOW_VALIDATOR_INIT;
+    fow_openssl crypto = FOW_OPENSSL_INIT;
+    fow_report report;
+    open_named(&validator, name);
+    CHECK(fow_remember(&validator, 1000, 4096) == FOW_OK);
+    TIME(label, 200, CHECK(fow_openssl_judge(&crypto, &validator, token.at, token.len, NOW, &report) == FOW_OK));
+    TIME(by_proof, 200, CHECK(fow_proved_judge(&validator, token.at, token.len, NOW, &report) == FOW_OK));
+    CHECK(fow_remembered(&validator));
+    fow_openssl_clear(&crypto);
+    fow_close(&validator);
+}
+
+/* The tokens of 1,000 users in turn, each with so many claims beside `exp` and `sub`: judged each time, and remembered. */
+static void time_users(const char *name, int claims)
+{
+    enum { USERS = 1000, ROOM = 2048 };
+    static const char lenient[] = "{\"algs\":[\"HS256\"]}";
+    static uint8_t issued[USERS][ROOM];
+    static size_t lengths[USERS];
+    static char text[MOST], label[100];
+    fow_validator validator = FOW_VALIDATOR_INIT;
+    fow_report report;
+    uint32_t fault;
+    read_named(&keys, name, "keys");
+    CHECK(fow_open(&validator, (const uint8_t *)lenient, sizeof lenient - 1, keys.at, keys.len, &fault) == FOW_OK);
+    for (int user = 0; user < USERS; user++) {
+        int len = sprintf(text, "{\"exp\":%d,\"sub\":\"user %07d\"", NOW + 1, user);
+        for (int i = 0; i < claims; i++)
+            len += sprintf(text + len, ",\"claim%02d\":\"a value that is %02d\"", i, i);
+        len += sprintf(text + len, "}");
+        CHECK(fow_issue(&validator, FOW_HS256, FOW_COMPACT, 0, (const uint8_t *)"", 0, (const uint8_t *)text, (size_t)len, issued[user], ROOM,
+                  &lengths[user], &report)
+            == FOW_OK);
+    }
+    for (int remembers = 0; remembers < 2; remembers++) {
+        size_t user = 0;
+        CHECK(fow_remember(&validator, remembers ? USERS : 0, ROOM) == FOW_OK);
+        sprintf(label, "HS256 verdict, %zu octets, 1,000 users in turn%s", lengths[0], remembers ? ", remembered" : "");
+        TIME(label, USERS, CHECK(fow_judge(&validator, issued[user], lengths[user], NOW, &report) == FOW_OK); user = (user + 1) % USERS);
+        CHECK(fow_remembered(&validator) == (remembers == 1));
+    }
+    fow_close(&validator);
+}
+
 /* The access token of RFC 9068, section 3, by HS256, and an access rule for its scopes and its client. */
 static void time_access(const char *name)
 {
@@ -158,6 +206,10 @@ int main(int argc, char **argv)
     CHECK(argc == 3 || argc == 4);
     time_hmac(argv[1]);
     time_rsa(argv[2]);
+    time_remembered("HS256 verdict, remembered", "HS256 verdict by proof, remembered", argv[1]);
+    time_remembered("RS256 verdict, remembered", "RS256 verdict by proof, remembered", argv[2]);
+    time_users(argv[1], 2);
+    time_users(argv[1], 24);
     time_access(argv[1]);
     if (argc == 4) {
         time_many("RS256: 1,024 keys that are denied", argv[2], "\"n\":\"", "RS256");

@@ -1,6 +1,7 @@
-/* cases none|proved|openssl FILE: answers each case of a table, as bindings/cases/make writes it, by no verifier of public keys, by the proved ones
+/* cases [-remember] none|proved|openssl FILE: answers each case of a table, as bindings/cases/make writes it, by no verifier of public keys, by the proved ones
  * or by OpenSSL. A line of the table is `open POLICY KEYS`, `judge NAME NOW TOKEN`, `deny NAME NOW RULE TOKEN` or `issue NAME ALG FORM KEY TYP CLAIMS`,
- * with texts in hexadecimal, and `-` for one without octets. A line of the answer has what bindings/cases/README.md says. */
+ * with texts in hexadecimal, and `-` for one without octets. A line of the answer has what bindings/cases/README.md says. With
+ * -remember tokens are remembered: each is judged at several moments and again, and each report has to be the one without a memory. */
 #define _POSIX_C_SOURCE 200809L
 #include <fowharimu_openssl.h>
 #include <inttypes.h>
@@ -20,6 +21,11 @@ static uint32_t opened = FOW_NOT_OPEN, open_fault;
 static fow_access access_rule = FOW_ACCESS_INIT;
 static text policy, keys, token, rule, typ, claims, out;
 static int verifiers;
+
+/* With -remember: a validator beside, which remembers nothing, and how many verdicts came out of the memory. */
+static fow_validator plain = FOW_VALIDATOR_INIT;
+static bool remembers;
+static uint64_t remembered;
 
 static void reserve(text *it, size_t room)
 {
@@ -139,14 +145,76 @@ static void print_not_opened(const char *name)
     printf("\t0\t\t\t-\n");
 }
 
-static void judge_token(int64_t now, fow_report *report)
+static void judge_by(fow_validator *by, int64_t now, fow_report *report)
 {
     if (verifiers == PROVED)
-        fow_proved_judge(&validator, token.at, token.len, now, report);
+        fow_proved_judge(by, token.at, token.len, now, report);
     else if (verifiers == OPENSSL)
-        fow_openssl_judge(&crypto, &validator, token.at, token.len, now, report);
+        fow_openssl_judge(&crypto, by, token.at, token.len, now, report);
     else
-        fow_judge(&validator, token.at, token.len, now, report);
+        fow_judge(by, token.at, token.len, now, report);
+}
+
+/* What is kept of a judging is the same with a memory and without. */
+static void check_kept_alike(uint64_t tries)
+{
+    static text one, other;
+    fow_state states[2];
+    fow_try tried[2];
+    size_t written[2] = { 0, 0 };
+    uint32_t status = FOW_OK;
+    reserve(&one, token.len + 65536);
+    reserve(&other, token.len + 65536);
+    memset(states, 0, sizeof states);
+    memset(tried, 0, sizeof tried);
+    for (uint32_t i = 0; status == FOW_OK; i++) {
+        status = fow_state_of(&validator, i, &states[0]);
+        CHECK(status == fow_state_of(&plain, i, &states[1]) && memcmp(&states[0], &states[1], sizeof states[0]) == 0);
+    }
+    for (uint64_t i = 0; i <= tries; i++) {
+        status = fow_try_of(&validator, i, &tried[0]);
+        CHECK(status == fow_try_of(&plain, i, &tried[1]) && memcmp(&tried[0], &tried[1], sizeof tried[0]) == 0);
+    }
+    status = fow_refused_claim(&validator, one.at, one.room, &written[0]);
+    CHECK(status == fow_refused_claim(&plain, other.at, other.room, &written[1]));
+    CHECK(written[0] == written[1] && memcmp(one.at, other.at, written[0]) == 0);
+    for (const char *const *name = (const char *const[]){ "iss", "aud", "sub", NULL }; *name != NULL; name++) {
+        status = fow_claim(&validator, (const uint8_t *)*name, 3, one.at, one.room, &written[0]);
+        CHECK(status == fow_claim(&plain, (const uint8_t *)*name, 3, other.at, other.room, &written[1]));
+        CHECK(status != FOW_OK || (written[0] == written[1] && memcmp(one.at, other.at, written[0]) == 0));
+    }
+}
+
+/* The sum, or the number of 64 bits that comes nearest. */
+static int64_t moved(int64_t now, int64_t by)
+{
+    if (by > 0)
+        return now > INT64_MAX - by ? INT64_MAX : now + by;
+    return now < INT64_MIN - by ? INT64_MIN : now + by;
+}
+
+/* Judges at the moment, at others, and at the moment again: with a memory and without, which has to be the same. */
+static void judge_often(int64_t now)
+{
+    enum { FAR = 1000000000 };
+    const int64_t moments[] = { now, now, moved(now, FAR), moved(now, -FAR), now };
+    for (size_t i = 0; i < sizeof moments / sizeof *moments; i++) {
+        fow_report one = { 0 }, other = { 0 };
+        judge_by(&validator, moments[i], &one);
+        judge_by(&plain, moments[i], &other);
+        CHECK(memcmp(&one, &other, sizeof one) == 0 && !fow_remembered(&plain));
+        check_kept_alike(one.tries);
+        remembered += fow_remembered(&validator);
+        fow_forget(&validator);
+        fow_forget(&plain);
+    }
+}
+
+static void judge_token(int64_t now, fow_report *report)
+{
+    if (remembers)
+        judge_often(now);
+    judge_by(&validator, now, report);
 }
 
 /* What is said of the token that was judged just now; `denial` where it is accepted and the rule that is held denies it. */
@@ -255,6 +323,8 @@ static void open_documents(char *line)
     fow_close(&validator);
     open_fault = FOW_NO_FAULT;
     opened = fow_open(&validator, policy.at, policy.len, keys.at, keys.len, &open_fault);
+    if (remembers && opened == FOW_OK)
+        CHECK(fow_remember(&validator, 100, SIZE_MAX) == FOW_OK && fow_open_beside(&plain, &validator) == FOW_OK);
 }
 
 static void answer_line(char *line)
@@ -274,7 +344,9 @@ int main(int argc, char **argv)
 {
     char *line = NULL;
     size_t room = 0;
-    CHECK(argc == 3);
+    remembers = argc == 4 && strcmp(argv[1], "-remember") == 0;
+    argv += remembers;
+    CHECK(argc - remembers == 3);
     verifiers = strcmp(argv[1], "proved") == 0 ? PROVED : strcmp(argv[1], "openssl") == 0 ? OPENSSL : NOTHING;
     CHECK(verifiers != NOTHING || strcmp(argv[1], "none") == 0);
     FILE *table = fopen(argv[2], "rb");
@@ -289,5 +361,7 @@ int main(int argc, char **argv)
     fow_openssl_clear(&crypto);
     fow_access_close(&access_rule);
     fow_close(&validator);
+    fow_close(&plain);
+    CHECK(!remembers || remembered > 0);
     return 0;
 }

@@ -111,6 +111,11 @@ static uint32_t judge_by_proof(void)
     return fow_proved_judge(&validator, token.at, token.len, NOW, &report);
 }
 
+static uint32_t remember_some(void)
+{
+    return fow_remember(&validator, 2, 4096);
+}
+
 static uint32_t answer_by_ed25519(void)
 {
     return fow_answer_ed25519(&validator, token.at, token.len, 0, 0);
@@ -195,6 +200,28 @@ static void refuse_each(const char *name, uint32_t (*call)(void), uint32_t right
     printf("%s: %ld allocations refused in turn\n", name, refused);
 }
 
+/* Refuses each allocation of a judging in turn that keeps the token in an empty memory, until it is kept: where it isn't, it is judged as ever.
+ * A judging out of the memory then needs no allocation. */
+static void refuse_keeping(const char *name, uint32_t (*judge)(void))
+{
+    long refused = 0;
+    bool is_kept = false;
+    for (; !is_kept; refused++) {
+        CHECK(fow_remember(&validator, 2, 4096) == FOW_OK);
+        granted = refused;
+        uint32_t status = judge();
+        granted = -1;
+        CHECK(status == FOW_OK || status == FOW_OUT_OF_MEMORY);
+        is_kept = judge() == FOW_OK && fow_remembered(&validator);
+        CHECK(refused < 10000);
+    }
+    granted = 0;
+    CHECK(judge() == FOW_OK && fow_remembered(&validator));
+    granted = -1;
+    printf("%s: %ld allocations refused in turn\n", name, refused - 1);
+    CHECK(fow_remember(&validator, 0, 0) == FOW_OK);
+}
+
 /* The calls on a token that is accepted at once, or on one by a public key, which raises a question that this call answers. */
 static void refuse_on(const char *name, uint32_t verdict, uint32_t (*answer)(void))
 {
@@ -213,6 +240,9 @@ static void refuse_on(const char *name, uint32_t verdict, uint32_t (*answer)(voi
     refuse_each("fow_answer", answer_it, FOW_OK);
     refuse_each("fow_judge, told", judge_it, FOW_OK);
     refuse_each("fow_claim", claim_of_it, FOW_OK);
+    refuse_each("fow_remember", remember_some, FOW_OK);
+    refuse_keeping("fow_judge, over a memory", judge_it);
+    CHECK(judge_it() == FOW_OK);
     fow_forget(&validator);
     refuse_each("fow_answer_asked", answer_asked, FOW_OK);
     fow_forget(&validator);
@@ -220,6 +250,7 @@ static void refuse_on(const char *name, uint32_t verdict, uint32_t (*answer)(voi
     refuse_each("fow_answer_ed25519", answer_by_ed25519, answer == answer_by_ed25519 ? FOW_OK : FOW_ABSENT);
     refuse_each("fow_answer_proved", answer_by_proof, verdict == FOW_ASKS ? FOW_OK : FOW_ABSENT);
     refuse_each("fow_proved_judge", judge_by_proof, FOW_OK);
+    refuse_keeping("fow_proved_judge, over a memory", judge_by_proof);
     fow_close(&validator);
 
     /* (the second holds the documents on) */

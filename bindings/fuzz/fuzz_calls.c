@@ -11,6 +11,8 @@ typedef struct model {
     int told[TOKENS][KEYS];       /* of signature 0 and this key: 0 nothing, 1 that it is invalid, 2 that it is valid */
     int asked_token, asked_key;   /* what the last judging asks about, or NONE */
     bool is_accepted;             /* whether the last judging accepted */
+    bool remembers;               /* whether tokens are to be remembered */
+    uint32_t kept[TOKENS];        /* the key, from 1, by which fow_judge accepted it since then, or 0 */
 } model;
 
 /* A call: what the four octets say. */
@@ -53,6 +55,13 @@ static void forget_all(model *it)
     it->is_accepted = false;
 }
 
+/* What a validator remembers that was opened just now, or is told how much it is to remember. */
+static void remember_none(model *it, bool remembers)
+{
+    memset(it->kept, 0, sizeof it->kept);
+    it->remembers = remembers;
+}
+
 static void open_it(model *it, const call *c)
 {
     const fixed *d = documents[c->token % DOCUMENTS];
@@ -60,6 +69,7 @@ static void open_it(model *it, const call *c)
     CHECK(fow_open(&it->validator, at(d->policy), strlen(d->policy), at(d->keys_text), d->keys_len, &fault) == FOW_OK);
     it->is_open = true;
     forget_all(it);
+    remember_none(it, false);
 }
 
 static void open_refused(model *it, const call *c)
@@ -77,6 +87,7 @@ static void open_beside(model *it, model *another)
     if (status == FOW_OK) {
         it->is_open = true;
         forget_all(it);
+        remember_none(it, false);
     }
 }
 
@@ -85,6 +96,26 @@ static void close_it(model *it)
     fow_close(&it->validator);
     it->is_open = false;
     forget_all(it);
+    remember_none(it, false);
+}
+
+/* What is remembered was accepted by that key since then; and what is accepted may be remembered from now on. */
+static void check_remembered(model *it, int token, uint32_t verdict, const fow_report *report)
+{
+    bool is_remembered = fow_remembered(&it->validator);
+    CHECK(!is_remembered || (it->remembers && token != NONE && it->kept[token] != 0));
+    CHECK(!is_remembered || (verdict == FOW_OK && report->key + 1 == it->kept[token]));
+    if (verdict == FOW_OK && it->remembers)
+        it->kept[token] = report->key + 1;
+}
+
+static void remember(model *it, const call *c)
+{
+    size_t tokens = c->key % 4;
+    uint32_t status = fow_remember(&it->validator, tokens, c->room);
+    CHECK(status == (it->is_open ? FOW_OK : FOW_NOT_OPEN));
+    if (status == FOW_OK)
+        remember_none(it, tokens != 0);
 }
 
 /* Judges a token, or octets that are none where `token` is NONE. An acceptance rests on an answer that was told, and what is asked wasn't. */
@@ -102,7 +133,8 @@ static void judge(model *it, int token, const uint8_t *octets, size_t len)
     check_states(&it->validator, &report);
     check_tries(&it->validator, &report, KEYS);
     CHECK(token != NONE || verdict == FOW_REFUSED);
-    if (verdict == FOW_OK)
+    check_remembered(it, token, verdict, &report);
+    if (verdict == FOW_OK && !fow_remembered(&it->validator))
         CHECK(token != HMAC_TOKEN && report.signature == 0 && it->told[token][report.key] == 2);
     if (verdict == FOW_ASKS) {
         CHECK(it->told[token][report.key] == 0);
@@ -117,7 +149,10 @@ static void judge_by(model *it, const call *c, bool by_openssl)
     uint32_t verdict = by_openssl ? fow_openssl_judge(&it->crypto, &it->validator, c->octets, c->len, NOW, &report)
                                   : fow_proved_judge(&it->validator, c->octets, c->len, NOW, &report);
     CHECK(verdict == report.verdict && (it->is_open ? verdict == FOW_OK || verdict == FOW_REFUSED : verdict == FOW_NOT_OPEN));
-    CHECK(verdict != FOW_OK || (c->token != HMAC_TOKEN && c->token != CHANGED_TOKEN));
+    bool rests_on_told = by_openssl && fow_remembered(&it->validator);
+    CHECK(verdict != FOW_OK || rests_on_told || (c->token != HMAC_TOKEN && c->token != CHANGED_TOKEN));
+    if (by_openssl && it->is_open)
+        check_remembered(it, c->token, verdict, &report);
     /* (what OpenSSL told stands until it is forgotten) */
     if (by_openssl) {
         fow_forget(&it->validator);
@@ -187,7 +222,9 @@ static void answer_by(model *it, const call *c)
     if (status != FOW_OK || it->told[c->token][c->key] != 0)
         return;
     CHECK(c->token != HMAC_TOKEN);
-    /* (which of the two it said shows in the next judging of that token, unless another key is valid too) */
+    /* (which of the two it said shows in the next judging of that token, where it isn't remembered, unless another key is valid too) */
+    CHECK(fow_remember(&it->validator, 0, 0) == FOW_OK);
+    remember_none(it, false);
     uint32_t verdict = fow_judge(&it->validator, c->octets, c->len, NOW, &report);
     it->told[c->token][c->key] = verdict == FOW_OK && report.key == c->key ? 2 : 1;
     CHECK(c->token != CHANGED_TOKEN || it->told[c->token][c->key] == 1 || verdict != FOW_OK);
@@ -241,7 +278,7 @@ static void judge_cut(model *it, const call *c)
 
 static void run(model *it, model *another, const call *c)
 {
-    switch (c->what % 18) {
+    switch (c->what % 19) {
     case 0: case 1: open_it(it, c); break;
     case 2: open_refused(it, c); break;
     case 3: open_beside(it, another); break;
@@ -256,6 +293,7 @@ static void run(model *it, model *another, const call *c)
     case 15: get_claims(it, c); break;
     case 16: get_others(it, c); judge_cut(it, c); break;
     case 17: judge_by(it, c, c->rest & 1); break;
+    case 18: remember(it, c); break;
     }
 }
 

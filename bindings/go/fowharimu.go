@@ -24,6 +24,7 @@ type Validator struct {
 	free      sync.Pool  // seats that were given back: the fast way to one
 	mutex     sync.Mutex // guards what follows
 	documents held       // the policy and the key set, which every seat holds too
+	remember  memory     // what each seat remembers
 	seats     []*seat    // each that was opened, until Close: at most as many as calls were under way at once
 	closed    bool
 }
@@ -33,12 +34,25 @@ type Option func(*options)
 
 type options struct {
 	questions int
+	remember  memory
+}
+
+// memory is how many tokens of how many octets each seat remembers.
+type memory struct {
+	tokens, octets uint
 }
 
 // MostQuestions has Open take a policy and a key set under which OpenSSL may be asked so often for one token. Without it that is 64; it is
 // never more than 32,768. More than 64 are seldom meant: max_calls in the policy bounds them.
 func MostQuestions(most int) Option {
 	return func(o *options) { o.questions = most }
+}
+
+// Remember has the validator remember so many accepted tokens, none longer than so many octets; the least used goes first. One that comes again
+// is found by all its octets, and only its claims are looked at. Each call that is under way at once has a memory of its own. Accepted tokens
+// lie in memory until they go, and aren't wiped. Without it none are remembered.
+func Remember(tokens, octets uint) Option {
+	return func(o *options) { o.remember = memory{tokens, octets} }
 }
 
 // Open reads a policy and a key set. The error is a *PolicyError, a *KeysError, a *QuestionsError, ErrOutOfMemory, or a *LibraryError where
@@ -51,7 +65,7 @@ func Open(policy, keys []byte, how ...Option) (*Validator, error) {
 	for _, choose := range how {
 		choose(&chosen)
 	}
-	v := new(Validator)
+	v := &Validator{remember: chosen.remember}
 	if err := v.documents.openWithin(policy, keys, chosen.questions); err != nil {
 		v.documents.close()
 		return nil, err
@@ -142,12 +156,13 @@ func (v *Validator) JudgeAt(token string, now time.Time) (Report, error) {
 		return Report{}, err
 	}
 	return Report{
-		Refusal:   refusal,
-		Signature: said.signature,
-		Key:       said.key,
-		Work:      said.work,
-		States:    s.states(),
-		Tries:     s.tries(said.tries),
+		Refusal:    refusal,
+		Signature:  said.signature,
+		Key:        said.key,
+		Work:       said.work,
+		States:     s.states(),
+		Tries:      s.tries(said.tries),
+		Remembered: s.held.remembered(),
 	}, nil
 }
 

@@ -95,6 +95,39 @@ func TestEachTokenIsAcceptedAndRefusedWhereItIsChanged(t *testing.T) {
 	}
 }
 
+func TestATokenThatComesAgainIsJudgedByItsClaims(t *testing.T) {
+	policy, keys, token := octets(t, hmac+".policy"), octets(t, hmac+".keys"), string(octets(t, hmac+".jwt"))
+	for _, it := range []struct {
+		tokens, octets uint
+		is             bool
+	}{{10, 4096, true}, {1, uint(len(token)), true}, {10, uint(len(token)) - 1, false}, {0, 4096, false}} {
+		validator, err := fowharimu.Open(policy, keys, fowharimu.Remember(it.tokens, it.octets))
+		if err != nil {
+			t.Fatal(err)
+		}
+		var first fowharimu.Report
+		for n, later := range []time.Duration{0, 0, time.Second, 0} {
+			report, err := validator.JudgeAt(token, now.Add(later))
+			if err != nil || report.Accepted() != (later == 0) || report.Remembered != (it.is && n > 0) {
+				t.Error(it, n, err, report)
+			}
+			if n == 0 {
+				first = report
+			}
+			if report.Work != first.Work || len(report.Tries) != 1 || report.Tries[0] != first.Tries[0] || report.States[0] != first.States[0] {
+				t.Error(it, n, report, first)
+			}
+		}
+		if claims, err := validator.ValidateAt(token, now); err != nil || !strings.Contains(claims.String(), "joe") {
+			t.Error(err, claims)
+		}
+		if _, err := validator.ValidateAt(changed(token), now); err == nil {
+			t.Error("another signature is accepted")
+		}
+		validator.Close()
+	}
+}
+
 func TestTheClockIsTheMoment(t *testing.T) {
 	validator, token := open(t, hmac)
 	_, err := validator.Validate(token)

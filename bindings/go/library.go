@@ -64,6 +64,16 @@ static uint32_t held_open_beside(held *it, held *another)
 	return fow_open_beside(&it->validator, &another->validator);
 }
 
+static uint32_t held_remember(held *it, size_t tokens, size_t octets)
+{
+	return fow_remember(&it->validator, tokens, octets);
+}
+
+static bool held_remembered(held *it)
+{
+	return fow_remembered(&it->validator);
+}
+
 static fow_report held_judge(held *it, _GoString_ token, int64_t now)
 {
 	fow_report report = { 0 };
@@ -187,6 +197,16 @@ func (h *held) openBeside(another *held) (status int) {
 		return statusOutOfMemory
 	}
 	return int(C.held_open_beside(h.at, another.at))
+}
+
+// remember has the library remember tokens from now on, and answers the status.
+func (h *held) remember(m memory) (status int) {
+	return int(C.held_remember(h.at, C.size_t(m.tokens), C.size_t(m.octets)))
+}
+
+// remembered says whether the last verdict came out of the memory.
+func (h *held) remembered() bool {
+	return bool(C.held_remembered(h.at))
 }
 
 func (h *held) judge(token string, now int64) verdict {

@@ -2,12 +2,13 @@ package fowharimu
 
 // Report is all that is said of a token.
 type Report struct {
-	Refusal   Refusal          // why the token isn't accepted; nil where it is
-	Signature int              // the number, from 0, of the signature that was verified or that the refusal speaks of
-	Key       int              // the number, from 0, of the key that verified it or that the refusal speaks of
-	Work      uint64           // the octets that were fed to HMAC
-	States    []SignatureState // what became of each signature
-	Tries     []Try            // each try that was made, in order
+	Refusal    Refusal          // why the token isn't accepted; nil where it is
+	Signature  int              // the number, from 0, of the signature that was verified or that the refusal speaks of
+	Key        int              // the number, from 0, of the key that verified it or that the refusal speaks of
+	Work       uint64           // the octets that were fed to HMAC
+	States     []SignatureState // what became of each signature
+	Tries      []Try            // each try that was made, in order
+	Remembered bool             // the token was remembered: Work and Tries are those of the judging that accepted it, and nothing was paid now
 }
 
 // Accepted says whether the token is accepted.

@@ -37,7 +37,7 @@ func (v *Validator) takeAny() (*seat, error) {
 		}
 	}
 	s := new(seat)
-	if s.held.openBeside(&v.documents) != statusOK {
+	if s.held.openBeside(&v.documents) != statusOK || s.held.remember(v.remember) != statusOK {
 		s.held.close()
 		return nil, ErrOutOfMemory
 	}

@@ -91,8 +91,8 @@ def expected(case: Asked) -> dict[str, str]:
     return found
 
 
-def differences(nginx: Nginx, cases: list[Asked]) -> Iterator[str]:
-    """Each case to which nginx answers otherwise. Connections are kept open."""
+def differences(nginx: Nginx, cases: list[Asked], remembers: bool) -> Iterator[str]:
+    """Each case to which nginx answers otherwise. Connections are kept open. Where tokens are remembered, what was paid isn't compared."""
     connection = http.client.HTTPConnection("127.0.0.1", nginx.port, timeout=20)
     for case, is_bearer in ((case, it) for case in cases for it in (True, False) if it or case.token):
         connection.putrequest("GET", f"/{case.place}{'' if is_bearer else '-variable'}", skip_accept_encoding=True)
@@ -101,6 +101,8 @@ def differences(nginx: Nginx, cases: list[Asked]) -> Iterator[str]:
         answer = connection.getresponse()
         answer.read()
         wanted = NO_TOKEN if is_bearer and not B64TOKEN.fullmatch(case.token) else expected(case)
+        if remembers:
+            wanted = {name: it for name, it in wanted.items() if name not in ("x-tries", "x-work")}
         said = {name: (answer.getheader(name) or "").encode("latin-1").decode("utf-8", "replace") for name in wanted}
         if said != wanted or answer.status != STATUS.get(wanted["x-verdict"]):
             yield f"{case.name}, {'Bearer' if is_bearer else 'a variable'}: {answer.status} {said}, and not {wanted}"
@@ -128,7 +130,8 @@ def run(check: Callable[..., None]) -> None:
             for place, needed in enumerate(documents)
             for name, token in (("", ""), ("-variable", "jwt_token $http_token;"))
         )
-        nginx.configure(f"server {{ listen 127.0.0.1:{{port}}; {SHOWN} {locations} }}")
-        with nginx.running():
-            found = list(differences(nginx, cases))
-    check(f"{len(cases)} cases of {count} in {len(documents)} locations", len(cases) >= 3000 and not found, "\n  ".join(found[:20]))
+        for what, remember in (("", "off"), (", remembering, asked twice", "1000 64k")):
+            nginx.configure(f"server {{ listen 127.0.0.1:{{port}}; jwt_remember {remember}; {SHOWN} {locations} }}")
+            with nginx.running():
+                found = list(differences(nginx, [it for it in cases for _ in range(2 if what else 1)], bool(what)))
+            check(f"{len(cases)} cases of {count} in {len(documents)} locations{what}", len(cases) >= 3000 and not found, "\n  ".join(found[:20]))

@@ -21,6 +21,10 @@
 #define NGX_HTTP_FOWHARIMU_MAX_KEYS    4194304
 #define NGX_HTTP_FOWHARIMU_MAX_ACCESS  65536
 
+/* how many tokens of how many octets are remembered, where nothing is said */
+#define NGX_HTTP_FOWHARIMU_TOKENS      1000
+#define NGX_HTTP_FOWHARIMU_OCTETS      4096
+
 /* in the place of a variable's index: the header Authorization */
 #define NGX_HTTP_FOWHARIMU_BEARER      -2
 
@@ -60,6 +64,8 @@ typedef struct {
     ngx_str_t                        argument;  /* that the token is */
     ngx_http_fowharimu_rule_t       *rule;      /* of "jwt_access" */
     ngx_array_t                     *demands;   /* such rules, by pointers */
+    ngx_int_t                        tokens;    /* that are remembered */
+    size_t                           octets;    /* of the longest of them */
     ngx_http_fowharimu_validator_t  *validator;
 } ngx_http_fowharimu_loc_conf_t;
 
@@ -70,8 +76,9 @@ typedef struct {
     ngx_str_t                        verdict;
     ngx_str_t                        fault;
     ngx_str_t                        payload;   /* in base64url */
-    uint64_t                         tries;
+    uint64_t                         tries;     /* that were paid */
     uint64_t                         work;
+    uint64_t                         remembered;
     ngx_str_t                       *claims;    /* in the order of the names */
 } ngx_http_fowharimu_ctx_t;
 
@@ -183,6 +190,8 @@ static void ngx_http_fowharimu_close_rule(void *data);
 static ngx_int_t ngx_http_fowharimu_compare(ngx_conf_t *cf);
 static char *ngx_http_fowharimu_claim_set(ngx_conf_t *cf, ngx_command_t *cmd,
     void *conf);
+static char *ngx_http_fowharimu_remember(ngx_conf_t *cf, ngx_command_t *cmd,
+    void *conf);
 static char *ngx_http_fowharimu_set_answer(ngx_conf_t *cf, ngx_command_t *cmd,
     void *conf);
 
@@ -232,6 +241,13 @@ static ngx_command_t  ngx_http_fowharimu_commands[] = {
     { ngx_string("jwt_require"),
       NGX_HTTP_FOWHARIMU_CONF|NGX_CONF_2MORE,
       ngx_http_fowharimu_require,
+      NGX_HTTP_LOC_CONF_OFFSET,
+      0,
+      NULL },
+
+    { ngx_string("jwt_remember"),
+      NGX_HTTP_FOWHARIMU_CONF|NGX_CONF_TAKE12,
+      ngx_http_fowharimu_remember,
       NGX_HTTP_LOC_CONF_OFFSET,
       0,
       NULL },
@@ -307,6 +323,10 @@ static ngx_http_variable_t  ngx_http_fowharimu_vars[] = {
 
     { ngx_string("jwt_work"), NULL, ngx_http_fowharimu_number_variable,
       offsetof(ngx_http_fowharimu_ctx_t, work),
+      NGX_HTTP_VAR_NOCACHEABLE, 0 },
+
+    { ngx_string("jwt_remembered"), NULL, ngx_http_fowharimu_number_variable,
+      offsetof(ngx_http_fowharimu_ctx_t, remembered),
       NGX_HTTP_VAR_NOCACHEABLE, 0 },
 
     { ngx_string(NGX_HTTP_FOWHARIMU_PREFIX), NULL,
@@ -667,8 +687,11 @@ ngx_http_fowharimu_judge(ngx_http_request_t *r,
                              token->data, token->len, (int64_t) ngx_time(),
                              &report);
 
-    ctx->tries = report.tries;
-    ctx->work = report.work;
+    /* the report of a token that is remembered has what was paid before */
+
+    ctx->remembered = fow_remembered(&validator->handle);
+    ctx->tries = ctx->remembered ? 0 : report.tries;
+    ctx->work = ctx->remembered ? 0 : report.work;
 
     switch (report.verdict) {
 
@@ -1464,6 +1487,8 @@ ngx_http_fowharimu_create_loc_conf(ngx_conf_t *cf)
     lcf->token = NGX_CONF_UNSET;
     lcf->rule = NGX_CONF_UNSET_PTR;
     lcf->demands = NGX_CONF_UNSET_PTR;
+    lcf->tokens = NGX_CONF_UNSET;
+    lcf->octets = NGX_CONF_UNSET_SIZE;
 
     return lcf;
 }
@@ -1507,9 +1532,16 @@ ngx_http_fowharimu_merge_loc_conf(ngx_conf_t *cf, void *parent, void *child)
         return NGX_CONF_ERROR;
     }
 
-    if (conf->policy.data == NULL && conf->keys.data == NULL) {
+    if (conf->policy.data == NULL && conf->keys.data == NULL
+        && conf->tokens == NGX_CONF_UNSET)
+    {
         conf->validator = prev->validator;
     }
+
+    ngx_conf_merge_value(conf->tokens, prev->tokens,
+                         NGX_HTTP_FOWHARIMU_TOKENS);
+    ngx_conf_merge_size_value(conf->octets, prev->octets,
+                              NGX_HTTP_FOWHARIMU_OCTETS);
 
     if (conf->policy.data == NULL) {
         conf->policy = prev->policy;
@@ -1737,6 +1769,13 @@ ngx_http_fowharimu_open(ngx_conf_t *cf, ngx_http_fowharimu_loc_conf_t *lcf)
         return NGX_OK;
     }
 
+    /* (nothing is merged into the outermost level) */
+
+    if (lcf->tokens == NGX_CONF_UNSET) {
+        lcf->tokens = NGX_HTTP_FOWHARIMU_TOKENS;
+        lcf->octets = NGX_HTTP_FOWHARIMU_OCTETS;
+    }
+
     if (ngx_http_fowharimu_compare(cf) != NGX_OK) {
         return NGX_ERROR;
     }
@@ -1759,6 +1798,12 @@ ngx_http_fowharimu_open(ngx_conf_t *cf, ngx_http_fowharimu_loc_conf_t *lcf)
         ngx_conf_log_error(NGX_LOG_EMERG, cf, 0,
                            "\"jwt_policy\" and \"jwt_keys\" can't be opened: "
                            "%s", fault ? fow_fault_name(fault) : "OutOfMemory");
+        return NGX_ERROR;
+    }
+
+    if (fow_remember(&validator->handle, lcf->tokens, lcf->octets) != FOW_OK) {
+        ngx_conf_log_error(NGX_LOG_EMERG, cf, 0,
+                           "\"jwt_remember\" lacks memory");
         return NGX_ERROR;
     }
 
@@ -2423,6 +2468,48 @@ ngx_http_fowharimu_claim_set(ngx_conf_t *cf, ngx_command_t *cmd, void *conf)
 
     v->get_handler = ngx_http_fowharimu_set_variable;
     v->data = mcf->claims.nelts - 1;
+
+    return NGX_CONF_OK;
+}
+
+
+/* "jwt_remember off", or a number of tokens and the size of the longest */
+
+static char *
+ngx_http_fowharimu_remember(ngx_conf_t *cf, ngx_command_t *cmd, void *conf)
+{
+    ngx_http_fowharimu_loc_conf_t *lcf = conf;
+
+    ssize_t     octets;
+    ngx_int_t   tokens;
+    ngx_str_t  *value;
+
+    if (lcf->tokens != NGX_CONF_UNSET) {
+        return "is duplicate";
+    }
+
+    value = cf->args->elts;
+    octets = NGX_HTTP_FOWHARIMU_OCTETS;
+    tokens = 0;
+
+    if (cf->args->nelts == 3 || ngx_strcmp(value[1].data, "off") != 0) {
+
+        tokens = ngx_atoi(value[1].data, value[1].len);
+
+        if (cf->args->nelts == 3) {
+            octets = ngx_parse_size(&value[2]);
+        }
+    }
+
+    if (tokens == NGX_ERROR || octets == NGX_ERROR) {
+        ngx_conf_log_error(NGX_LOG_EMERG, cf, 0,
+                           "\"jwt_remember\" takes \"off\", or a number of "
+                           "tokens and the size of the longest");
+        return NGX_CONF_ERROR;
+    }
+
+    lcf->tokens = tokens;
+    lcf->octets = octets;
 
     return NGX_CONF_OK;
 }

@@ -31,7 +31,7 @@ http {{
 }}
 """
 
-LOG = "log_format jwt '$uri $status $jwt_verdict $jwt_fault $jwt_claim_sub $jwt_tries $jwt_work'; access_log {room}/access.log jwt;"
+LOG = "log_format jwt '$uri $status $jwt_verdict $jwt_fault $jwt_claim_sub $jwt_tries $jwt_work $jwt_remembered'; access_log {room}/access.log jwt;"
 
 
 class Answer(NamedTuple):

@@ -1,5 +1,6 @@
 'use strict';
-// cases.js FILE: answers each case of a table that bindings/cases/make wrote, by the proved verifiers. bindings/cases/README.md says what a line is.
+// cases.js [-remember] FILE: answers each case of a table that bindings/cases/make wrote, by the proved verifiers. bindings/cases/README.md says what
+// a line is. With -remember tokens are remembered, and each is judged at several moments first.
 const assert = require('node:assert');
 const fs = require('node:fs');
 const fow = require('.');
@@ -12,6 +13,9 @@ const KINDS = {
 };
 const ALGORITHMS = { 1: 'HS256', 2: 'HS384', 3: 'HS512' };
 const FORMS = { 1: 'compact', 2: 'general', 3: 'flattened' };
+const FAR = 1_000_000_000n;
+const REMEMBERS = process.argv.includes('-remember');
+const OPENING = { mostQuestions: Infinity, remember: { tokens: REMEMBERS ? 100 : 0, octets: 2 ** 20 } };
 const NOTHING = { signature: 0, key: 0, work: 0, states: [], tries: [] };
 
 const octetsOf = (word) => (word === '-' ? Buffer.alloc(0) : Buffer.from(word, 'hex'));
@@ -50,8 +54,15 @@ function line(refusal, report, claims) {
   ].join('\t');
 }
 
+/** Judges a token at its moment, at others, and at its moment again: an accepted one in compact form is remembered then. */
+function again(validator, now, token) {
+  const report = [now, now + FAR, now - FAR, now, now].map((it) => validator.judge(token, BigInt.asIntN(64, it))).at(-1);
+  assert.ok(!report.accepted || report.remembered || token.includes('{'));
+}
+
 /** The answer to a token, under an access rule where there is one. What each call says of it has to be the same. */
 function judged(validator, now, token, access) {
+  if (REMEMBERS) again(validator, now, token);
   const how = access ? { access, now } : now, report = validator.judge(token, now);
   const text = tried(() => validator.validateText(token, how)), claims = tried(() => validator.validate(token, how));
   const isDenied = text instanceof fow.Denied, refusal = isDenied ? text : report.refusal;
@@ -83,9 +94,9 @@ function answer(validator, what, words) {
 
 let validator;
 const lines = [];
-for (const it of fs.readFileSync(process.argv[2], 'latin1').split('\n').slice(0, -1)) {
+for (const it of fs.readFileSync(process.argv.at(-1), 'latin1').split('\n').slice(0, -1)) {
   const [what, ...words] = it.split(' ');
-  if (what === 'open') validator = tried(() => new fow.Validator(...words.map(octetsOf), { mostQuestions: Infinity }));
+  if (what === 'open') validator = tried(() => new fow.Validator(...words.map(octetsOf), OPENING));
   else lines.push(`${words[0]}\t${answer(validator, what, words.slice(1))}\n`);
 }
 fs.writeFileSync(1, lines.join(''));

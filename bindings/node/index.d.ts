@@ -36,6 +36,8 @@ export interface Report {
   readonly work: number;
   readonly states: SignatureState[];
   readonly tries: Try[];
+  /** The token was remembered: `work` and `tries` are those of the judging that accepted it, and nothing was paid now. */
+  readonly remembered: boolean;
 }
 /** How claims are issued: without more HS256, compact, by key 0, with no `typ`. */
 export interface Issuing {
@@ -44,7 +46,17 @@ export interface Issuing {
   form?: 'compact' | 'general' | 'flattened';
   typ?: string;
 }
+/** How many accepted tokens are remembered, none longer than so many octets: the least used goes first. */
+export interface Remember {
+  tokens: number;
+  octets: number;
+}
 export interface Opening {
+  /**
+   * Which tokens are remembered: none without it. One that comes again is found by all its octets, and only its claims are looked at. Accepted
+   * tokens lie in memory until they go, and aren't wiped.
+   */
+  remember?: Remember;
   /** How many questions about public keys one token may raise: 64 without it, and never more than 32,768. `max_calls` bounds them. */
   mostQuestions?: number;
 }

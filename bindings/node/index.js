@@ -6,6 +6,7 @@ const OK = 0, REFUSED = 1, OUT_OF_MEMORY = 3;
 const NO_FAULT = 0, SCOPE_MISSING = 1001;
 /** FOW_MOST_QUESTIONS of fowharimu.h. */
 const MOST_QUESTIONS = 64;
+const NOTHING_REMEMBERED = { tokens: 0, octets: 0 };
 const GREATEST_NUMBER = 2 ** 32 - 1;
 const PARTS = { 1: 'payload', 2: 'protected', 3: 'signature' };
 const STATES = { 1: 'barred', 2: 'no key', 3: 'bad signature', 4: 'verified', 5: 'not reached', 6: 'stopped' };
@@ -154,8 +155,9 @@ class Validator {
   #isClosed = false;
   #report = new Float64Array(8);
 
-  constructor(policy, keys, { mostQuestions = MOST_QUESTIONS } = {}) {
+  constructor(policy, keys, { mostQuestions = MOST_QUESTIONS, remember: { tokens, octets: longest } = NOTHING_REMEMBERED } = {}) {
     compareLibrary();
+    const room = [whole(tokens, 'remember.tokens'), whole(longest, 'remember.octets')];
     const text = octets(policy), held = native.open(text, octets(keys));
     if (typeof held === 'number') throw documentRefused(held, text);
     const most = native.mostQuestions(held);
@@ -165,6 +167,7 @@ class Validator {
         `one token could raise ${most} questions about public keys, and ${mostQuestions} are taken: set max_calls in the policy`,
         { most, allowed: mostQuestions });
     }
+    native.remember(held, ...room);
     this.#held = held;
   }
 
@@ -182,7 +185,8 @@ class Validator {
     takeNoMore(others);
     const refusal = this.#judge(token, now);
     const [, , , signature, key, , work, count] = this.#report;
-    return { accepted: refusal === null, refusal, signature, key, work, states: this.#states(), tries: this.#tries(count) };
+    const remembered = native.remembered(this.#held);
+    return { accepted: refusal === null, refusal, signature, key, work, states: this.#states(), tries: this.#tries(count), remembered };
   }
 
   unverifiedHeader(token, signature = 0) {

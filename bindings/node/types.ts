@@ -1,7 +1,7 @@
 // What a caller in TypeScript writes; it is compiled, and not run.
 import { Access, AccessRefused, AnotherLibrary, ClaimsRefused, Denied, FormRefused, KeysRefused, PolicyRefused, Report, TokenRefused, Validator } from '.';
 
-const validator: Validator = new Validator({ algs: ['HS256'] }, '{"keys":[]}', { mostQuestions: 8 });
+const validator: Validator = new Validator({ algs: ['HS256'] }, '{"keys":[]}', { mostQuestions: 8, remember: { tokens: 1000, octets: 4096 } });
 const claims: unknown = validator.validate('a.b.c').iss;
 const text: string = validator.validateText(new Uint8Array(3), 7n);
 const report: Report = validator.judge('a.b.c', 1300819379);
@@ -10,6 +10,7 @@ if (refusal instanceof FormRefused && refusal.part === 'payload') console.log(re
 if (refusal instanceof ClaimsRefused) console.log(refusal.claim?.length, refusal.message);
 for (const it of report.states) if (it.state === 'verified') console.log(it.key);
 for (const it of report.tries) console.log(it.cost + it.key);
+const remembered: boolean = report.remembered;
 const access: Access = new Access({ scopes: ['read'], claims: { email_verified: [true] } });
 const granted: unknown = validator.validate('a.b.c', { access, now: 7 }).iss ?? validator.validateText('a.b.c', { access });
 const denied: unknown = granted;
@@ -18,7 +19,7 @@ if (denied instanceof AccessRefused) console.log(denied.fault, denied.member?.le
 access.close();
 const token: string = validator.issue({ iss: 'joe' }, { alg: 'HS384', form: 'flattened', key: 0, typ: 'at+jwt' });
 const kid: unknown = validator.unverifiedHeader(token, 0)?.kid;
-for (const it of [PolicyRefused, KeysRefused, AnotherLibrary]) console.log(it.name, claims, text, kid);
+for (const it of [PolicyRefused, KeysRefused, AnotherLibrary]) console.log(it.name, claims, text, kid, remembered);
 validator.close();
 // @ts-expect-error: a token is a text or octets
 validator.validate(7);

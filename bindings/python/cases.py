@@ -1,4 +1,6 @@
-"""cases.py FILE: answers each case of a table that bindings/cases/make wrote, over OpenSSL. bindings/cases/README.md says what a line is."""
+"""cases.py [-remember] FILE: answers each case of a table that bindings/cases/make wrote, over OpenSSL; with -remember each of them after the token was
+judged before. bindings/cases/README.md says what a line is."""
+import dataclasses
 import json
 import sys
 from typing import Optional, Union
@@ -11,6 +13,8 @@ KINDS = {PolicyRefused: "policy", KeysRefused: "keys", TooLong: "text", FormRefu
 KINDS |= {ClaimsRefused: "claims", IssueRefused: "issue", AccessRefused: "access", Denied: "denied"}
 ALGORITHMS = {1: "HS256", 2: "HS384", 3: "HS512"}
 FORMS = {1: "compact", 2: "general", 3: "flattened"}
+# How many tokens of how many octets are remembered.
+REMEMBER = (100, 2**20) if "-remember" in sys.argv else (0, 0)
 # Faults of claims, for which issuing refuses too.
 CLAIM_FAULTS = ("ClaimsShape", "ClaimKind", "ClaimDate")
 
@@ -39,6 +43,13 @@ def line_of(verdict: str, refusal: Optional[FowharimuError], signature: object, 
 def judged(validator: Validator, token: bytes, now: int, access: Optional[Access] = None) -> str:
     """The answer to a token: the report, and the claims as `validate` gives them where the access rule, if any, is met."""
     report: Report = validator.judge(token, now)
+    if REMEMBER[0]:
+        for moment in (now, max(now - 10**9, -(2**63)), min(now + 10**9, 2**63 - 1)):
+            validator.judge(token, moment)
+        again = validator.judge(token, now)
+        if again.accepted and b"." in token and not again.remembered:
+            raise AssertionError("an accepted token isn't remembered")
+        report = dataclasses.replace(again, remembered=False)
     states = ",".join(f"{STATES[it.state]}/{it.fault or ''}/{it.key or 0}" for it in report.states)
     tries = ",".join(f"{it.signature}/{it.key}/{it.cost}" for it in report.tries)
     refusal, claims = report.refusal, "-"
@@ -77,7 +88,7 @@ def issued(validator: Validator, alg: str, form: str, key: str, typ: bytes, clai
 def opened(policy: str, keys: str) -> Union[Validator, FowharimuError]:
     """A validator, or why there is none."""
     try:
-        return Validator(octets_of(policy), octets_of(keys), most_questions=None)
+        return Validator(octets_of(policy), octets_of(keys), most_questions=None, remember=REMEMBER)
     except (PolicyRefused, KeysRefused) as refusal:
         return refusal
 
@@ -95,7 +106,7 @@ def answer(validator: Union[Validator, FowharimuError], what: str, words: list[s
 
 def main() -> None:
     validator: Union[Validator, FowharimuError, None] = None
-    with open(sys.argv[1], encoding="ascii") as table:
+    with open(sys.argv[-1], encoding="ascii") as table:
         for line in table:
             what, *words = line.split()
             if what == "open":

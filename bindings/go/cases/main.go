@@ -1,5 +1,6 @@
-// Command cases answers each case of a table that bindings/cases/make wrote, over OpenSSL: cases [-threads N] FILE. bindings/cases/README.md
-// says what a line is. With -threads so many goroutines judge each token on one validator, and all have to answer alike.
+// Command cases answers each case of a table that bindings/cases/make wrote, over OpenSSL: cases [-threads N] [-remember] FILE.
+// bindings/cases/README.md says what a line is. With -threads so many goroutines judge each token on one validator, and all have to answer
+// alike. With -remember tokens are remembered, and each is judged at several moments first.
 package main
 
 import (
@@ -28,11 +29,14 @@ type said struct {
 	work                                         uint64
 }
 
+// remembers says whether tokens are remembered.
+var remembers = flag.Bool("remember", false, "remember tokens, and judge each at several moments first")
+
 func main() {
 	threads := flag.Int("threads", 1, "how many goroutines judge each token")
 	flag.Parse()
 	if flag.NArg() != 1 || *threads < 1 {
-		log.Fatal("usage: cases [-threads N] FILE")
+		log.Fatal("usage: cases [-threads N] [-remember] FILE")
 	}
 	table, err := os.Open(flag.Arg(0))
 	fatal(err)
@@ -47,12 +51,35 @@ func main() {
 		fatal(err)
 		words := strings.Fields(line)
 		if words[0] == "open" {
-			validator, refused = fowharimu.Open(octetsOf(words[1]), octetsOf(words[2]), fowharimu.MostQuestions(math.MaxInt))
+			validator, refused = open(octetsOf(words[1]), octetsOf(words[2]))
 		} else if answer, isAsked := answered(validator, refused, words, *threads); isAsked {
 			fmt.Fprintf(out, "%s\t%s\n", words[1], answer)
 		}
 	}
 	fatal(out.Flush())
+}
+
+// open gives a validator that takes any documents, and remembers tokens where that is asked for.
+func open(policy, keys []byte) (*fowharimu.Validator, error) {
+	var tokens uint
+	if *remembers {
+		tokens = 100
+	}
+	return fowharimu.Open(policy, keys, fowharimu.MostQuestions(math.MaxInt), fowharimu.Remember(tokens, 1<<20))
+}
+
+// again judges a token at its moment, at others, and at its moment again: an accepted one in compact form is remembered then.
+func again(validator *fowharimu.Validator, token string, now time.Time) {
+	const far = 1_000_000_000
+	for _, it := range []int64{0, far, -far, 0} {
+		_, err := validator.JudgeAt(token, time.Unix(now.Unix()+it, 0))
+		fatal(err)
+	}
+	report, err := validator.JudgeAt(token, now)
+	fatal(err)
+	if report.Accepted() && strings.Contains(token, ".") && !strings.Contains(token, "{") && !report.Remembered {
+		log.Fatalf("a token isn't remembered: %s", token)
+	}
 }
 
 // answered gives the answer to a case, and whether it could be asked.
@@ -100,6 +127,9 @@ func together(threads int, answer func() said) said {
 
 // judged gives the report on a token, and its claims. What ValidateAt says has to be the same.
 func judged(validator *fowharimu.Validator, token string, now time.Time) said {
+	if *remembers {
+		again(validator, token, now)
+	}
 	report, err := validator.JudgeAt(token, now)
 	fatal(err)
 	claims, refusal := validator.ValidateAt(token, now)

@@ -136,6 +136,20 @@ static jint JNICALL most_questions(JNIEnv *env, jclass class, jlong it)
     return fow_most_questions(&at(it)->validator, &most) == FOW_OK ? (jint)most : INT32_MAX;
 }
 
+static jint JNICALL remember(JNIEnv *env, jclass class, jlong it, jint tokens, jint octets)
+{
+    (void)env;
+    (void)class;
+    return (jint)fow_remember(&at(it)->validator, (size_t)tokens, (size_t)octets);
+}
+
+static jboolean JNICALL remembered(JNIEnv *env, jclass class, jlong it)
+{
+    (void)env;
+    (void)class;
+    return fow_remembered(&at(it)->validator) ? JNI_TRUE : JNI_FALSE;
+}
+
 static void JNICALL close_validator(JNIEnv *env, jclass class, jlong it)
 {
     (void)env;
@@ -341,6 +355,8 @@ JNIEXPORT jint JNICALL JNI_OnLoad(JavaVM *vm, void *reserved)
         ROW("open", "([B[B[I)J", open_validator),
         ROW("openBeside", "(J)J", open_beside),
         ROW("mostQuestions", "(J)I", most_questions),
+        ROW("remember", "(JII)I", remember),
+        ROW("remembered", "(J)Z", remembered),
         ROW("close", "(J)V", close_validator),
         ROW("judge", "(J[BJ[J)I", judge),
         ROW("payload", "(J)[B", payload),

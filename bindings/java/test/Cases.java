@@ -17,17 +17,22 @@ import org.example.fowharimu.Access;
 import org.example.fowharimu.Denied;
 import org.example.fowharimu.Issuing;
 import org.example.fowharimu.Refused;
+import org.example.fowharimu.Remember;
 import org.example.fowharimu.SignatureState;
 import org.example.fowharimu.Validator;
 import org.example.fowharimu.Verdict;
 
 /**
  * Cases FILE: answers each case of a table that bindings/cases/make wrote, by the proved verifiers. bindings/cases/README.md says what a line is.
- * With -Dthreads=N so many threads judge each token on one validator, and all have to answer alike.
+ * With -Dthreads=N so many threads judge each token on one validator, and all have to answer alike. With -Dremember=N so many tokens are remembered,
+ * and each is judged at several moments first.
  */
 final class Cases {
     private static final List<String> PARTS = List.of("payload", "protected", "signature");
     private static final String NOTHING = "0\t\t\t-";
+
+    private static final Remember REMEMBER = new Remember(Integer.getInteger("remember", 0), 1 << 20);
+    private static final long FAR = 1_000_000_000;
 
     private final int threads;
     private final ExecutorService pool;
@@ -62,7 +67,7 @@ final class Cases {
         }
         validator = null;
         try {
-            validator = new Validator(octets(words[1]), octets(words[2]), Integer.MAX_VALUE);
+            validator = new Validator(octets(words[1]), octets(words[2]), Integer.MAX_VALUE, REMEMBER);
         } catch (Refused e) {
             refused = e;
         }
@@ -92,8 +97,20 @@ final class Cases {
         return first;
     }
 
+    /** Judges a token at its moment, at others, and at its moment again: an accepted one in compact form is remembered then. */
+    private void again(byte[] token, long now) {
+        for (long it : new long[] {now, now > 0 ? now - FAR : now + FAR, now, now}) {
+            validator.judge(token, it);
+        }
+        Verdict said = validator.judge(token, now);
+        check(!said.accepted() || said.remembered() || threads > 1 || new String(token, StandardCharsets.ISO_8859_1).contains("{"), "a token isn't remembered");
+    }
+
     /** The answer to a token. What `validate` says has to be the same. */
     private String judged(byte[] token, long now) {
+        if (REMEMBER.tokens() > 0) {
+            again(token, now);
+        }
         Verdict said = validator.judge(token, now);
         String claims = null;
         try {

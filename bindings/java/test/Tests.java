@@ -20,6 +20,7 @@ import org.example.fowharimu.Access;
 import org.example.fowharimu.Denied;
 import org.example.fowharimu.Issuing;
 import org.example.fowharimu.Refused;
+import org.example.fowharimu.Remember;
 import org.example.fowharimu.SignatureState;
 import org.example.fowharimu.Try;
 import org.example.fowharimu.Validator;
@@ -58,7 +59,7 @@ final class Tests {
 
     private void all() throws Exception {
         for (Test it : new Test[] {
-            this::eachToken, this::ed448, this::clock, this::verdict, this::refusals, this::surrogates, this::documents, this::questions,
+            this::eachToken, this::ed448, this::clock, this::verdict, this::remembering, this::refusals, this::surrogates, this::documents, this::questions,
             this::mistakes, this::closing, this::issuing, this::freeing, this::threads, this::closingMeanwhile, this::ruleMet, this::denials,
             this::denialIsNoRefusal, this::rulesRefused, this::rulesOfTheDocuments, this::ruleMistakes, this::ruleClosing, this::ruleFreeing,
             this::ruleThreads, this::ruleClosingMeanwhile
@@ -113,6 +114,32 @@ final class Tests {
             equal(refused(() -> it.validate(token(hmac))).fault(), "Expired");
             equal(it.judge(token(hmac)).refusal().get().fault(), "Expired");
         }
+    }
+
+    private void remembering() throws Exception {
+        byte[] policy = Files.readAllBytes(Path.of(hmac + ".policy"));
+        byte[] keys = Files.readAllBytes(Path.of(hmac + ".keys"));
+        int length = token(hmac).length();
+        for (Remember remember : List.of(new Remember(10, 4096), new Remember(1, length), new Remember(10, length - 1), new Remember())) {
+            boolean is = remember.tokens() > 0 && remember.octets() >= length;
+            try (Validator it = new Validator(policy, keys, Validator.MOST_QUESTIONS, remember)) {
+                Verdict first = it.judge(token(hmac), NOW);
+                check(first.accepted() && !first.remembered(), "the first time");
+                Verdict again = it.judge(token(hmac), NOW);
+                check(again.accepted() && again.remembered() == is, "the second time");
+                equal(again.claims(), first.claims());
+                Verdict later = it.judge(token(hmac), NOW.plusSeconds(1));
+                check(later.remembered() == is && later.refusal().get().fault().equals("Expired"), "a second later");
+                for (Verdict said : List.of(again, later)) {
+                    equal(List.of(said.work(), said.tries(), said.states()), List.of(first.work(), first.tries(), first.states()));
+                }
+                equal(it.validate(token(hmac), NOW), first.claims().get());
+                equal(refused(() -> it.validate(token(hmac).substring(1), NOW)).kind(), Refused.Kind.FORM);
+            }
+        }
+        thrown(IllegalArgumentException.class, () -> new Remember(-1, 1));
+        thrown(IllegalArgumentException.class, () -> new Remember(1, -1));
+        thrown(NullPointerException.class, () -> new Validator(policy, keys, 64, null));
     }
 
     private void verdict() throws Exception {

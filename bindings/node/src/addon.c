@@ -313,6 +313,29 @@ static napi_value most_questions(napi_env env, napi_callback_info info)
     return number(env, most);
 }
 
+/* remember(validator, tokens, octets): remembers so many tokens of so many octets from now on. */
+static napi_value remember(napi_env env, napi_callback_info info)
+{
+    napi_value given[3];
+    uint32_t tokens = 0, most = 0;
+    held *it = arguments(env, info, 3, given);
+    if (it == NULL)
+        return NULL;
+    if (napi_get_value_uint32(env, given[1], &tokens) != napi_ok || napi_get_value_uint32(env, given[2], &most) != napi_ok)
+        return mistake(env, "two numbers are wanted");
+    return fow_remember(&it->validator, tokens, most) == FOW_OK ? NULL : lack_memory(env);
+}
+
+/* remembered(validator): whether the last verdict came out of the memory. */
+static napi_value remembered(napi_env env, napi_callback_info info)
+{
+    napi_value given[1], result = NULL;
+    held *it = arguments(env, info, 1, given);
+    if (it != NULL)
+        napi_get_boolean(env, fow_remembered(&it->validator), &result);
+    return result;
+}
+
 /* judge(validator, token, now, report): the verdict; the report is written to. */
 static napi_value judge(napi_env env, napi_callback_info info)
 {
@@ -614,7 +637,7 @@ NAPI_MODULE_INIT()
         { "open", open_validator }, { "mostQuestions", most_questions }, { "judge", judge }, { "payload", payload }, { "header", header },
         { "issue", issue }, { "state", state }, { "tried", tried }, { "refusedClaim", refused_claim }, { "refusedMember", refused_member },
         { "faultName", fault_name }, { "close", close_validator }, { "openAccess", open_access }, { "refusedInAccess", refused_in_access },
-        { "scope", scope }, { "denied", denied }, { "deniedName", denied_name }, { "closeAccess", close_access },
+        { "remember", remember }, { "remembered", remembered }, { "scope", scope }, { "denied", denied }, { "deniedName", denied_name }, { "closeAccess", close_access },
     };
     for (size_t i = 0; i < sizeof all / sizeof *all; i++) {
         napi_value function = NULL;

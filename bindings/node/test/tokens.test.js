@@ -57,6 +57,26 @@ function testReport() {
   assert.strictEqual(report.work, report.tries[0].cost);
 }
 
+function testRemembering() {
+  const token = tokenOf(HMAC), documents = [read(HMAC, 'policy'), read(HMAC, 'keys')];
+  const rows = [[10, 4096, true], [1, token.length, true], [10, token.length - 1, false], [0, 4096, false]];
+  for (const [tokens, octets, is] of rows) {
+    const validator = new fow.Validator(...documents, { remember: { tokens, octets } });
+    const reports = [0, 0, 1, 0].map((it) => validator.judge(token, NOW + it));
+    assert.deepStrictEqual(reports.map((it) => it.remembered), [false, is, is, is]);
+    assert.deepStrictEqual(reports.map((it) => it.accepted), [true, true, false, true]);
+    for (const it of reports) assert.deepStrictEqual([it.work, it.tries, it.states], [reports[0].work, reports[0].tries, reports[0].states]);
+    assert.strictEqual(validator.validate(token, NOW).iss, 'joe');
+    assert.throws(() => validator.validate(changed(token), NOW), { name: 'SignatureRefused' });
+    validator.close();
+  }
+  const plain = validatorOf(HMAC);
+  assert.deepStrictEqual([0, 0].map((it) => plain.judge(token, NOW + it).remembered), [false, false]);
+  for (const remember of [{ tokens: -1, octets: 1 }, { tokens: 1.5, octets: 1 }, { tokens: 1 }, { tokens: 2 ** 32, octets: 1 }]) {
+    assert.throws(() => new fow.Validator(...documents, { remember }), RangeError);
+  }
+}
+
 function testRefusals() {
   const policy = { algs: ['HS256'] }, token = tokenOf(HMAC), keys = read(HMAC, 'keys');
   const refusal = (by, it) => new fow.Validator(by, keys).judge(it, NOW).refusal;
@@ -344,6 +364,7 @@ if (!isMainThread) {
   test('a signature by Ed448 is refused', testEd448);
   test('the clock is the moment', () => assert.throws(() => validatorOf(HMAC).validate(tokenOf(HMAC)), { fault: 'Expired' }));
   test('a report has each try', testReport);
+  test('a token that comes again is judged by its claims', testRemembering);
   test('each kind of refusal', testRefusals);
   test('lone surrogates', testSurrogates);
   test('refused documents', testDocuments);

@@ -80,6 +80,42 @@ class Opening(unittest.TestCase):
         self.assertEqual(str(caught.exception), f"the library another has interface {number}, and this package was made for {_library.ABI}")
 
 
+class Remembering(unittest.TestCase):
+    """Tokens that come again."""
+
+    def remembering(self, tokens: int = 10, octets: int = 4096) -> Validator:
+        """A validator of the token of HMAC that remembers so many tokens."""
+        return Validator(HMAC.with_suffix(".policy").read_bytes(), HMAC.with_suffix(".keys").read_bytes(), remember=(tokens, octets))
+
+    def test_a_token_that_comes_again_is_judged_by_its_claims(self) -> None:
+        with self.remembering() as validator:
+            reports = [validator.judge(token_of(HMAC), NOW + it) for it in (0, 0, 1, 0)]
+            self.assertEqual([it.remembered for it in reports], [False, True, True, True])
+            self.assertEqual([it.accepted for it in reports], [True, True, False, True])
+            self.assertEqual(reports[1], reports[3])
+            self.assertEqual((reports[0].work, reports[0].tries, reports[0].states), (reports[2].work, reports[2].tries, reports[2].states))
+            self.assertEqual(validator.validate(token_of(HMAC), NOW)["iss"], "joe")
+            with self.assertRaises(Denied):
+                validator.validate(token_of(HMAC), NOW, Access({"scopes": ["read"]}))
+            with self.assertRaises(SignatureRefused):
+                validator.validate(token_of(HMAC)[:-1], NOW)
+
+    def test_none_is_remembered_unless_it_is_asked_for(self) -> None:
+        length = len(token_of(HMAC))
+        with validator_of(HMAC) as plain, self.remembering(0) as none, self.remembering(10, length - 1) as short, self.remembering(1, length) as long:
+            for validator, last in ((plain, False), (none, False), (short, False), (long, True)):
+                self.assertEqual([validator.judge(token_of(HMAC), NOW).remembered for _ in range(2)], [False, last])
+
+    def test_numbers_that_are_none(self) -> None:
+        wrong: List[Any] = [(-1, 1), (1, -1), (2**64, 1), (1,), (1, 2, 3)]
+        for remember in wrong:
+            with self.subTest(remember), self.assertRaises(ValueError):
+                Validator({"algs": ["HS256"]}, {"keys": []}, remember=remember)
+        strange: Any = (1, "x")
+        with self.assertRaises(TypeError):
+            Validator({"algs": ["HS256"]}, {"keys": []}, remember=strange)
+
+
 class Rules(unittest.TestCase):
     """Access rules, over the claims of RFC 7515, appendix A.1: `iss` joe, `exp` and `http://example.com/is_root` true."""
 

@@ -33,8 +33,8 @@ use std::num::NonZeroUsize;
 /// compared, and only its claims are looked at anew: the verdict and the report are those of
 /// [`Validator::judge`](crate::Validator::judge). The policy and the keys can't change while the memory lasts: new keys begin a new one.
 ///
-/// Accepted tokens and their claims lie in the memory until they go, and aren't wiped. A kept token takes about four times its octets and
-/// some hundred octets beside.
+/// Accepted tokens and their claims lie in the memory until they go, and aren't wiped. A kept token of 179 octets takes some 850, one of 1,300
+/// octets with 26 claims some 3,200; none takes more than some twelve times its octets.
 ///
 /// ```rust
 /// let tokens = NonZeroUsize::new(1000).ok_or(NoRoom)?;

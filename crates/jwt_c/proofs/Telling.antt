@@ -17,6 +17,7 @@ use Rattle.jwt_c.specs.declared.asking.Proved.TheVariants.{Rsa, Ed25519 as OnEd2
 use Rattle.jwt_c.specs.declared.desk.Desk.{Desk}
 use Rattle.jwt_c.specs.Asking.{TellsDesk, is_ed25519, rsa_says, ed25519_says, proved_says, asked_of, said_by}
 use Rattle.jwt_c.specs.Faults.{form_numbers, claim_numbers, verdict_numbers}
+use Rattle.jwt_c.specs.Reports.{claims_in}
 
 -- ---- what a proved verifier tells
 
@@ -61,3 +62,9 @@ never_asks (Accepted i j claims) h = cc
 never_asks (Refused (fault.Form f)) h = form_never f h
 never_asks (Refused (fault.Claim f)) h = claim_never f h
 never_asks (Refused _) h = cc
+
+-- ---- no refusal has claims
+
+pub no_claims : (v : Verdict) → ((verdict_numbers v).verdict ≡ 0 → ⊥) → claims_in v ≡ None
+no_claims (Accepted i j claims) h = absurd (h refl)
+no_claims (Refused f) h = refl

@@ -170,6 +170,10 @@ bare v = record { verdict = v; fault = 0; part = 0; signature = 0; key = 0; clai
 abbrev pub refusal : ℕ → ℕ → ℕ → ℕ → ℕ → Numbers
 refusal f p i j c = record { verdict = 1; fault = f; part = p; signature = i; key = j; claim = c }
 
+-- an acceptance
+abbrev pub accepted : ℕ → ℕ → Numbers
+accepted i j = record { verdict = 0; fault = 0; part = 0; signature = i; key = j; claim = 0 }
+
 abbrev pub form_numbers : FormFault → Numbers
 form_numbers form.OutOfMemory = bare 3
 form_numbers f = refusal (form_number f) (form_part f) (form_signature f) 0 0
@@ -193,7 +197,7 @@ fault_numbers (fault.Claim f) = claim_numbers f
 fault_numbers fault.VerifierMemory = bare 3
 
 abbrev pub verdict_numbers : Verdict → Numbers
-verdict_numbers (Accepted i j claims) = record { verdict = 0; fault = 0; part = 0; signature = i; key = j; claim = 0 }
+verdict_numbers (Accepted i j claims) = accepted i j
 verdict_numbers (Refused f) = fault_numbers f
 
 -- the name of the claim that the verdict finds missing, and none of any other

@@ -1,11 +1,14 @@
 pub mod Access
 pub mod Asking
 pub mod Documents
+pub mod Evidence
 pub mod Faults
 pub mod Handles
 pub mod Issuing
 pub mod MostQuestions
+pub mod ProvedKept
 pub mod Proving
+pub mod Remembering
 pub mod Reports
 pub mod RuleHandles
 pub mod Written

@@ -1,7 +1,8 @@
 -- What an exported function writes and answers.
-use Rattle.std.specs.Prelude.{◌≡◌, ◌≢◌, ℕ, ℤ, List, [], ◌∷◌, length, Option, Some, None, option_map, Result, Ok, Err}
+use Rattle.std.specs.Prelude.{◌≡◌, ◌≢◌, ℕ, ℤ, Bool, true, false, List, [], ◌∷◌, length, Option, Some, None, option_map, Result, Ok, Err}
 use Rattle.serde_json.specs.Data.{Members}
 use Rattle.jwt_jws.specs.Token.{Token}
+use Rattle.jwt_jws.specs.Views.{token}
 use Rattle.jwt_keys.specs.Keys.{KeyParts}
 use Rattle.jwt_keys.specs.KeySets.{KeyList, key_set, key_set_of}
 use Rattle.jwt_keys.specs.declared.fault.KeysFault.{KeysFault}
@@ -15,19 +16,21 @@ use Rattle.jwt_verify.specs.declared.report.Try.{Try}
 use Rattle.jwt_verify.specs.declared.report.Report.{Report}
 use Rattle.jwt_verify.specs.declared.report.Verdict.{Verdict}
 use Rattle.jwt_verify.specs.declared.report.Verdict.TheVariants.{Accepted, Refused}
-use Rattle.jwt_verify.specs.Accepted.{IsVerdict}
 use Rattle.jwt_verify.specs.Table.{work}
 use Rattle.jwt_verify.specs.Verdict.{token_of}
-use Rattle.jwt_verify.specs.Reports.{FoundMemory, IsReport, terms}
-use Rattle.jwt_told.specs.Told.{Truth, AreRight, told, told_meaning, true_meaning}
+use Rattle.jwt_verify.specs.Reports.{terms}
+use Rattle.jwt_told.specs.Told.{ToldParts, told, told_meaning}
 use Rattle.jwt_told.specs.Questions.{AreTries, IsFirstOpen, IsOpen, QuestionParts, kept_parts, question_at}
+use Rattle.jwt_told.specs.declared.questions.Asking.{Asking}
 use Rattle.jwt_c.specs.declared.desk.Desk.{Desk}
-use Rattle.jwt_c.specs.declared.desk.Documents.{Documents}
+use Rattle.jwt_c.specs.declared.grounds.Documents.{Documents}
 use Rattle.jwt_c.specs.declared.desk.Last.{Last}
 use Rattle.jwt_c.specs.declared.report.FowReport.{FowReport}
 use Rattle.jwt_c.specs.declared.report.FowState.{FowState}
 use Rattle.jwt_c.specs.declared.report.FowTry.{FowTry}
 use Rattle.jwt_c.specs.Documents.{documents}
+use Rattle.jwt_c.specs.Evidence.{states_kept, tries_kept, claims_kept}
+use Rattle.jwt_c.specs.Remembering.{RestsOn, IsHeldIn}
 use Rattle.jwt_c.specs.Faults.{Numbers, keys_number, policy_number, sig_number, verdict_numbers, missing_in}
 
 abbrev pub report_numbers : FowReport → Numbers
@@ -67,21 +70,25 @@ try_parts t = record { cost = t.cost; signature = t.signature; key = t.key }
 
 -- nothing is kept of a judging
 abbrev pub IsNew : Last → Type 0
-IsNew l = (l.states.items ≡ []) × (l.tries.items ≡ []) × (l.claims ≡ None) × (l.missing.items ≡ []) × (l.asked ≡ None)
+IsNew l = (states_kept l ≡ []) × (tries_kept l ≡ []) × (claims_kept l ≡ None) × (l.missing.items ≡ []) × (l.asked ≡ None) × (l.remembered ≡ false)
 
 -- the policy and the key set that these octets spell
 abbrev pub IsRead : List ℕ → List ℕ → Documents → Type 0
 IsRead policy keys it = (policy_of policy ≡ Ok it.policy) × (key_set_of keys ≡ Ok (key_set it.keys))
 
--- what was read from these documents is held, and nothing is told
+-- nothing is told, nothing is kept of a judging, and no token is to be remembered
+abbrev pub IsBlank : Desk → Type 0
+IsBlank d = (told d.answers ≡ []) × IsNew d.last × (d.memory ≡ None) × (d.grounds.1 ≡ None)
+
+-- what was read from these documents is held, and nothing is told or remembered
 abbrev pub IsOpened : List ℕ → List ℕ → Option Desk → Type 0
 IsOpened policy keys None = ⊥
-IsOpened policy keys (Some d) = IsRead policy keys (documents d) × (told d.answers ≡ []) × IsNew d.last
+IsOpened policy keys (Some d) = IsRead policy keys (documents d) × IsBlank d
 
--- these documents are held, and nothing is told
+-- these documents are held, and nothing is told or remembered
 abbrev pub IsFresh : Documents → Option Desk → Type 0
 IsFresh it None = ⊥
-IsFresh it (Some d) = (documents d ≡ it) × (told d.answers ≡ []) × IsNew d.last
+IsFresh it (Some d) = (documents d ≡ it) × IsBlank d
 
 -- Why what these documents hold isn't held, by the status and the fault that are answered: the policy is refused for this fault, or it
 -- stands and the key set is; or memory was refused.
@@ -110,7 +117,7 @@ IsForgotten None (Some e) = ⊥
 IsForgotten (Some d) None = ⊥
 IsForgotten (Some d) (Some e) = (documents e ≡ documents d) × (told e.answers ≡ [])
 
--- the policy and key set of the first are held by the second, and nothing is told to that
+-- the policy and key set of the first are held by the second, to which nothing is told, and which remembers nothing
 abbrev pub IsBeside : Option Desk → Option Desk → Type 0
 IsBeside None e = ⊥
 IsBeside (Some d) e = IsFresh (documents d) e
@@ -123,15 +130,19 @@ claims_in (Refused f) = None
 
 -- what is kept of a report
 abbrev pub Keeps : Report → Last → Type 0
-Keeps r l = (l.states.items ≡ r.states.items) × (l.tries.items ≡ r.tries.items) × (l.claims ≡ claims_in r.verdict) × (l.missing.items ≡ missing_in r.verdict) × (l.asked ≡ None)
+Keeps r l = (states_kept l ≡ r.states.items) × (tries_kept l ≡ r.tries.items) × (claims_kept l ≡ claims_in r.verdict) × (l.missing.items ≡ missing_in r.verdict) × (l.asked ≡ None)
+
+-- the numbers are those of the report, and it is kept
+abbrev pub Says : Report → FowReport → Last → Type 0
+Says r said l = (report_numbers said ≡ verdict_numbers r.verdict) × (said.tries ≡ length r.tries.items) × (said.work ≡ work r.tries.items) × Keeps r l
 
 -- The verdict and the numbers are those of validate's contract on x, where the one verifier is what was told; and where what was told
--- is true, the verdict is the one under what is true.
+-- is true, the verdict is the one under what is true. A verdict that is remembered rests on what was told when the token was accepted.
 abbrev pub IsJudged : Desk → ℤ → List ℕ → FowReport → Last → Type 0
 IsJudged d now x said l = (r : Report)
-    × IsReport (terms (documents d).policy (documents d).keys now (told_meaning (told d.answers) ∷ [])) x (documents d).policy.run.work r
-    × (FoundMemory r.verdict → (truth : Truth) → AreRight truth (told d.answers) → IsVerdict (terms (documents d).policy (documents d).keys now (true_meaning truth ∷ [])) x (documents d).policy.run.work r.verdict)
-    × (report_numbers said ≡ verdict_numbers r.verdict) × (said.tries ≡ length r.tries.items) × (said.work ≡ work r.tries.items) × Keeps r l
+    × RestsOn l.remembered (told d.answers) d.memory (documents d) now x r
+    × IsHeldIn l.remembered d.memory x (documents d).policy.run.work
+    × Says r said l
 
 -- the report is judged so, and is what the desk that is held keeps
 abbrev pub IsJudgedBy : Desk → ℤ → List ℕ → FowReport → Option Desk → Type 0
@@ -143,14 +154,22 @@ abbrev pub asked_at : Result Token Fault → List KeyParts → ℕ → ℕ → O
 asked_at (Ok t) keys i j = question_at t keys i j
 asked_at (Err f) keys i j = None
 
+-- what is asked of the token is the first try of a run by what was told of which nothing was told, and comes with the token
+abbrev pub IsAsking : List ToldParts → Documents → ℤ → List ℕ → Asking → Type 0
+IsAsking answers it now x asks = AreTries (terms it.policy it.keys now (told_meaning answers ∷ [])) x it.policy.run.work asks.tries.items
+    × IsFirstOpen answers it.policy x (key_set it.keys).keys asks.tries.items asks.question.signature asks.question.key
+    × IsOpen answers it.policy x (key_set it.keys).keys asks.question.signature asks.question.key
+    × (token_of it.policy x ≡ Ok (token asks.token))
+
 -- The tries that are kept are those of a run that finds memory, where what wasn't told counts as invalid. The pair that is named is the
 -- first of them of which nothing was told, and the question about it is kept.
 abbrev pub IsAsked : Desk → ℤ → List ℕ → FowReport → Last → Type 0
-IsAsked d now x said l = AreTries (terms (documents d).policy (documents d).keys now (told_meaning (told d.answers) ∷ [])) x (documents d).policy.run.work l.tries.items
-    × IsFirstOpen (told d.answers) (documents d).policy x (key_set (documents d).keys).keys l.tries.items said.signature said.key
+IsAsked d now x said l = AreTries (terms (documents d).policy (documents d).keys now (told_meaning (told d.answers) ∷ [])) x (documents d).policy.run.work (tries_kept l)
+    × IsFirstOpen (told d.answers) (documents d).policy x (key_set (documents d).keys).keys (tries_kept l) said.signature said.key
     × IsOpen (told d.answers) (documents d).policy x (key_set (documents d).keys).keys said.signature said.key
-    × (said.tries ≡ length l.tries.items)
+    × (said.tries ≡ length (tries_kept l))
     × (option_map kept_parts l.asked ≡ asked_at (token_of (documents d).policy x) (key_set (documents d).keys).keys said.signature said.key)
+    × (l.remembered ≡ false)
 
 -- what is asked is so, and its tries are what the desk that is held keeps
 abbrev pub IsAskedBy : Desk → ℤ → List ℕ → FowReport → Option Desk → Type 0

@@ -1,6 +1,6 @@
 //! Access rules that are held, and what they say of the claims of the last acceptance.
 
-ghost use Rattle.std.specs.Prelude.{◌≡◌, IfOk, IfErr, Ok, slice_get};
+ghost use Rattle.std.specs.Prelude.{◌≡◌, IfOk, IfErr, Ok, option_map, slice_get};
 ghost use Rattle.jwt_access.specs.Document.{rule_of};
 ghost use Rattle.jwt_c.specs.Access.{access_number, denial_number, IsRuleRefused, IsHeldAgainst, PutsDenied, refused_in};
 ghost use Rattle.jwt_c.specs.Written.{PutsSome};
@@ -82,8 +82,8 @@ pub(crate) fn put_scope(rule: &AccessRule, number: u32, out: &mut [u8], written:
 }
 
 /// Holds the rule against claims. 0: they meet it; 7: they don't, and the number is that of the denial; 6: there are none.
-pub(crate) fn hold(rule: &AccessRule, claims: &Option<Claims>) -> (u32, u32)
-    ensures { IsHeldAgainst rule.now claims.now result.0 result.1 }
+pub(crate) fn hold(rule: &AccessRule, claims: Option<&Claims>) -> (u32, u32)
+    ensures { IsHeldAgainst rule.now (option_map (λ c. c.now) claims.entry) result.0 result.1 }
 {
     match claims {
         Some(claims) => match rule.denial(claims) {
@@ -98,11 +98,11 @@ pub(crate) fn hold(rule: &AccessRule, claims: &Option<Claims>) -> (u32, u32)
 /// none.
 pub(crate) fn put_denied(
     rule: &AccessRule,
-    claims: &Option<Claims>,
+    claims: Option<&Claims>,
     out: &mut [u8],
     written: &mut usize,
 ) -> u32
-    ensures { PutsDenied rule.now claims.now result written.new out.old out.new }
+    ensures { PutsDenied rule.now (option_map (λ c. c.now) claims.entry) result written.new out.old out.new }
 {
     match claims {
         Some(claims) => match rule.denial(claims) {

@@ -170,8 +170,11 @@ pub(crate) fn ask_about(
         (key_set (documents desk.now).keys).keys signature key))
         result into.new out.old out.new }
 {
-    match read_token(alloc, token, &desk.shared.policy) {
-        Ok(Some(signed)) => match (Question { signature, key }).about(&signed, &desk.shared.keys) {
+    match read_token(alloc, token, &desk.grounds.documents().policy) {
+        Ok(Some(signed)) => match (Question { signature, key }).about(
+            &signed,
+            &desk.grounds.documents().keys,
+        ) {
             Some(asked) => write_public(alloc, &asked, out, into),
             None => 6,
         },
@@ -195,6 +198,7 @@ pub(crate) fn tell_last(alloc: Global, desk: &mut Desk, valid: bool) -> u32
     ensures told { TellsDesk (option_map kept_parts desk.old.last.asked) valid result
         desk.old desk.new }
     ensures none { desk.new.last.asked ≡ None }
+    ensures memories { (desk.new.memory ≡ desk.old.memory) × (desk.new.grounds ≡ desk.old.grounds) }
 {
     match replace(&mut desk.last.asked, None) {
         Some(asked) => match desk.answers.tell_copy(alloc, asked, valid) {
@@ -233,11 +237,15 @@ pub(crate) fn tell(
     key: u32,
     valid: bool,
 ) -> u32
-    ensures { TellsDesk (asked_at (token_of (documents desk.old).policy token.now)
+    ensures told { TellsDesk (asked_at (token_of (documents desk.old).policy token.now)
         (key_set (documents desk.old).keys).keys signature key) valid result desk.old desk.new }
+    ensures memories { (desk.new.memory ≡ desk.old.memory) × (desk.new.grounds ≡ desk.old.grounds) }
 {
-    match read_token(alloc, token, &desk.shared.policy) {
-        Ok(Some(signed)) => match (Question { signature, key }).about(&signed, &desk.shared.keys) {
+    match read_token(alloc, token, &desk.grounds.documents().policy) {
+        Ok(Some(signed)) => match (Question { signature, key }).about(
+            &signed,
+            &desk.grounds.documents().keys,
+        ) {
             Some(asked) => tell_of(alloc, &mut desk.answers, &asked, valid),
             None => 6,
         },
@@ -368,13 +376,14 @@ pub(crate) fn tell_by(
     key: u32,
     by: Proved,
 ) -> u32
-    ensures { TellsDesk
+    ensures told { TellsDesk
         (asked_of by (asked_at (token_of (documents desk.old).policy token.now)
         (key_set (documents desk.old).keys).keys signature key))
         (said_by by (asked_at (token_of (documents desk.old).policy token.now)
         (key_set (documents desk.old).keys).keys signature key)) result desk.old desk.new }
+    ensures memories { (desk.new.memory ≡ desk.old.memory) × (desk.new.grounds ≡ desk.old.grounds) }
 {
-    let documents = &*desk.shared;
+    let documents = desk.grounds.documents();
     match read_token(alloc, token, &documents.policy) {
         Ok(Some(signed)) => match (Question { signature, key }).about(&signed, &documents.keys) {
             Some(asked) => match proved_answer(by, &asked) {

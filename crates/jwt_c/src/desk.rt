@@ -1,37 +1,49 @@
 //! What a validator holds.
 
-use jwt_keys::KeySet;
-use jwt_policy::{Claims, Policy};
+use crate::grounds::Grounds;
+use jwt_memory::{Basis, Memory};
+use jwt_policy::Claims;
 use jwt_text::Scratch;
 use jwt_told::{Answers, AskedCopy};
 use jwt_verify::{SigState, Try};
 use std::sync::Arc;
 
+/// What a report has beside its numbers.
+#[derive(Drop)]
+pub enum Evidence {
+    /// It is the desk's own, with the claims of an acceptance.
+    Own {
+        states: Vec<SigState>,
+        tries: Vec<Try>,
+        claims: Option<Claims>,
+    },
+    /// A memory shares it. The claims count where the token is accepted.
+    Shared {
+        basis: Arc<Basis>,
+        accepted: bool,
+    },
+}
+
 /// What is kept of the last judging.
 #[derive(Drop)]
 pub struct Last {
-    pub(crate) states: Vec<SigState>,
-    pub(crate) tries: Vec<Try>,
-    pub(crate) claims: Option<Claims>,
+    pub(crate) evidence: Evidence,
     pub(crate) missing: Vec<u8>,
     /// What it asks.
     pub(crate) asked: Option<AskedCopy>,
+    /// Whether it came out of a memory: then nothing was tried in it.
+    pub(crate) remembered: bool,
 }
 
-/// What is read once, and only lent from then on.
-#[derive(Drop)]
-pub struct Documents {
-    pub(crate) policy: Policy,
-    pub(crate) keys: KeySet,
-}
-
-/// What a validator holds: documents, which those beside it hold too, what was told, what is kept of the last judging, and the memory that
-/// reading a token needs beside its result, of which nothing else depends on what it holds. That is large, and so in a box of its own: a
-/// desk is moved over the stack.
+/// What a validator holds: documents, which those beside it hold too, with what the proved verifiers accepted by them, where that is to be
+/// remembered; what was told; what was accepted by what was told, where that is to be remembered; what is kept of the last judging; and the
+/// memory that reading a token needs beside its result, of which nothing else depends on what it holds. That is large, and so in a box of its
+/// own: a desk is moved over the stack.
 #[derive(Drop)]
 pub struct Desk {
-    pub(crate) shared: Arc<Documents>,
+    pub(crate) grounds: Grounds,
     pub(crate) answers: Answers,
+    pub(crate) memory: Option<Memory>,
     pub(crate) last: Last,
     pub(crate) scratch: Box<Scratch>,
 }

@@ -1,6 +1,6 @@
 //! What C calls.
 
-ghost use Rattle.std.specs.Prelude.{◌≡◌, ◌≢◌, ◌≤◌, IfSome, Some, None, slice_get, option_map, IfOk, IfErr, IsUtf8};
+ghost use Rattle.std.specs.Prelude.{◌≡◌, ◌≢◌, ◌≤◌, IfSome, Some, None, slice_get, option_map, IfOk, IfErr, IsUtf8, false};
 ghost use Rattle.std.specs.Arc.{arc_value};
 ghost use Rattle.jwt_keys.specs.KeySets.{key_set};
 ghost use Rattle.jwt_policy.specs.Document.{policy_of};
@@ -8,7 +8,9 @@ ghost use Rattle.jwt_verify.specs.Verdict.{token_of};
 ghost use Rattle.jwt_told.specs.Questions.{kept_parts};
 ghost use Rattle.jwt_c.specs.Documents.{documents};
 ghost use Rattle.jwt_c.specs.Reports.{asked_at, IsBeside, IsFresh, IsOpened, IsRead, IsRefused, IsAlike, IsForgotten, IsAskedBy, IsJudgedBy, report_numbers};
+ghost use Rattle.jwt_c.specs.Evidence.{states_kept, tries_kept, claims_kept};
 ghost use Rattle.jwt_c.specs.Faults.{bare};
+ghost use Rattle.jwt_c.specs.Remembering.{Remembers, RemembersAlike, RemembersProved, RemembersTold};
 ghost use Rattle.jwt_c.specs.Written.{PutsPayload, PutsName, IsState, IsTry, PutsSome, PutsNumber, claim_at, header_at, number_at, refused_member};
 ghost use Rattle.jwt_c.specs.Asking.{PutsQuestion, IsTold, public_asked, rsa_asked, rsa_says, ed25519_asked, ed25519_says, proved_asked, proved_says};
 ghost use Rattle.jwt_c.specs.MostQuestions.{most_questions};
@@ -17,13 +19,15 @@ ghost use Rattle.jwt_c.specs.Issuing.{hmac_at, form_at, typ_of, PutsIssued};
 ghost use Rattle.jwt_issue.specs.ClaimSets.{claim_set_of};
 
 use crate::asking::{Proved, ask_about, ask_last, tell, tell_by, tell_last};
-use crate::desk::{Desk, Documents, Last};
+use crate::desk::{Desk, Last};
 use crate::faults::{keys_number, policy_number};
+use crate::grounds::{Documents, Grounds};
 use crate::handle::{Handle, take};
 use crate::issuing::put_numbered;
 use crate::judging::judge_desk;
 use crate::most_questions::most_of;
 use crate::proving::prove_desk;
+use crate::remembering::remember_desk;
 use crate::report::{FowQuestion, FowReport, FowState, FowTry};
 use crate::writing::{number_at, payload_of, put, put_claim, put_header};
 use jwt_keys::{KeySet, KeysFault};
@@ -63,8 +67,9 @@ fn handle_on(alloc: Global, shared: Arc<Documents>) -> Result<Handle, AllocError
         return Err(AllocError);
     };
     let desk = Desk {
-        shared,
+        grounds: Grounds::new(shared),
         answers: Answers::new(alloc),
+        memory: None,
         last: Last::new(alloc),
         scratch,
     };
@@ -121,9 +126,9 @@ pub extern "C" fn fow_open_beside(
     let Some(desk) = take(another, alloc) else {
         return 4;
     };
-    let shared = Arc::try_clone(&desk.shared);
+    let shared = desk.grounds.share();
     *another = Handle::of(desk);
-    let Ok(shared) = shared else {
+    let Some(shared) = shared else {
         return 3;
     };
     match handle_on(alloc, shared) {
@@ -197,7 +202,10 @@ pub extern "C" fn fow_judge(
         → IsJudgedBy d now token.now report.new validator.new.desk) }
 
     // Claims are kept of an acceptance alone.
-    ensures claims { IfSome validator.new.desk (λ e. result ≢ 0 → e.last.claims ≡ None) }
+    ensures claims { IfSome validator.new.desk (λ e. result ≢ 0 → claims_kept e.last ≡ None) }
+
+    // Where what is told is true, so is what was told of the tokens that are remembered, if it was before.
+    ensures remembers { IfSome validator.old.desk (λ d. RemembersTold d validator.new.desk) }
 
     // The pair that is asked about is the first of the tries, which are kept, of which nothing was told.
     ensures asks { IfSome validator.old.desk (λ d. result ≡ 2
@@ -233,7 +241,9 @@ pub extern "C" fn fow_proved_judge(
     ensures never_asks { result ≢ 2 }
 
     // Claims are kept of an acceptance alone.
-    ensures claims { IfSome validator.new.desk (λ e. result ≢ 0 → e.last.claims ≡ None) }
+    ensures claims { IfSome validator.new.desk (λ e. result ≢ 0 → claims_kept e.last ≡ None) }
+
+    ensures remembers { IfSome validator.old.desk (λ d. RemembersProved d validator.new.desk) }
 {
     let Some(mut desk) = take(validator, alloc) else {
         *report = FowReport::bare(4);
@@ -256,12 +266,12 @@ pub extern "C" fn fow_state_of(
     ensures same { validator.new.desk ≡ validator.old.desk }
     ensures none { validator.old.desk ≡ None → result ≡ 4 }
     ensures state { IfSome validator.old.desk (λ d.
-        IsState (slice_get d.last.states.items signature) result state.new) }
+        IsState (slice_get (states_kept d.last) signature) result state.new) }
 {
     let Some(desk) = take(validator, alloc) else {
         return 4;
     };
-    let status = match desk.last.states.get(signature as usize) {
+    let status = match desk.last.states().get(signature as usize) {
         Some(found) => {
             *state = FowState::of(*found);
             0
@@ -283,12 +293,12 @@ pub extern "C" fn fow_try_of(
     ensures same { validator.new.desk ≡ validator.old.desk }
     ensures none { validator.old.desk ≡ None → result ≡ 4 }
     ensures tried { IfSome validator.old.desk (λ d.
-        IsTry (slice_get d.last.tries.items n) result tried.new) }
+        IsTry (slice_get (tries_kept d.last) n) result tried.new) }
 {
     let Some(desk) = take(validator, alloc) else {
         return 4;
     };
-    let status = match desk.last.tries.get(n as usize) {
+    let status = match desk.last.tries().get(n as usize) {
         Some(found) => {
             *tried = FowTry::of(*found);
             0
@@ -356,6 +366,7 @@ pub extern "C" fn fow_answer_asked(validator: &mut Handle, alloc: Global, valid:
     ensures told { IfSome validator.old.desk (λ d. IsTold
         (option_map kept_parts d.last.asked) valid result d validator.new.desk) }
     ensures answered { IfSome validator.new.desk (λ e. e.last.asked ≡ None) }
+    ensures remembers { IfSome validator.old.desk (λ d. RemembersAlike d validator.new.desk) }
 {
     let Some(mut desk) = take(validator, alloc) else {
         return 4;
@@ -381,6 +392,7 @@ pub extern "C" fn fow_answer(
         (asked_at (token_of (documents d).policy token.now)
         (key_set (documents d).keys).keys signature key)
         valid result d validator.new.desk) }
+    ensures remembers { IfSome validator.old.desk (λ d. RemembersAlike d validator.new.desk) }
 {
     let Some(mut desk) = take(validator, alloc) else {
         return 4;
@@ -390,15 +402,55 @@ pub extern "C" fn fow_answer(
     status
 }
 
-/// Forgets what was told.
+/// Forgets what was told. What is remembered stays.
 #[unsafe(no_mangle)]
 pub extern "C" fn fow_forget(validator: &mut Handle, alloc: Global)
-    ensures { IsForgotten validator.old.desk validator.new.desk }
+    ensures forgotten { IsForgotten validator.old.desk validator.new.desk }
+    ensures remembers { IfSome validator.old.desk (λ d. RemembersAlike d validator.new.desk) }
 {
     if let Some(mut desk) = take(validator, alloc) {
         desk.answers.clear();
         *validator = Handle::of(desk);
     }
+}
+
+/// Remembers from now on at most so many tokens of at most so many octets each that `fow_judge` accepts, and as many that `fow_proved_judge`
+/// does; none where `tokens` is 0. What was remembered is forgotten. 0; 3: memory was refused, and what was remembered stays; 4: nothing is
+/// held.
+#[unsafe(no_mangle)]
+pub extern "C" fn fow_remember(
+    validator: &mut Handle,
+    alloc: Global,
+    tokens: usize,
+    octets: usize,
+) -> u32
+    ensures none { validator.old.desk ≡ None → (result ≡ 4) × (validator.new.desk ≡ None) }
+    ensures remembers { IfSome validator.old.desk (λ d. result ≡ 0
+        → Remembers tokens octets d validator.new.desk) }
+    ensures refused { validator.old.desk ≢ None → result ≢ 0 → result ≡ 3 }
+    ensures same { result ≢ 0 → validator.new.desk ≡ validator.old.desk }
+{
+    let Some(mut desk) = take(validator, alloc) else {
+        return 4;
+    };
+    let status = remember_desk(alloc, &mut desk, tokens, octets);
+    *validator = Handle::of(desk);
+    status
+}
+
+/// Whether the last verdict came out of a memory: then nothing was tried for it, and nothing paid.
+#[unsafe(no_mangle)]
+pub extern "C" fn fow_remembered(validator: &mut Handle, alloc: Global) -> bool
+    ensures same { validator.new.desk ≡ validator.old.desk }
+    ensures none { validator.old.desk ≡ None → result ≡ false }
+    ensures remembered { IfSome validator.old.desk (λ d. result ≡ d.last.remembered) }
+{
+    let Some(desk) = take(validator, alloc) else {
+        return false;
+    };
+    let remembered = desk.last.remembered;
+    *validator = Handle::of(desk);
+    remembered
 }
 
 /// Writes the payload of a token at the front of `out`. 0; 3: memory was refused; 4: nothing is held; 5: `out` is too short; 6: the
@@ -491,6 +543,7 @@ pub extern "C" fn fow_answer_rsa(
         (rsa_says (asked_at (token_of (documents d).policy token.now)
         (key_set (documents d).keys).keys signature key))
         result d validator.new.desk) }
+    ensures remembers { IfSome validator.old.desk (λ d. RemembersAlike d validator.new.desk) }
 {
     let Some(mut desk) = take(validator, alloc) else {
         return 4;
@@ -517,6 +570,7 @@ pub extern "C" fn fow_answer_ed25519(
         (ed25519_says (asked_at (token_of (documents d).policy token.now)
         (key_set (documents d).keys).keys signature key))
         result d validator.new.desk) }
+    ensures remembers { IfSome validator.old.desk (λ d. RemembersAlike d validator.new.desk) }
 {
     let Some(mut desk) = take(validator, alloc) else {
         return 4;
@@ -543,6 +597,7 @@ pub extern "C" fn fow_answer_proved(
         (proved_says (asked_at (token_of (documents d).policy token.now)
         (key_set (documents d).keys).keys signature key))
         result d validator.new.desk) }
+    ensures remembers { IfSome validator.old.desk (λ d. RemembersAlike d validator.new.desk) }
 {
     let Some(mut desk) = take(validator, alloc) else {
         return 4;
@@ -589,7 +644,7 @@ pub extern "C" fn fow_issue(
             form,
             key,
             typ,
-            &desk.shared.keys,
+            &desk.grounds.documents().keys,
             claims,
             out,
             written,
@@ -614,13 +669,13 @@ pub extern "C" fn fow_claim(
     ensures same { validator.new.desk ≡ validator.old.desk }
     ensures none { validator.old.desk ≡ None → result ≡ 4 }
     ensures claim { IfSome validator.old.desk (λ d. IsUtf8 name.now
-        → PutsSome (claim_at d.last.claims name.now) result written.new out.old out.new) }
+        → PutsSome (claim_at (claims_kept d.last) name.now) result written.new out.old out.new) }
     ensures other { IfSome validator.old.desk (λ d. ¬ IsUtf8 name.now → result ≡ 6) }
 {
     let Some(desk) = take(validator, alloc) else {
         return 4;
     };
-    let status = put_claim(alloc, &desk.last.claims, name, out, written);
+    let status = put_claim(alloc, desk.last.claims(), name, out, written);
     *validator = Handle::of(desk);
     status
 }
@@ -637,13 +692,13 @@ pub extern "C" fn fow_number(
     ensures same { validator.new.desk ≡ validator.old.desk }
     ensures none { validator.old.desk ≡ None → result ≡ 4 }
     ensures claim { IfSome validator.old.desk (λ d. IsUtf8 name.now
-        → PutsNumber (number_at d.last.claims name.now) result number.new) }
+        → PutsNumber (number_at (claims_kept d.last) name.now) result number.new) }
     ensures other { IfSome validator.old.desk (λ d. ¬ IsUtf8 name.now → result ≡ 6) }
 {
     let Some(desk) = take(validator, alloc) else {
         return 4;
     };
-    let status = match number_at(&desk.last.claims, name) {
+    let status = match number_at(desk.last.claims(), name) {
         Some(found) => {
             *number = found;
             0

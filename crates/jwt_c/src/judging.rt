@@ -1,23 +1,50 @@
 //! Judges a token by what was told.
 
-ghost use Rattle.std.specs.Prelude.{◌≡◌, ◌≢◌, None, ◌∷◌, ◌≤◌, [], IfOk, length, option_map};
+ghost use Rattle.std.specs.Prelude.{◌≡◌, ◌≢◌, None, ◌≤◌, [], true, false, IfOk, IfErr, length, option_map};
+ghost use Rattle.std.specs.Arc.{arc_value};
 ghost use Rattle.jwt_jws.specs.Views.{token};
 ghost use Rattle.jwt_keys.specs.KeySets.{key_set};
+ghost use Rattle.jwt_verify.specs.Table.{work};
+ghost use Rattle.jwt_verify.specs.Verdict.{checked};
 ghost use Rattle.jwt_told.specs.Questions.{kept_parts, question_at};
 ghost use Rattle.jwt_told.specs.Told.{told};
+ghost use Rattle.jwt_memory.specs.Outcomes.{report_in, report_of, paid_in, is_remembered};
 ghost use Rattle.jwt_c.specs.Documents.{documents};
-ghost use Rattle.jwt_c.specs.Faults.{missing_in, bare, verdict_numbers};
-ghost use Rattle.jwt_c.specs.Reports.{IsNew, IsAsked, IsJudged, Keeps, claims_in, report_numbers};
+ghost use Rattle.jwt_c.specs.declared.desk.Evidence.TheVariants.{Shared};
+ghost use Rattle.jwt_c.specs.Evidence.{states_of, tries_of, claims_of, states_kept, tries_kept, claims_kept};
+ghost use Rattle.jwt_c.specs.Faults.{missing_in, missing_name, bare, verdict_numbers};
+ghost use Rattle.jwt_c.specs.ProvedKept.{HasSameRoom};
+ghost use Rattle.jwt_c.specs.Remembering.{RestsOn, IsHeldIn, StaysTrue};
+ghost use Rattle.jwt_c.specs.Reports.{IsNew, IsAsked, IsAsking, IsJudged, Says, claims_in, report_numbers};
 
-use crate::desk::{Desk, Last};
+use crate::desk::{Desk, Evidence, Last};
+use crate::grounds::Documents;
 use crate::report::FowReport;
 use jwt_jws::Signed;
 use jwt_keys::KeySet;
-use jwt_mac::Budget;
+use jwt_mac::{Budget, CountDown};
+use jwt_memory::{Basis, Memory, Outcome};
 use jwt_policy::{ClaimFault, Claims};
-use jwt_told::{AskedCopy, Asking, Question, judge_told};
-use jwt_verify::{Fault, Report, Verdict};
+use jwt_text::Scratch;
+use jwt_told::{Answers, AskedCopy, Asking, Question, judge_told};
+use jwt_verify::{Fault, Report, SigState, Try, Verdict};
 use std::alloc::{AllocError, Global};
+use std::sync::Arc;
+
+impl Evidence {
+    /// None.
+    pub(crate) fn none(alloc: Global) -> Evidence
+        ensures states { states_of result ≡ [] }
+        ensures tries { tries_of result ≡ [] }
+        ensures claims { claims_of result ≡ None }
+    {
+        Evidence::Own {
+            states: Vec::new(alloc),
+            tries: Vec::new(alloc),
+            claims: None,
+        }
+    }
+}
 
 impl Last {
     /// Nothing is kept.
@@ -25,11 +52,44 @@ impl Last {
         ensures { IsNew result }
     {
         Last {
-            states: Vec::new(alloc),
-            tries: Vec::new(alloc),
-            claims: None,
+            evidence: Evidence::none(alloc),
             missing: Vec::new(alloc),
             asked: None,
+            remembered: false,
+        }
+    }
+
+    /// What became of each signature.
+    pub(crate) fn states(&self) -> &[SigState]
+        ensures { result.now ≡ states_kept self.now }
+    {
+        match &self.evidence {
+            Evidence::Own { states, .. } => states.as_slice(),
+            Evidence::Shared { basis, .. } => basis.states.as_slice(),
+        }
+    }
+
+    /// The tries that led to it.
+    pub(crate) fn tries(&self) -> &[Try]
+        ensures { result.now ≡ tries_kept self.now }
+    {
+        match &self.evidence {
+            Evidence::Own { tries, .. } => tries.as_slice(),
+            Evidence::Shared { basis, .. } => basis.tries.as_slice(),
+        }
+    }
+
+    /// The claims of an acceptance.
+    pub(crate) fn claims(&self) -> Option<&Claims>
+        ensures { option_map (λ c. c.now) result ≡ claims_kept self.now }
+    {
+        match &self.evidence {
+            Evidence::Own { claims, .. } => claims.as_ref(),
+            Evidence::Shared { basis, accepted } => if *accepted {
+                Some(&basis.claims)
+            } else {
+                None
+            },
         }
     }
 }
@@ -41,14 +101,22 @@ pub(crate) struct Judging {
     pub(crate) last: Last,
 }
 
-/// The name of the claim that is missing.
-pub(crate) fn missing(alloc: Global, verdict: &Verdict<'_>) -> Result<Vec<u8>, AllocError>
+/// The name of the claim that is missing, where that is the fault.
+fn missing_name(alloc: Global, fault: &ClaimFault<'_>) -> Result<Vec<u8>, AllocError>
+    ensures { IfOk result (λ v. v.items ≡ missing_name fault.now) }
+{
+    match fault {
+        ClaimFault::ClaimMissing(name) => name.text().as_bytes().to_vec(alloc),
+        _ => Ok(Vec::new(alloc)),
+    }
+}
+
+/// The name of the claim that a verdict finds missing.
+fn missing(alloc: Global, verdict: &Verdict<'_>) -> Result<Vec<u8>, AllocError>
     ensures { IfOk result (λ v. v.items ≡ missing_in verdict.now) }
 {
     match verdict {
-        Verdict::Refused(Fault::Claim(ClaimFault::ClaimMissing(name))) => {
-            name.text().as_bytes().to_vec(alloc)
-        }
+        Verdict::Refused(Fault::Claim(fault)) => missing_name(alloc, fault),
         _ => Ok(Vec::new(alloc)),
     }
 }
@@ -56,7 +124,8 @@ pub(crate) fn missing(alloc: Global, verdict: &Verdict<'_>) -> Result<Vec<u8>, A
 /// A verdict that speaks of nothing more, of which nothing is kept.
 pub(crate) fn bare(alloc: Global, verdict: u32) -> Judging
     ensures numbers { report_numbers result.said ≡ bare verdict }
-    ensures claims { result.last.claims ≡ None }
+    ensures claims { claims_kept result.last ≡ None }
+    ensures anew { result.last.remembered ≡ false }
 {
     Judging {
         said: FowReport::bare(verdict),
@@ -86,8 +155,9 @@ fn asking(alloc: Global, asks: Asking<'_>, keys: &KeySet) -> Result<Judging, All
     ensures signature { IfOk result (λ j. j.said.signature ≡ asks.entry.question.signature) }
     ensures key { IfOk result (λ j. j.said.key ≡ asks.entry.question.key) }
     ensures count { IfOk result (λ j. j.said.tries ≡ length asks.entry.tries.items) }
-    ensures tries { IfOk result (λ j. j.last.tries.items ≡ asks.entry.tries.items) }
-    ensures claims { IfOk result (λ j. j.last.claims ≡ None) }
+    ensures tries { IfOk result (λ j. tries_kept j.last ≡ asks.entry.tries.items) }
+    ensures claims { IfOk result (λ j. claims_kept j.last ≡ None) }
+    ensures anew { IfOk result (λ j. j.last.remembered ≡ false) }
     ensures asked { IfOk result (λ j. option_map kept_parts j.last.asked
         ≡ question_at (token asks.entry.token) (key_set keys.now).keys
         asks.entry.question.signature asks.entry.question.key) }
@@ -105,11 +175,14 @@ fn asking(alloc: Global, asks: Asking<'_>, keys: &KeySet) -> Result<Judging, All
     Ok(Judging {
         said,
         last: Last {
-            states: Vec::new(alloc),
-            tries,
-            claims: None,
+            evidence: Evidence::Own {
+                states: Vec::new(alloc),
+                tries,
+                claims: None,
+            },
             missing: Vec::new(alloc),
             asked,
+            remembered: false,
         },
     })
 }
@@ -124,18 +197,16 @@ fn claims_in(verdict: Verdict<'_>) -> Option<Claims>
     }
 }
 
-/// The judging that this report is.
-pub(crate) fn kept(report: Report<'_>, work: u64, missing: Vec<u8>) -> Judging
-    requires { missing.items ≡ missing_in report.verdict }
-    ensures numbers { report_numbers result.said ≡ verdict_numbers report.entry.verdict }
-    ensures tries { result.said.tries ≡ length report.entry.tries.items }
-    ensures work { result.said.work ≡ work }
-    ensures keeps { Keeps report.entry result.last }
-    ensures claims { result.said.verdict ≢ 0 → result.last.claims ≡ None }
+/// The judging that this report is, whose tries cost so many octets.
+fn kept(report: Report<'_>, cost: u64, missing: Vec<u8>) -> Judging
+    requires missing { missing.items ≡ missing_in report.verdict }
+    requires cost { cost ≡ work report.tries.items }
+    ensures says { Says report.entry result.said result.last }
+    ensures anew { result.last.remembered ≡ false }
 {
     let mut said = FowReport::of(&report.verdict);
     said.tries = report.tries.len() as u64;
-    said.work = work;
+    said.work = cost;
     let Report {
         verdict,
         states,
@@ -144,39 +215,160 @@ pub(crate) fn kept(report: Report<'_>, work: u64, missing: Vec<u8>) -> Judging
     Judging {
         said,
         last: Last {
-            states,
-            tries,
-            claims: claims_in(verdict),
+            evidence: Evidence::Own {
+                states,
+                tries,
+                claims: claims_in(verdict),
+            },
             missing,
             asked: None,
+            remembered: false,
         },
     }
 }
 
-/// The judging of a desk on a token. It changes nothing of the desk but the scratch, of which nothing depends on what it holds.
-pub(crate) fn report_on(alloc: Global, desk: &mut Desk, octets: &[u8], now: i64) -> Judging
+/// The judging whose evidence a memory shares, with its numbers but for those of the tries.
+fn shared(
+    numbers: FowReport,
+    basis: Arc<Basis>,
+    accepted: bool,
+    missing: Vec<u8>,
+    remembered: bool,
+) -> Judging
+    ensures numbers { report_numbers result.said ≡ report_numbers numbers }
+    ensures tries { result.said.tries ≡ length (arc_value basis).tries.items }
+    ensures work { result.said.work ≡ work (arc_value basis).tries.items }
+    ensures last { result.last ≡ record {
+      evidence = Shared basis accepted;
+      missing = missing;
+      asked = None;
+      remembered = remembered;
+    } }
+{
+    let mut said = numbers;
+    said.tries = basis.tries.len() as u64;
+    said.work = basis.cost;
+    Judging {
+        said,
+        last: Last {
+            evidence: Evidence::Shared { basis, accepted },
+            missing,
+            asked: None,
+            remembered,
+        },
+    }
+}
+
+/// The judging of a token that is remembered, by what its claims come to.
+fn recalled(
+    alloc: Global,
+    basis: Arc<Basis>,
+    fault: Option<ClaimFault<'_>>,
+) -> Result<Judging, AllocError>
+    ensures says { IfOk result (λ j. Says (report_of (checked (arc_value basis).signature
+        (arc_value basis).key (arc_value basis).claims fault.entry) (arc_value basis))
+        j.said j.last) }
+    ensures remembered { IfOk result (λ j. j.last.remembered ≡ true) }
+{
+    match fault {
+        None => {
+            let numbers = FowReport::accepted(basis.signature, basis.key);
+            Ok(shared(numbers, basis, true, Vec::new(alloc), true))
+        }
+        Some(fault) => {
+            let missing = missing_name(alloc, &fault)?;
+            Ok(shared(FowReport::of_claims(&fault), basis, false, missing, true))
+        }
+    }
+}
+
+/// The judging that an outcome is, of which so many octets were paid.
+pub(crate) fn judging_of(
+    alloc: Global,
+    outcome: Outcome<'_>,
+    paid: u64,
+) -> Result<Judging, AllocError>
+    requires { paid ≡ work (paid_in outcome) }
+    ensures says { IfOk result (λ j. Says (report_in outcome.entry) j.said j.last) }
+    ensures remembered { IfOk result (λ j. j.last.remembered ≡ is_remembered outcome.entry) }
+{
+    match outcome {
+        Outcome::Judged(report) => {
+            let missing = missing(alloc, &report.verdict)?;
+            Ok(kept(report, paid, missing))
+        }
+        Outcome::Accepted(basis) => {
+            let numbers = FowReport::accepted(basis.signature, basis.key);
+            Ok(shared(numbers, basis, true, Vec::new(alloc), false))
+        }
+        Outcome::Remembered(basis, fault) => recalled(alloc, basis, fault),
+    }
+}
+
+/// The outcome of judging by what was told, or a question, over a memory where there is one.
+#[tactic(auto, unfolding(jwt_verify::specs::Table::work))]
+fn outcome_of<'a, 'p>(
+    alloc: Global,
+    memory: &mut Option<Memory>,
+    octets: &'a [u8],
+    documents: &'p Documents,
+    now: i64,
+    answers: &Answers,
+    budget: &mut CountDown,
+    scratch: &mut Scratch,
+) -> Result<Outcome<'p>, Asking<'a>>
+    requires no_octets { ⟦<CountDown as Budget>⟧.octets budget.old ≡ 0 }
+    requires no_calls { ⟦<CountDown as Budget>⟧.calls budget.old ≡ 0 }
+    requires ceiling { ⟦<CountDown as Budget>⟧.ceiling budget.old ≡ documents.now.policy.run.work }
+    ensures rests { IfOk result (λ o. RestsOn (is_remembered o) (told answers.now) memory.old
+        documents.now now octets.now (report_in o)) }
+    ensures held { IfOk result (λ o. IsHeldIn (is_remembered o) memory.old
+        octets.now documents.now.policy.run.work) }
+    ensures paid { IfOk result (λ o. ⟦<CountDown as Budget>⟧.octets budget.new ≡ work (paid_in o)) }
+    ensures stays { StaysTrue (told answers.now) documents.now memory.old memory.new }
+    ensures room { HasSameRoom memory.new memory.old }
+    ensures asks { IfErr result (λ a. IsAsking (told answers.now) documents.now now octets.now a) }
+{
+    let Documents { policy, keys } = documents;
+    match memory {
+        Some(memory) => jwt_memory::judge_told(
+            memory, alloc, octets, keys, policy, now, answers, budget, scratch,
+        ),
+        None => match judge_told(alloc, octets, keys, policy, now, answers, budget, scratch) {
+            Ok(report) => Ok(Outcome::Judged(report)),
+            Err(asks) => Err(asks),
+        },
+    }
+}
+
+/// The judging of a desk on a token. It changes nothing of the desk but its memory of tokens, and the scratch, of which nothing depends on
+/// what it holds.
+fn report_on(alloc: Global, desk: &mut Desk, octets: &[u8], now: i64) -> Judging
     ensures judged { result.said.verdict ≤ 1
         → IsJudged desk.old now octets.now result.said result.last }
     ensures asks { result.said.verdict ≡ 2
         → IsAsked desk.old now octets.now result.said result.last }
-    ensures claims { result.said.verdict ≢ 0 → result.last.claims ≡ None }
-    ensures documents { documents desk.new ≡ documents desk.old }
+    ensures claims { result.said.verdict ≢ 0 → claims_kept result.last ≡ None }
+    ensures grounds { desk.new.grounds ≡ desk.old.grounds }
     ensures told { told desk.new.answers ≡ told desk.old.answers }
+    ensures stays { StaysTrue (told desk.old.answers) (documents desk.old)
+        desk.old.memory desk.new.memory }
+    ensures room { HasSameRoom desk.new.memory desk.old.memory }
 {
-    let documents = &*desk.shared;
+    let documents = desk.grounds.documents();
     let mut budget = documents.policy.budget();
-    match judge_told(
+    match outcome_of(
         alloc,
+        &mut desk.memory,
         octets,
-        &documents.keys,
-        &documents.policy,
+        documents,
         now,
         &desk.answers,
         &mut budget,
         &mut *desk.scratch,
     ) {
-        Ok(report) => match missing(alloc, &report.verdict) {
-            Ok(missing) => kept(report, budget.octets(), missing),
+        Ok(outcome) => match judging_of(alloc, outcome, budget.octets()) {
+            Ok(judging) => judging,
             Err(_) => bare(alloc, 3),
         },
         Err(asks) => match asking(alloc, asks, &documents.keys) {
@@ -191,9 +383,12 @@ pub(crate) fn judge_desk(alloc: Global, desk: &mut Desk, octets: &[u8], now: i64
     ensures judged { result.verdict ≤ 1
         → IsJudged desk.old now octets.now result desk.new.last }
     ensures asks { result.verdict ≡ 2 → IsAsked desk.old now octets.now result desk.new.last }
-    ensures claims { result.verdict ≢ 0 → desk.new.last.claims ≡ None }
-    ensures documents { documents desk.new ≡ documents desk.old }
+    ensures claims { result.verdict ≢ 0 → claims_kept desk.new.last ≡ None }
+    ensures grounds { desk.new.grounds ≡ desk.old.grounds }
     ensures told { told desk.new.answers ≡ told desk.old.answers }
+    ensures stays { StaysTrue (told desk.old.answers) (documents desk.old)
+        desk.old.memory desk.new.memory }
+    ensures room { HasSameRoom desk.new.memory desk.old.memory }
 {
     let Judging { said, last } = report_on(alloc, desk, octets, now);
     desk.last = last;

@@ -75,5 +75,6 @@ pub(crate) fn most_of(desk: &Desk) -> u32
     ensures { result
         ≡ most_questions (documents desk.now).policy (key_set (documents desk.now).keys).keys }
 {
-    most_questions(&desk.shared.policy, &desk.shared.keys)
+    let documents = desk.grounds.documents();
+    most_questions(&documents.policy, &documents.keys)
 }

@@ -1,63 +1,120 @@
 //! A token judged by the proved verifiers.
 
 ghost use Rattle.std.specs.Prelude.{◌≡◌, ◌≢◌, ◌≤◌, map};
+ghost use Rattle.jwt_verify.specs.Reports.{IsReport, terms};
+ghost use Rattle.jwt_verify.specs.Table.{work};
+ghost use Rattle.jwt_memory.specs.Outcomes.{report_in, paid_in, is_remembered};
 ghost use Rattle.jwt_told.specs.Told.{told};
 ghost use Rattle.jwt_c.specs.Documents.{documents};
-ghost use Rattle.jwt_c.specs.Proving.{proved_meanings, IsProved};
+ghost use Rattle.jwt_c.specs.Evidence.{claims_kept};
+ghost use Rattle.jwt_c.specs.ProvedKept.{AreProvedKept, HasSameRoom, proved_meanings};
+ghost use Rattle.jwt_c.specs.Proving.{IsProved};
+ghost use Rattle.jwt_c.specs.Remembering.{IsHeldIn};
 
 use crate::desk::Desk;
-use crate::judging::{Judging, bare, kept, missing};
+use crate::grounds::Documents;
+use crate::judging::{Judging, bare, judging_of};
 use crate::report::FowReport;
 use jwt_ecdsa::Ecdsa;
 use jwt_ed25519::Ed25519;
-use jwt_mac::{Budget, Verifier};
+use jwt_mac::{Budget, CountDown, Verifier};
+use jwt_memory::{Memory, Outcome};
 use jwt_rsa::Rsa;
+use jwt_text::Scratch;
 use jwt_verify::{JudgedToken, judge_signed};
 use std::alloc::Global;
 
-/// The judging of a desk on a token under the proved verifiers. It changes nothing of the desk but the scratch, of which nothing depends
-/// on what it holds.
-fn report_under(
+/// The outcome under verifiers that mean what the proved ones do, over a memory where there is one.
+#[tactic(auto, unfolding(jwt_verify::specs::Table::work))]
+fn outcome_under<'p>(
     alloc: Global,
-    desk: &mut Desk,
+    memory: &mut Option<Memory>,
     octets: &[u8],
+    documents: &'p Documents,
     now: i64,
     verifiers: &[Box<dyn Verifier>],
-) -> Judging
-    requires { map meaning verifiers.now ≡ proved_meanings }
-    ensures judged { result.said.verdict ≤ 1
-        → IsProved desk.old now octets.now result.said result.last }
-    ensures never_asks { result.said.verdict ≢ 2 }
-    ensures claims { result.said.verdict ≢ 0 → result.last.claims ≡ None }
-    ensures documents { documents desk.new ≡ documents desk.old }
-    ensures told { told desk.new.answers ≡ told desk.old.answers }
+    budget: &mut CountDown,
+    scratch: &mut Scratch,
+) -> Outcome<'p>
+    requires meanings { map meaning verifiers.now ≡ proved_meanings }
+    requires no_octets { ⟦<CountDown as Budget>⟧.octets budget.old ≡ 0 }
+    requires no_calls { ⟦<CountDown as Budget>⟧.calls budget.old ≡ 0 }
+    requires ceiling { ⟦<CountDown as Budget>⟧.ceiling budget.old ≡ documents.now.policy.run.work }
+    requires kept { AreProvedKept documents.now memory.old }
+    ensures report { IsReport (terms documents.now.policy documents.now.keys now proved_meanings)
+        octets.now documents.now.policy.run.work (report_in result) }
+    ensures held { IsHeldIn (is_remembered result) memory.old
+        octets.now documents.now.policy.run.work }
+    ensures paid { ⟦<CountDown as Budget>⟧.octets budget.new ≡ work (paid_in result) }
+    ensures kept { AreProvedKept documents.now memory.new }
+    ensures room { HasSameRoom memory.new memory.old }
 {
-    let documents = &*desk.shared;
+    let Documents { policy, keys } = documents;
+    match memory {
+        Some(memory) => {
+            jwt_memory::judge(memory, alloc, octets, keys, policy, now, verifiers, budget)
+        }
+        None => {
+            let JudgedToken { report, token: _ } = judge_signed(
+                alloc, octets, keys, policy, now, verifiers, budget, scratch,
+            );
+            Outcome::Judged(report)
+        }
+    }
+}
+
+/// The judging under such verifiers.
+fn judging_under(
+    alloc: Global,
+    memory: &mut Option<Memory>,
+    octets: &[u8],
+    documents: &Documents,
+    now: i64,
+    verifiers: &[Box<dyn Verifier>],
+    scratch: &mut Scratch,
+) -> Judging
+    requires meanings { map meaning verifiers.now ≡ proved_meanings }
+    requires kept { AreProvedKept documents.now memory.old }
+    ensures judged { result.said.verdict ≤ 1
+        → IsProved (documents.now, memory.old) now octets.now result.said result.last }
+    ensures never_asks { result.said.verdict ≢ 2 }
+    ensures claims { result.said.verdict ≢ 0 → claims_kept result.last ≡ None }
+    ensures kept { AreProvedKept documents.now memory.new }
+    ensures room { HasSameRoom memory.new memory.old }
+{
     let mut budget = documents.policy.budget();
-    let JudgedToken { report, token: _ } = judge_signed(
+    let outcome = outcome_under(
         alloc,
+        memory,
         octets,
-        &documents.keys,
-        &documents.policy,
+        documents,
         now,
         verifiers,
         &mut budget,
-        &mut *desk.scratch,
+        scratch,
     );
-    match missing(alloc, &report.verdict) {
-        Ok(missing) => kept(report, budget.octets(), missing),
+    match judging_of(alloc, outcome, budget.octets()) {
+        Ok(judging) => judging,
         Err(_) => bare(alloc, 3),
     }
 }
 
 /// The same, with the verifiers of RSA, ECDSA and Ed25519.
-fn report_by_proof(alloc: Global, desk: &mut Desk, octets: &[u8], now: i64) -> Judging
+pub(crate) fn judging_by_proof(
+    alloc: Global,
+    memory: &mut Option<Memory>,
+    octets: &[u8],
+    documents: &Documents,
+    now: i64,
+    scratch: &mut Scratch,
+) -> Judging
+    requires kept { AreProvedKept documents.now memory.old }
     ensures judged { result.said.verdict ≤ 1
-        → IsProved desk.old now octets.now result.said result.last }
+        → IsProved (documents.now, memory.old) now octets.now result.said result.last }
     ensures never_asks { result.said.verdict ≢ 2 }
-    ensures claims { result.said.verdict ≢ 0 → result.last.claims ≡ None }
-    ensures documents { documents desk.new ≡ documents desk.old }
-    ensures told { told desk.new.answers ≡ told desk.old.answers }
+    ensures claims { result.said.verdict ≢ 0 → claims_kept result.last ≡ None }
+    ensures kept { AreProvedKept documents.now memory.new }
+    ensures room { HasSameRoom memory.new memory.old }
 {
     let Ok(rsa) = Box::new(alloc, Rsa) else {
         return bare(alloc, 3);
@@ -69,19 +126,21 @@ fn report_by_proof(alloc: Global, desk: &mut Desk, octets: &[u8], now: i64) -> J
         return bare(alloc, 3);
     };
     let verifiers: [Box<dyn Verifier>; 3] = [rsa, ecdsa, ed25519];
-    report_under(alloc, desk, octets, now, &verifiers)
+    judging_under(alloc, memory, octets, documents, now, &verifiers, scratch)
 }
 
 /// Judges a token by the proved verifiers, and keeps the report.
 pub(crate) fn prove_desk(alloc: Global, desk: &mut Desk, octets: &[u8], now: i64) -> FowReport
     ensures judged { result.verdict ≤ 1
-        → IsProved desk.old now octets.now result desk.new.last }
+        → IsProved desk.old.grounds now octets.now result desk.new.last }
     ensures never_asks { result.verdict ≢ 2 }
-    ensures claims { result.verdict ≢ 0 → desk.new.last.claims ≡ None }
+    ensures claims { result.verdict ≢ 0 → claims_kept desk.new.last ≡ None }
     ensures documents { documents desk.new ≡ documents desk.old }
     ensures told { told desk.new.answers ≡ told desk.old.answers }
+    ensures memory { desk.new.memory ≡ desk.old.memory }
+    ensures room { HasSameRoom desk.new.grounds.1 desk.old.grounds.1 }
 {
-    let Judging { said, last } = report_by_proof(alloc, desk, octets, now);
+    let Judging { said, last } = desk.grounds.judge(alloc, octets, now, &mut *desk.scratch);
     desk.last = last;
     said
 }

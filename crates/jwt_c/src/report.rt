@@ -1,7 +1,7 @@
 //! What the exported functions write.
 
 ghost use Rattle.std.specs.Prelude.{◌≡◌};
-ghost use Rattle.jwt_c.specs.Faults.{bare, refusal, form_numbers, claim_numbers, issue_numbers, fault_numbers, verdict_numbers};
+ghost use Rattle.jwt_c.specs.Faults.{accepted, bare, refusal, form_numbers, claim_numbers, issue_numbers, fault_numbers, verdict_numbers};
 ghost use Rattle.jwt_c.specs.Reports.{report_numbers, state_numbers, state_parts, try_of, try_parts};
 
 use crate::faults::{
@@ -112,6 +112,22 @@ impl FowReport {
         }
     }
 
+    /// An acceptance by this signature and this key.
+    pub(crate) fn accepted(signature: u32, key: u32) -> FowReport
+        ensures { report_numbers result ≡ accepted signature key }
+    {
+        FowReport {
+            work: 0,
+            tries: 0,
+            verdict: 0,
+            fault: 0,
+            part: 0,
+            signature,
+            key,
+            claim: 0,
+        }
+    }
+
     /// Why octets are no signed token.
     pub(crate) fn of_form(fault: FormFault) -> FowReport
         ensures { report_numbers result ≡ form_numbers fault }
@@ -169,16 +185,7 @@ impl FowReport {
         ensures { report_numbers result ≡ verdict_numbers verdict.now }
     {
         match verdict {
-            Verdict::Accepted { signature, key, .. } => FowReport {
-                work: 0,
-                tries: 0,
-                verdict: 0,
-                fault: 0,
-                part: 0,
-                signature: *signature,
-                key: *key,
-                claim: 0,
-            },
+            Verdict::Accepted { signature, key, .. } => FowReport::accepted(*signature, *key),
             Verdict::Refused(fault) => FowReport::of_fault(fault),
         }
     }

@@ -2,6 +2,7 @@
 
 ghost use Rattle.std.specs.Prelude.{◌≡◌, ◌≢◌, IfSome, None, slice_get};
 ghost use Rattle.jwt_access.specs.Document.{rule_of};
+ghost use Rattle.jwt_c.specs.Evidence.{claims_kept};
 ghost use Rattle.jwt_c.specs.Access.{HoldsRule, IsRuleRefused, IsHeldAgainst, PutsDenied, refused_in};
 ghost use Rattle.jwt_c.specs.Written.{PutsSome};
 
@@ -95,7 +96,7 @@ pub extern "C" fn fow_denied(
     ensures none { validator.old.desk ≡ None → result ≡ 4 }
     ensures no_rule { access.old.desk ≡ None → result ≡ 4 }
     ensures denied { IfSome validator.old.desk (λ d. IfSome access.old.desk (λ a.
-        IsHeldAgainst a.rule d.last.claims result denial.new)) }
+        IsHeldAgainst a.rule (claims_kept d.last) result denial.new)) }
 {
     *denial = 0;
     let Some(desk) = take(validator, alloc) else {
@@ -105,7 +106,7 @@ pub extern "C" fn fow_denied(
         *validator = Handle::of(desk);
         return 4;
     };
-    let (status, number) = hold(&held.rule, &desk.last.claims);
+    let (status, number) = hold(&held.rule, desk.last.claims());
     *denial = number;
     *access = RuleHandle::of(held);
     *validator = Handle::of(desk);
@@ -128,7 +129,7 @@ pub extern "C" fn fow_denied_name(
     ensures none { validator.old.desk ≡ None → result ≡ 4 }
     ensures no_rule { access.old.desk ≡ None → result ≡ 4 }
     ensures name { IfSome validator.old.desk (λ d. IfSome access.old.desk (λ a.
-        PutsDenied a.rule d.last.claims result written.new out.old out.new)) }
+        PutsDenied a.rule (claims_kept d.last) result written.new out.old out.new)) }
 {
     let Some(desk) = take(validator, alloc) else {
         return 4;
@@ -137,7 +138,7 @@ pub extern "C" fn fow_denied_name(
         *validator = Handle::of(desk);
         return 4;
     };
-    let status = put_denied(&held.rule, &desk.last.claims, out, written);
+    let status = put_denied(&held.rule, desk.last.claims(), out, written);
     *access = RuleHandle::of(held);
     *validator = Handle::of(desk);
     status

@@ -1,6 +1,6 @@
 //! Octets that are written for the caller.
 
-ghost use Rattle.std.specs.Prelude.{◌≡◌, IsUtf8, None};
+ghost use Rattle.std.specs.Prelude.{◌≡◌, IsUtf8, None, option_map};
 ghost use Rattle.jwt_text.specs.Base64url.{octets_of};
 ghost use Rattle.jwt_verify.specs.Verdict.{token_of};
 ghost use Rattle.jwt_c.specs.Documents.{documents};
@@ -36,7 +36,7 @@ pub(crate) fn payload_of(
     ensures { PutsPayload (token_of (documents desk.now).policy token.now)
         result written.new out.old out.new }
 {
-    match read_token(alloc, token, &desk.shared.policy) {
+    match read_token(alloc, token, &desk.grounds.documents().policy) {
         Ok(Some(signed)) => put(signed.payload(), out, written),
         Ok(None) => 6,
         Err(_) => 3,
@@ -56,7 +56,7 @@ pub(crate) fn put_header(
     ensures { PutsSome (header_at (token_of (documents desk.now).policy token.now) signature)
         result written.new out.old out.new }
 {
-    match read_token(alloc, token, &desk.shared.policy) {
+    match read_token(alloc, token, &desk.grounds.documents().policy) {
         Ok(Some(signed)) => match signed.signature(signature) {
             Some(signature) => put_decoded(alloc, signature.protected_text(), out, written),
             None => 6,
@@ -80,13 +80,13 @@ fn put_decoded(alloc: Global, text: &[u8], out: &mut [u8], written: &mut usize) 
 /// Puts the compact JSON text of a claim at the front of `out`. 0; 3: memory was refused; 5: `out` is too short; 6: there is none.
 pub(crate) fn put_claim(
     alloc: Global,
-    claims: &Option<Claims>,
+    claims: Option<&Claims>,
     name: &[u8],
     out: &mut [u8],
     written: &mut usize,
 ) -> u32
     ensures claim { IsUtf8 name.now
-        → PutsSome (claim_at claims.now name.now) result written.new out.old out.new }
+        → PutsSome (claim_at (option_map (λ c. c.now) claims.entry) name.now) result written.new out.old out.new }
     ensures other { ¬ IsUtf8 name.now → result ≡ 6 }
 {
     let Ok(name) = from_utf8(name) else {
@@ -103,8 +103,8 @@ pub(crate) fn put_claim(
 }
 
 /// A claim that is a whole number of 64 signed bits.
-pub(crate) fn number_at(claims: &Option<Claims>, name: &[u8]) -> Option<i64>
-    ensures claim { IsUtf8 name.now → result ≡ number_at claims.now name.now }
+pub(crate) fn number_at(claims: Option<&Claims>, name: &[u8]) -> Option<i64>
+    ensures claim { IsUtf8 name.now → result ≡ number_at (option_map (λ c. c.now) claims.entry) name.now }
     ensures other { ¬ IsUtf8 name.now → result ≡ None }
 {
     let Ok(name) = from_utf8(name) else {

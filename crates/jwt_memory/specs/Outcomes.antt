@@ -1,5 +1,5 @@
 -- What an outcome says.
-use Rattle.std.specs.Prelude.{List, []}
+use Rattle.std.specs.Prelude.{◌≡◌, ℕ, Bool, true, false, List, []}
 use Rattle.std.specs.Arc.{arc_value}
 use Rattle.jwt_verify.specs.declared.report.Try.{Try}
 use Rattle.jwt_verify.specs.declared.report.Report.{Report}
@@ -7,8 +7,11 @@ use Rattle.jwt_verify.specs.declared.report.Verdict.{Verdict}
 use Rattle.jwt_verify.specs.declared.report.Verdict.TheVariants as verdict
 use Rattle.jwt_verify.specs.Verdict.{checked}
 use Rattle.jwt_memory.specs.declared.memory.Basis.{Basis}
+use Rattle.jwt_memory.specs.declared.memory.Entry.{Entry}
+use Rattle.jwt_memory.specs.declared.memory.Memory.{Memory}
 use Rattle.jwt_memory.specs.declared.outcome.Outcome.{Outcome}
 use Rattle.jwt_memory.specs.declared.outcome.Outcome.TheVariants.{Judged, Accepted, Remembered}
+use Rattle.jwt_memory.specs.Entries.{Holds}
 
 -- the report with this verdict, and the states and the tries of a basis
 abbrev pub report_of : Verdict → Basis → Report
@@ -28,3 +31,14 @@ abbrev pub paid_in : Outcome → List Try
 paid_in (Judged report) = report.tries.items
 paid_in (Accepted basis) = (arc_value basis).tries.items
 paid_in (Remembered basis fault) = []
+
+-- the verdict came out of the memory
+abbrev pub is_remembered : Outcome → Bool
+is_remembered (Judged report) = false
+is_remembered (Accepted basis) = false
+is_remembered (Remembered basis fault) = true
+
+-- what is remembered is held by the memory: all these octets, accepted under this ceiling
+abbrev pub IsFound : Bool → Memory → List ℕ → ℕ → Type 0
+IsFound false memory octets ceiling = Unit {0}
+IsFound true memory octets ceiling = (entry : Entry) × Holds memory entry × (entry.octets.items ≡ octets) × (entry.ceiling ≡ ceiling)

@@ -5,7 +5,7 @@ use Rattle.jwt_keys.specs.declared.set.KeySet.{KeySet}
 use Rattle.jwt_policy.specs.Settings.{Settings}
 use Rattle.jwt_verify.specs.declared.report.Report.{Report}
 use Rattle.jwt_verify.specs.Accepted.{IsVerdict}
-use Rattle.jwt_verify.specs.Reports.{IsReport, terms}
+use Rattle.jwt_verify.specs.Reports.{FoundMemory, IsReport, terms}
 use Rattle.jwt_told.specs.Told.{Truth, ToldParts, AreRight, told_meaning, true_meaning}
 use Rattle.jwt_memory.specs.declared.memory.Basis.{Basis}
 use Rattle.jwt_memory.specs.declared.memory.Entry.{Entry}
@@ -18,6 +18,16 @@ use Rattle.jwt_memory.specs.Kept.{IsBasis}
 abbrev pub IsTrulyTold : Truth → Settings → KeySet → ℤ → List ℕ → ℕ → Report → Type 0
 IsTrulyTold truth policy keys now octets ceiling report =
     (answers : List ToldParts) × AreRight truth answers × IsReport (terms policy keys now (told_meaning answers ∷ [])) octets ceiling report
+
+-- the report is that by what is told, and where that is true the verdict is the true one
+abbrev pub IsToldNow : List ToldParts → Settings → KeySet → ℤ → List ℕ → ℕ → Report → Type 0
+IsToldNow answers policy keys now octets ceiling report = IsReport (terms policy keys now (told_meaning answers ∷ [])) octets ceiling report
+    × (FoundMemory report.verdict → (truth : Truth) → AreRight truth answers → IsVerdict (terms policy keys now (true_meaning truth ∷ [])) octets ceiling report.verdict)
+
+-- the verdict is the true one, and the report is that of a run by answers which are true
+abbrev pub IsTrulyRemembered : Truth → Settings → KeySet → ℤ → List ℕ → ℕ → Report → Type 0
+IsTrulyRemembered truth policy keys now octets ceiling report =
+    IsVerdict (terms policy keys now (true_meaning truth ∷ [])) octets ceiling report.verdict × IsTrulyTold truth policy keys now octets ceiling report
 
 -- At every moment the true verdict on the octets is what the claims that are kept come to then, and what is kept is the basis of a run by
 -- answers which are true.

@@ -1,6 +1,6 @@
 //! Judges a token, by a memory or anew.
 
-ghost use Rattle.std.specs.Prelude.{◌≡◌, ◌≢◌, ◌⊎◌, length, map};
+ghost use Rattle.std.specs.Prelude.{◌≡◌, ◌≢◌, ◌⊎◌, false, length, map};
 ghost use Rattle.std.specs.Arc.{arc_value};
 ghost use Rattle.std.specs.List.{AllPairs};
 ghost use Rattle.jwt_verify.specs.Table.{work};
@@ -13,7 +13,7 @@ ghost use Rattle.jwt_verify.specs.declared.report.Fault.TheVariants.{OutOfMemory
 ghost use Rattle.jwt_verify.specs.declared.report.Verdict.TheVariants.{Refused};
 ghost use Rattle.jwt_memory.specs.Entries.{Holds, HasRoomOf};
 ghost use Rattle.jwt_memory.specs.Kept.{AreKept};
-ghost use Rattle.jwt_memory.specs.Outcomes.{report_in, paid_in, report_of, accepted_by};
+ghost use Rattle.jwt_memory.specs.Outcomes.{report_in, paid_in, report_of, accepted_by, is_remembered, IsFound};
 
 use crate::laws::accepted_ever;
 use crate::memory::{Basis, Memory};
@@ -25,16 +25,45 @@ use jwt_verify::{Report, Verdict};
 use std::alloc::Global;
 use std::sync::Arc;
 
-/// The outcome that a report on the octets is. The memory keeps an acceptance, where it may and memory is there.
+/// The outcome that an acceptance is. The memory keeps it, where it may and memory is there.
+fn accepted<'p>(
+    memory: &mut Memory,
+    alloc: Global,
+    octets: &[u8],
+    ceiling: u64,
+    basis: Basis,
+) -> Outcome<'p>
+    ensures report { report_in result ≡ report_of (accepted_by basis) basis }
+    ensures paid { paid_in result ≡ basis.tries.items }
+    ensures anew { is_remembered result ≡ false }
+    ensures held { (entry : _) → Holds memory.new entry → Holds memory.old entry
+        ⊎ ((entry.octets.items ≡ octets.now) × (entry.ceiling ≡ ceiling)
+        × (arc_value entry.basis ≡ basis)) }
+    ensures room { HasRoomOf memory.new memory.old }
+{
+    match Arc::new(alloc, basis) {
+        Ok(basis) => {
+            memory.keep(alloc, octets, ceiling, &basis);
+            Outcome::Accepted(basis)
+        }
+        Err(refused) => Outcome::Judged(refused.value.into_report()),
+    }
+}
+
+/// The outcome that a report on the octets is, whose tries cost so many octets. The memory keeps an acceptance, where it may and memory is
+/// there.
 pub(crate) fn kept<'p>(
     memory: &mut Memory,
     alloc: Global,
     octets: &[u8],
     ceiling: u64,
     report: Report<'p>,
+    cost: u64,
 ) -> Outcome<'p>
+    requires { cost ≡ work report.tries.items }
     ensures report { report_in result ≡ report.entry }
     ensures paid { paid_in result ≡ report.entry.tries.items }
+    ensures anew { is_remembered result ≡ false }
     ensures held { (entry : _) → Holds memory.new entry → Holds memory.old entry
         ⊎ ((entry.octets.items ≡ octets.now) × (entry.ceiling ≡ ceiling)
         × (report.entry ≡ report_of (accepted_by (arc_value entry.basis)) (arc_value entry.basis))) }
@@ -57,31 +86,9 @@ pub(crate) fn kept<'p>(
                 claims,
                 states,
                 tries,
+                cost,
             };
-            match Arc::new(alloc, basis) {
-                Ok(basis) => {
-                    memory.keep(alloc, octets, ceiling, &basis);
-                    Outcome::Accepted(basis)
-                }
-                Err(refused) => {
-                    let Basis {
-                        signature,
-                        key,
-                        claims,
-                        states,
-                        tries,
-                    } = refused.value;
-                    Outcome::Judged(Report {
-                        verdict: Verdict::Accepted {
-                            signature,
-                            key,
-                            claims,
-                        },
-                        states,
-                        tries,
-                    })
-                }
-            }
+            accepted(memory, alloc, octets, ceiling, basis)
         }
         Verdict::Refused(fault) => Outcome::Judged(Report {
             verdict: Verdict::Refused(fault),
@@ -124,6 +131,9 @@ pub fn judge<'p, B: Budget>(
     ensures read { (report_in result).verdict ≢ Refused (Text Read) }
     ensures memory { (report_in result).verdict ≡ Refused OutOfMemory → TakesMemory policy.now octets.now }
 
+    // It is remembered only where the memory held these octets, accepted under this ceiling.
+    ensures found { IsFound (is_remembered result) memory.old octets.now (B.ceiling budget.old) }
+
     // Of what was paid in this call: no pair is tried twice, and each is eligible; the octets are within the bound, the calls within
     // the policy's ceiling.
     ensures once { AllPairs IsBefore (paid_in result) }
@@ -151,7 +161,7 @@ pub fn judge<'p, B: Budget>(
         }
         None => {
             let report = jwt_verify::judge(alloc, octets, keys, policy, now, verifiers, budget);
-            kept(memory, alloc, octets, ceiling, report)
+            kept(memory, alloc, octets, ceiling, report, budget.octets())
         }
     }
 }

@@ -1,15 +1,16 @@
 //! A bounded memory of tokens.
 
-ghost use Rattle.std.specs.Prelude.{◌≡◌, ◌≤◌, ◌⊎◌, ℕ, List, Contains, false, length, IfOk, IfSome, IsTrue};
+ghost use Rattle.std.specs.Prelude.{◌≡◌, ◌≤◌, ◌⊎◌, ℕ, List, [], Contains, false, length, IfOk, IfSome, IsTrue};
 ghost use Rattle.std.specs.Arc.{arc_value};
 ghost use Rattle.std.specs.NonZero.{non_zero_usize_get};
 ghost use Rattle.jwt_jws.specs.Forms.{opens_object};
+ghost use Rattle.jwt_verify.specs.Table.{work};
 ghost use Rattle.jwt_memory.specs.Tables.{Has};
 
 use jwt_jws::opens_object;
 use jwt_mac::same_octets;
 use jwt_policy::Claims;
-use jwt_verify::{SigState, Try};
+use jwt_verify::{Report, SigState, Try, Verdict};
 use lru::LruCache;
 use std::alloc::{AllocError, Global};
 use std::num::NonZeroUsize;
@@ -28,6 +29,36 @@ pub struct Basis {
     pub states: Vec<SigState>,
     /// The tries that led to it, which were paid where the token was first accepted.
     pub tries: Vec<Try>,
+    /// The octets that these tries cost.
+    pub cost: u64,
+    ghost counted: { cost ≡ work tries.items },
+}
+
+impl Basis {
+    ghost use Rattle.jwt_memory.specs.Outcomes.{report_of, accepted_by};
+
+    /// The report on the acceptance.
+    pub(crate) fn into_report<'p>(self) -> Report<'p>
+        ensures { result ≡ report_of (accepted_by self) self }
+    {
+        let Basis {
+            signature,
+            key,
+            claims,
+            states,
+            tries,
+            ..
+        } = self;
+        Report {
+            verdict: Verdict::Accepted {
+                signature,
+                key,
+                claims,
+            },
+            states,
+            tries,
+        }
+    }
 }
 
 /// A token that was accepted under a ceiling.
@@ -108,6 +139,7 @@ impl Memory {
     /// # Errors
     /// Where an allocation was refused.
     pub fn new(alloc: Global, tokens: NonZeroUsize, longest: usize) -> Result<Memory, AllocError>
+        ensures nothing { IfOk result (λ m. m.table.entries ≡ []) }
         ensures empty { IfOk result IsEmpty }
         ensures truly { IfOk result IsTrulyEmpty }
         ensures tokens { IfOk result (λ m. m.table.cap ≡ non_zero_usize_get tokens) }

@@ -1,6 +1,6 @@
 //! Judges a token by a memory, or by what a caller told.
 
-ghost use Rattle.std.specs.Prelude.{◌≡◌, ◌∷◌, [], Ok, IfOk, IfErr, MatchResult, length};
+ghost use Rattle.std.specs.Prelude.{◌≡◌, ◌∷◌, [], Ok, IfOk, IfErr, MatchResult, false, true, length};
 ghost use Rattle.jwt_jws.specs.Views.{token};
 ghost use Rattle.jwt_keys.specs.KeySets.{key_set};
 ghost use Rattle.jwt_verify.specs.Table.{work};
@@ -11,8 +11,8 @@ ghost use Rattle.jwt_verify.specs.Verdict.{token_of};
 ghost use Rattle.jwt_told.specs.Told.{Truth, AreRight, told, told_meaning, true_meaning};
 ghost use Rattle.jwt_told.specs.Questions.{AreTries, IsFirstOpen, IsOpen};
 ghost use Rattle.jwt_memory.specs.Entries.{HasRoomOf};
-ghost use Rattle.jwt_memory.specs.ToldKept.{AreTrulyKept, IsTrulyTold};
-ghost use Rattle.jwt_memory.specs.Outcomes.{report_in, paid_in};
+ghost use Rattle.jwt_memory.specs.ToldKept.{AreTrulyKept, IsToldNow, IsTrulyRemembered, IsTrulyTold};
+ghost use Rattle.jwt_memory.specs.Outcomes.{report_in, paid_in, is_remembered, IsFound};
 
 use crate::judging::kept;
 use crate::laws::{accepted_ever, accepted_verdicts};
@@ -69,6 +69,18 @@ pub fn judge_told<'a, 'p>(
         → AreTrulyKept truth policy.now keys.now memory.new }
     ensures room { HasRoomOf memory.new memory.old }
 
+    // What is judged anew rests on what is told now, whatever the memory holds, as jwt_told::judge_told says it.
+    ensures anew { IfOk result (λ o. is_remembered o ≡ false → IsToldNow (told answers.now)
+        policy.now keys.now now octets.now (⟦<CountDown as Budget>⟧.ceiling budget.old) (report_in o)) }
+
+    // What is remembered rests on what was told when it was accepted, whatever is told now; and the memory held these octets, accepted
+    // under this ceiling.
+    ensures remembered { IfOk result (λ o. is_remembered o ≡ true → (truth : Truth)
+        → AreTrulyKept truth policy.now keys.now memory.old → IsTrulyRemembered truth
+        policy.now keys.now now octets.now (⟦<CountDown as Budget>⟧.ceiling budget.old) (report_in o)) }
+    ensures found { IfOk result (λ o. IsFound (is_remembered o) memory.old
+        octets.now (⟦<CountDown as Budget>⟧.ceiling budget.old)) }
+
     // What is asked is the first try of a run by what was told of which nothing was told. It comes with the token.
     ensures tries { IfErr result (λ a. AreTries
         (terms policy.now keys.now now (told_meaning (told answers.now) ∷ []))
@@ -103,7 +115,7 @@ pub fn judge_told<'a, 'p>(
         None => match jwt_told::judge_told(
             alloc, octets, keys, policy, now, answers, budget, scratch,
         ) {
-            Ok(report) => Ok(kept(memory, alloc, octets, ceiling, report)),
+            Ok(report) => Ok(kept(memory, alloc, octets, ceiling, report, budget.octets())),
             Err(asking) => Err(asking),
         },
     }

@@ -15,10 +15,11 @@ from __future__ import annotations
 import ctypes
 import json
 import operator
+import sys
 import time
 from dataclasses import dataclass
 from types import TracebackType
-from typing import Any, Dict, List, NoReturn, Optional, SupportsIndex, Type
+from typing import Any, Dict, List, NoReturn, Optional, SupportsIndex, Tuple, Type
 
 from . import _library
 from ._access import Access
@@ -102,7 +103,8 @@ class Try:
 
 @dataclass(frozen=True)
 class Report:
-    """All that is said of a token. `refusal` is why it isn't accepted, and None where it is."""
+    """All that is said of a token. `refusal` is why it isn't accepted, and None where it is. Of a token that is `remembered` nothing was tried and
+    nothing paid: `work` and `tries` are those of the judging that accepted it."""
 
     refusal: Optional[TokenRefused]
     signature: int
@@ -110,6 +112,7 @@ class Report:
     work: int
     states: List[SignatureState]
     tries: List[Try]
+    remembered: bool = False
 
     @property
     def accepted(self) -> bool:
@@ -148,13 +151,23 @@ class Validator:
     `most_questions` is how often OpenSSL may be asked for one token; None takes whatever the policy and the keys allow, up to 32,768. More
     than 64 are seldom meant: `max_calls` in the policy bounds them.
 
+    `remember=(tokens, octets)` remembers so many accepted tokens of at most so many octets each, the least used goes first: one that comes again
+    is found by all its octets, and only its claims are looked at. Each call that is under way at once has a memory of its own. Accepted tokens
+    lie in memory until they go, and aren't wiped.
+
     Raises PolicyRefused, KeysRefused or TooManyQuestions, AnotherLibrary where another library was loaded than this package is made for,
     and MemoryError where memory is refused.
     """
 
     def __init__(
-        self, policy: Document, keys: Document, *, most_questions: Optional[int] = _library.MOST_QUESTIONS
+        self,
+        policy: Document,
+        keys: Document,
+        *,
+        most_questions: Optional[int] = _library.MOST_QUESTIONS,
+        remember: Tuple[SupportsIndex, SupportsIndex] = (0, 0),
     ) -> None:
+        tokens, octets = (_number(it, "remember", 0, 2 * sys.maxsize + 1) for it in remember)
         self._library = _library.load()
         policy_octets, key_octets = document_of(policy, "a policy"), document_of(keys, "a key set")
         documents = Seat()
@@ -167,7 +180,7 @@ class Validator:
         if status != _library.OK:
             raise self._document_refused(fault.value, policy_octets)
         self._check_questions(documents, most_questions)
-        self._seats = Seats(documents)
+        self._seats = Seats(documents, (tokens, octets))
 
     def validate(self, token: Text, now: Optional[SupportsIndex] = None, access: Optional[Access] = None) -> Claims:
         """The claims of a token that is accepted at a moment, in seconds since 1970-01-01T00:00:00Z; without one, at the clock's. With an
@@ -204,6 +217,7 @@ class Validator:
                 work=report.work,
                 states=self._states(seat),
                 tries=self._tries(seat, report.tries),
+                remembered=seat.is_remembered(),
             )
         finally:
             self._seats.give(seat)

@@ -82,6 +82,8 @@ _SIGNATURES = {
     "fow_open_beside": (_U32, [_VALIDATOR, _VALIDATOR]),
     "fow_most_questions": (_U32, [_VALIDATOR, ctypes.POINTER(_U32)]),
     "fow_close": (None, [_VALIDATOR]),
+    "fow_remember": (_U32, [_VALIDATOR, _SIZE, _SIZE]),
+    "fow_remembered": (ctypes.c_bool, [_VALIDATOR]),
     "fow_refused_member": (_U32, [*_IN, *_OUT]),
     "fow_state_of": (_U32, [_VALIDATOR, _U32, ctypes.POINTER(CState)]),
     "fow_try_of": (_U32, [_VALIDATOR, ctypes.c_uint64, ctypes.POINTER(CTry)]),

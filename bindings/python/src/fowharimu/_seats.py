@@ -6,7 +6,7 @@ import ctypes
 import os
 import threading
 import time
-from typing import Callable, List, Optional
+from typing import Callable, List, Optional, Tuple
 
 from . import _library
 from ._faults import Closed
@@ -100,6 +100,10 @@ class Seat:
             raise MemoryError
         return self.report
 
+    def is_remembered(self) -> bool:
+        """Whether the last verdict came out of the seat's memory."""
+        return bool(self.library.fow_remembered(self.held))
+
     def payload(self, octets: bytes) -> bytes:
         """The payload of the token that was judged last, and accepted. Raises MemoryError where memory is refused."""
         size = len(octets)
@@ -127,14 +131,15 @@ class Seat:
 
 class Seats:
     """The seats of a validator: a call takes one that is free, or opens another on the same documents, and gives it back. So there is at most
-    one for each call that was under way at once. A list's `append` and `pop` are one step each, so no lock is held for them.
+    one for each call that was under way at once, and each has a memory of its own. A list's `append` and `pop` are one step each, so no lock is held for them.
 
     A fork waits for the calls that are under way, and for no longer than some seconds. In the child a seat that another thread had
     taken even then is lost: it may be half written, and is never looked at.
     """
 
-    def __init__(self, documents: Seat) -> None:
+    def __init__(self, documents: Seat, remember: Tuple[int, int]) -> None:
         self._documents = documents
+        self._remember = remember
         self._free: List[Seat] = []
         self._is_closed = False
 
@@ -168,6 +173,8 @@ class Seats:
                 raise Closed
             seat = Seat()
             if seat.library.fow_open_beside(seat.held, self._documents.held) != _library.OK:
+                raise MemoryError
+            if seat.library.fow_remember(seat.held, *self._remember) != _library.OK:
                 raise MemoryError
             return seat
 

@@ -82,6 +82,10 @@ extern "C" {
         written: *mut usize,
     ) -> u32;
 
+    pub fn fow_remember(validator: *mut fow_validator, tokens: usize, octets: usize) -> u32;
+
+    pub fn fow_remembered(validator: *mut fow_validator) -> bool;
+
     pub fn fow_close(validator: *mut fow_validator);
 
     pub fn fow_payload(

@@ -1,5 +1,6 @@
-//! Answers each case of a table that `bindings/cases/make` wrote, over OpenSSL: cases FILE. `bindings/cases/README.md` says what a line is.
-//! `?` stands for what this crate doesn't show. It doesn't issue.
+//! Answers each case of a table that `bindings/cases/make` wrote, over OpenSSL: cases [-remember] FILE. `bindings/cases/README.md` says what a
+//! line is. `?` stands for what this crate doesn't show. It doesn't issue. With `-remember` tokens are remembered, and each is judged at several
+//! moments first.
 
 use fowharimu::{Access, Error, Part, Validator};
 use std::fs::File;
@@ -116,12 +117,29 @@ fn refused(error: Error) -> Result<String, Error> {
     ))
 }
 
+/// Judges a token at its moment, at others, and at its moment again: an accepted one in compact form is remembered then.
+fn again(validator: &Validator, token: &[u8], now: i64) -> Result<(), Failure> {
+    const FAR: i64 = 1_000_000_000;
+    for by in [0, FAR, -FAR, 0] {
+        let _ = validator.validate_at(token, now.saturating_add(by));
+    }
+    match validator.validate_at(token, now) {
+        Ok(claims) if !claims.remembered() && !token.contains(&b'{') => {
+            Err("a token isn't remembered".into())
+        }
+        _ => Ok(()),
+    }
+}
+
 /// The answer to a token.
 fn judged(opened: &Result<Validator, Error>, now: &str, token: &str) -> Result<String, Failure> {
     let validator = match opened {
         Ok(validator) => validator,
         Err(error) => return Ok(refused(error.clone())?),
     };
+    if remembers() {
+        again(validator, &octets_of(token)?, now.parse()?)?;
+    }
     match validator.validate_at(&octets_of(token)?, now.parse()?) {
         Ok(claims) => Ok(format!(
             "accepted\t-\t0\t?\t?\t-\t?\t?\t?\t{}",
@@ -155,8 +173,26 @@ fn denied(
     }
 }
 
+/// Whether tokens are to be remembered.
+fn remembers() -> bool {
+    env::args().any(|it| it == "-remember")
+}
+
+/// A validator that takes any documents, and remembers tokens where that is asked for.
+fn open(policy: &[u8], keys: &[u8]) -> Result<Validator, Error> {
+    let validator = Validator::open_within(policy, keys, u32::MAX)?;
+    Ok(if remembers() {
+        validator.remembering(100, 1 << 20)
+    } else {
+        validator
+    })
+}
+
 fn main() -> Result<(), Failure> {
-    let name = env::args().nth(1).ok_or("usage: cases FILE")?;
+    let name = env::args()
+        .skip(1)
+        .last()
+        .ok_or("usage: cases [-remember] FILE")?;
     let mut out = BufWriter::new(io::stdout().lock());
     let mut opened = None;
     for line in BufReader::new(File::open(name)?).lines() {
@@ -164,11 +200,7 @@ fn main() -> Result<(), Failure> {
         let words: Vec<&str> = line.split(' ').collect();
         match (words.as_slice(), &opened) {
             (["open", policy, keys], _) => {
-                opened = Some(Validator::open_within(
-                    &octets_of(policy)?,
-                    &octets_of(keys)?,
-                    u32::MAX,
-                ));
+                opened = Some(open(&octets_of(policy)?, &octets_of(keys)?));
             }
             (["judge", name, now, token], Some(opened)) => {
                 writeln!(out, "{name}\t{}", judged(opened, now, token)?)?

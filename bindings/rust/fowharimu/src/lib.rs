@@ -24,16 +24,30 @@ use seat::Seat;
 use std::sync::{Mutex, MutexGuard, PoisonError};
 use std::time::{SystemTime, UNIX_EPOCH};
 
-/// The claims of an accepted token.
-#[derive(Clone, Debug, PartialEq, Eq)]
+/// The claims of an accepted token. Those are equal whose payloads are.
+#[derive(Clone, Debug)]
 pub struct Claims {
     json: String,
+    remembered: bool,
 }
+
+impl PartialEq for Claims {
+    fn eq(&self, other: &Claims) -> bool {
+        self.json == other.json
+    }
+}
+
+impl Eq for Claims {}
 
 impl Claims {
     /// The payload: the JSON text of an object, as the token has it.
     pub fn json(&self) -> &str {
         &self.json
+    }
+
+    /// Whether the token was remembered: then nothing was tried for it in this call.
+    pub fn remembered(&self) -> bool {
+        self.remembered
     }
 }
 
@@ -48,6 +62,8 @@ pub struct Validator {
 struct Seats {
     /// The policy and the key set, which every seat holds too.
     documents: Seat,
+    /// How many tokens of how many octets each seat remembers.
+    remembers: (usize, usize),
     /// Those that were given back: at most as many as calls were under way at once.
     free: Vec<Seat>,
 }
@@ -85,9 +101,22 @@ impl Validator {
         Ok(Validator {
             seats: Mutex::new(Seats {
                 documents,
+                remembers: (0, 0),
                 free: Vec::new(),
             }),
         })
+    }
+
+    /// Remembers from now on so many accepted tokens, none longer than so many octets; the least used goes first. One that comes again is
+    /// found by all its octets, and only its claims are looked at. Each call that is under way at once has a memory of its own. Accepted
+    /// tokens lie in memory until they go, and aren't wiped.
+    #[must_use]
+    pub fn remembering(self, tokens: usize, octets: usize) -> Validator {
+        let mut seats = self.seats();
+        seats.remembers = (tokens, octets);
+        seats.free.clear();
+        drop(seats);
+        self
     }
 
     /// The claims of a token that is accepted at the clock's moment.
@@ -138,9 +167,10 @@ impl Validator {
     /// A seat that no other call has.
     fn take(&self) -> Result<Seat, Error> {
         let mut seats = self.seats();
+        let (tokens, octets) = seats.remembers;
         match seats.free.pop() {
             Some(seat) => Ok(seat),
-            None => seats.documents.open_beside(),
+            None => seats.documents.open_beside(tokens, octets),
         }
     }
 

@@ -67,11 +67,16 @@ impl Seat {
         }
     }
 
-    /// A seat with the same documents, which aren't read again.
-    pub(crate) fn open_beside(&mut self) -> Result<Seat, Error> {
+    /// A seat with the same documents, which aren't read again. It remembers so many tokens of so many octets.
+    pub(crate) fn open_beside(&mut self, tokens: usize, octets: usize) -> Result<Seat, Error> {
         let mut seat = Seat::new();
         // SAFETY: both are those that the other calls had, and this one has them to itself.
-        match unsafe { sys::fow_open_beside(&mut seat.held, &mut self.held) } {
+        let opened = unsafe { sys::fow_open_beside(&mut seat.held, &mut self.held) };
+        if opened != sys::FOW_OK {
+            return Err(Error::OutOfMemory);
+        }
+        // SAFETY: it was opened just now.
+        match unsafe { sys::fow_remember(&mut seat.held, tokens, octets) } {
             sys::FOW_OK => Ok(seat),
             _ => Err(Error::OutOfMemory),
         }
@@ -92,13 +97,15 @@ impl Seat {
             access.check(&mut self.held)?;
         }
         let held = &mut self.held;
+        // SAFETY: it is the one that judged.
+        let remembered = unsafe { sys::fow_remembered(held) };
         // SAFETY: the slices are as long as their lengths say, and aren't null.
         let payload = written(token.len() + 1, |out, room, len| unsafe {
             sys::fow_payload(held, token.as_ptr(), token.len(), out, room, len)
         })?;
         // An accepted token has a payload: where there is none, nothing is known.
         payload
-            .map(|json| Claims { json })
+            .map(|json| Claims { json, remembered })
             .ok_or(Error::OutOfMemory)
     }
 

@@ -55,6 +55,32 @@ fn each_token_is_accepted_and_refused_where_it_is_changed() {
 }
 
 #[test]
+fn a_token_that_comes_again_is_judged_by_its_claims() {
+    let name = top().join("examples/rfc7515-a1.jwt");
+    let token = fs::read(&name).unwrap();
+    let length = token.len();
+    for (tokens, octets, is) in [
+        (10, 4096, true),
+        (1, length, true),
+        (10, length - 1, false),
+        (0, 4096, false),
+    ] {
+        let validator = open(&name).remembering(tokens, octets);
+        assert!(!validator.validate_at(&token, NOW).unwrap().remembered());
+        let again = validator.validate_at(&token, NOW).unwrap();
+        assert_eq!(again.remembered(), is);
+        assert_eq!(again, open(&name).validate_at(&token, NOW).unwrap());
+        let expired = validator.validate_at(&token, NOW + 1);
+        assert!(matches!(expired, Err(Error::Claims { fault, .. }) if fault == "Expired"));
+        assert_eq!(validator.validate_at(&token, NOW).unwrap().remembered(), is);
+        assert!(validator.validate_at(&token[..length - 1], NOW).is_err());
+    }
+    let validator = open(&name);
+    assert!(!validator.validate_at(&token, NOW).unwrap().remembered());
+    assert!(!validator.validate_at(&token, NOW).unwrap().remembered());
+}
+
+#[test]
 fn each_kind_of_refusal() {
     let token = fs::read(top().join("examples/rfc7515-a1.jwt")).unwrap();
     let keys = fs::read(top().join("examples/rfc7515-a1.keys")).unwrap();

@@ -1,6 +1,7 @@
-use Rattle.std.proofs.Common.{◌≡◌, ◌≤◌, sym, subst, IfSome}
+use Rattle.std.proofs.Common.{◌≡◌, ◌≤◌, sym, subst, IfSome, Some}
 use Rattle.std.proofs.Math.Facts.{to_z-of_z}
 use Rattle.jwt_c.specs.Reports.{IsAsked, IsAskedBy, IsJudged, IsJudgedBy}
+use Rattle.jwt_c.specs.Remembering.{RemembersTold}
 use Rattle.jwt_c.proofs.exports.fow_judge.Goals as goal
 
 pub returns-clause-judged : goal.returns-clause-judged
@@ -18,3 +19,10 @@ returns-clause-asks c =
     (λ asks. subst (λ o. IsAskedBy c.in-Some.desk.value c.args.now x said o) (sym c.of.ensures)
     (subst (λ d. IsAsked d c.args.now x said kept.last) c.deref_mut.ensures.value
     (subst (λ n. IsAsked c.deref_mut.result.now n x said kept.last) (to_z-of_z c.ranges.now) (c.judge_desk-said.ensures.asks asks))))
+
+pub returns-clause-remembers : goal.returns-clause-remembers
+returns-clause-remembers c =
+    let kept = c.judge_desk-said.new.desk in let is = c.judge_desk-said.ensures in
+    subst (λ o. IfSome o (λ d. RemembersTold d c.of.result.desk)) (sym c.in-Some.ensures.held)
+    (subst (λ o. RemembersTold c.in-Some.desk.value o) (sym c.of.ensures)
+    (subst (λ d. RemembersTold d (Some kept)) c.deref_mut.ensures.value (is.stays, is.room, is.grounds)))

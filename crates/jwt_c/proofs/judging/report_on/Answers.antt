@@ -1,58 +1,69 @@
-use Rattle.std.proofs.Common.{◌≡◌, ◌∷◌, [], ◌∙◌, sym, subst, ap, List, length, option_map}
+use Rattle.std.proofs.Common.{◌≡◌, ◌∷◌, [], ◌∙◌, ℤ, sym, subst, ap, false, List, length, option_map}
 use Rattle.std.proofs.Math.Facts.{to_z-of_z}
 use Rattle.jwt_mac.specs.Verifying.{Meaning}
-use Rattle.jwt_verify.specs.Accepted.{IsVerdict}
-use Rattle.jwt_verify.specs.Reports.{IsReport, terms}
+use Rattle.jwt_verify.specs.Reports.{terms}
 use Rattle.jwt_keys.specs.KeySets.{key_set}
 use Rattle.jwt_verify.specs.Verdict.{token_of}
-use Rattle.jwt_told.specs.Told.{told, told_meaning, true_meaning}
+use Rattle.jwt_told.specs.Told.{told, told_meaning}
 use Rattle.jwt_told.specs.Questions.{AreTries, IsFirstOpen, IsOpen, kept_parts}
-use Rattle.jwt_c.specs.Reports.{asked_at}
-use Rattle.jwt_c.proofs.Telling.{never_asks}
+use Rattle.jwt_memory.specs.Outcomes.{is_remembered, report_in}
+use Rattle.jwt_c.specs.Documents.{documents}
+use Rattle.jwt_c.specs.Evidence.{tries_kept}
+use Rattle.jwt_c.specs.Remembering.{RestsOn, IsHeldIn, StaysTrue}
+use Rattle.jwt_c.specs.Reports.{IsAsking, asked_at}
+use Rattle.jwt_c.proofs.Telling.{never_asks, no_claims}
 use Rattle.jwt_c.proofs.judging.report_on.Goals as goal
 
-pub returns-in-Ok-missing-clause-judged : goal.returns-in-Ok-missing-clause-judged
-returns-in-Ok-missing-clause-judged c _ =
-    let d = c.args.desk.now in let x = c.args.octets.now in let r = c.in-Ok.report in let by : List Meaning = told_meaning (told d.answers) ∷ [] in
-    let lent = c.deref-documents.result.now in (
-      r,
-      subst (λ it. IsReport (terms it.policy it.keys c.args.now by) x it.policy.run.work r) c.deref-documents.ensures
-          (subst (λ w. IsReport (terms lent.policy lent.keys c.args.now by) x w r) c.budget-budget.ensures.ceiling
-          (subst (λ n. IsReport (terms lent.policy lent.keys n by) x c.budget-budget.result.ceiling r) (to_z-of_z c.ranges.now) c.in-Ok.ensures.report)),
-      (λ found truth right. subst (λ it. IsVerdict (terms it.policy it.keys c.args.now (true_meaning truth ∷ [])) x it.policy.run.work r.verdict) c.deref-documents.ensures
-          (subst (λ w. IsVerdict (terms lent.policy lent.keys c.args.now (true_meaning truth ∷ [])) x w r.verdict) c.budget-budget.ensures.ceiling
-          (subst (λ n. IsVerdict (terms lent.policy lent.keys n (true_meaning truth ∷ [])) x c.budget-budget.result.ceiling r.verdict) (to_z-of_z c.ranges.now) (c.in-Ok.ensures.right found truth right)))),
-      c.kept.ensures.numbers,
-      c.kept.ensures.tries,
-      c.kept.ensures.work ∙ c.octets.ensures ∙ c.in-Ok.ensures.octets,
-      c.kept.ensures.keeps,
-    )
+pub returns-in-Ok-judging_of-clause-judged : goal.returns-in-Ok-judging_of-clause-judged
+returns-in-Ok-judging_of-clause-judged c _ =
+    let d = c.args.desk.now in let x = c.args.octets.now in let o = c.in-Ok.outcome in let r = report_in o in let ts = told d.answers in
+    let lent = c.documents-documents.result.now in let is = c.in-Ok-judging_of.ensures in let last = c.in-Ok-judging_of.judging.last in
+    let rests : RestsOn last.remembered ts d.memory (documents d) c.args.now x r =
+    subst (λ b. RestsOn b ts d.memory (documents d) c.args.now x r) (sym is.remembered)
+    (subst (λ it. RestsOn (is_remembered o) ts d.memory it c.args.now x r) c.documents-documents.ensures
+    (subst (λ n. RestsOn (is_remembered o) ts d.memory lent n x r) (to_z-of_z c.ranges.now) c.in-Ok.ensures.rests)) in
+    let held : IsHeldIn last.remembered d.memory x (documents d).policy.run.work =
+    subst (λ b. IsHeldIn b d.memory x (documents d).policy.run.work) (sym is.remembered)
+    (subst (λ it. IsHeldIn (is_remembered o) d.memory x it.policy.run.work) c.documents-documents.ensures c.in-Ok.ensures.held) in
+    (r, rests, held, is.says)
 
-pub returns-in-Ok-missing-clause-asks : goal.returns-in-Ok-missing-clause-asks
-returns-in-Ok-missing-clause-asks c asks = absurd (never_asks c.in-Ok.report.verdict (sym (ap (λ n. n.verdict) c.kept.ensures.numbers) ∙ asks))
+pub returns-in-Ok-judging_of-clause-asks : goal.returns-in-Ok-judging_of-clause-asks
+returns-in-Ok-judging_of-clause-asks c asks = absurd (never_asks (report_in c.in-Ok.outcome).verdict (sym (ap (λ n. n.verdict) c.in-Ok-judging_of.ensures.says.0) ∙ asks))
+
+pub returns-in-Ok-judging_of-clause-claims : goal.returns-in-Ok-judging_of-clause-claims
+returns-in-Ok-judging_of-clause-claims c h =
+    let says = c.in-Ok-judging_of.ensures.says in
+    says.3.2 ∙ no_claims (report_in c.in-Ok.outcome).verdict (λ z. h (ap (λ n. n.verdict) says.0 ∙ z))
+
+pub returns-in-Ok-judging_of-clause-stays : goal.returns-in-Ok-judging_of-clause-stays
+returns-in-Ok-judging_of-clause-stays c =
+    subst (λ it. StaysTrue (told c.args.desk.now.answers) it c.args.desk.now.memory c.outcome_of.new.memory) c.documents-documents.ensures c.outcome_of.ensures.stays
 
 pub returns-in-Ok-asking-clause-asks : goal.returns-in-Ok-asking-clause-asks
 returns-in-Ok-asking-clause-asks c _ =
     let d = c.args.desk.now in let x = c.args.octets.now in let by : List Meaning = told_meaning (told d.answers) ∷ [] in
-    let lent = c.deref-documents.result.now in
+    let lent = c.documents-documents.result.now in
     let ts = told d.answers in let read = token_of lent.policy x in let keys = (key_set lent.keys).keys in
-    let q = c.in-Err.asks in let es = c.in-Ok-asking.judging.last.tries.items in let said = c.in-Ok-asking.judging.said in let last = c.in-Ok-asking.judging.last in
+    let q = c.in-Err.asks in let said = c.in-Ok-asking.judging.said in let last = c.in-Ok-asking.judging.last in let es = tries_kept last in
     let is = c.in-Ok-asking.ensures in
+    let at : IsAsking ts lent c.args.now x q = subst (λ n. IsAsking ts lent n x q) (to_z-of_z c.ranges.now) c.in-Err.ensures.asks in
     let tries : AreTries (terms lent.policy lent.keys c.args.now by) x lent.policy.run.work es =
-    subst (λ fs. AreTries (terms lent.policy lent.keys c.args.now by) x lent.policy.run.work fs) (sym is.tries)
-    (subst (λ w. AreTries (terms lent.policy lent.keys c.args.now by) x w q.tries.items) c.budget-budget.ensures.ceiling
-    (subst (λ n. AreTries (terms lent.policy lent.keys n by) x c.budget-budget.result.ceiling q.tries.items) (to_z-of_z c.ranges.now) c.in-Err.ensures.tries)) in
+    subst (λ fs. AreTries (terms lent.policy lent.keys c.args.now by) x lent.policy.run.work fs) (sym is.tries) at.0 in
     let first : IsFirstOpen ts lent.policy x keys es said.signature said.key =
     subst (λ fs. IsFirstOpen ts lent.policy x keys fs said.signature said.key) (sym is.tries)
     (subst (λ i. IsFirstOpen ts lent.policy x keys q.tries.items i said.key) (sym is.signature)
-    (subst (λ j. IsFirstOpen ts lent.policy x keys q.tries.items q.question.signature j) (sym is.key) c.in-Err.ensures.first)) in
+    (subst (λ j. IsFirstOpen ts lent.policy x keys q.tries.items q.question.signature j) (sym is.key) at.1)) in
     let here : IsOpen ts lent.policy x keys said.signature said.key =
     subst (λ i. IsOpen ts lent.policy x keys i said.key) (sym is.signature)
-    (subst (λ j. IsOpen ts lent.policy x keys q.question.signature j) (sym is.key) c.in-Err.ensures.question) in
-    let asked : option_map kept_parts c.in-Ok-asking.judging.last.asked ≡ asked_at read keys said.signature said.key =
-    is.asked ∙ sym (ap (λ r. asked_at r keys q.question.signature q.question.key) c.in-Err.ensures.token)
+    (subst (λ j. IsOpen ts lent.policy x keys q.question.signature j) (sym is.key) at.2) in
+    let asked : option_map kept_parts last.asked ≡ asked_at read keys said.signature said.key =
+    is.asked ∙ sym (ap (λ r. asked_at r keys q.question.signature q.question.key) at.3)
     ∙ ap (λ i. asked_at read keys i q.question.key) (sym is.signature) ∙ ap (asked_at read keys said.signature) (sym is.key) in
     subst (λ it. AreTries (terms it.policy it.keys c.args.now by) x it.policy.run.work es × IsFirstOpen ts it.policy x (key_set it.keys).keys es said.signature said.key
     × IsOpen ts it.policy x (key_set it.keys).keys said.signature said.key × (said.tries ≡ length es)
-    × (option_map kept_parts last.asked ≡ asked_at (token_of it.policy x) (key_set it.keys).keys said.signature said.key)) c.deref-documents.ensures
-    (tries, first, here, is.count ∙ ap length (sym is.tries), asked)
+    × (option_map kept_parts last.asked ≡ asked_at (token_of it.policy x) (key_set it.keys).keys said.signature said.key) × (last.remembered ≡ false)) c.documents-documents.ensures
+    (tries, first, here, is.count ∙ ap length (sym is.tries), asked, is.anew)
+
+pub returns-in-Ok-asking-clause-stays : goal.returns-in-Ok-asking-clause-stays
+returns-in-Ok-asking-clause-stays c =
+    subst (λ it. StaysTrue (told c.args.desk.now.answers) it c.args.desk.now.memory c.outcome_of.new.memory) c.documents-documents.ensures c.outcome_of.ensures.stays

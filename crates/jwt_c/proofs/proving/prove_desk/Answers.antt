@@ -5,4 +5,4 @@ use Rattle.jwt_c.proofs.proving.prove_desk.Goals as goal
 
 pub returns-clause-judged : goal.returns-clause-judged
 returns-clause-judged c small =
-    subst (λ n. IsProved c.args.desk.now n c.args.octets.now c.report_by_proof-last.result.said c.report_by_proof-last.result.last) (to_z-of_z c.ranges.now) (c.report_by_proof-last.ensures.judged small)
+    subst (λ n. IsProved c.args.desk.now.grounds n c.args.octets.now c.judge-last.result.said c.judge-last.result.last) (to_z-of_z c.ranges.now) (c.judge-last.ensures.judged small)

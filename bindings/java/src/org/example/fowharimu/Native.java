@@ -90,6 +90,12 @@ final class Native {
 
     static native int mostQuestions(long it);
 
+    /** Remembers so many tokens of so many octets from now on, and answers the status. */
+    static native int remember(long it, int tokens, int octets);
+
+    /** Whether the last verdict came out of the memory. */
+    static native boolean remembered(long it);
+
     static native void close(long it);
 
     /** The verdict; the report is written to. */

@@ -57,6 +57,21 @@ public final class Validator implements AutoCloseable {
      * @throws UnsatisfiedLinkError where there is no library for this machine, or one of another interface
      */
     public Validator(byte[] policy, byte[] keys, int mostQuestions) throws Refused {
+        this(policy, keys, mostQuestions, new Remember());
+    }
+
+    /**
+     * Reads a policy and a key set, and remembers accepted tokens.
+     *
+     * @param policy a JSON text, as the program {@code jwt} takes it
+     * @param keys a JSON Web Key Set (RFC 7517, section 5)
+     * @param mostQuestions how many questions about public keys one token may raise, up to 32,768; {@code max_calls} in the policy bounds them
+     * @param remember how many tokens of how many octets are remembered
+     * @throws Refused where one is refused
+     * @throws UnsatisfiedLinkError where there is no library for this machine, or one of another interface
+     */
+    public Validator(byte[] policy, byte[] keys, int mostQuestions, Remember remember) throws Refused {
+        Objects.requireNonNull(remember, "remember");
         Native.check();
         // (arrays that another thread changes meanwhile are copied in C before they are read)
         int[] fault = new int[1];
@@ -69,7 +84,7 @@ public final class Validator implements AutoCloseable {
             Native.close(documents);
             throw new Refused(Refused.Kind.QUESTIONS, "TooManyQuestions", most + " and not " + mostQuestions, 0, 0);
         }
-        seats = new Documents(documents);
+        seats = new Documents(documents, remember);
         cleanable = Seats.CLEANER.register(this, seats);
     }
 
@@ -197,7 +212,9 @@ public final class Validator implements AutoCloseable {
             Optional<Refused> refusal = Optional.ofNullable(judge(seat, token, now));
             Optional<String> claims = refusal.isEmpty() ? Optional.of(payload(seat)) : Optional.empty();
             long[] said = seat.report;
-            return new Verdict(refusal, claims, (int) said[Native.SIGNATURE], (int) said[Native.KEY], said[Native.WORK], states(seat), tries(seat));
+            boolean remembered = Native.remembered(seat.at);
+            return new Verdict(
+                    refusal, claims, (int) said[Native.SIGNATURE], (int) said[Native.KEY], said[Native.WORK], states(seat), tries(seat), remembered);
         } finally {
             give(seat);
         }
@@ -370,15 +387,22 @@ public final class Validator implements AutoCloseable {
     /** What a validator holds: its documents, and the handles on them. */
     private static final class Documents extends Seats {
         private final long at;
+        private final Remember remember;
 
-        Documents(long at) {
+        Documents(long at, Remember remember) {
             super("the validator is closed");
             this.at = at;
+            this.remember = remember;
         }
 
         @Override
         long another() {
-            return Native.openBeside(at);
+            long seat = Native.openBeside(at);
+            if (seat != 0 && Native.remember(seat, remember.tokens(), remember.octets()) != Native.OK) {
+                Native.close(seat);
+                return 0;
+            }
+            return seat;
         }
 
         @Override

@@ -13,9 +13,17 @@ import java.util.Optional;
  * @param work the octets that were fed to HMAC
  * @param states what became of each signature
  * @param tries each try of a key on a signature, in order
+ * @param remembered whether the token was remembered: the work and the tries are those of the judging that accepted it, and nothing was paid now
  */
 public record Verdict(
-        Optional<Refused> refusal, Optional<String> claims, int signature, int key, long work, List<SignatureState> states, List<Try> tries) {
+        Optional<Refused> refusal,
+        Optional<String> claims,
+        int signature,
+        int key,
+        long work,
+        List<SignatureState> states,
+        List<Try> tries,
+        boolean remembered) {
     /**
      * Whether the token is accepted.
      *

@@ -1,0 +1,28 @@
+package org.example.fowharimu;
+
+/**
+ * How many accepted tokens are remembered. One that comes again is found by all its octets, and only its claims are looked at; the least used
+ * goes first. Each call that is under way at once has a memory of its own. Accepted tokens lie in memory until they go, and aren't wiped.
+ *
+ * @param tokens how many tokens; 0 for none
+ * @param octets how many octets the longest of them has
+ */
+public record Remember(int tokens, int octets) {
+    /**
+     * Looks at what it is given.
+     *
+     * @param tokens how many tokens
+     * @param octets how many octets the longest of them has
+     * @throws IllegalArgumentException for a number below 0
+     */
+    public Remember {
+        if (tokens < 0 || octets < 0) {
+            throw new IllegalArgumentException("tokens and octets have to be 0 or more");
+        }
+    }
+
+    /** None. */
+    public Remember() {
+        this(0, 0);
+    }
+}

@@ -1,8 +1,0 @@
-use Rattle.std.proofs.Common.{subst}
-use Rattle.std.proofs.Math.Facts.{to_z-of_z}
-use Rattle.jwt_c.specs.Proving.{IsProved}
-use Rattle.jwt_c.proofs.proving.report_by_proof.Goals as goal
-
-pub returns-clause-judged : goal.returns-clause-judged
-returns-clause-judged c small =
-    subst (λ n. IsProved c.args.desk.now n c.args.octets.now c.report_under.result.said c.report_under.result.last) (to_z-of_z c.ranges.now) (c.report_under.ensures.judged small)
