@@ -24,14 +24,16 @@ use Rattle.jwt_verify.specs.declared.report.Fault.TheVariants.{OutOfMemory, Text
 use Rattle.jwt_verify.specs.declared.report.Verdict.{Verdict}
 use Rattle.jwt_verify.specs.declared.report.Verdict.TheVariants.{Accepted, Refused}
 use Rattle.jwt_access.specs.Rules.{Rule}
+use Rattle.jwt_access.specs.declared.access_fault.AccessFault.{AccessFault}
 use Rattle.jwt_policy.specs.Settings.{Settings}
 use Rattle.jwt_words.specs.InHand.{Held}
+use Rattle.jwt_command.specs.Access.{under_rule}
 use Rattle.jwt_command.specs.Documents.{TakesDocument, behind, document, document_most, last_document}
 use Rattle.jwt_text.specs.Intake.{TakesAtMost}
 use Rattle.jwt_command.specs.Issue.{issue_answer, issue_under}
 use Rattle.jwt_issue.specs.Options.{OptionParts}
 use Rattle.jwt_printing.specs.Json.{verdict_json, token_json, payload_of}
-use Rattle.jwt_printing.specs.Printer.{Printer, in_lines, unless_read_failed, printer}
+use Rattle.jwt_printing.specs.Printer.{Printer, in_lines, printed_file_fault, unless_read_failed, unless_unread, printer}
 use Rattle.jwt_command.specs.Verify.{keys_answer, payload_in, under_keys, under_policy, verify_answer}
 use Rattle.jwt_printing.specs.Verdicts.{keys_refused, token_answer, verify_line}
 use Rattle.jwt_printing.specs.Printed.{Answer}
@@ -133,6 +135,20 @@ pub issue_line_too_long : (options : OptionParts) (held : Option (List ℕ)) (x 
     → keys_refused keys.TooLong ≡ issue_answer options held failed x
 issue_line_too_long options held x failed works long =
     sym (ap (λ f. issue_answer options held f x) works ∙ ap (λ k. issue_under options k (behind held x)) (keys_too_long (document held x) long))
+
+-- ---- a rule that is refused, and a file that isn't in hand
+
+pub rule_refused : (tell : Printer) {A E : Type 0} (view : A → Answer) (r : Result A E) (q : Terms) (rule : Result (Option Rule) AccessFault) (fault : AccessFault) (last : List ℕ → List ℕ) (known : Option (List ℕ)) (failed : Bool)
+    → failed ≡ false → rule ≡ Err fault → IfOk r (λ a. view a ≡ tell.access_refused fault) → IfSome known (λ x. IfOk r (λ a. view a ≡ unless_read_failed tell failed (under_rule tell q rule (last x))))
+rule_refused tell view r q rule fault last None failed works is line = tt
+rule_refused tell view r q rule fault last (Some x) failed works is line =
+    subst (λ (f : Bool). IfOk r (λ a. view a ≡ unless_read_failed tell f (under_rule tell q rule (last x)))) (sym works)
+    (subst (λ (k : Result (Option Rule) AccessFault). IfOk r (λ a. view a ≡ under_rule tell q k (last x))) (sym is) line)
+
+pub file_unread : {A E : Type 0} (view : A → Answer) (r : Result A E) (printing : Printing) (known : Option (List ℕ)) (name : List ℕ) (unread : Option (List ℕ)) (answer : List ℕ → Answer)
+    → Some name ≡ unread → IfOk r (λ a. view a ≡ printed_file_fault printing name) → IfSome known (λ x. IfOk r (λ a. view a ≡ unless_unread printing unread (answer x)))
+file_unread view r printing None name unread answer is line = tt
+file_unread view r printing (Some x) name unread answer is line = subst (λ (k : Option (List ℕ)). IfOk r (λ a. view a ≡ unless_unread printing k (answer x))) is line
 
 -- ---- the line of a verdict
 

@@ -34,3 +34,11 @@ returns-in-Ok-Jwk-clause-answer g c = λ asked reading.
     subst (λ (q : Option Request). IfSome (g.R.Source.remaining c.args.r.now) (λ x. Runs vs g.C.Clock.says (held_view c.args.held) q x (g.R.Source.failed c.jwk.new.r) (record { before = g.W.Sink.contents c.args.w.now; after = g.W.Sink.contents c.give-in-Ok-Jwk.new.w; failed = g.W.Sink.failed c.give-in-Ok-Jwk.new.w; status = c.give-in-Ok-Jwk.result }))) (sym is)
     (some_known reply_view c.jwk.result (g.R.Source.remaining c.args.r.now) (λ x a. JwkAnswer (jwk_view c.in-Ok-Jwk.order) (held_view c.args.held) (g.R.Source.failed c.jwk.new.r) x a) (record { before = g.W.Sink.contents c.args.w.now; after = g.W.Sink.contents c.give-in-Ok-Jwk.new.w; failed = g.W.Sink.failed c.give-in-Ok-Jwk.new.w; status = c.give-in-Ok-Jwk.result })
     c.jwk.ensures.answer c.give-in-Ok-Jwk.ensures.ok c.give-in-Ok-Jwk.ensures.err)
+
+pub returns-in-Ok-Jwk-clause-jwk_stops : goal.returns-in-Ok-Jwk-clause-jwk_stops
+returns-in-Ok-Jwk-clause-jwk_stops g c = λ order reading.
+    let read : Some (Jwk order) ≡ Some (requested c.in-Ok-Jwk.field-0) = rw c.in-Ok-Jwk.is at reading in
+    let whole : c.in-Ok-Jwk.field-0 ≡ request.Jwk c.in-Ok-Jwk.order = rw c.in-Ok-Jwk.is at c.in-Ok-Jwk.field-0-is in
+    let is : Some (Jwk order) ≡ Some (Jwk (jwk_view c.in-Ok-Jwk.order)) = read ∙ ap (λ q. Some (requested q)) whole in
+    let same : jwk_view c.in-Ok-Jwk.order ≡ order = cc is in
+    subst (λ (o : JwkOrder). IfSome (g.R.Source.remaining c.args.r.now) (λ x. (g.R.Source.failed c.jwk.new.r ≡ true) ⊎ TakesAtMost (jwk_most (held_view c.args.held) o) x (g.R.Source.remaining c.jwk.new.r))) same c.jwk.ensures.taken

@@ -14,8 +14,8 @@ returns-in-Ok g c =
     lines_by_rule_are_given c.args.printing vs g.C.Clock.says (seconds_of c.args.now) (g.R.Source.remaining c.args.r.now) c.args.policy.now (key_set c.args.keys.now) (rule_in_hand (option_map (λ t. t.now) c.args.access))
     (rule_view c.as_ref.result) _ _ is c.answer_lines.ensures
 
-pub returns : goal.returns
-returns g c =
+pub returns-in-Err : goal.returns-in-Err
+returns-in-Err g c =
     let vs = map (λ b. (goal.Verifier-dyn g (b.vtable, b.value)).meaning b.value) c.args.verifiers.now in
     let is : rule_in_hand (option_map (λ t. t.now) c.args.access) ≡ Err c.in-Err.fault = search rules in
     rule_is_refused reply_view c.args.printing vs g.C.Clock.says (seconds_of c.args.now) (g.R.Source.remaining c.args.r.now) c.args.policy.now (key_set c.args.keys.now) (rule_in_hand (option_map (λ t. t.now) c.args.access))
