@@ -7,6 +7,7 @@ const textOf = (word) => (word === '-' ? undefined : Buffer.from(word, 'hex').to
 
 async function judge(algs, kind, key, issuer, audience, required, leeway, token) {
   const octets = Buffer.from(key, 'hex');
+  // (version 4.11.4 passes over `requiredClaims`, which later ones have)
   const options = {
     algorithms: algs.split(','), issuer: textOf(issuer), audience: textOf(audience), clockTolerance: Number(leeway),
     requiredClaims: required === '-' ? [] : required.split(',').map(textOf), currentDate: new Date(Number(process.env.MOMENT) * 1000),
