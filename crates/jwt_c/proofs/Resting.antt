@@ -1,14 +1,21 @@
 -- What a verdict rests on, with a memory and without.
-use Rattle.std.proofs.Common.{◌≡◌, ℕ, ℤ, Bool, true, false, List, Some, None, refl, Result, Ok, Err}
-use Rattle.std.specs.Result.{IfOk}
+use Rattle.std.proofs.Common.{◌≡◌, ℕ, ℤ, Bool, true, false, List, [], ◌∷◌, Some, None, refl, Result, Ok, Err}
+use Rattle.std.specs.Result.{IfOk, IfErr}
 use Rattle.jwt_verify.specs.declared.report.Report.{Report}
-use Rattle.jwt_told.specs.Told.{Truth, ToldParts}
+use Rattle.jwt_jws.specs.Views.{token}
+use Rattle.jwt_keys.specs.KeySets.{key_set}
+use Rattle.jwt_verify.specs.Reports.{terms}
+use Rattle.jwt_verify.specs.Verdict.{token_of}
+use Rattle.jwt_told.specs.Told.{Truth, ToldParts, told_meaning}
+use Rattle.jwt_told.specs.Questions.{AreTries, IsFirstOpen, IsOpen}
+use Rattle.jwt_told.specs.declared.questions.Asking.{Asking}
 use Rattle.jwt_memory.specs.declared.memory.Memory.{Memory}
 use Rattle.jwt_memory.specs.declared.outcome.Outcome.{Outcome}
 use Rattle.jwt_memory.specs.Outcomes.{IsFound, is_remembered, report_in}
 use Rattle.jwt_memory.specs.ToldKept.{AreTrulyKept, IsToldNow, IsTrulyRemembered}
 use Rattle.jwt_c.specs.declared.grounds.Documents.{Documents}
 use Rattle.jwt_c.specs.Remembering.{RestsOn, IsHeldIn}
+use Rattle.jwt_c.specs.Reports.{IsAsking}
 
 -- by what is told now, or by what was told then
 pub rests : (b : Bool) (ts : List ToldParts) (m : Memory) (it : Documents) (now : ℤ) (x : List ℕ) (r : Report)
@@ -34,3 +41,13 @@ pub held_if : {E : Type 0} (result : Result Outcome E) (m : Memory) (x : List �
     → IfOk result (λ o. IsFound (is_remembered o) m x w) → IfOk result (λ o. IsHeldIn (is_remembered o) (Some m) x w)
 held_if (Ok o) m x w h = held (is_remembered o) m x w h
 held_if (Err e) m x w h = tt
+
+-- what is asked, from its four parts
+pub asks_if : {T : Type 0} (result : Result T Asking) (ts : List ToldParts) (it : Documents) (now : ℤ) (x : List ℕ)
+    → IfErr result (λ a. AreTries (terms it.policy it.keys now (told_meaning ts ∷ [])) x it.policy.run.work a.tries.items)
+    → IfErr result (λ a. IsFirstOpen ts it.policy x (key_set it.keys).keys a.tries.items a.question.signature a.question.key)
+    → IfErr result (λ a. IsOpen ts it.policy x (key_set it.keys).keys a.question.signature a.question.key)
+    → IfErr result (λ a. token_of it.policy x ≡ Ok (token a.token))
+    → IfErr result (λ a. IsAsking ts it now x a)
+asks_if (Ok o) ts it now x t f q k = tt
+asks_if (Err a) ts it now x t f q k = (t, f, q, k)

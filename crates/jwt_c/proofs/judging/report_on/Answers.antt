@@ -67,3 +67,11 @@ returns-in-Ok-asking-clause-asks c _ =
 pub returns-in-Ok-asking-clause-stays : goal.returns-in-Ok-asking-clause-stays
 returns-in-Ok-asking-clause-stays c =
     subst (λ it. StaysTrue (told c.args.desk.now.answers) it c.args.desk.now.memory c.outcome_of.new.memory) c.documents-documents.ensures c.outcome_of.ensures.stays
+
+pub returns-in-Err-judging_of-clause-stays : goal.returns-in-Err-judging_of-clause-stays
+returns-in-Err-judging_of-clause-stays c =
+    subst (λ it. StaysTrue (told c.args.desk.now.answers) it c.args.desk.now.memory c.outcome_of.new.memory) c.documents-documents.ensures c.outcome_of.ensures.stays
+
+pub returns-in-Err-asking-clause-stays : goal.returns-in-Err-asking-clause-stays
+returns-in-Err-asking-clause-stays c =
+    subst (λ it. StaysTrue (told c.args.desk.now.answers) it c.args.desk.now.memory c.outcome_of.new.memory) c.documents-documents.ensures c.outcome_of.ensures.stays
