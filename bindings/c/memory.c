@@ -201,8 +201,8 @@ static void refuse_each(const char *name, uint32_t (*call)(void), uint32_t right
 }
 
 /* Refuses each allocation of a judging in turn that keeps the token in an empty memory, until it is kept: where it isn't, it is judged as ever.
- * A judging out of the memory then needs no allocation. */
-static void refuse_keeping(const char *name, uint32_t (*judge)(void))
+ * Then each of a judging out of the memory is refused, after which the token is still remembered. */
+static void refuse_keeping(const char *name, const char *again, uint32_t (*judge)(void))
 {
     long refused = 0;
     bool is_kept = false;
@@ -215,10 +215,9 @@ static void refuse_keeping(const char *name, uint32_t (*judge)(void))
         is_kept = judge() == FOW_OK && fow_remembered(&validator);
         CHECK(refused < 10000);
     }
-    granted = 0;
-    CHECK(judge() == FOW_OK && fow_remembered(&validator));
-    granted = -1;
     printf("%s: %ld allocations refused in turn\n", name, refused - 1);
+    refuse_each(again, judge, FOW_OK);
+    CHECK(fow_remembered(&validator));
     CHECK(fow_remember(&validator, 0, 0) == FOW_OK);
 }
 
@@ -241,7 +240,7 @@ static void refuse_on(const char *name, uint32_t verdict, uint32_t (*answer)(voi
     refuse_each("fow_judge, told", judge_it, FOW_OK);
     refuse_each("fow_claim", claim_of_it, FOW_OK);
     refuse_each("fow_remember", remember_some, FOW_OK);
-    refuse_keeping("fow_judge, over a memory", judge_it);
+    refuse_keeping("fow_judge, over a memory", "fow_judge, out of a memory", judge_it);
     CHECK(judge_it() == FOW_OK);
     fow_forget(&validator);
     refuse_each("fow_answer_asked", answer_asked, FOW_OK);
@@ -250,7 +249,7 @@ static void refuse_on(const char *name, uint32_t verdict, uint32_t (*answer)(voi
     refuse_each("fow_answer_ed25519", answer_by_ed25519, answer == answer_by_ed25519 ? FOW_OK : FOW_ABSENT);
     refuse_each("fow_answer_proved", answer_by_proof, verdict == FOW_ASKS ? FOW_OK : FOW_ABSENT);
     refuse_each("fow_proved_judge", judge_by_proof, FOW_OK);
-    refuse_keeping("fow_proved_judge, over a memory", judge_by_proof);
+    refuse_keeping("fow_proved_judge, over a memory", "fow_proved_judge, out of a memory", judge_by_proof);
     fow_close(&validator);
 
     /* (the second holds the documents on) */

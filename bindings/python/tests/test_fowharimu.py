@@ -97,7 +97,7 @@ class Remembering(unittest.TestCase):
             self.assertEqual(validator.validate(token_of(HMAC), NOW)["iss"], "joe")
             with self.assertRaises(Denied):
                 validator.validate(token_of(HMAC), NOW, Access({"scopes": ["read"]}))
-            with self.assertRaises(SignatureRefused):
+            with self.assertRaises(FormRefused):
                 validator.validate(token_of(HMAC)[:-1], NOW)
 
     def test_none_is_remembered_unless_it_is_asked_for(self) -> None:
