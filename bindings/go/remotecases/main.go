@@ -8,6 +8,7 @@ import (
 	"errors"
 	"fmt"
 	"os"
+	"runtime/debug"
 	"strconv"
 	"strings"
 	"sync"
@@ -61,6 +62,8 @@ func (d *driver) answer(words []string) string {
 		d.load.running.Wait()
 		return fmt.Sprint(d.load.judged.Load(), d.load.wrong.Load())
 	case "refresh":
+		// (so that what is resident is what is held)
+		defer debug.FreeOSMemory()
 		return strconv.FormatBool(d.keys.Refresh() == nil)
 	default:
 		d.keys.Close()
