@@ -248,6 +248,15 @@ def test_killed(check: Check) -> None:
 
 # What a client does with its connections, and what it tells wrk.
 WAYS = {"connections kept open": [], "a connection for each request": ["-H", "Connection: close"]}
+# The users whose tokens come in turn, each with its connection kept open: as many as are remembered.
+USERS = 1_000
+IN_TURN = """local tokens, at = {}, 0
+for line in io.lines("%s") do tokens[#tokens + 1] = line end
+function request()
+  at = at %% #tokens + 1
+  return wrk.format("GET", nil, { ["Authorization"] = "Bearer " .. tokens[at] })
+end
+"""
 
 
 class Rate(NamedTuple):
@@ -268,9 +277,16 @@ def processor_time(pid: int) -> float:
     return int(pathlib.Path(f"/proc/{pid}/schedstat").read_text().split()[0]) / 1e9
 
 
-def measured(nginx: Nginx, path: str, token: str, seconds: int, words: list[str]) -> Rate:
+def in_turn(secret: tokens.Secret, room: pathlib.Path) -> list[str]:
+    """What tells wrk to send the tokens of many users in turn."""
+    (room / "tokens").write_text("\n".join(secret.token(sub=f"user{it:04}") for it in range(USERS)))
+    (room / "in_turn.lua").write_text(IN_TURN % (room / "tokens"))
+    return ["-s", str(room / "in_turn.lua")]
+
+
+def measured(nginx: Nginx, path: str, seconds: int, words: list[str]) -> Rate:
     """What wrk measures of one path."""
-    command = ["wrk", "-t2", "-c32", f"-d{seconds}s", "--latency", *words, "-H", f"Authorization: Bearer {token}", f"http://127.0.0.1:{nginx.port}{path}"]
+    command = ["wrk", "-t2", "-c32", f"-d{seconds}s", "--latency", *words, f"http://127.0.0.1:{nginx.port}{path}"]
     pid = nginx.worker_pids()[0]
     before, begun = processor_time(pid), time.monotonic()
     said = subprocess.run(command, capture_output=True, text=True).stdout
@@ -294,8 +310,9 @@ def rates(check: Check, factor: int) -> None:
         secret = tokens.Secret()
         nginx = prepared(pathlib.Path(name), [secret], workers=1)
         with nginx.running():
-            token = secret.token()
-            pairs = {way: [[measured(nginx, path, token, 2, words) for path in ("/off", "/on")] for _ in range(3 * factor)] for way, words in WAYS.items()}
+            ways = {way: [*words, "-H", f"Authorization: Bearer {secret.token()}"] for way, words in WAYS.items()}
+            ways[f"connections kept open, tokens of {USERS:,} users in turn"] = in_turn(secret, pathlib.Path(name))
+            pairs = {way: [[measured(nginx, path, 2, words) for path in ("/off", "/on")] for _ in range(3 * factor)] for way, words in ways.items()}
             check("no wrong answer under wrk", True)
     for way, measurements in pairs.items():
         for off, on in measurements:
