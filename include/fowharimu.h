@@ -354,7 +354,8 @@ uint32_t fow_proved_judge(fow_validator *validator, const uint8_t *token, size_t
 uint32_t fow_remember(fow_validator *validator, size_t tokens, size_t octets);
 
 /* Whether the last verdict came out of a memory: then nothing was tried and nothing paid for it, though fow_try_of gives the tries that were paid
- * when the token was accepted. Proved: that is so; false where nothing is held. The validator holds what it held. */
+ * when the token was accepted. Proved: true only where the memory holds all octets of the token; false where nothing is held. The validator holds
+ * what it held. (That it is true of each verdict out of a memory, and that nothing was tried then, is tested.) */
 bool fow_remembered(fow_validator *validator);
 
 /* What became of signature `signature` of the token that was judged last. Proved: FOW_OK: that is what is kept of it, which
