@@ -78,7 +78,8 @@ enum fow_status {
     FOW_NOT_OPEN = 4,      /* the validator holds nothing */
     FOW_TOO_SHORT = 5,     /* what is to be written has more octets than there is room for */
     FOW_ABSENT = 6,        /* there is no such thing */
-    FOW_DENIED = 7         /* of fow_denied alone: the accepted token may not do this */
+    FOW_DENIED = 7,        /* of fow_denied alone: the accepted token may not do this */
+    FOW_UNNAMED = 8        /* of fow_unverified_issuer alone: the token names no issuer */
 };
 
 /* Why something is refused: one number for each name that the program `jwt` prints. fow_fault_name gives the name. */
@@ -438,6 +439,41 @@ uint32_t fow_payload(fow_validator *validator, const uint8_t *token, size_t toke
  * JSON form that has none, 0. FOW_ABSENT: the octets are no token under the policy, or it has no such signature. */
 uint32_t fow_unverified_header(fow_validator *validator, const uint8_t *token, size_t token_len, uint32_t signature, uint8_t *out,
     size_t out_len, size_t *written);
+
+/* Writes the issuer that a token names, whether it was judged or not: the text of `iss` in its payload (RFC 7519, section 4.1.1), in UTF-8, with
+ * JSON escapes undone. Nobody vouches for it: it may choose which validator judges the token, where the policy of each allows exactly the issuer
+ * under which it is found (fow_sole_issuer), and nothing else. It is read within the limits of this validator's policy. The token's length is room
+ * enough.
+ *
+ * Proved: FOW_OK: `out` begins with that text, which has *written octets. FOW_ABSENT: the octets are no token under the policy, and fow_judge says
+ * why. FOW_UNNAMED: the payload is no text of one JSON object in which no name stands twice, or it has no text `iss`. */
+uint32_t fow_unverified_issuer(fow_validator *validator, const uint8_t *token, size_t token_len, uint8_t *out, size_t out_len, size_t *written);
+
+/* Writes the issuer that the policy allows, where its `issuers` has exactly one text. It takes no memory. A policy has at most 65,536 octets, which
+ * are room enough.
+ *
+ * Proved: FOW_OK: `out` begins with that text, which has *written octets. FOW_ABSENT: the policy allows any issuer, or several. FOW_NOT_OPEN:
+ * nothing is held. What is held stays. */
+uint32_t fow_sole_issuer(fow_validator *validator, uint8_t *out, size_t out_len, size_t *written);
+
+/* The greatest number of octets of a token that the policy takes, which is its `limit`. Proved: FOW_OK: *limit is that number. FOW_NOT_OPEN: nothing
+ * is held. What is held stays. */
+uint32_t fow_token_limit(fow_validator *validator, uint32_t *limit);
+
+/* Whether policy and key set are fit for keys that everyone may read, such as those at a URL: no algorithm of the policy's `algs` is HMAC, and no
+ * readable key of the set is of kind `oct`. Else who reads the keys may sign by one (RFC 8725, section 2.1). A policy alone is looked at over the key
+ * set {"keys":[]}. It takes no memory.
+ *
+ * Proved: true exactly where that is so; false where nothing is held. What is held stays. */
+bool fow_documents_are_public(fow_validator *validator);
+
+/* Writes the text of a member of a JSON object, such as `jwks_uri` of the metadata of an issuer (OpenID Connect Discovery 1.0, section 3), in UTF-8,
+ * with JSON escapes undone. It needs no validator. The length of the document is room enough.
+ *
+ * Proved: FOW_OK: `out` begins with that text, which has *written octets. FOW_ABSENT: the octets aren't the text of one JSON object in which no name
+ * stands twice, it has no such member, the member is no text, or the name isn't in UTF-8. */
+uint32_t fow_text_member(const uint8_t *document, size_t document_len, const uint8_t *name, size_t name_len, uint8_t *out, size_t out_len,
+    size_t *written);
 
 /* Writes a claim of the token that was accepted last, by its name in UTF-8, as compact JSON text: of a text or a list of texts. A claim of
  * another kind stands in what fow_payload writes.

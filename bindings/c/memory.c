@@ -140,6 +140,29 @@ static uint32_t payload_of_it(void)
     return fow_payload(&validator, token.at, token.len, out, sizeof out, &written);
 }
 
+static uint32_t issuer_of_it(void)
+{
+    size_t written;
+    return fow_unverified_issuer(&validator, token.at, token.len, out, sizeof out, &written);
+}
+
+static uint32_t text_of_document(void)
+{
+    static const uint8_t document[] = "{\"issuer\":\"https://a.example\",\"jwks_uri\":\"https://a.example/keys\"}";
+    size_t written;
+    return fow_text_member(document, sizeof document - 1, (const uint8_t *)"jwks_uri", 8, out, sizeof out, &written);
+}
+
+/* Calls that take no memory. */
+static uint32_t policy_of_it(void)
+{
+    uint32_t limit;
+    size_t written;
+    fow_documents_are_public(&validator);
+    uint32_t status = fow_sole_issuer(&validator, out, sizeof out, &written);
+    return fow_token_limit(&validator, &limit) == FOW_OK ? status : FOW_NOT_OPEN;
+}
+
 static uint32_t claim_of_it(void)
 {
     size_t written;
@@ -235,6 +258,10 @@ static void refuse_on(const char *name, uint32_t verdict, uint32_t (*answer)(voi
     refuse_each("fow_asked", asked_of_it, verdict == FOW_ASKS ? FOW_OK : FOW_ABSENT);
     refuse_each("fow_payload", payload_of_it, FOW_OK);
     refuse_each("fow_unverified_header", header_of_it, FOW_OK);
+    refuse_each("fow_unverified_issuer", issuer_of_it, FOW_OK);
+    long asked = asked_for;
+    policy_of_it();
+    CHECK(asked_for == asked);
     refuse_each("fow_ask", ask_it, verdict == FOW_ASKS ? FOW_OK : FOW_ABSENT);
     refuse_each("fow_answer", answer_it, FOW_OK);
     refuse_each("fow_judge, told", judge_it, FOW_OK);
@@ -268,6 +295,7 @@ int main(int argc, char **argv)
     refuse_on(argv[1], FOW_OK, NULL);
     refuse_each("fow_refused_member", member_of_policy, FOW_OK);
     refuse_each("fow_access_refused", claim_of_rule, FOW_OK);
+    refuse_each("fow_text_member", text_of_document, FOW_OK);
     CHECK(open_it() == FOW_OK);
     long before = held;
     refuse_each("fow_issue", issue_it, FOW_OK);

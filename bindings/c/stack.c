@@ -88,6 +88,7 @@ static void *judge_text(void *unused)
     fow_denied_name(&hmac, &rule, out, sizeof out, &written);
     fow_payload(&hmac, at(text), text_len, out, sizeof out, &written);
     fow_unverified_header(&hmac, at(text), text_len, 0, out, sizeof out, &written);
+    fow_unverified_issuer(&hmac, at(text), text_len, out, sizeof out, &written);
     fow_claim(&hmac, at("x"), 1, out, sizeof out, &written);
     fow_number(&hmac, at("x"), 1, &number);
     fow_ask(&hmac, at(text), text_len, 0, 0, out, sizeof out, &asked);
@@ -103,6 +104,7 @@ static void *open_policy(void *unused)
     size_t written;
     CHECK(fow_open(&validator, at(nested), nested_len, keys.at, keys.len, &fault) == FOW_REFUSED);
     fow_refused_member(at(nested), nested_len, out, sizeof out, &written);
+    fow_text_member(at(nested), nested_len, at("x"), 1, out, sizeof out, &written);
     fow_close(&validator);
     return unused;
 }

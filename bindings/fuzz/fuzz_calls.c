@@ -266,6 +266,12 @@ static void get_others(model *it, const call *c)
     CHECK(fow_most_questions(&it->validator, &most) == (it->is_open ? FOW_OK : FOW_NOT_OPEN));
     fow_payload(&it->validator, c->octets, c->len, c->out, c->room, &written);
     fow_unverified_header(&it->validator, c->octets, c->len, c->signature, c->out, c->room, &written);
+    status = fow_unverified_issuer(&it->validator, c->octets, c->len, c->out, c->room, &written);
+    CHECK(it->is_open ? status != FOW_NOT_OPEN : status == FOW_NOT_OPEN);
+    status = fow_sole_issuer(&it->validator, c->out, c->room, &written);
+    CHECK(it->is_open ? status != FOW_NOT_OPEN : status == FOW_NOT_OPEN);
+    CHECK(fow_token_limit(&it->validator, &most) == (it->is_open ? FOW_OK : FOW_NOT_OPEN));
+    CHECK(it->is_open || !fow_documents_are_public(&it->validator));
 }
 
 /* Judges a token that is cut at its last period or before, and so is none. */

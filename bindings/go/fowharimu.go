@@ -25,8 +25,17 @@ type Validator struct {
 	mutex     sync.Mutex // guards what follows
 	documents held       // the policy and the key set, which every seat holds too
 	remember  memory     // what each seat remembers
+	terms     terms      // what is told of the documents
 	seats     []*seat    // each that was opened, until Close: at most as many as calls were under way at once
 	closed    bool
+}
+
+// terms is what is told of a policy and a key set.
+type terms struct {
+	issuer    string // the one that the policy allows
+	hasIssuer bool   // the policy allows exactly one
+	limit     int    // the greatest number of octets of a token
+	isPublic  bool   // no algorithm is HMAC, and no key a shared secret
 }
 
 // Option says how a validator is opened.
@@ -70,6 +79,7 @@ func Open(policy, keys []byte, how ...Option) (*Validator, error) {
 		v.documents.close()
 		return nil, err
 	}
+	v.terms = v.documents.terms()
 	runtime.SetFinalizer(v, (*Validator).Close)
 	return v, nil
 }
@@ -183,6 +193,36 @@ func (v *Validator) UnverifiedHeader(token string, signature int) (json.RawMessa
 	default:
 		return nil, false, ErrOutOfMemory
 	}
+}
+
+// Issuer gives the issuer that the policy allows, and whether it allows exactly one.
+func (v *Validator) Issuer() (string, bool) { return v.terms.issuer, v.terms.hasIssuer }
+
+// Limit gives the greatest number of octets of a token that the policy takes.
+func (v *Validator) Limit() int { return v.terms.limit }
+
+// IsPublic says whether everyone may read the keys: no algorithm of the policy is HMAC, and no key a shared secret (RFC 8725, section 2.1).
+func (v *Validator) IsPublic() bool { return v.terms.isPublic }
+
+// UnverifiedIssuer gives the issuer that a token names, and whether it is a token under the policy that names one. Anyone may have written it. The
+// error is ErrOutOfMemory or ErrClosed.
+func (v *Validator) UnverifiedIssuer(token string) (string, bool, error) {
+	issuer, status, err := v.namedIssuer(token)
+	return issuer, status == statusOK, err
+}
+
+// namedIssuer gives the issuer that a token names, and the status: absent where it is no token, and unnamed where it names none.
+func (v *Validator) namedIssuer(token string) (string, int, error) {
+	s, err := v.take()
+	if err != nil {
+		return "", 0, err
+	}
+	defer v.give(s)
+	issuer, status := s.held.issuer(token)
+	if status != statusOK && status != statusAbsent && status != statusUnnamed {
+		return "", 0, ErrOutOfMemory
+	}
+	return issuer, status, nil
 }
 
 // Close frees what is held. Calls that are under way end as if it weren't closed, and what they use is freed then. It may be called

@@ -91,6 +91,16 @@ static uint32_t held_header(held *it, _GoString_ token, uint32_t signature, uint
 	return fow_unverified_header(&it->validator, at(token), _GoStringLen(token), signature, out, room, written);
 }
 
+static uint32_t held_issuer(held *it, _GoString_ token, uint8_t *out, size_t room, size_t *written)
+{
+	return fow_unverified_issuer(&it->validator, at(token), _GoStringLen(token), out, room, written);
+}
+
+static uint32_t text_member(_GoString_ document, _GoString_ name, uint8_t *out, size_t room, size_t *written)
+{
+	return fow_text_member(at(document), _GoStringLen(document), at(name), _GoStringLen(name), out, room, written);
+}
+
 static uint32_t held_issue(held *it, uint32_t alg, uint32_t form, uint32_t key, _GoString_ typ, _GoString_ claims, uint8_t *out,
 	size_t room, size_t *written, fow_report *report)
 {
@@ -142,6 +152,7 @@ const (
 	statusTooShort    = C.FOW_TOO_SHORT
 	statusAbsent      = C.FOW_ABSENT
 	statusDenied      = C.FOW_DENIED
+	statusUnnamed     = C.FOW_UNNAMED
 )
 
 // scopeMissing is the number of the denial that speaks of a scope.
@@ -241,6 +252,33 @@ func (h *held) header(token string, signature int) ([]byte, int) {
 	return writtenTo(len(token)+1, func(out *C.uint8_t, room C.size_t, written *C.size_t) C.uint32_t {
 		return C.held_header(h.at, token, C.uint32_t(signature), out, room, written)
 	})
+}
+
+// issuer gives the issuer that a token names, for which nobody vouches, and the status: absent where it is no token, and unnamed where it names none.
+func (h *held) issuer(token string) (string, int) {
+	issuer, status := writtenTo(len(token)+1, func(out *C.uint8_t, room C.size_t, written *C.size_t) C.uint32_t {
+		return C.held_issuer(h.at, token, out, room, written)
+	})
+	return string(issuer), status
+}
+
+// terms gives what is told of the documents that are held.
+func (h *held) terms() terms {
+	issuer, status := writtenTo(256, func(out *C.uint8_t, room C.size_t, written *C.size_t) C.uint32_t {
+		return C.fow_sole_issuer(&h.at.validator, out, room, written)
+	})
+	var limit C.uint32_t
+	C.fow_token_limit(&h.at.validator, &limit)
+	return terms{string(issuer), status == statusOK, int(limit), bool(C.fow_documents_are_public(&h.at.validator))}
+}
+
+// memberOf gives the text of a member of a JSON object, and whether there is one. The error is ErrOutOfMemory.
+func memberOf(document []byte, name string) (string, bool, error) {
+	text, status := writtenTo(len(document)+1, func(out *C.uint8_t, room C.size_t, written *C.size_t) C.uint32_t {
+		return C.text_member(string(document), name, out, room, written)
+	})
+	member, err := textOf(text, status)
+	return member, status == statusOK, err
 }
 
 // issue gives a token, the status, and what is said where it is refused. An algorithm or a form that isn't one of the constants is absent, and no

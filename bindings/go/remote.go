@@ -3,7 +3,6 @@ package fowharimu
 import (
 	"context"
 	"crypto/tls"
-	"encoding/json"
 	"errors"
 	"fmt"
 	"io"
@@ -70,6 +69,7 @@ type RemoteKeys struct {
 	address   string
 	how       Remote
 	options   []Option
+	terms     terms // what is told of the policy
 	client    *http.Client
 	validator atomic.Pointer[Validator]
 	mutex     sync.Mutex // guards what follows
@@ -127,6 +127,7 @@ func openRemote(policy []byte, address string, how Remote, options []Option) (*R
 	if err := r.Refresh(); err != nil {
 		return nil, &UnavailableError{err}
 	}
+	r.terms = r.validator.Load().terms
 	return r, nil
 }
 
@@ -178,6 +179,30 @@ func (r *RemoteKeys) JudgeAt(token string, now time.Time) (report Report, err er
 	return report, err
 }
 
+// Issuer is Validator.Issuer.
+func (r *RemoteKeys) Issuer() (string, bool) { return r.terms.issuer, r.terms.hasIssuer }
+
+// Limit is Validator.Limit.
+func (r *RemoteKeys) Limit() int { return r.terms.limit }
+
+// UnverifiedIssuer is Validator.UnverifiedIssuer, however old the keys are.
+func (r *RemoteKeys) UnverifiedIssuer(token string) (string, bool, error) {
+	issuer, status, err := r.namedIssuer(token)
+	return issuer, status == statusOK, err
+}
+
+func (r *RemoteKeys) namedIssuer(token string) (issuer string, status int, err error) {
+	used := r.validator.Load()
+	if used == nil {
+		return "", 0, ErrClosed
+	}
+	err = r.onceMore(used, func(v *Validator) (err error) {
+		issuer, status, err = v.namedIssuer(token)
+		return err
+	})
+	return issuer, status, err
+}
+
 // Refresh fetches the key set now, whatever the cool-down; where a fetch is under way it waits for that one. The error says why the fetch failed;
 // the keys are as before then.
 func (r *RemoteKeys) Refresh() error {
@@ -217,14 +242,19 @@ func (r *RemoteKeys) by(judge func(*Validator) error) error {
 	if err != nil {
 		return err
 	}
-	err = judge(used)
+	err = r.onceMore(used, judge)
 	if asksForKeys(err) {
 		r.renew(used)
 		if newer := r.validator.Load(); newer != nil && newer != used {
-			used, err = newer, judge(newer)
+			err = r.onceMore(newer, judge)
 		}
 	}
-	// (the keys may have been exchanged, and the old ones closed, before the call took them)
+	return err
+}
+
+// onceMore judges by these keys, and by newer ones where they were exchanged, and the old ones closed, before the call took them.
+func (r *RemoteKeys) onceMore(used *Validator, judge func(*Validator) error) error {
+	err := judge(used)
 	for errors.Is(err, ErrClosed) {
 		newer := r.validator.Load()
 		if newer == nil || newer == used {
@@ -338,48 +368,22 @@ func openPublic(policy, keys []byte, options []Option) (*Validator, error) {
 	if err != nil {
 		return nil, err
 	}
-	if hasSecret(keys) {
+	if !v.IsPublic() {
 		v.Close()
 		return nil, errors.New("it has a key of kty oct in it, which everyone may read")
 	}
 	return v, nil
 }
 
-// hasSecret says whether a key set that was read has an entry of kty oct. Names are compared octet by octet, which a struct's tags aren't.
-func hasSecret(keys []byte) bool {
-	var set map[string]json.RawMessage
-	var entries []any
-	if json.Unmarshal(keys, &set) != nil || json.Unmarshal(set["keys"], &entries) != nil {
-		return true
-	}
-	for _, entry := range entries {
-		if members, ok := entry.(map[string]any); ok && members["kty"] == "oct" {
-			return true
-		}
-	}
-	return false
-}
-
-// checkPolicy has the library read a policy, and says whether it is one for keys by URL, and for exactly this issuer, where there is one.
+// checkPolicy says whether a policy is one for keys by URL, and for exactly this issuer, where there is one.
 func checkPolicy(policy []byte, issuer *string) error {
 	v, err := Open(policy, []byte(`{"keys":[]}`))
 	if err != nil {
 		return err
 	}
-	v.Close()
-	var members struct {
-		Algs    []string
-		Issuers []string
-	}
-	if json.Unmarshal(policy, &members) != nil {
-		return ErrPolicyByURL
-	}
-	for _, alg := range members.Algs {
-		if strings.HasPrefix(alg, "HS") {
-			return ErrPolicyByURL
-		}
-	}
-	if issuer != nil && (len(members.Issuers) != 1 || members.Issuers[0] != *issuer) {
+	defer v.Close()
+	named, has := v.Issuer()
+	if !v.IsPublic() || issuer != nil && (!has || named != *issuer) {
 		return ErrPolicyByURL
 	}
 	return nil
@@ -404,18 +408,18 @@ func keysURL(ctx context.Context, client *http.Client, issuer string, at *url.UR
 	if err != nil {
 		return "", err
 	}
-	var metadata map[string]any
-	if err := json.Unmarshal(text, &metadata); err != nil {
+	named, _, err := memberOf(text, "issuer")
+	if err != nil {
 		return "", err
 	}
-	if metadata["issuer"] != issuer {
+	if named != issuer {
 		return "", errors.New("the metadata are of another issuer")
 	}
-	address, ok := metadata["jwks_uri"].(string)
-	if !ok {
-		return "", errors.New("the metadata have no jwks_uri")
+	address, has, err := memberOf(text, "jwks_uri")
+	if err == nil && !has {
+		err = errors.New("the metadata have no jwks_uri")
 	}
-	return address, nil
+	return address, err
 }
 
 func withPath(at *url.URL, path string) string {

@@ -176,8 +176,22 @@ export class Validator {
   judge(token: Token, now?: Moment): Report;
   /** The protected header of the signature of this number; undefined where there is none. Anyone may have written it. */
   unverifiedHeader(token: Token, signature?: number): { [name: string]: unknown } | undefined;
+  /** The issuer that the policy allows; undefined where it allows any, or several. */
+  readonly issuer: string | undefined;
+  /** The greatest number of octets of a token that the policy takes. */
+  readonly limit: number;
+  /** Whether everyone may read the keys: no algorithm of the policy is HMAC, and no key a shared secret (RFC 8725, section 2.1). */
+  readonly isPublic: boolean;
+  /** The issuer that a token names: null where it names none, undefined where the octets are no token under the policy. Anyone may have written it. */
+  unverifiedIssuer(token: Token): string | null | undefined;
   /** The claims as a token, signed by HMAC. Throws IssueRefused, Closed, TypeError and RangeError. */
   issue(claims: Document, how?: Issuing): string;
   /** Frees what is held. It may be called twice. Later calls throw Closed. */
   close(): void;
 }
+
+/**
+ * The text of a member of a JSON object, such as `jwks_uri` of an issuer's metadata; undefined where the document is no JSON object, a name stands twice
+ * in it, or it has no text of this name. Throws an Error where memory is refused.
+ */
+export function textMember(document: string | Uint8Array, name: string): string | undefined;

@@ -153,6 +153,7 @@ function asked(how, others) {
 class Validator {
   #held;
   #isClosed = false;
+  #terms;
   #report = new Float64Array(8);
 
   constructor(policy, keys, { mostQuestions = MOST_QUESTIONS, remember: { tokens, octets: longest } = NOTHING_REMEMBERED } = {}) {
@@ -169,6 +170,19 @@ class Validator {
     }
     native.remember(held, ...room);
     this.#held = held;
+    this.#terms = { issuer: native.soleIssuer(held), limit: native.tokenLimit(held), isPublic: native.isPublic(held) };
+  }
+
+  get issuer() {
+    return this.#terms.issuer;
+  }
+
+  get limit() {
+    return this.#terms.limit;
+  }
+
+  get isPublic() {
+    return this.#terms.isPublic;
   }
 
   validate(token, how, ...others) {
@@ -192,6 +206,10 @@ class Validator {
   unverifiedHeader(token, signature = 0) {
     const header = native.header(this.#open(), token, whole(signature, "a signature's number"));
     return header === undefined ? undefined : JSON.parse(header || '{}');
+  }
+
+  unverifiedIssuer(token) {
+    return native.named(this.#open(), token);
   }
 
   issue(claims, { key = 0, alg = 'HS256', form = 'compact', typ = '' } = {}) {
@@ -268,8 +286,11 @@ class Validator {
 }
 if (Symbol.dispose) for (const it of [Validator, Access]) it.prototype[Symbol.dispose] = it.prototype.close;
 
+/** The text of a member of a JSON object, as the library reads it; undefined where there is none. */
+const textMember = (document, name) => native.textMember(document, name);
+
 // (each by its name: so that `import { Validator } from 'fowharimu'` finds them)
 module.exports = {
   Validator, Access, FowharimuError, AnotherLibrary, Closed, TooManyQuestions, PolicyRefused, KeysRefused, IssueRefused, AccessRefused,
-  Denied, TokenRefused, TooLong, FormRefused, CeilingReached, SignatureRefused, ClaimsRefused,
+  Denied, TokenRefused, TooLong, FormRefused, CeilingReached, SignatureRefused, ClaimsRefused, textMember,
 };

@@ -49,6 +49,12 @@ export class RemoteKeys {
   validate(token: Token, how?: Moment | Asking): Promise<Claims>;
   /** As `Validator.judge`. Where the keys are too old and none can be fetched, the report has the refusal KeysTooOld and nothing else. */
   judge(token: Token, now?: Moment): Promise<Report>;
+  /** As `Validator.issuer`. */
+  readonly issuer: string | undefined;
+  /** As `Validator.limit`. */
+  readonly limit: number;
+  /** As `Validator.unverifiedIssuer`, however old the keys are. */
+  unverifiedIssuer(token: Token): string | null | undefined;
   /** Fetches the key set now, whatever the cool-down, and tells whether that went well. Where a fetch is under way it waits for that one. */
   refresh(): Promise<boolean>;
   /** Frees what is held, and drops a fetch that is under way. It may be called twice. Later calls reject with Closed. */

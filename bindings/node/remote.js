@@ -4,7 +4,7 @@
 const http = require('node:http');
 const https = require('node:https');
 const tls = require('node:tls');
-const { Validator, Closed, FowharimuError, SignatureRefused, TokenRefused } = require('./index.js');
+const { Validator, Closed, FowharimuError, SignatureRefused, TokenRefused, textMember } = require('./index.js');
 
 /** The most octets that a key set, or what tells where it stands, may have. */
 const MOST = 4_194_304;
@@ -35,21 +35,12 @@ function checkedUrl(text, allowHttp) {
   throw new TypeError('the URL of a key set is https, and has a host and neither a name nor a password');
 }
 
-/** Has the library read a policy, and refuses one with an HMAC algorithm, or one that doesn't name exactly the issuer, where there is one. */
+/** Refuses a policy with an HMAC algorithm, or one that doesn't name exactly the issuer, where there is one. */
 function checkPolicy(policy, issuer) {
-  new Validator(policy, '{"keys":[]}').close();
-  const { algs, issuers } = typeof policy === 'string' || ArrayBuffer.isView(policy) ? JSON.parse(Buffer.from(policy).toString()) : policy;
-  if (algs.some((alg) => alg.startsWith('HS'))) {
-    throw new TypeError('a policy with an HMAC algorithm has no keys by URL, since what is fetched is public');
-  }
-  if (issuer !== undefined && (issuers?.length !== 1 || issuers[0] !== issuer)) {
-    throw new TypeError('the policy has to name the issuer in issuers, and no other');
-  }
-}
-
-/** What is fetched is public (RFC 8725, section 2.1). */
-function checkPublic(keys) {
-  if (JSON.parse(keys.toString()).keys.some((entry) => entry?.kty === 'oct')) throw new Error('it has a key of kty oct in it, which everyone may read');
+  const read = new Validator(policy, '{"keys":[]}');
+  read.close();
+  if (!read.isPublic) throw new TypeError('a policy with an HMAC algorithm has no keys by URL, since what is fetched is public');
+  if (issuer !== undefined && read.issuer !== issuer) throw new TypeError('the policy has to name the issuer in issuers, and no other');
 }
 
 /** One answer, as it comes. */
@@ -94,9 +85,8 @@ async function keysUrl(issuer, at, how) {
     if (error.status !== 404) throw error;
     return get(new URL(`/.well-known/oauth-authorization-server${path}`, at), words);
   });
-  const metadata = JSON.parse(text.toString());
-  if (metadata?.issuer !== issuer) throw new Error('the metadata are of another issuer');
-  return checkedUrl(String(metadata.jwks_uri), how.allowHttp).href;
+  if (textMember(text, 'issuer') !== issuer) throw new Error('the metadata are of another issuer');
+  return checkedUrl(textMember(text, 'jwks_uri') ?? '', how.allowHttp).href;
 }
 
 /** One fetch. While only the background waits for it, it doesn't keep the process alive. */
@@ -181,6 +171,18 @@ class RemoteKeys {
     return report;
   }
 
+  get issuer() {
+    return this.#open().issuer;
+  }
+
+  get limit() {
+    return this.#open().limit;
+  }
+
+  unverifiedIssuer(token) {
+    return this.#open().unverifiedIssuer(token);
+  }
+
   async refresh() {
     if (this.#isClosed) throw new Closed('the keys are closed');
     return (this.#fetch ?? this.#begin()).wait();
@@ -191,6 +193,12 @@ class RemoteKeys {
     this.#fetch?.stop();
     this.#validator?.close();
     this.#validator = undefined;
+  }
+
+  /** The validator that is held, however old its keys are. */
+  #open() {
+    if (this.#isClosed) throw new Closed('the keys are closed');
+    return this.#validator;
   }
 
   /** Judges by the keys, and once more by newer ones where these may change what came of it and can be had. */
@@ -241,7 +249,7 @@ class RemoteKeys {
       const keys = await get(this.#at, { ...words, secureContext: this.#how.secureContext });
       octets = keys.length;
       const validator = new Validator(this.#policy, keys, this.#options);
-      this.#exchange(validator, keys);
+      this.#exchange(validator);
       this.error = null;
     } catch (error) {
       this.error = error;
@@ -252,9 +260,10 @@ class RemoteKeys {
   }
 
   /** Takes the new validator in place of the old one, in which no call is under way. */
-  #exchange(validator, keys) {
+  #exchange(validator) {
     try {
-      checkPublic(keys);
+      // (what is fetched is public: RFC 8725, section 2.1)
+      if (!validator.isPublic) throw new Error('it has a key of kty oct in it, which everyone may read');
       if (this.#isClosed) throw new Closed('the keys are closed');
     } catch (error) {
       validator.close();

@@ -1,8 +1,9 @@
 'use strict';
-/** Opens keys by URL and judges by them as bindings/remote/run says, a command a line. */
+/** Opens keys by URL, and several issuers, and judges by them as bindings/remote/run and bindings/issuers/run say, a command a line. */
 const fs = require('node:fs');
 const readline = require('node:readline');
-const { Closed, PolicyRefused, TokenRefused } = require('.');
+const { Closed, PolicyRefused, TokenRefused, Validator } = require('.');
+const { Issuers } = require('./issuers.js');
 const { KeysUnavailable, RemoteKeys } = require('./remote.js');
 
 let keys, load;
@@ -15,6 +16,17 @@ async function opened(open, [policy, url, cooldown, refreshAfter, maxAge, timeou
   } catch (error) {
     if (error instanceof KeysUnavailable) return 'unavailable';
     if (error instanceof PolicyRefused) return 'policy';
+    return error instanceof TypeError ? 'misused' : String(error);
+  }
+  return 'opened';
+}
+
+function openedIssuers(words) {
+  const all = {};
+  for (let at = 0; at + 2 < words.length; at += 3) all[words[at]] = new Validator(fs.readFileSync(words[at + 1]), fs.readFileSync(words[at + 2]));
+  try {
+    keys = new Issuers(all);
+  } catch (error) {
     return error instanceof TypeError ? 'misused' : String(error);
   }
   return 'opened';
@@ -64,6 +76,7 @@ class Load {
 const ANSWERS = {
   open: (words) => opened(RemoteKeys.open, words),
   discover: (words) => opened(RemoteKeys.discover, words),
+  issuers: openedIssuers,
   validate: validated,
   load: (words) => ((load = new Load(words)), 'loading'),
   rest: () => load.rest(),

@@ -1,10 +1,11 @@
-"""remote_cases.py: opens keys by URL and judges by them as bindings/remote/run says, a command a line."""
+"""remote_cases.py: opens keys by URL, and several issuers, and judges by them as bindings/remote/run and bindings/issuers/run say, a command a line."""
 import ssl
 import sys
 import threading
-from typing import Any, List, Optional
+from typing import Any, List, Optional, Union
 
-from fowharimu import Closed, PolicyRefused, TokenRefused
+from fowharimu import Closed, PolicyRefused, TokenRefused, Validator
+from fowharimu.issuers import Issuers
 from fowharimu.remote import KeysUnavailable, RemoteKeys
 
 
@@ -39,7 +40,7 @@ class Driver:
     """What the lines are told to."""
 
     def __init__(self) -> None:
-        self.keys: Optional[RemoteKeys] = None
+        self.keys: Union[RemoteKeys, Issuers, None] = None
         self.load: Optional[Load] = None
 
     def opened(self, how: Any, words: List[str]) -> str:
@@ -57,14 +58,27 @@ class Driver:
             return "misused"
         return "opened"
 
+    def issuers(self, words: List[str]) -> str:
+        try:
+            self.keys = Issuers({words[at]: opened(words[at + 1], words[at + 2]) for at in range(0, len(words), 3)})
+        except ValueError:
+            return "misused"
+        return "opened"
+
     def answer(self, do: str, *words: str) -> str:
         if do == "open":
             return self.opened(RemoteKeys, list(words))
         if do == "discover":
             return self.opened(RemoteKeys.discover, list(words))
+        if do == "issuers":
+            return self.issuers(list(words))
         assert self.keys is not None
         if do == "validate":
             return self.validated(*words)
+        if do == "close":
+            self.keys.close()
+            return "closed"
+        assert not isinstance(self.keys, Issuers)
         if do == "load":
             with open(words[0]) as file:
                 self.load = Load(self.keys, file.read(), int(words[1]), int(words[2]))
@@ -72,21 +86,23 @@ class Driver:
         if do == "rest":
             assert self.load is not None
             return self.load.rest()
-        if do == "refresh":
-            return "true" if self.keys.refresh() else "false"
-        self.keys.close()
-        return "closed"
+        return "true" if self.keys.refresh() else "false"
 
     def validated(self, path: str, now: str) -> str:
         assert self.keys is not None
         try:
-            with open(path) as file:
+            with open(path, "rb") as file:
                 self.keys.validate(file.read(), int(now))
         except TokenRefused as refusal:
             return refusal.fault
         except Closed:
             return "Closed"
         return "accepted"
+
+
+def opened(policy: str, keys: str) -> Validator:
+    with open(policy, "rb") as first, open(keys, "rb") as second:
+        return Validator(first.read(), second.read())
 
 
 driver = Driver()

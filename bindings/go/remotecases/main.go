@@ -1,4 +1,4 @@
-// Remotecases opens keys by URL and judges by them as bindings/remote/run says, a command a line.
+// Remotecases opens keys by URL, and several issuers, and judges by them as bindings/remote/run and bindings/issuers/run say, a command a line.
 package main
 
 import (
@@ -37,8 +37,9 @@ func (l *load) run(keys *fowharimu.RemoteKeys, token string, now time.Time) {
 
 // driver is what the lines are told to.
 type driver struct {
-	keys *fowharimu.RemoteKeys
-	load *load
+	keys    *fowharimu.RemoteKeys
+	issuers *fowharimu.Issuers
+	load    *load
 }
 
 func (d *driver) answer(words []string) string {
@@ -47,6 +48,8 @@ func (d *driver) answer(words []string) string {
 		return d.open(fowharimu.OpenRemote, words[1:])
 	case "discover":
 		return d.open(fowharimu.OpenIssuer, words[1:])
+	case "issuers":
+		return d.openIssuers(words[1:])
 	case "validate":
 		return d.validate(words[1], words[2])
 	case "load":
@@ -104,8 +107,35 @@ func (d *driver) open(open opening, words []string) (said string) {
 	}
 }
 
+func (d *driver) openIssuers(words []string) string {
+	all := make(map[string]fowharimu.Judging)
+	for ; len(words) >= 3; words = words[3:] {
+		v, err := fowharimu.Open([]byte(text(words[1])), []byte(text(words[2])))
+		if err != nil {
+			return err.Error()
+		}
+		all[words[0]] = v
+	}
+	issuers, err := fowharimu.NewIssuers(all)
+	if errors.Is(err, fowharimu.ErrIssuers) {
+		return "misused"
+	}
+	d.issuers = issuers
+	return "opened"
+}
+
+// by judges by several issuers, where they are opened, and else by keys by URL.
+func (d *driver) by(token string, now time.Time) error {
+	if d.issuers != nil {
+		_, err := d.issuers.ValidateAt(token, now)
+		return err
+	}
+	_, err := d.keys.ValidateAt(token, now)
+	return err
+}
+
 func (d *driver) validate(path, now string) string {
-	_, err := d.keys.ValidateAt(text(path), moment(now))
+	err := d.by(text(path), moment(now))
 	var refusal fowharimu.Refusal
 	switch {
 	case err == nil:

@@ -194,6 +194,62 @@ static jbyteArray JNICALL header(JNIEnv *env, jclass class, jlong it, jbyteArray
     return array_of(env, status, room, len);
 }
 
+/* The issuer that a token names, and the status, which is written to `out`. */
+static jbyteArray JNICALL named(JNIEnv *env, jclass class, jlong it, jbyteArray token, jintArray out)
+{
+    (void)class;
+    size_t len = 0;
+    octets from = copied(env, token);
+    uint8_t *room = malloc(from.len + 1);
+    uint32_t status = from.at == NULL || room == NULL
+        ? FOW_OUT_OF_MEMORY
+        : fow_unverified_issuer(&at(it)->validator, from.at, from.len, room, from.len + 1, &len);
+    free(from.at);
+    const jint said = (jint)status;
+    (*env)->SetIntArrayRegion(env, out, 0, 1, &said);
+    return array_of(env, status, room, len);
+}
+
+/* (an issuer stands in a policy, which has at most 65,536 octets) */
+static jbyteArray JNICALL sole_issuer(JNIEnv *env, jclass class, jlong it)
+{
+    (void)class;
+    size_t len = 0;
+    uint8_t *room = malloc(65536);
+    uint32_t status = room == NULL ? FOW_OUT_OF_MEMORY : fow_sole_issuer(&at(it)->validator, room, 65536, &len);
+    return array_of(env, status, room, len);
+}
+
+static jint JNICALL token_limit(JNIEnv *env, jclass class, jlong it)
+{
+    (void)env;
+    (void)class;
+    uint32_t limit = 0;
+    fow_token_limit(&at(it)->validator, &limit);
+    return (jint)limit;
+}
+
+static jboolean JNICALL is_public(JNIEnv *env, jclass class, jlong it)
+{
+    (void)env;
+    (void)class;
+    return fow_documents_are_public(&at(it)->validator) ? JNI_TRUE : JNI_FALSE;
+}
+
+static jbyteArray JNICALL text_member(JNIEnv *env, jclass class, jbyteArray document, jbyteArray name)
+{
+    (void)class;
+    size_t len = 0;
+    octets from = copied(env, document), sought = copied(env, name);
+    uint8_t *room = malloc(from.len + 1);
+    uint32_t status = from.at == NULL || sought.at == NULL || room == NULL
+        ? FOW_OUT_OF_MEMORY
+        : fow_text_member(from.at, from.len, sought.at, sought.len, room, from.len + 1, &len);
+    free(from.at);
+    free(sought.at);
+    return array_of(env, status, room, len);
+}
+
 /* Issues claims in as much room as the token needs. */
 static uint32_t issue_into(held *it, const jint *how, const octets *type, const octets *claims, octets *out, fow_report *report)
 {
@@ -373,6 +429,11 @@ JNIEXPORT jint JNICALL JNI_OnLoad(JavaVM *vm, void *reserved)
         ROW("denied", "(JJ[J)I", denied),
         ROW("deniedName", "(JJ)[B", denied_name),
         ROW("faultName", "(I)Ljava/lang/String;", fault_name),
+        ROW("named", "(J[B[I)[B", named),
+        ROW("soleIssuer", "(J)[B", sole_issuer),
+        ROW("tokenLimit", "(J)I", token_limit),
+        ROW("isPublic", "(J)Z", is_public),
+        ROW("textMember", "([B[B)[B", text_member),
     };
     JNIEnv *env = NULL;
     (void)reserved;

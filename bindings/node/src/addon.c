@@ -388,6 +388,79 @@ static napi_value header(napi_env env, napi_callback_info info)
     return text_of(env, status, room, len);
 }
 
+/* named(validator, token): the issuer that a token names; null where it names none, undefined where it is no token. */
+static napi_value named(napi_env env, napi_callback_info info)
+{
+    napi_value given[2], none = NULL;
+    size_t len = 0;
+    octets token;
+    held *it = arguments(env, info, 2, given);
+    if (it == NULL || !read_octets(env, given[1], &token))
+        return NULL;
+    uint8_t *room = malloc(token.len + 1);
+    uint32_t status = room == NULL ? FOW_OUT_OF_MEMORY : fow_unverified_issuer(&it->validator, token.at, token.len, room, token.len + 1, &len);
+    free(token.at);
+    if (status == FOW_UNNAMED)
+        napi_get_null(env, &none);
+    napi_value text = text_of(env, status, room, len);
+    return status == FOW_UNNAMED ? none : text;
+}
+
+/* soleIssuer(validator): undefined where the policy allows any, or several. It stands in a policy, which has at most 65,536 octets. */
+static napi_value sole_issuer(napi_env env, napi_callback_info info)
+{
+    napi_value given[1];
+    size_t len = 0;
+    held *it = arguments(env, info, 1, given);
+    if (it == NULL)
+        return NULL;
+    uint8_t *room = malloc(65536);
+    uint32_t status = room == NULL ? FOW_OUT_OF_MEMORY : fow_sole_issuer(&it->validator, room, 65536, &len);
+    return text_of(env, status, room, len);
+}
+
+/* tokenLimit(validator): the greatest number of octets of a token. */
+static napi_value token_limit(napi_env env, napi_callback_info info)
+{
+    napi_value given[1];
+    uint32_t limit = 0;
+    held *it = arguments(env, info, 1, given);
+    if (it == NULL || fow_token_limit(&it->validator, &limit) != FOW_OK)
+        return NULL;
+    return number(env, limit);
+}
+
+/* isPublic(validator): whether everyone may read the keys. */
+static napi_value is_public(napi_env env, napi_callback_info info)
+{
+    napi_value given[1], result = NULL;
+    held *it = arguments(env, info, 1, given);
+    if (it != NULL)
+        napi_get_boolean(env, fow_documents_are_public(&it->validator), &result);
+    return result;
+}
+
+/* textMember(document, name): the text of a member of a JSON object; undefined where there is none. */
+static napi_value text_member(napi_env env, napi_callback_info info)
+{
+    napi_value given[2];
+    octets document, name;
+    size_t count = 2, len = 0;
+    napi_get_cb_info(env, info, &count, given, NULL, NULL);
+    if (count < 2)
+        return mistake(env, "an argument is missing");
+    if (!read_octets(env, given[0], &document))
+        return NULL;
+    if (!read_octets(env, given[1], &name))
+        return free(document.at), NULL;
+    uint8_t *room = malloc(document.len + 1);
+    uint32_t status = room == NULL ? FOW_OUT_OF_MEMORY
+                                   : fow_text_member(document.at, document.len, name.at, name.len, room, document.len + 1, &len);
+    free(document.at);
+    free(name.at);
+    return text_of(env, status, room, len);
+}
+
 /* Issues claims in as much room as the token needs. */
 static uint32_t issue_into(held *it, const uint32_t *how, const octets *typ, const octets *claims, octets *out, fow_report *report)
 {
@@ -638,6 +711,7 @@ NAPI_MODULE_INIT()
         { "issue", issue }, { "state", state }, { "tried", tried }, { "refusedClaim", refused_claim }, { "refusedMember", refused_member },
         { "faultName", fault_name }, { "close", close_validator }, { "openAccess", open_access }, { "refusedInAccess", refused_in_access },
         { "remember", remember }, { "remembered", remembered }, { "scope", scope }, { "denied", denied }, { "deniedName", denied_name }, { "closeAccess", close_access },
+        { "named", named }, { "soleIssuer", sole_issuer }, { "tokenLimit", token_limit }, { "isPublic", is_public }, { "textMember", text_member },
     };
     for (size_t i = 0; i < sizeof all / sizeof *all; i++) {
         napi_value function = NULL;

@@ -4,6 +4,7 @@ pub mod Documents
 pub mod Evidence
 pub mod Faults
 pub mod Handles
+pub mod Issuers
 pub mod Issuing
 pub mod MostQuestions
 pub mod ProvedKept

@@ -134,7 +134,7 @@ fn write_question(alloc: Global, asked: &Asked<'_>, out: &mut [u8], into: &mut F
 }
 
 /// Whether a key is a shared secret.
-fn is_secret(key: &KeyView) -> bool
+pub(crate) fn is_secret(key: &KeyView) -> bool
     ensures { result ≡ is_secret (key_octets key.now) }
 {
     match key {

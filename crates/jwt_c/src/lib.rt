@@ -12,6 +12,8 @@ pub mod exports;
 mod faults;
 pub mod grounds;
 pub mod handle;
+pub mod issuer_exports;
+mod issuers;
 mod issuing;
 mod judging;
 mod loose;

@@ -42,7 +42,7 @@ from ._faults import (
     Undecided,
     Unreadable,
 )
-from ._seats import Seat, Seats, written
+from ._seats import Seat, Seats, said, written
 from ._texts import Document, Text, document_of, octets_of
 
 __all__ = [
@@ -180,6 +180,11 @@ class Validator:
         if status != _library.OK:
             raise self._document_refused(fault.value, policy_octets)
         self._check_questions(documents, most_questions)
+        self._issuer = written(65_536, self._library.fow_sole_issuer, documents.held)
+        self._is_public = bool(self._library.fow_documents_are_public(documents.held))
+        limit = ctypes.c_uint32()
+        self._library.fow_token_limit(documents.held, limit)
+        self._limit = limit.value
         self._seats = Seats(documents, (tokens, octets))
 
     def validate(self, token: Text, now: Optional[SupportsIndex] = None, access: Optional[Access] = None) -> Claims:
@@ -236,6 +241,39 @@ class Validator:
         finally:
             self._seats.give(seat)
         return None if header is None else _object(header or b"{}", "Header")
+
+    @property
+    def issuer(self) -> Optional[str]:
+        """The issuer that the policy allows; None where it allows any, or several."""
+        return None if self._issuer is None else self._issuer.decode()
+
+    @property
+    def limit(self) -> int:
+        """The greatest number of octets of a token that the policy takes."""
+        return self._limit
+
+    @property
+    def is_public(self) -> bool:
+        """Whether everyone may read the keys: no algorithm of the policy is HMAC, and no key a shared secret (RFC 8725, section 2.1)."""
+        return self._is_public
+
+    def unverified_issuer(self, token: Text) -> Optional[str]:
+        """The issuer that a token names; None where it names none, or the octets are no token under the policy. Anyone may have written it.
+
+        Raises Closed, MemoryError and TypeError, as `validate` does.
+        """
+        return self._named(octets_of(token, "a token"))[1]
+
+    def _named(self, octets: bytes) -> Tuple[bool, Optional[str]]:
+        """Whether the octets are a token under the policy, and the issuer that it names."""
+        seat = self._seats.take()
+        try:
+            status, issuer = said(
+                len(octets) + 1, self._library.fow_unverified_issuer, seat.held, octets, len(octets)
+            )
+        finally:
+            self._seats.give(seat)
+        return status != _library.ABSENT, issuer.decode() if status == _library.OK else None
 
     def issue(
         self, claims: Document, key: SupportsIndex = 0, alg: str = "HS256", form: str = "compact", typ: str = ""

@@ -17,7 +17,7 @@ from ._faults import AnotherLibrary
 # FOW_MOST_QUESTIONS of fowharimu.h.
 ABI, MOST_QUESTIONS = 2, 64
 
-OK, REFUSED, ASKS, OUT_OF_MEMORY, NOT_OPEN, TOO_SHORT, ABSENT, DENIED = range(8)
+OK, REFUSED, ASKS, OUT_OF_MEMORY, NOT_OPEN, TOO_SHORT, ABSENT, DENIED, UNNAMED = range(9)
 
 
 class CValidator(ctypes.Structure):
@@ -90,6 +90,11 @@ _SIGNATURES = {
     "fow_refused_claim": (_U32, [_VALIDATOR, *_OUT]),
     "fow_payload": (_U32, [_VALIDATOR, *_IN, *_OUT]),
     "fow_unverified_header": (_U32, [_VALIDATOR, *_IN, _U32, *_OUT]),
+    "fow_unverified_issuer": (_U32, [_VALIDATOR, *_IN, *_OUT]),
+    "fow_sole_issuer": (_U32, [_VALIDATOR, *_OUT]),
+    "fow_token_limit": (_U32, [_VALIDATOR, ctypes.POINTER(_U32)]),
+    "fow_documents_are_public": (ctypes.c_bool, [_VALIDATOR]),
+    "fow_text_member": (_U32, [*_IN, *_IN, *_OUT]),
     "fow_access_open": (_U32, [_ACCESS, *_IN, ctypes.POINTER(_U32)]),
     "fow_access_refused": (_U32, [*_IN, *_OUT]),
     "fow_access_scope": (_U32, [_ACCESS, _U32, *_OUT]),

@@ -190,8 +190,8 @@ class Seats:
             return None
 
 
-def written(room: int, function: Callable[..., int], *arguments: object) -> Optional[bytes]:
-    """What a call of the library writes, in as much room as it needs, and None where there is nothing to write.
+def said(room: int, function: Callable[..., int], *arguments: object) -> Tuple[int, bytes]:
+    """The status of a call of the library, and what it writes, in as much room as it needs.
 
     Raises MemoryError where memory is refused.
     """
@@ -200,9 +200,18 @@ def written(room: int, function: Callable[..., int], *arguments: object) -> Opti
         out = ctypes.create_string_buffer(room)
         status = function(*arguments, out, room, length)
         if status == _library.OK:
-            return ctypes.string_at(out, length.value)
+            return status, ctypes.string_at(out, length.value)
         if status == _library.OUT_OF_MEMORY:
             raise MemoryError
         if status != _library.TOO_SHORT:
-            return None
+            return status, b""
         room *= 2
+
+
+def written(room: int, function: Callable[..., int], *arguments: object) -> Optional[bytes]:
+    """What a call of the library writes, and None where there is nothing to write.
+
+    Raises MemoryError where memory is refused.
+    """
+    status, octets = said(room, function, *arguments)
+    return octets if status == _library.OK else None

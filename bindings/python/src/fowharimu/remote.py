@@ -9,7 +9,6 @@
 from __future__ import annotations
 
 import http.client
-import json
 import logging
 import os
 import socket
@@ -21,9 +20,11 @@ import urllib.parse
 import urllib.request
 import weakref
 from types import TracebackType
-from typing import Any, Callable, Optional, SupportsIndex, Tuple, Type
+from typing import Any, Callable, Dict, Optional, SupportsIndex, Tuple, Type
 
 from . import Access, Claims, Closed, FowharimuError, Report, SignatureRefused, TokenRefused, Validator
+from ._library import load
+from ._seats import written
 from ._texts import Document, Text, document_of
 
 __all__ = ["KeysTooOld", "KeysUnavailable", "RemoteKeys"]
@@ -172,24 +173,31 @@ class _Http(urllib.request.HTTPHandler):
         )
 
 
-def _check_public(keys: bytes) -> None:
-    """Raises ValueError for a key set that has a secret in it: what is fetched is public (RFC 8725, section 2.1)."""
-    entries = json.loads(keys)["keys"]
-    if any(isinstance(it, dict) and it.get("kty") == "oct" for it in entries):
-        raise ValueError("it has a key of kty oct in it, which everyone may read")
-
-
 def _public_policy(policy: Document, issuer: Optional[str] = None) -> bytes:
     """The octets of a policy for keys by URL. Raises as Validator does where it is refused, and ValueError for one with an HMAC algorithm, or one
     that doesn't name exactly the issuer, where there is one."""
     octets = document_of(policy, "a policy")
-    Validator(octets, b'{"keys":[]}').close()
-    members = json.loads(octets)
-    if any(it.startswith("HS") for it in members["algs"]):
-        raise ValueError("a policy with an HMAC algorithm has no keys by URL, since what is fetched is public")
-    if issuer is not None and members.get("issuers") != [issuer]:
-        raise ValueError("the policy has to name the issuer in issuers, and no other")
+    with Validator(octets, b'{"keys":[]}') as read:
+        if not read.is_public:
+            raise ValueError("a policy with an HMAC algorithm has no keys by URL, since what is fetched is public")
+        if issuer is not None and read.issuer != issuer:
+            raise ValueError("the policy has to name the issuer in issuers, and no other")
     return octets
+
+
+def _public(policy: bytes, keys: bytes, options: Dict[str, Any]) -> Validator:
+    """A validator on keys that were fetched. Raises as Validator does, and ValueError where there is a secret among them (RFC 8725, section 2.1)."""
+    validator = Validator(policy, keys, **options)
+    if not validator.is_public:
+        validator.close()
+        raise ValueError("it has a key of kty oct in it, which everyone may read")
+    return validator
+
+
+def _member(document: bytes, name: bytes) -> Optional[str]:
+    """The text of a member of a JSON object, as the library reads it; None where there is none."""
+    text = written(len(document) + 1, load().fow_text_member, document, len(document), name, len(name))
+    return None if text is None else text.decode()
 
 
 class RemoteKeys:
@@ -269,6 +277,20 @@ class RemoteKeys:
         newer = self._newer(used, report.refusal)
         return report if newer is None else newer.judge(token, now)
 
+    @property
+    def issuer(self) -> Optional[str]:
+        """The issuer that the policy allows; None where it allows any, or several."""
+        return self._held().issuer
+
+    @property
+    def limit(self) -> int:
+        """The greatest number of octets of a token that the policy takes."""
+        return self._held().limit
+
+    def unverified_issuer(self, token: Text) -> Optional[str]:
+        """As Validator.unverified_issuer."""
+        return self._held().unverified_issuer(token)
+
     def refresh(self) -> bool:
         """Fetches the key set now, whatever the cool-down, and says whether that went well. Where a fetch is under way it waits for that one."""
         with self._lock:
@@ -295,6 +317,17 @@ class RemoteKeys:
         self, kind: Optional[Type[BaseException]], error: Optional[BaseException], trace: Optional[TracebackType]
     ) -> None:
         self.close()
+
+    def _held(self) -> Validator:
+        """The validator that is held, however old its keys are. Raises Closed."""
+        validator = self._validator
+        if validator is None:
+            raise Closed
+        return validator
+
+    def _named(self, octets: bytes) -> Tuple[bool, Optional[str]]:
+        """As of Validator."""
+        return self._held()._named(octets)
 
     def _current(self) -> Validator:
         """The validator by which a token is judged first. Raises KeysTooOld, and Closed."""
@@ -353,8 +386,7 @@ class RemoteKeys:
     def _run(self, fetch: _Fetch) -> None:
         try:
             keys = fetch.get(self._url, self._context, self._allow_http)
-            validator = Validator(self._policy, keys, **self._options)
-            _check_public(keys)
+            validator = _public(self._policy, keys, self._options)
         except _Failed as error:
             with self._lock:
                 self._fail(fetch, error)
@@ -395,12 +427,12 @@ def _keys_url(issuer: str, timeout: float, context: Optional[ssl.SSLContext], al
         if error.code != 404:
             raise
         text = _Fetch(timeout).get(by_oauth, context, allow_http)
-    metadata = json.loads(text)
-    if not isinstance(metadata, dict) or metadata.get("issuer") != issuer:
+    if _member(text, b"issuer") != issuer:
         raise ValueError("the metadata are of another issuer")
-    if not isinstance(metadata.get("jwks_uri"), str):
+    address = _member(text, b"jwks_uri")
+    if address is None:
         raise ValueError("the metadata have no jwks_uri")
-    return _checked(metadata["jwks_uri"], allow_http)
+    return _checked(address, allow_http)
 
 
 _forked: "weakref.WeakSet[RemoteKeys]" = weakref.WeakSet()

@@ -15,6 +15,7 @@ pub const FOW_NOT_OPEN: u32 = 4;
 pub const FOW_TOO_SHORT: u32 = 5;
 pub const FOW_ABSENT: u32 = 6;
 pub const FOW_DENIED: u32 = 7;
+pub const FOW_UNNAMED: u32 = 8;
 
 /// A policy, a key set, what was told of signatures, and the last report.
 #[repr(C)]
@@ -96,6 +97,26 @@ extern "C" {
         out_len: usize,
         written: *mut usize,
     ) -> u32;
+
+    pub fn fow_unverified_issuer(
+        validator: *mut fow_validator,
+        token: *const u8,
+        token_len: usize,
+        out: *mut u8,
+        out_len: usize,
+        written: *mut usize,
+    ) -> u32;
+
+    pub fn fow_sole_issuer(
+        validator: *mut fow_validator,
+        out: *mut u8,
+        out_len: usize,
+        written: *mut usize,
+    ) -> u32;
+
+    pub fn fow_token_limit(validator: *mut fow_validator, limit: *mut u32) -> u32;
+
+    pub fn fow_documents_are_public(validator: *mut fow_validator) -> bool;
 
     pub fn fow_refused_claim(
         validator: *mut fow_validator,

@@ -35,6 +35,8 @@ pub enum Error {
     },
     /// The key set is refused.
     Keys { fault: String },
+    /// There is no issuer, or one under which a policy stands that doesn't name exactly it.
+    Issuers,
     /// The access rule is refused, for this member, or this claim, where the fault speaks of one.
     Access {
         fault: String,
@@ -92,6 +94,10 @@ impl fmt::Display for Error {
                 member.iter().try_for_each(|it| write!(f, " {it:?}"))
             }
             Error::Keys { fault } => write!(f, "the key set is refused: {fault}"),
+            Error::Issuers => write!(
+                f,
+                "the policy of each issuer has to name it in issuers, and no other"
+            ),
             Error::Access { fault, member } => {
                 write!(f, "the access rule is refused: {fault}")?;
                 member.iter().try_for_each(|it| write!(f, " {it:?}"))

@@ -15,12 +15,14 @@
 mod access;
 mod crypto;
 mod error;
+mod issuers;
 mod seat;
 
 pub use access::Access;
 pub use error::{Error, Part};
+pub use issuers::Issuers;
 
-use seat::Seat;
+use seat::{Named, Seat, Terms};
 use std::sync::{Mutex, MutexGuard, PoisonError};
 use std::time::{SystemTime, UNIX_EPOCH};
 
@@ -55,6 +57,7 @@ impl Claims {
 #[derive(Debug)]
 pub struct Validator {
     seats: Mutex<Seats>,
+    terms: Terms,
 }
 
 /// What is held where no call is under way. It is locked to take a seat and to give it back.
@@ -98,7 +101,9 @@ impl Validator {
                 allowed: most_questions,
             });
         }
+        let terms = documents.terms()?;
         Ok(Validator {
+            terms,
             seats: Mutex::new(Seats {
                 documents,
                 remembers: (0, 0),
@@ -117,6 +122,42 @@ impl Validator {
         seats.free.clear();
         drop(seats);
         self
+    }
+
+    /// The issuer that the policy allows; `None` where it allows any, or several.
+    #[must_use]
+    pub fn issuer(&self) -> Option<&str> {
+        self.terms.issuer.as_deref()
+    }
+
+    /// The greatest number of octets of a token that the policy takes.
+    #[must_use]
+    pub fn limit(&self) -> u32 {
+        self.terms.limit
+    }
+
+    /// Whether everyone may read the keys: no algorithm of the policy is HMAC, and no key a shared secret (RFC 8725, section 2.1).
+    #[must_use]
+    pub fn is_public(&self) -> bool {
+        self.terms.is_public
+    }
+
+    /// The issuer that a token names; `None` where it names none, or the octets are no token under the policy. Anyone may have written it.
+    ///
+    /// # Errors
+    /// `OutOfMemory`.
+    pub fn unverified_issuer(&self, token: &[u8]) -> Result<Option<String>, Error> {
+        Ok(match self.named(token)? {
+            Named::Issuer(issuer) => Some(issuer),
+            Named::Nobody | Named::NoToken => None,
+        })
+    }
+
+    fn named(&self, token: &[u8]) -> Result<Named, Error> {
+        let mut seat = self.take()?;
+        let named = seat.named(token);
+        self.seats().free.push(seat);
+        named
     }
 
     /// The claims of a token that is accepted at the clock's moment.

@@ -12,6 +12,24 @@ const CLAIMS: [&str; 7] = ["iss", "sub", "aud", "exp", "nbf", "iat", "jti"];
 /// The octets of room that a name is first given. A longer one gets more.
 pub(crate) const NAME_ROOM: usize = 256;
 
+/// What is told of a policy and a key set.
+#[derive(Debug)]
+pub(crate) struct Terms {
+    pub(crate) issuer: Option<String>,
+    pub(crate) limit: u32,
+    pub(crate) is_public: bool,
+}
+
+/// What octets say of their issuer, for whom nobody vouches.
+pub(crate) enum Named {
+    /// They are no token.
+    NoToken,
+    /// The token names no issuer.
+    Nobody,
+    /// The token names this one.
+    Issuer(String),
+}
+
 /// A validator of the library, and what verifies its public keys.
 #[derive(Debug)]
 pub(crate) struct Seat {
@@ -65,6 +83,47 @@ impl Seat {
             sys::FOW_OK => Ok(most),
             _ => Err(Error::OutOfMemory),
         }
+    }
+
+    /// What is told of the policy and the key set.
+    pub(crate) fn terms(&mut self) -> Result<Terms, Error> {
+        let held = &mut self.held;
+        // SAFETY: the octets are as many as their length says.
+        let issuer = written(NAME_ROOM, |out, room, len| unsafe {
+            sys::fow_sole_issuer(held, out, room, len)
+        })?;
+        let mut limit = 0;
+        // SAFETY: it is the one that the other calls had.
+        if unsafe { sys::fow_token_limit(held, &mut limit) } != sys::FOW_OK {
+            return Err(Error::OutOfMemory);
+        }
+        // SAFETY: it is the one that the other calls had.
+        let is_public = unsafe { sys::fow_documents_are_public(held) };
+        Ok(Terms {
+            issuer,
+            limit,
+            is_public,
+        })
+    }
+
+    /// The issuer that a token names.
+    pub(crate) fn named(&mut self, token: &[u8]) -> Result<Named, Error> {
+        let held = &mut self.held;
+        let mut status = sys::FOW_OK;
+        // SAFETY: the slices are as long as their lengths say, and aren't null.
+        let issuer = written(token.len() + 1, |out, room, len| unsafe {
+            status = sys::fow_unverified_issuer(held, token.as_ptr(), token.len(), out, room, len);
+            if status == sys::FOW_UNNAMED {
+                sys::FOW_ABSENT
+            } else {
+                status
+            }
+        })?;
+        Ok(match issuer {
+            Some(issuer) => Named::Issuer(issuer),
+            None if status == sys::FOW_UNNAMED => Named::Nobody,
+            None => Named::NoToken,
+        })
     }
 
     /// A seat with the same documents, which aren't read again. It remembers so many tokens of so many octets.

@@ -10,6 +10,7 @@ final class Native {
     static final int OK = 0;
     static final int REFUSED = 1;
     static final int OUT_OF_MEMORY = 3;
+    static final int ABSENT = 6;
     static final int DENIED = 7;
     /** The one denial that speaks of a scope. */
     static final int SCOPE_MISSING = 1001;
@@ -140,4 +141,19 @@ final class Native {
     static native byte[] deniedName(long it, long access);
 
     static native String faultName(int fault);
+
+    /** The issuer that a token names; null where there is none, as {@code status[0]} says. It throws OutOfMemoryError. */
+    static native byte[] named(long it, byte[] token, int[] status);
+
+    /** The issuer that the policy allows; null where it allows any, or several. It throws OutOfMemoryError. */
+    static native byte[] soleIssuer(long it);
+
+    /** The greatest number of octets of a token. */
+    static native int tokenLimit(long it);
+
+    /** Whether no algorithm of the policy is HMAC, and no key a shared secret. */
+    static native boolean isPublic(long it);
+
+    /** The text of a member of a JSON object; null where there is none. It throws OutOfMemoryError. */
+    static native byte[] textMember(byte[] document, byte[] name);
 }

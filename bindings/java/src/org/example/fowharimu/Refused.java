@@ -25,13 +25,15 @@ public final class Refused extends Exception {
         /** Claims that were to be issued; {@link #about} is the claim that the fault speaks of. */
         ISSUE,
         /** An access rule; {@link #about} is the member or the claim that the fault speaks of. */
-        ACCESS
+        ACCESS,
+        /** A token, since the keys are too old, and newer ones can't be fetched: nothing is said of it. A service answers 503 to this. */
+        KEYS_TOO_OLD
     }
 
     private static final long serialVersionUID = 1;
     private static final String[] WHAT = {
         "the policy is", "the key set is", "the policy is", "the token is", "the token is", "the token is", "the token is", "the token is",
-        "the claims are", "the access rule is"
+        "the claims are", "the access rule is", "the token is"
     };
     /** What is refused. */
     private final Kind kind;
@@ -66,7 +68,8 @@ public final class Refused extends Exception {
     /**
      * Why it is refused.
      *
-     * @return the name that the program {@code jwt} prints, such as {@code Expired}; of {@link Kind#QUESTIONS} {@code TooManyQuestions}
+     * @return the name that the program {@code jwt} prints, such as {@code Expired}; of {@link Kind#QUESTIONS} {@code TooManyQuestions}, of
+     *     {@link Kind#KEYS_TOO_OLD} {@code KeysTooOld}
      */
     public String fault() {
         return fault;

@@ -25,7 +25,7 @@ import java.util.function.Function;
  * }
  * }</pre>
  */
-public final class Validator implements AutoCloseable {
+public final class Validator implements Judging {
     /** The most questions of one token that a policy and a key set may raise, unless the constructor is told of more. */
     public static final int MOST_QUESTIONS = 64;
 
@@ -34,6 +34,9 @@ public final class Validator implements AutoCloseable {
 
     private final Seats seats;
     private final Cleaner.Cleanable cleanable;
+    private final String issuer;
+    private final int limit;
+    private final boolean isPublic;
 
     /**
      * Reads a policy and a key set under which one token raises at most 64 questions about public keys.
@@ -84,6 +87,9 @@ public final class Validator implements AutoCloseable {
             Native.close(documents);
             throw new Refused(Refused.Kind.QUESTIONS, "TooManyQuestions", most + " and not " + mostQuestions, 0, 0);
         }
+        issuer = Text.of(Native.soleIssuer(documents));
+        limit = Native.tokenLimit(documents);
+        isPublic = Native.isPublic(documents);
         seats = new Documents(documents, remember);
         cleanable = Seats.CLEANER.register(this, seats);
     }
@@ -95,6 +101,7 @@ public final class Validator implements AutoCloseable {
      * @return the payload: a JSON text
      * @throws Refused where the token isn't accepted
      */
+    @Override
     public String validate(String token) throws Refused {
         return validate(token, Instant.now());
     }
@@ -107,6 +114,7 @@ public final class Validator implements AutoCloseable {
      * @return the payload: a JSON text
      * @throws Refused where the token isn't accepted
      */
+    @Override
     public String validate(String token, Instant now) throws Refused {
         return validate(Text.octets(token), now.getEpochSecond());
     }
@@ -119,6 +127,7 @@ public final class Validator implements AutoCloseable {
      * @return the payload: a JSON text
      * @throws Refused where the token isn't accepted
      */
+    @Override
     public String validate(byte[] token, long now) throws Refused {
         Seats.Seat seat = seats.take();
         try {
@@ -138,6 +147,7 @@ public final class Validator implements AutoCloseable {
      * @throws Refused where the token isn't accepted
      * @throws Denied where it is accepted, and its claims don't meet the rule
      */
+    @Override
     public String validate(String token, Access access) throws Refused, Denied {
         return validate(token, Instant.now(), access);
     }
@@ -152,6 +162,7 @@ public final class Validator implements AutoCloseable {
      * @throws Refused where the token isn't accepted
      * @throws Denied where it is accepted, and its claims don't meet the rule
      */
+    @Override
     public String validate(String token, Instant now, Access access) throws Refused, Denied {
         return validate(Text.octets(token), now.getEpochSecond(), access);
     }
@@ -166,6 +177,7 @@ public final class Validator implements AutoCloseable {
      * @throws Refused where the token isn't accepted
      * @throws Denied where it is accepted, and its claims don't meet the rule
      */
+    @Override
     public String validate(byte[] token, long now, Access access) throws Refused, Denied {
         Objects.requireNonNull(access, "access");
         Seats.Seat seat = seats.take();
@@ -184,6 +196,7 @@ public final class Validator implements AutoCloseable {
      * @param token the token
      * @return the verdict: a refusal stands in it
      */
+    @Override
     public Verdict judge(String token) {
         return judge(token, Instant.now());
     }
@@ -195,6 +208,7 @@ public final class Validator implements AutoCloseable {
      * @param now the moment, of which a fraction of a second is left out
      * @return the verdict: a refusal stands in it
      */
+    @Override
     public Verdict judge(String token, Instant now) {
         return judge(Text.octets(token), now.getEpochSecond());
     }
@@ -206,6 +220,7 @@ public final class Validator implements AutoCloseable {
      * @param now the moment, in seconds since 1970-01-01T00:00:00Z
      * @return the verdict: a refusal stands in it
      */
+    @Override
     public Verdict judge(byte[] token, long now) {
         Seats.Seat seat = seats.take();
         try {
@@ -233,6 +248,41 @@ public final class Validator implements AutoCloseable {
             throw new IllegalArgumentException("a signature's number has to be 0 or more");
         }
         return with(seat -> Optional.ofNullable(Text.of(Native.header(seat.at, octets, signature))));
+    }
+
+    @Override
+    public Optional<String> issuer() {
+        return Optional.ofNullable(issuer);
+    }
+
+    @Override
+    public int limit() {
+        return limit;
+    }
+
+    /**
+     * Whether everyone may read the keys: no algorithm of the policy is HMAC, and no key a shared secret (RFC 8725, section 2.1).
+     *
+     * @return whether that is so
+     */
+    public boolean isPublic() {
+        return isPublic;
+    }
+
+    @Override
+    public Optional<String> unverifiedIssuer(byte[] token) throws Refused {
+        int[] status = new int[1];
+        Seats.Seat seat = seats.take();
+        try {
+            String named = Text.of(Native.named(seat.at, Objects.requireNonNull(token, "token"), status));
+            if (status[0] == Native.ABSENT) {
+                // (what is no token is refused for its form, whatever the moment is)
+                accept(seat, token, 0);
+            }
+            return Optional.ofNullable(named);
+        } finally {
+            give(seat);
+        }
     }
 
     /**

@@ -1,0 +1,410 @@
+package org.example.fowharimu;
+
+import java.io.IOException;
+import java.net.URI;
+import java.net.URISyntaxException;
+import java.net.http.HttpClient;
+import java.nio.charset.StandardCharsets;
+import java.time.Duration;
+import java.util.Objects;
+import java.util.Optional;
+
+/**
+ * A policy, and a key set at a URL, which is fetched at once, and again as {@code docs/KEYS.md} says: in the background; where a token is refused for want
+ * of a key or by a bad signature, at most once a cool-down. Where that fails, the keys stay until they are too old: from then on each token is refused by
+ * the kind {@link Refused.Kind#KEYS_TOO_OLD}. Threads share it. A call on closed keys throws IllegalStateException.
+ *
+ * <pre>{@code
+ * try (RemoteKeys keys = new RemoteKeys(policy, "https://issuer.example/keys")) {
+ *     String claims = keys.validate(token);
+ * }
+ * }</pre>
+ */
+public final class RemoteKeys implements Judging {
+    private static final byte[] NO_KEYS = "{\"keys\":[]}".getBytes(StandardCharsets.UTF_8);
+    private static final String DISCOVERY = "/.well-known/openid-configuration";
+    private static final String OAUTH = "/.well-known/oauth-authorization-server";
+
+    private final byte[] policy;
+    private final URI address;
+    private final Fetching how;
+    private final int mostQuestions;
+    private final Remember remember;
+    private final HttpClient client;
+    private volatile Validator validator;
+    /** When the last fetch that went well ended; it is written before the validator. */
+    private volatile long got;
+    // What follows is guarded by this object's lock.
+    private Fetch fetch;
+    private long tried;
+    private boolean isClosed;
+    private Exception error;
+
+    /**
+     * Fetches a key set, as {@link Fetching#Fetching()} says.
+     *
+     * @param policy a JSON text, as the program {@code jwt} takes it
+     * @param url where the key set stands
+     * @throws Refused where the policy is refused
+     * @throws KeysUnavailable where the keys can't be fetched
+     * @throws IllegalArgumentException for a URL that isn't https, has no host, or has a name or a password in it, and for a policy with an HMAC
+     *     algorithm, since what is fetched is public
+     */
+    public RemoteKeys(byte[] policy, String url) throws Refused, KeysUnavailable {
+        this(policy, url, new Fetching());
+    }
+
+    /**
+     * Fetches a key set.
+     *
+     * @param policy a JSON text, as the program {@code jwt} takes it
+     * @param url where the key set stands
+     * @param how how it is fetched
+     * @throws Refused where the policy is refused
+     * @throws KeysUnavailable where the keys can't be fetched
+     * @throws IllegalArgumentException as of {@link #RemoteKeys(byte[], String)}
+     */
+    public RemoteKeys(byte[] policy, String url, Fetching how) throws Refused, KeysUnavailable {
+        this(policy, url, how, Validator.MOST_QUESTIONS, new Remember());
+    }
+
+    /**
+     * Fetches a key set, and remembers accepted tokens. New keys begin a new memory.
+     *
+     * @param policy a JSON text, as the program {@code jwt} takes it
+     * @param url where the key set stands
+     * @param how how it is fetched
+     * @param mostQuestions how many questions about public keys one token may raise, up to 32,768
+     * @param remember how many tokens of how many octets are remembered
+     * @throws Refused where the policy is refused
+     * @throws KeysUnavailable where the keys can't be fetched
+     * @throws IllegalArgumentException as of {@link #RemoteKeys(byte[], String)}
+     */
+    public RemoteKeys(byte[] policy, String url, Fetching how, int mostQuestions, Remember remember) throws Refused, KeysUnavailable {
+        this.policy = publicPolicy(policy, null);
+        this.address = Fetch.checked(url, how.allowsHttp());
+        this.how = how;
+        this.mostQuestions = mostQuestions;
+        this.remember = Objects.requireNonNull(remember, "remember");
+        this.client = Fetch.client(how);
+        if (!refresh()) {
+            throw new KeysUnavailable(error().orElseGet(() -> new IOException("it takes too long")));
+        }
+    }
+
+    /**
+     * Fetches the keys of an issuer, whose URL its metadata tell (OpenID Connect Discovery 1.0, section 4; where there is none, RFC 8414, section 3). The
+     * metadata are read once, under the same rules: their {@code issuer} has to be that very text, and the policy's {@code issuers} exactly that one.
+     *
+     * @param policy a JSON text, as the program {@code jwt} takes it
+     * @param issuer the issuer
+     * @param how how it is fetched
+     * @return the keys
+     * @throws Refused where the policy is refused
+     * @throws KeysUnavailable where the metadata or the keys can't be fetched, or are of another issuer
+     * @throws IllegalArgumentException for an issuer from which nothing is fetched, and for a policy with an HMAC algorithm or other issuers
+     */
+    public static RemoteKeys discover(byte[] policy, String issuer, Fetching how) throws Refused, KeysUnavailable {
+        publicPolicy(policy, issuer);
+        URI at = Fetch.checked(issuer, how.allowsHttp());
+        String url;
+        try {
+            url = keysUrl(issuer, at, how);
+        } catch (IOException | URISyntaxException | IllegalArgumentException e) {
+            throw new KeysUnavailable(e);
+        }
+        return new RemoteKeys(policy, url, how);
+    }
+
+    /** As {@link Validator#validate(byte[], long)}. The refusal may be of the kind {@link Refused.Kind#KEYS_TOO_OLD} too. */
+    @Override
+    public String validate(byte[] token, long now) throws Refused {
+        return by((Validator it) -> it.validate(token, now));
+    }
+
+    /** As {@link Validator#validate(byte[], long, Access)}. The refusal may be of the kind {@link Refused.Kind#KEYS_TOO_OLD} too. */
+    @Override
+    public String validate(byte[] token, long now, Access access) throws Refused, Denied {
+        Call<String, Denied> call = it -> it.validate(token, now, access);
+        return by(call);
+    }
+
+    /** As {@link Validator#judge(byte[], long)}. Where the keys are too old and none can be fetched, the verdict has that refusal and nothing else. */
+    @Override
+    public Verdict judge(byte[] token, long now) {
+        Call<Verdict, RuntimeException> call = it -> it.judge(token, now);
+        try {
+            Validator used = current();
+            Verdict verdict = onceMore(used, call);
+            Validator newer = verdict.accepted() ? null : newer(used, verdict.refusal().get());
+            return newer == null ? verdict : onceMore(newer, call);
+        } catch (Refused tooOld) {
+            return Issuers.refused(tooOld);
+        }
+    }
+
+    @Override
+    public Optional<String> issuer() {
+        return held().issuer();
+    }
+
+    @Override
+    public int limit() {
+        return held().limit();
+    }
+
+    /** As {@link Validator#unverifiedIssuer(byte[])}, however old the keys are. */
+    @Override
+    public Optional<String> unverifiedIssuer(byte[] token) throws Refused {
+        return onceMore(held(), (Validator it) -> it.unverifiedIssuer(token));
+    }
+
+    /**
+     * Fetches the key set now, whatever the cool-down. Where a fetch is under way it waits for that one.
+     *
+     * @return whether that went well
+     */
+    public boolean refresh() {
+        Fetch under;
+        synchronized (this) {
+            if (isClosed) {
+                throw closed();
+            }
+            under = fetch == null ? begin() : fetch;
+        }
+        return under.await();
+    }
+
+    /**
+     * Why the last fetch failed.
+     *
+     * @return the error; empty where it went well
+     */
+    public synchronized Optional<Exception> error() {
+        return Optional.ofNullable(error);
+    }
+
+    /** Frees what is held, and drops a fetch that is under way. It may be called twice. Calls that are under way end as if it weren't closed. */
+    @Override
+    public synchronized void close() {
+        isClosed = true;
+        if (fetch != null) {
+            fetch.drop();
+        }
+        if (validator != null) {
+            validator.close();
+            validator = null;
+        }
+    }
+
+    /** A call on a validator. */
+    private interface Call<T, E extends Exception> {
+        T by(Validator it) throws Refused, E;
+    }
+
+    /** What comes of a call on the keys, and on newer ones where these may change it and can be had. */
+    private <T, E extends Exception> T by(Call<T, E> call) throws Refused, E {
+        Validator used = current();
+        try {
+            return onceMore(used, call);
+        } catch (Refused refusal) {
+            Validator newer = newer(used, refusal);
+            if (newer == null) {
+                throw refusal;
+            }
+            return onceMore(newer, call);
+        }
+    }
+
+    /** What comes of a call on these keys, and on newer ones where they were exchanged, and the old ones closed, before the call took them. */
+    private <T, E extends Exception> T onceMore(Validator used, Call<T, E> call) throws Refused, E {
+        for (Validator it = used; ; ) {
+            try {
+                return call.by(it);
+            } catch (IllegalStateException e) {
+                Validator newer = held();
+                if (newer == it) {
+                    throw e;
+                }
+                it = newer;
+            }
+        }
+    }
+
+    /** The validator that is held, however old its keys are. */
+    private Validator held() {
+        Validator it = validator;
+        if (it == null) {
+            throw closed();
+        }
+        return it;
+    }
+
+    /** The validator by which a token is judged first. */
+    private Validator current() throws Refused {
+        // (before a fetch begins, so that it is the old one)
+        Validator used = held();
+        if (isYounger(how.refreshAfter())) {
+            return used;
+        }
+        Fetch under = begun();
+        if (isYounger(how.maxAge())) {
+            return used;
+        }
+        if (under != null) {
+            under.await();
+        }
+        if (!isYounger(how.maxAge())) {
+            throw new Refused(Refused.Kind.KEYS_TOO_OLD, "KeysTooOld", null, 0, 0);
+        }
+        return held();
+    }
+
+    private boolean isYounger(Duration age) {
+        return System.nanoTime() - got < age.toNanos();
+    }
+
+    /** Another validator than the one that was used, where newer keys may change the refusal and are there or can be fetched; else null. */
+    private Validator newer(Validator used, Refused refusal) {
+        boolean asks = refusal.kind() == Refused.Kind.SIGNATURE && (refusal.fault().equals("NoKey") || refusal.fault().equals("BadSignature"));
+        if (!asks) {
+            return null;
+        }
+        Fetch under = validator == used ? begun() : null;
+        if (under != null) {
+            under.await();
+        }
+        Validator it = validator;
+        return it == used ? null : it;
+    }
+
+    /** The fetch that is under way, or a new one where the cool-down is over; else null. */
+    private synchronized Fetch begun() {
+        if (fetch == null && !isClosed && System.nanoTime() - tried >= how.cooldown().toNanos()) {
+            begin();
+        }
+        return fetch;
+    }
+
+    /** Begins a fetch, in a thread of its own, so that nobody waits for it past its deadline. The lock is held. */
+    private Fetch begin() {
+        Fetch under = new Fetch(how.timeout());
+        tried = System.nanoTime();
+        fetch = under;
+        Thread thread = new Thread(() -> run(under), "fowharimu-keys");
+        thread.setDaemon(true);
+        try {
+            thread.start();
+        } catch (OutOfMemoryError e) {
+            // (the system gives no more threads)
+            fetch = null;
+            error = new IOException(e);
+            under.end(false);
+        }
+        return under;
+    }
+
+    private void run(Fetch under) {
+        byte[] keys = {};
+        Validator newer = null;
+        Exception failure = null;
+        try {
+            keys = under.get(client, address);
+            newer = open(keys);
+        } catch (IOException | Refused | RuntimeException e) {
+            failure = e;
+        } catch (OutOfMemoryError e) {
+            failure = new IOException(e);
+        }
+        exchange(newer, failure);
+        under.end(failure == null);
+        how.listener().fetched(shown(), keys.length, Optional.ofNullable(failure));
+    }
+
+    /** Takes the new validator, where there is one, in place of the old one, and ends the fetch. */
+    private synchronized void exchange(Validator newer, Exception failure) {
+        fetch = null;
+        error = failure;
+        if (newer == null) {
+            return;
+        }
+        if (isClosed) {
+            newer.close();
+            return;
+        }
+        Validator old = validator;
+        got = System.nanoTime();
+        validator = newer;
+        if (old != null) {
+            // (calls that are under way end as if it weren't closed)
+            old.close();
+        }
+    }
+
+    /** The policy over keys that were fetched, among which there may be no secret (RFC 8725, section 2.1). */
+    private Validator open(byte[] keys) throws Refused, IOException {
+        Validator it = new Validator(policy, keys, mostQuestions, remember);
+        if (!it.isPublic()) {
+            it.close();
+            throw new IOException("it has a key of kty oct in it, which everyone may read");
+        }
+        return it;
+    }
+
+    /** The URL for those who are told of a fetch: without its query, in which a service may have a secret. */
+    private String shown() {
+        return address.getScheme() + "://" + address.getRawAuthority() + Objects.requireNonNullElse(address.getRawPath(), "");
+    }
+
+    /** A copy of a policy for keys by URL, and for exactly this issuer, where there is one. */
+    private static byte[] publicPolicy(byte[] policy, String issuer) throws Refused {
+        byte[] copy = policy.clone();
+        try (Validator it = new Validator(copy, NO_KEYS)) {
+            if (!it.isPublic()) {
+                throw new IllegalArgumentException("a policy with an HMAC algorithm has no keys by URL, since what is fetched is public");
+            }
+            if (issuer != null && !it.issuer().equals(Optional.of(issuer))) {
+                throw new IllegalArgumentException("the policy has to name the issuer in issuers, and no other");
+            }
+        }
+        return copy;
+    }
+
+    /** The URL of an issuer's keys, which its metadata tell. */
+    private static String keysUrl(String issuer, URI at, Fetching how) throws IOException, URISyntaxException {
+        Fetch under = new Fetch(how.timeout());
+        HttpClient client = Fetch.client(how);
+        String path = Objects.requireNonNullElse(at.getRawPath(), "").replaceFirst("/$", "");
+        byte[] metadata;
+        try {
+            metadata = under.get(client, withPath(at, path + DISCOVERY));
+        } catch (Fetch.StatusException e) {
+            if (e.status != 404) {
+                throw e;
+            }
+            metadata = under.get(client, withPath(at, OAUTH + path));
+        }
+        if (!issuer.equals(member(metadata, "issuer"))) {
+            throw new IOException("the metadata are of another issuer");
+        }
+        String url = member(metadata, "jwks_uri");
+        if (url == null) {
+            throw new IOException("the metadata have no jwks_uri");
+        }
+        Fetch.checked(url, how.allowsHttp());
+        return url;
+    }
+
+    /** The text of a member of a JSON object, as the library reads it; null where there is none. */
+    private static String member(byte[] document, String name) {
+        return Text.of(Native.textMember(document, name.getBytes(StandardCharsets.UTF_8)));
+    }
+
+    private static URI withPath(URI at, String path) throws URISyntaxException {
+        return new URI(at.getScheme() + "://" + at.getRawAuthority() + path);
+    }
+
+    private static IllegalStateException closed() {
+        return new IllegalStateException("the keys are closed");
+    }
+}

@@ -1,0 +1,107 @@
+//! What C calls for keys by URL, and for several issuers.
+
+ghost use Rattle.std.specs.Prelude.{◌≡◌, IfSome, IsUtf8, None, false};
+ghost use Rattle.jwt_text.specs.ObjectText.{object_of};
+ghost use Rattle.jwt_keys.specs.KeySets.{key_set};
+ghost use Rattle.jwt_verify.specs.Verdict.{token_of};
+ghost use Rattle.jwt_c.specs.Documents.{documents};
+ghost use Rattle.jwt_c.specs.Issuers.{PutsHeld, PutsIssuer, are_public, sole, text_in};
+ghost use Rattle.jwt_c.specs.Written.{PutsSome};
+
+use crate::handle::{Handle, take};
+use crate::issuers::{are_public, put_issuer, put_sole_issuer, put_text};
+use std::alloc::Global;
+
+/// Whether no algorithm of the policy is HMAC, and no key of the set a shared secret. False where nothing is held.
+#[unsafe(no_mangle)]
+pub extern "C" fn fow_documents_are_public(validator: &mut Handle, alloc: Global) -> bool
+    ensures same { validator.new.desk ≡ validator.old.desk }
+    ensures none { validator.old.desk ≡ None → result ≡ false }
+    ensures public { IfSome validator.old.desk (λ d. result
+        ≡ are_public (documents d).policy (key_set (documents d).keys).keys) }
+{
+    let Some(desk) = take(validator, alloc) else {
+        return false;
+    };
+    let public = are_public(&desk);
+    *validator = Handle::of(desk);
+    public
+}
+
+/// The greatest number of octets of a token that the policy takes. 0; 4: nothing is held.
+#[unsafe(no_mangle)]
+pub extern "C" fn fow_token_limit(validator: &mut Handle, alloc: Global, limit: &mut u32) -> u32
+    ensures same { validator.new.desk ≡ validator.old.desk }
+    ensures none { validator.old.desk ≡ None → result ≡ 4 }
+    ensures limit { IfSome validator.old.desk (λ d. (result ≡ 0)
+        × (limit.new ≡ (documents d).policy.run.limit)) }
+{
+    let Some(desk) = take(validator, alloc) else {
+        return 4;
+    };
+    *limit = desk.grounds.documents().policy.limit();
+    *validator = Handle::of(desk);
+    0
+}
+
+/// Writes the issuer that the policy allows at the front of `out`, where it is one alone. 0; 4: nothing is held; 5: `out` is too short; 6: the
+/// policy allows any, or several.
+#[unsafe(no_mangle)]
+pub extern "C" fn fow_sole_issuer(
+    validator: &mut Handle,
+    alloc: Global,
+    out: &mut [u8],
+    written: &mut usize,
+) -> u32
+    ensures same { validator.new.desk ≡ validator.old.desk }
+    ensures none { validator.old.desk ≡ None → result ≡ 4 }
+    ensures issuer { IfSome validator.old.desk (λ d. PutsHeld
+        (sole (documents d).policy.claims.issuers) result written.new out.old out.new) }
+{
+    let Some(desk) = take(validator, alloc) else {
+        return 4;
+    };
+    let status = put_sole_issuer(&desk, out, written);
+    *validator = Handle::of(desk);
+    status
+}
+
+/// Writes the issuer that a token names at the front of `out`. 0; 3: memory was refused; 4: nothing is held; 5: `out` is too short; 6: the octets
+/// are no token; 8: its payload is no object text, or has no text `iss`.
+#[unsafe(no_mangle)]
+pub extern "C" fn fow_unverified_issuer(
+    validator: &mut Handle,
+    alloc: Global,
+    token: &[u8],
+    out: &mut [u8],
+    written: &mut usize,
+) -> u32
+    ensures same { validator.new.desk ≡ validator.old.desk }
+    ensures none { validator.old.desk ≡ None → result ≡ 4 }
+    ensures issuer { IfSome validator.old.desk (λ d. PutsIssuer
+        (token_of (documents d).policy token.now) result written.new out.old out.new) }
+{
+    let Some(desk) = take(validator, alloc) else {
+        return 4;
+    };
+    let status = put_issuer(alloc, &desk, token, out, written);
+    *validator = Handle::of(desk);
+    status
+}
+
+/// Writes the text of this name in an object text at the front of `out`. 0; 3: memory was refused; 5: `out` is too short; 6: the octets are no
+/// object text, or it has no text of this name.
+#[unsafe(no_mangle)]
+pub extern "C" fn fow_text_member(
+    alloc: Global,
+    document: &[u8],
+    name: &[u8],
+    out: &mut [u8],
+    written: &mut usize,
+) -> u32
+    ensures text { IsUtf8 name.now
+        → PutsSome (text_in name.now (object_of document.now)) result written.new out.old out.new }
+    ensures other { ¬ IsUtf8 name.now → result ≡ 6 }
+{
+    put_text(alloc, document, name, out, written)
+}

@@ -1,0 +1,150 @@
+//! What is told of a validator's documents, and of the issuer that a token names.
+
+ghost use Rattle.std.specs.Prelude.{◌≡◌, IsUtf8, codes, false, map, option_map, slice_get, string_bytes};
+ghost use Rattle.std.specs.List.{list_any};
+ghost use Rattle.std.specs.Option.{option_map_or};
+ghost use Rattle.jwt_mac.specs.Algorithm.{is_hmac_alg};
+ghost use Rattle.jwt_text.specs.ObjectText.{object_of};
+ghost use Rattle.jwt_keys.specs.KeySets.{key_set};
+ghost use Rattle.jwt_verify.specs.Verdict.{token_of};
+ghost use Rattle.jwt_c.specs.Documents.{documents};
+ghost use Rattle.jwt_c.specs.Issuers.{PutsHeld, PutsIssuer, PutsNamed, are_public, is_secret_key, named_issuer, sole, text_in};
+ghost use Rattle.jwt_c.specs.Written.{PutsSome};
+
+use crate::asking::is_secret;
+use crate::desk::Desk;
+use crate::writing::put;
+use jwt_keys::KeySet;
+use jwt_mac::Alg;
+use jwt_policy::Policy;
+use jwt_text::{TextFault, object};
+use jwt_told::read_token;
+use std::alloc::Global;
+use std::str::from_utf8;
+
+/// Whether one of the algorithms is HMAC.
+#[tactic(auto, using(std::proofs::lemmas::List::at_drop_more, std::proofs::lemmas::List::at_drop_all))]
+fn some_is_hmac(algs: &[Alg]) -> bool
+    ensures { result ≡ list_any is_hmac_alg algs.now }
+{
+    for alg in algs {
+        if alg.is_hmac() {
+            return true;
+        }
+    }
+    false
+}
+
+/// Whether the key of this number is a shared secret; false where there is none.
+fn is_secret_at(keys: &KeySet, number: u32) -> bool
+    ensures { result ≡ option_map_or is_secret_key (slice_get (key_set keys.now).keys number) false }
+{
+    match keys.key(number) {
+        Some(key) => is_secret(&key.view()),
+        None => false,
+    }
+}
+
+/// Whether one of the keys is a shared secret.
+#[tactic(auto, using(std::proofs::lemmas::List::drop_all))]
+fn some_is_secret(keys: &KeySet) -> bool
+    ensures { result ≡ list_any is_secret_key (key_set keys.now).keys }
+{
+    for number in 0..keys.len() {
+        if is_secret_at(keys, number) {
+            return true;
+        }
+    }
+    false
+}
+
+/// Whether no algorithm of the policy is HMAC, and no key a shared secret. It takes no memory.
+pub(crate) fn are_public(desk: &Desk) -> bool
+    ensures { result
+        ≡ are_public (documents desk.now).policy (key_set (documents desk.now).keys).keys }
+{
+    let documents = desk.grounds.documents();
+    !some_is_hmac(documents.policy.algs()) && !some_is_secret(&documents.keys)
+}
+
+/// The issuer that the policy allows, where it is one alone.
+fn sole_issuer(policy: &Policy) -> Option<&str>
+    ensures { option_map (λ s. s.now) result ≡ sole policy.now.claims.issuers }
+{
+    let issuers = policy.issuers();
+    if issuers.len() == 1 {
+        Some(issuers[0].as_str())
+    } else {
+        None
+    }
+}
+
+/// Puts the issuer that the policy allows at the front of `out`, where it is one alone. 0; 5: `out` is too short; 6: it isn't one alone.
+pub(crate) fn put_sole_issuer(desk: &Desk, out: &mut [u8], written: &mut usize) -> u32
+    ensures { PutsHeld (sole (documents desk.now).policy.claims.issuers)
+        result written.new out.old out.new }
+{
+    match sole_issuer(&desk.grounds.documents().policy) {
+        Some(issuer) => put(issuer.as_bytes(), out, written),
+        None => 6,
+    }
+}
+
+/// Puts the issuer that a payload names at the front of `out`. 0; 3: memory was refused; 5: `out` is too short; 8: it names none.
+fn put_named(alloc: Global, payload: &[u8], out: &mut [u8], written: &mut usize) -> u32
+    ensures { PutsNamed (named_issuer payload.now) result written.new out.old out.new }
+{
+    match object(alloc, payload) {
+        Ok(claims) => match claims.text("iss") {
+            Some(issuer) => put(issuer.as_bytes(), out, written),
+            None => 8,
+        },
+        Err(TextFault::OutOfMemory) => 3,
+        Err(_) => 8,
+    }
+}
+
+/// Puts the issuer that a token names at the front of `out`. 0; 3: memory was refused; 5: `out` is too short; 6: the octets are no token; 8: it
+/// names none.
+pub(crate) fn put_issuer(
+    alloc: Global,
+    desk: &Desk,
+    token: &[u8],
+    out: &mut [u8],
+    written: &mut usize,
+) -> u32
+    ensures { PutsIssuer (token_of (documents desk.now).policy token.now)
+        result written.new out.old out.new }
+{
+    match read_token(alloc, token, &desk.grounds.documents().policy) {
+        Ok(Some(signed)) => put_named(alloc, signed.payload(), out, written),
+        Ok(None) => 6,
+        Err(_) => 3,
+    }
+}
+
+/// Puts the text of this name in an object text at the front of `out`. 0; 3: memory was refused; 5: `out` is too short; 6: the octets are no
+/// object text, or it has no text of this name.
+pub(crate) fn put_text(
+    alloc: Global,
+    document: &[u8],
+    name: &[u8],
+    out: &mut [u8],
+    written: &mut usize,
+) -> u32
+    ensures text { IsUtf8 name.now
+        → PutsSome (text_in name.now (object_of document.now)) result written.new out.old out.new }
+    ensures other { ¬ IsUtf8 name.now → result ≡ 6 }
+{
+    let Ok(name) = from_utf8(name) else {
+        return 6;
+    };
+    match object(alloc, document) {
+        Ok(members) => match members.text(name) {
+            Some(text) => put(text.as_bytes(), out, written),
+            None => 6,
+        },
+        Err(TextFault::OutOfMemory) => 3,
+        Err(_) => 6,
+    }
+}
