@@ -1,4 +1,4 @@
-//! What a rule asks of one claim.
+//! The demand of a rule on one claim.
 
 ghost use Rattle.std.specs.Prelude.{◌≡◌, map, slice_get};
 ghost use Rattle.std.specs.List.{list_any};

@@ -1,4 +1,4 @@
-//! Why claims don't meet a rule.
+//! The first demand of a rule that claims don't meet.
 
 ghost use Rattle.std.specs.Prelude.{◌≡◌, ◌↔◌, IsTrue, IsNone, IfSome, map, string_bytes};
 ghost use Rattle.jwt_text.specs.Rows.{first_row};

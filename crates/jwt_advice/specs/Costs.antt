@@ -1,4 +1,4 @@
--- What one token can cost.
+-- The cost of one token.
 use Rattle.std.specs.Prelude.{ℕ, ◌*◌, ◌<◌, ◌≤◌, ◌&&◌, Bool, true, List, map, length, Option, Some, None, unwrap_or, if◌then◌else◌}
 use Rattle.std.specs.List.{sum_by}
 use Rattle.std.specs.Option.{option_map_or}
@@ -51,6 +51,8 @@ most_of_signature cost policy verifiers keys = if policy.header.need_kid then mo
 -- the greatest cost of a token: it has as many signatures as are allowed
 abbrev pub most : Cost → Settings → List Meaning → List KeyParts → ℕ
 most cost policy verifiers keys = policy.run.max_signatures * most_of_signature cost policy verifiers keys
+
+-- ---- Cited by laws alone
 
 -- no token costs more
 abbrev pub CostsAreBounded : Type 0

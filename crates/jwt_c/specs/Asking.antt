@@ -93,10 +93,6 @@ PutsQuestion None status written old out = IsAbsent status
 PutsQuestion (Some question) status written old out = (status ≡ 0 → IsSized question written × ((more : List ℕ) × (out ≡ question_octets question ++ more)))
     × (status ≢ 0 → status ≢ 3 → (status ≡ 5) × (length old < length (question_octets question)))
 
--- exactly this answer is told besides, unless memory was refused
-abbrev pub TellsOne : QuestionParts → Bool → ℕ → List ToldParts → List ToldParts → Type 0
-TellsOne question valid status old new = (status ≡ 0 → new ≡ old ++ told_of question valid ∷ []) × (status ≢ 0 → (status ≡ 3) × (new ≡ old))
-
 -- the same policy and key set, where this is told besides
 abbrev TellsOf : List ToldParts → Desk → Desk → Type 0
 TellsOf answers before after = (documents after ≡ documents before) × (told after.answers ≡ told before.answers ++ answers)
@@ -138,11 +134,6 @@ abbrev pub ed25519_says : Option QuestionParts → Bool
 ed25519_says None = false
 ed25519_says (Some question) = ed25519_meaning.accepts question.alg question.key question.message question.signature
 
--- the question, where ECDSA's verifier names its algorithm
-abbrev pub ecdsa_asked : Option QuestionParts → Option QuestionParts
-ecdsa_asked None = None
-ecdsa_asked (Some question) = if ecdsa_meaning.named question.alg then Some question else None
-
 -- whether ECDSA's verifier accepts the signature
 abbrev pub ecdsa_says : Option QuestionParts → Bool
 ecdsa_says None = false
@@ -157,6 +148,17 @@ proved_asked (Some question) = if rsa_meaning.named question.alg || ecdsa_meanin
 abbrev pub proved_says : Option QuestionParts → Bool
 proved_says None = false
 proved_says (Some question) = if rsa_meaning.named question.alg then rsa_says (Some question) else if ecdsa_meaning.named question.alg then ecdsa_says (Some question) else ed25519_says (Some question)
+
+-- ---- Cited by contracts of private functions alone
+
+-- exactly this answer is told besides, unless memory was refused
+abbrev pub TellsOne : QuestionParts → Bool → ℕ → List ToldParts → List ToldParts → Type 0
+TellsOne question valid status old new = (status ≡ 0 → new ≡ old ++ told_of question valid ∷ []) × (status ≢ 0 → (status ≡ 3) × (new ≡ old))
+
+-- the question, where ECDSA's verifier names its algorithm
+abbrev pub ecdsa_asked : Option QuestionParts → Option QuestionParts
+ecdsa_asked None = None
+ecdsa_asked (Some question) = if ecdsa_meaning.named question.alg then Some question else None
 
 -- the same by the verifier that is chosen
 abbrev pub asked_of : Proved → Option QuestionParts → Option QuestionParts

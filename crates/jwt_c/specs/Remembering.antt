@@ -1,4 +1,4 @@
--- What is remembered of tokens, and what a verdict rests on that comes out of a memory.
+-- The memories of a validator, and the grounds of a verdict that comes out of one.
 use Rattle.std.specs.Prelude.{◌≡◌, ℕ, ℤ, Bool, true, false, List, [], Option, Some, None}
 use Rattle.jwt_verify.specs.declared.report.Report.{Report}
 use Rattle.jwt_told.specs.Told.{Truth, ToldParts, AreRight, told}

@@ -1,4 +1,4 @@
--- What an exported function writes and answers.
+-- Judging, and the report that an exported function writes.
 use Rattle.std.specs.Prelude.{◌≡◌, ◌≢◌, ℕ, ℤ, Bool, true, false, List, [], ◌∷◌, length, Option, Some, None, option_map, Result, Ok, Err}
 use Rattle.serde_json.specs.Data.{Members}
 use Rattle.jwt_jws.specs.Token.{Token}
@@ -154,13 +154,6 @@ abbrev pub asked_at : Result Token Fault → List KeyParts → ℕ → ℕ → O
 asked_at (Ok signed) keys signature key = question_at signed keys signature key
 asked_at (Err fault) keys signature key = None
 
--- what is asked of the token is the first try of a run by what was told of which nothing was told, and comes with the token
-abbrev pub IsAsking : List ToldParts → Documents → ℤ → List ℕ → Asking → Type 0
-IsAsking answers grounds now octets asks = AreTries (terms grounds.policy grounds.keys now (told_meaning answers ∷ [])) octets grounds.policy.run.work asks.tries.items
-    × IsFirstOpen answers grounds.policy octets (key_set grounds.keys).keys asks.tries.items asks.question.signature asks.question.key
-    × IsOpen answers grounds.policy octets (key_set grounds.keys).keys asks.question.signature asks.question.key
-    × (token_of grounds.policy octets ≡ Ok (token asks.token))
-
 -- The tries that are kept are those of a run that finds memory, where what wasn't told counts as invalid. The pair that is named is the
 -- first of them of which nothing was told, and the question about it is kept.
 abbrev pub IsAsked : Desk → ℤ → List ℕ → FowReport → Last → Type 0
@@ -175,3 +168,12 @@ IsAsked desk now octets said last = AreTries (terms (documents desk).policy (doc
 abbrev pub IsAskedBy : Desk → ℤ → List ℕ → FowReport → Option Desk → Type 0
 IsAskedBy desk now octets said None = ⊥
 IsAskedBy desk now octets said (Some after) = IsAsked desk now octets said after.last
+
+-- ---- Cited by contracts of private functions alone
+
+-- what is asked of the token is the first try of a run by what was told of which nothing was told, and comes with the token
+abbrev pub IsAsking : List ToldParts → Documents → ℤ → List ℕ → Asking → Type 0
+IsAsking answers grounds now octets asks = AreTries (terms grounds.policy grounds.keys now (told_meaning answers ∷ [])) octets grounds.policy.run.work asks.tries.items
+    × IsFirstOpen answers grounds.policy octets (key_set grounds.keys).keys asks.tries.items asks.question.signature asks.question.key
+    × IsOpen answers grounds.policy octets (key_set grounds.keys).keys asks.question.signature asks.question.key
+    × (token_of grounds.policy octets ≡ Ok (token asks.token))

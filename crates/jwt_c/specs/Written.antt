@@ -1,4 +1,4 @@
--- What is written for the caller, by the status that is answered: 0 done, 3 out of memory, 5 too short, 6 absent.
+-- The octets that are written for the caller, by the status: 0 done, 3 out of memory, 5 too short, 6 absent.
 use Rattle.std.specs.Prelude.{◌≡◌, ◌≢◌, ◌<◌, ℕ, ℤ, ◌++◌, List, [], ◌∷◌, length, slice_get, Option, Some, None, option_and_then, Result, Ok, Err}
 use Rattle.serde_json.specs.Data.{Members}
 use Rattle.jwt_text.specs.Base64url.{octets_of}

@@ -1,4 +1,4 @@
-//! What a validator holds.
+//! The state of a validator.
 
 use crate::grounds::Grounds;
 use jwt_memory::{Basis, Memory};

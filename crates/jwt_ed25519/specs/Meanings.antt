@@ -1,4 +1,4 @@
--- What the verifier of this crate means.
+-- The meaning of this crate's verifier.
 use Rattle.std.specs.Prelude.{ℕ, Bool, true, false, List}
 use Rattle.jwt_mac.specs.declared.algorithm.Alg.{Alg}
 use Rattle.jwt_mac.specs.declared.algorithm.Alg.TheVariants.{EdDSA}

@@ -1,4 +1,4 @@
--- What an entry of a key set is read as (RFC 7517, sections 4 and 5).
+-- The key in an entry of a key set (RFC 7517, sections 4 and 5).
 use Rattle.std.specs.Prelude.{ℕ, List, [], ◌∷◌, map, Option, Some, None, option_map, option_and_then, unwrap_or, codes, Result, Ok, Err}
 use Rattle.serde_json.specs.Data.{Data, Members}
 use Rattle.serde_json.specs.Find.{as_str}
@@ -47,6 +47,18 @@ key_with place ms = option_map (λ kind. parts_of place kind ms) (kind_at ms)
 unfoldable pub key_in : ℕ → Option Members → Result KeyParts SkipReason
 key_in place entry = unless (first_row (skip_rows entry)) (some_or NotObject (option_and_then (key_with place) entry))
 
+-- ---- what an entry adds to the keys and to the skips
+
+abbrev pub key_if : Result KeyParts SkipReason → List KeyParts
+key_if (Ok k) = k ∷ []
+key_if (Err reason) = []
+
+abbrev pub skip_if : ℕ → Result KeyParts SkipReason → List Skip
+skip_if place (Ok k) = []
+skip_if place (Err reason) = record { place = place; reason = reason } ∷ []
+
+-- ---- Cited by contracts of private functions alone
+
 -- ---- the same in the order in which the rows are tried
 
 abbrev pub key_of_kind : ℕ → Option Kind → Members → Result KeyParts SkipReason
@@ -59,13 +71,3 @@ key_of place ms = unless (shape_skip_of ms) (key_of_kind place (kind_at ms) ms)
 
 abbrev pub key_by_steps : ℕ → Option Members → Result KeyParts SkipReason
 key_by_steps place entry = some_or NotObject entry >>= key_of place
-
--- ---- what an entry adds to the keys and to the skips
-
-abbrev pub key_if : Result KeyParts SkipReason → List KeyParts
-key_if (Ok k) = k ∷ []
-key_if (Err reason) = []
-
-abbrev pub skip_if : ℕ → Result KeyParts SkipReason → List Skip
-skip_if place (Ok k) = []
-skip_if place (Err reason) = record { place = place; reason = reason } ∷ []

@@ -1,4 +1,4 @@
--- What contracts see of the octets that a key holds.
+-- The octets of a key as contracts see them.
 use Rattle.jwt_mac.specs.Verifying.{KeyOctets, OctKey, RsaKey, EcKey, OkpKey}
 use Rattle.jwt_keys.specs.declared.material.Material.{Material}
 use Rattle.jwt_keys.specs.declared.material.Material.TheVariants.{Oct, Rsa, Ec, Okp}

@@ -1,4 +1,4 @@
--- Why an entry of a key set is skipped: the first row that holds.
+-- The reasons to skip an entry of a key set: the first row that holds.
 use Rattle.std.specs.Prelude.{ℕ, ◌&&◌, ◌||◌, Bool, false, not, List, [], ◌∷◌, ◌++◌, length, Option, Some, None, is_some, is_none, option_and_then, unwrap_or, codes, Result}
 use Rattle.std.specs.Option.{option_map_or}
 use Rattle.std.specs.List.{list_all}
@@ -67,10 +67,6 @@ octets_at name ms = option_and_then octets_of (text_at name ms)
 abbrev pub member_octets : List ℕ → Members → List ℕ
 member_octets name ms = unwrap_or (octets_at name ms) []
 
--- those octets, or the reason that there are none
-abbrev pub spelled : List ℕ → Members → Result (List ℕ) SkipReason
-spelled name ms = some_or Base64 (octets_at name ms)
-
 abbrev pub is_misspelled : Kind → Members → Bool
 is_misspelled kind ms = not (list_all (λ name. is_some (octets_at name ms)) (encoded kind))
 
@@ -107,6 +103,12 @@ object_rows ms = shape_rows ms ++ octet_rows_of (kind_at ms) ms
 -- all nine rows, of an entry that is no object or has these members
 abbrev pub skip_rows : Option Members → List (Row SkipReason)
 skip_rows entry = (is_no_object entry ⇒ NotObject) ∷ object_rows (unwrap_or entry no_members)
+
+-- ---- Cited by contracts of private functions alone
+
+-- those octets, or the reason that there are none
+abbrev pub spelled : List ℕ → Members → Result (List ℕ) SkipReason
+spelled name ms = some_or Base64 (octets_at name ms)
 
 -- the first of rows 2 to 7 that holds
 unfoldable pub shape_skip_of : Members → Option SkipReason

@@ -1,4 +1,4 @@
--- What a verifier that the caller hands in means, over the octets that it is asked about.
+-- The meaning of a verifier that the caller hands in, over the octets that it is asked about.
 use Rattle.std.specs.Prelude.{◌≡◌, ℕ, Bool, true, false, List, [], ◌∷◌, ◌++◌, Option}
 use Rattle.std.specs.List.{find}
 use Rattle.jwt_mac.specs.declared.algorithm.Alg.{Alg}

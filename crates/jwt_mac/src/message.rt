@@ -1,4 +1,4 @@
-//! What is signed, and the key that a signature is checked by, both lent.
+//! A signed message, and the key that its signature is checked by, both lent.
 
 ghost use Rattle.std.specs.Prelude.{◌≡◌, ◌∷◌, [], map};
 ghost use Rattle.jwt_mac.specs.Hmac.{all_octets};

@@ -1,4 +1,4 @@
--- What a memory holds.
+-- The entries of a memory.
 use Rattle.std.specs.Prelude.{◌≡◌}
 use Rattle.jwt_memory.specs.declared.memory.Entry.{Entry}
 use Rattle.jwt_memory.specs.declared.memory.Memory.{Memory}

@@ -1,4 +1,4 @@
--- What holds of each token that a memory keeps.
+-- The invariant of each token that a memory keeps.
 use Rattle.std.specs.Prelude.{ℕ, ℤ, List}
 use Rattle.std.specs.Arc.{arc_value}
 use Rattle.jwt_mac.specs.Verifying.{Meaning}

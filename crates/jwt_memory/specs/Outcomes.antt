@@ -1,4 +1,4 @@
--- What an outcome says.
+-- An outcome as contracts see it.
 use Rattle.std.specs.Prelude.{◌≡◌, ℕ, Bool, true, false, List, []}
 use Rattle.std.specs.Arc.{arc_value}
 use Rattle.jwt_verify.specs.declared.report.Try.{Try}

@@ -1,4 +1,4 @@
--- What holds of each token that a memory keeps, where its signatures were told of.
+-- The invariant of each token that a memory keeps, where the caller checked its signatures.
 use Rattle.std.specs.Prelude.{ℕ, ℤ, List, [], ◌∷◌}
 use Rattle.std.specs.Arc.{arc_value}
 use Rattle.jwt_keys.specs.declared.set.KeySet.{KeySet}

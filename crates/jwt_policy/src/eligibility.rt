@@ -1,4 +1,4 @@
-//! Which pairs of a signature and a key are eligible.
+//! The eligible pairs of a signature and a key.
 
 ghost use Rattle.std.specs.Prelude.{◌≡◌, Some, map};
 ghost use Rattle.jwt_mac.specs.Verifying.{key_octets};

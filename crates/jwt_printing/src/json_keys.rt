@@ -1,4 +1,4 @@
-//! What `keys --json` prints.
+//! The output of `keys --json`.
 ghost use Rattle.std.specs.Prelude.{◌≡◌, ◌++◌, ◌∷◌, [], IfOk, OnOk, map, codes};
 ghost use Rattle.json.specs.Tree.{json_tokens};
 ghost use Rattle.jwt_keys.specs.KeySets.{key_set};

@@ -1,4 +1,4 @@
-//! What `show --json` prints.
+//! The output of `show --json`.
 ghost use Rattle.std.specs.Prelude.{◌≡◌, ◌++◌, ◌∷◌, [], Err, IfOk, IfSome, OnOk, option_map, codes};
 ghost use Rattle.json.specs.Find.{at, get};
 ghost use Rattle.json.specs.Tree.{HasNumbers, json_tokens};

@@ -1,4 +1,4 @@
-//! What `verify --json` prints.
+//! The output of `verify --json`.
 ghost use Rattle.std.specs.Prelude.{◌≡◌, ◌++◌, ◌∷◌, [], IfOk, OnOk, map, codes};
 ghost use Rattle.json.specs.Tree.{json_tokens};
 ghost use Rattle.jwt_verify.specs.FaultNames.{fault_name};

@@ -46,22 +46,6 @@ question_of token signature key = option_map (λ a. record { alg = a; key = key.
 unfoldable pub question_at : Token → List KeyParts → ℕ → ℕ → Option QuestionParts
 question_at token keys signature key = at_pair (question_of token) None token keys signature key
 
--- by this algorithm no answer was told to whether the key made the signature over the message; HMAC needs none
-abbrev pub is_untold : List ToldParts → Token → SignatureParts → KeyParts → Alg → Bool
-is_untold answers token signature key algorithm = not (is_hmac_alg algorithm) && is_none (answer_to answers algorithm key.octets (message_of token signature) signature.octets)
-
--- the key and the signature of these numbers raise a question that no answer was told to
-unfoldable pub is_open : List ToldParts → Token → List KeyParts → ℕ → ℕ → Bool
-is_open answers token keys signature key = at_pair (λ s k. option_map_or (is_untold answers token s k) (alg s) false) false token keys signature key
-
--- the question of a try is open
-abbrev pub asks_open : List ToldParts → Token → List KeyParts → Try → Bool
-asks_open answers token keys entry = is_open answers token keys entry.signature entry.key
-
--- the first of these tries whose question is open
-abbrev pub first_open : List ToldParts → Token → List KeyParts → List Try → Option Try
-first_open answers token keys made = find (asks_open answers token keys) made
-
 -- the octets are a token, and whether the key verifies the signature is a question that no answer was told to
 abbrev pub IsOpen : List ToldParts → Settings → List ℕ → List KeyParts → ℕ → ℕ → Type 0
 IsOpen answers policy octets keys signature key = (token : Token) × IsToken policy octets token
@@ -80,6 +64,8 @@ IsFirstOpen answers policy octets keys made signature key = (before after : List
 abbrev pub AreTries : Terms → List ℕ → ℕ → List Try → Type 0
 AreTries terms octets ceiling made = (report : Report) × IsReport terms octets ceiling report × FoundMemory report.verdict × (report.tries.items ≡ made)
 
+-- ---- Cited by laws alone
+
 -- all that a verdict rests on but the token and the budget's ceiling, where this is the one verifier
 abbrev pub terms_by : Meaning → Settings → List KeyParts → ℤ → Terms
 terms_by verifier policy keys now = record { policy = policy; keys = keys; now = now; verifiers = verifier ∷ [] }
@@ -91,3 +77,21 @@ RightAnswers = (answers : List ToldParts) (truth : Truth) (policy : Settings) (k
     → AreRight truth answers → IsReport (terms_by (told_meaning answers) policy keys now) octets ceiling report → FoundMemory report.verdict
     → NoneOpen answers policy octets keys report.tries.items
     → IsVerdict (terms_by (true_meaning truth) policy keys now) octets ceiling report.verdict
+
+-- ---- Cited by contracts of private functions alone
+
+-- by this algorithm no answer was told to whether the key made the signature over the message; HMAC needs none
+abbrev pub is_untold : List ToldParts → Token → SignatureParts → KeyParts → Alg → Bool
+is_untold answers token signature key algorithm = not (is_hmac_alg algorithm) && is_none (answer_to answers algorithm key.octets (message_of token signature) signature.octets)
+
+-- the key and the signature of these numbers raise a question that no answer was told to
+unfoldable pub is_open : List ToldParts → Token → List KeyParts → ℕ → ℕ → Bool
+is_open answers token keys signature key = at_pair (λ s k. option_map_or (is_untold answers token s k) (alg s) false) false token keys signature key
+
+-- the question of a try is open
+abbrev pub asks_open : List ToldParts → Token → List KeyParts → Try → Bool
+asks_open answers token keys entry = is_open answers token keys entry.signature entry.key
+
+-- the first of these tries whose question is open
+abbrev pub first_open : List ToldParts → Token → List KeyParts → List Try → Option Try
+first_open answers token keys made = find (asks_open answers token keys) made

@@ -21,7 +21,8 @@ use Rattle.jwt_verify.specs.Pairs.{pair_entry, IsNextPair, IsTried}
 use Rattle.jwt_verify.specs.Settled.{is_verified, settled_key, settled_state}
 use Rattle.jwt_verify.specs.declared.tries.End.TheVariants.{Done, WorkExceeded, CallsExceeded, VerifierMemory}
 use Rattle.jwt_verify.specs.Table.{Table, below, reached, entry, work, is_within, outcome, state_at, states_at}
-use Rattle.jwt_verify.specs.Walk.{state_of, IsAt, IsThrough, IsPending, IsEnd, IsRowEnd, IsRecorded, goes_on, IsNextKey, NoneEligible}
+use Rattle.jwt_verify.specs.Walk.{state_of, IsAt, IsThrough, IsEnd, IsRowEnd, IsRecorded, goes_on, IsNextKey, NoneEligible}
+use Rattle.jwt_verify.proofs.Pending.{IsPending}
 use Rattle.jwt_verify.specs.Paying.{IsFront}
 use Rattle.jwt_verify.proofs.Below.{length-below, map-below, map-agree, map-tail, list_any-gap}
 use Rattle.jwt_verify.specs.Table.{IsRun, paid}

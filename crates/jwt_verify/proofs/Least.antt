@@ -17,7 +17,8 @@ use Rattle.jwt_verify.specs.declared.report.Try.{Try}
 use Rattle.jwt_verify.specs.declared.report.SigState.{SigState}
 use Rattle.jwt_verify.specs.declared.report.SigState.TheVariants.{Verified, NotReached, Stopped}
 use Rattle.jwt_verify.specs.Table.{Table, below, verifies, verified, tried, entry, tries, stop, reached, state_at, states_at, outcome, work, is_within, paid, affords}
-use Rattle.jwt_verify.specs.Walk.{state_of, IsAt, IsThrough, IsPending, row, rows, goes_on}
+use Rattle.jwt_verify.specs.Walk.{state_of, IsAt, IsThrough, row, rows, goes_on}
+use Rattle.jwt_verify.proofs.Pending.{IsPending}
 use Rattle.jwt_verify.specs.Laws.{with_valid}
 use Rattle.jwt_verify.proofs.Below.{below-zero, list_any-below, map-agree, grows}
 use Rattle.jwt_verify.proofs.Paying.{paid_is, paid_all, paid_rest, paid_fits, paid_over, slice_get_at, paid_front, within_less, work-append}

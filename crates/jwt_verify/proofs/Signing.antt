@@ -11,9 +11,9 @@ use Rattle.jwt_policy.specs.declared.mode.Mode.TheVariants.{Any, All}
 use Rattle.jwt_policy.specs.declared.sig_fault.SigFault.{SigFault}
 use Rattle.jwt_verify.specs.declared.report.SigState.{SigState}
 use Rattle.jwt_verify.specs.Table.{Table, below, verifies, verified, reached_in, reached, outcome, state_at, states_at}
-use Rattle.jwt_verify.specs.Walk.{state_of}
+use Rattle.jwt_verify.proofs.SignedBy.{state_of}
 use Rattle.jwt_verify.specs.Verdict.{first_in, fault_of, key_at, fault_at, signing_in, signing_of}
-use Rattle.jwt_verify.specs.Steps.{key_of, key_in, fault_in, signing_by}
+use Rattle.jwt_verify.proofs.SignedBy.{key_of, key_in, fault_in, signing_by}
 use Rattle.jwt_verify.proofs.Below.{below-zero, length-below, list_any-gap, list_all-below}
 use Rattle.jwt_verify.proofs.First.{first_none_at, first_agree}
 use Rattle.jwt_verify.proofs.Walking.{find_none, verifies_ineligible}

@@ -8,7 +8,7 @@ use Rattle.jwt_verify.specs.declared.report.Try.{Try}
 use Rattle.jwt_verify.specs.declared.report.SigState.{SigState}
 use Rattle.jwt_verify.specs.declared.report.SigState.TheVariants.{Barred, NoKey, BadSignature, Verified, NotReached, Stopped}
 use Rattle.jwt_verify.specs.Table.{Table, below, verified, verifies, reached, outcome, state_at, states_at}
-use Rattle.jwt_verify.specs.Walk.{state_of}
+use Rattle.jwt_verify.proofs.SignedBy.{state_of}
 use Rattle.jwt_verify.specs.Verdict.{key_at}
 use Rattle.jwt_verify.specs.Accepted.{IsLeastKey}
 use Rattle.jwt_verify.specs.Reports.{GoesThrough, IsState}

@@ -1,4 +1,4 @@
--- When a token is accepted, and why it is refused, in words.
+-- The acceptance of a token, and each cause to refuse one, in words.
 use Rattle.std.specs.Prelude.{ℕ, ◌+◌, ◌<◌, ◌≤◌, ◌≡◌, ◌⊎◌, ◌↔◌, true, false, List, length, Option, Some, None, Ok, Err, ◌++◌, ◌∷◌, map}
 use Rattle.serde_json.specs.Data.{Members}
 use Rattle.jwt_text.specs.ObjectText.{IsObjectText}
@@ -109,6 +109,8 @@ IsFault terms octets ceiling fault = IsTokenFault terms.policy octets fault
 abbrev pub IsVerdict : Terms → List ℕ → ℕ → Verdict → Type 0
 IsVerdict terms octets ceiling (Accepted signature key claims) = IsAccepted terms octets ceiling signature key claims
 IsVerdict terms octets ceiling (Refused fault) = IsFault terms octets ceiling fault
+
+-- ---- Cited by laws alone
 
 -- the octets have exactly one verdict
 abbrev pub HasOneVerdict : Type 0

@@ -1,4 +1,4 @@
--- What is asked of a token, by what its verifiers mean.
+-- The table of a token's pairs, by the meanings of the verifiers.
 use Rattle.std.specs.Prelude.{map}
 use Rattle.std.specs.Global.{Global}
 use Rattle.std.specs.declared.dyn_box.DynBox.{DynBox}

@@ -1,4 +1,4 @@
--- What a signed token asks of a list of keys, in words.
+-- The pairs of a signed token and a list of keys, in words.
 use Rattle.std.specs.Prelude.{ℕ, ◌≡◌, ◌⊎◌, ◌↔◌, ◌<◌, ◌≤◌, true, false, List, length, slice_get, Some}
 use Rattle.jwt_mac.specs.declared.algorithm.Alg.{Alg}
 use Rattle.jwt_mac.specs.Algorithm.{is_hmac_alg, tag_of, try_cost}

@@ -1,4 +1,4 @@
--- What a report on a token holds.
+-- The report on a token.
 use Rattle.std.specs.Prelude.{◌≡◌, ◌≢◌, ◌≤◌, ◌<◌, ◌+◌, ◌*◌, ◌⊎◌, ℕ, ℤ, ◌++◌, true, false, List, [], ◌∷◌, length, map, slice_get, Option, Some, None}
 use Rattle.std.specs.List.{All, AllZip, sum_by}
 use Rattle.jwt_mac.specs.Verifying.{Meaning}

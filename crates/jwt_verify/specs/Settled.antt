@@ -1,4 +1,4 @@
--- What a signature comes to, by the code's own words.
+-- The outcome of one signature, by the code's own words.
 use Rattle.std.specs.Prelude.{ℕ, Bool, true, false, Option, Some, None}
 use Rattle.jwt_policy.specs.declared.sig_fault.SigFault.TheVariants as sig_fault
 use Rattle.jwt_verify.specs.declared.settled.Settled.{Settled}

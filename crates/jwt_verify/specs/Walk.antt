@@ -1,15 +1,13 @@
--- How far a run has come: what the private functions say of the tries that they have listed.
-use Rattle.std.specs.Prelude.{ℕ, ◌+◌, ◌<◌, ◌≤◌, ◌≡◌, ◌++◌, ◌∷◌, [], Bool, true, false, not, List, map, length, Option, None, Some, if◌then◌else◌}
+-- A run that is under way: the clauses of private functions on the tries so far.
+use Rattle.std.specs.Prelude.{ℕ, ◌+◌, ◌<◌, ◌≤◌, ◌≡◌, ◌++◌, ◌∷◌, Bool, true, false, not, List, map, length, Option, None, Some}
 use Rattle.std.specs.List.{list_any, filter, flat_map, find}
-use Rattle.std.specs.Option.{option_map_or}
 use Rattle.jwt_verify.specs.declared.tries.RowEnd.{RowEnd}
 use Rattle.jwt_verify.specs.declared.tries.RowEnd.TheVariants.{Through, Stop}
 use Rattle.jwt_verify.specs.declared.settled.Settled.{Settled}
 use Rattle.jwt_verify.specs.declared.tries.End.{End}
 use Rattle.jwt_verify.specs.declared.tries.End.TheVariants.{Done, WorkExceeded, CallsExceeded, VerifierMemory}
 use Rattle.jwt_verify.specs.declared.report.SigState.{SigState}
-use Rattle.jwt_verify.specs.declared.report.SigState.TheVariants.{Barred, NoKey, BadSignature, Verified, NotReached}
-use Rattle.jwt_policy.specs.declared.sig_fault.SigFault.{SigFault}
+use Rattle.jwt_verify.specs.declared.report.SigState.TheVariants.{NotReached}
 use Rattle.jwt_policy.specs.declared.mode.Mode.{Mode}
 use Rattle.jwt_policy.specs.declared.mode.Mode.TheVariants.{Any, All}
 use Rattle.jwt_verify.specs.declared.report.Try.{Try}
@@ -63,12 +61,6 @@ pub record IsCounted (fed called ceiling : ℕ) (max_calls : Option ℕ) (made :
   pub fits : work made ≤ ceiling
   pub within : is_within max_calls (length made) ≡ true
 
--- these tries were made, and the run asks for this pair next
-pub record IsPending (table : Table) (signature key : ℕ) (made : List Try) : Type 0 where
-  pub at : IsAt table signature key made
-  pub within : key < table.keys
-  pub eligible : table.eligible signature key ≡ true
-
 -- how a run ended
 abbrev pub IsEnd : Table → ℕ → Option ℕ → List Try → End → Type 0
 IsEnd table ceiling calls made Done = made ≡ tries table
@@ -87,10 +79,6 @@ stopped_at table (VerifierMemory signature key) = Some (entry table signature ke
 pub record IsSettled (table : Table) (signature : ℕ) (settled : Settled) : Type 0 where
   pub state : settled_state settled ≡ outcome table signature
   pub key : find (verifies table signature) (below table.keys) ≡ settled_key settled
-
--- what becomes of a signature, by its bar, whether a key is eligible, and the key that verifies it
-abbrev pub state_of : Option SigFault → Bool → Option ℕ → SigState
-state_of bar seen found = option_map_or Barred bar (option_map_or Verified found (if seen then BadSignature else NoKey))
 
 -- how the tries of one signature ended
 abbrev pub IsRowEnd : Table → ℕ → ℕ → Option ℕ → List Try → RowEnd → Type 0

@@ -1,4 +1,4 @@
-//! What is asked of each token.
+//! The terms of a verdict: the policy, the keys, the moment and the verifiers.
 
 use jwt_keys::KeySet;
 use jwt_mac::Verifier;

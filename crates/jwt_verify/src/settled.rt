@@ -1,4 +1,4 @@
-//! What a signature comes to, and what all signatures of a token do.
+//! The outcome of one signature, and of all signatures of a token.
 
 ghost use Rattle.std.specs.Prelude.{◌≡◌, IsTrue, ◌↔◌};
 ghost use Rattle.jwt_verify.specs.Settled.{settled_state, settled_signing, is_verified};

@@ -1,4 +1,4 @@
-//! Which pairs of signature and key are tried, and what they cost.
+//! The pairs of signature and key that are tried, and their cost.
 
 ghost use Rattle.std.specs.Prelude.{◌≡◌, ◌<◌, ◌≤◌, ◌+◌, ◌-◌, ◌^◌, replicate, OnOk, ◌++◌, [], List, length, OnErr, IfOk, MatchResult};
 ghost use Rattle.jwt_jws.specs.Views.{token};

@@ -1,4 +1,4 @@
-//! Which keys a verifier takes.
+//! The keys that a verifier takes.
 
 ghost use Rattle.std.specs.Prelude.{◌≡◌, ◌^◌, ◌%◌, ◌==◌, ◌&&◌, nat_le, nat_lt};
 ghost use Rattle.jwt_mac.specs.Verifying.{key_octets};
