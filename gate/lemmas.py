@@ -61,7 +61,7 @@ def groups(crate):
 def drawn(crate):
     """The text that a crate's `proofs/Lib.antt` has where its groups are drawn anew."""
     found = groups(crate)
-    return "\n\n".join("\n".join([heading(it), *lines]) for it, lines in found.items()) + "\n"
+    return "\n".join("\n".join([heading(it), *lines]) for it, lines in found.items()) + "\n"
 
 
 def misplaced(crate):

@@ -18,7 +18,6 @@ pub mod Forms
 pub mod Congruence
 pub mod FieldValues
 pub mod Made
-
 pub mod Slopes
 pub mod Chord
 pub mod Tangent

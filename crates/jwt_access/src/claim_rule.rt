@@ -22,7 +22,7 @@ pub(crate) enum ClaimValue {
     Whole(i64),
 }
 
-/// A claim, and the values of which it has to have one.
+/// A claim, and the values that are allowed for it: it has to have one of them.
 #[derive(Drop)]
 pub(crate) struct ClaimRule {
     pub(crate) place: Place,

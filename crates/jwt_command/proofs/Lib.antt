@@ -1,13 +1,10 @@
 -- ---- For mac.rt
 pub mod CostLemmas
-
 -- ---- For run.rt
 pub mod Printing
-
 -- ---- For verify_lines.rt
 pub mod AnsweredLines
 pub mod RunningLines
-
 -- ---- For several files
 pub mod InputLemmas
 pub mod LineLemmas

@@ -240,7 +240,7 @@ fn jwk_takes_der(rt: HostRuntime) -> Result<(), Fail> {
     assert_ran(&rt, alloc, &found, &["refused Line"], 1)
 }
 
-/// A file in hand stands in the place of the input, of which nothing is then read.
+/// A file in hand stands in the place of the input, which isn't read then.
 #[test]
 fn jwk_takes_a_file_in_hand(rt: HostRuntime) -> Result<(), Fail> {
     let alloc = rt.alloc();

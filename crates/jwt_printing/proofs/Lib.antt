@@ -1,18 +1,13 @@
 -- ---- For json_show.rt
 pub mod ShowingJson
-
 -- ---- For keys.rt
 pub mod Listing
-
 -- ---- For laws.rt
 pub mod Passing
-
 -- ---- For nearest.rt
 pub mod NearLemmas
-
 -- ---- For show.rt
 pub mod Showing
 pub mod SpelledLemmas
-
 -- ---- For several files
 pub mod JsonLemmas

@@ -376,7 +376,7 @@ static ES512_SIGNATURES: [Row; 6] = [
     },
 ];
 
-/// What ES256 refuses, part 1. OpenSSL refuses it too, but for lengths, which it isn't told.
+/// What ES256 refuses, part 1. OpenSSL refuses it too; lengths aren't told to it.
 static ES256_OTHERS_1: [Row; 13] = [
     Row {
         shows: "key 1, one bit of the signature changed",
@@ -484,7 +484,7 @@ static ES256_OTHERS_1: [Row; 13] = [
     },
 ];
 
-/// What ES256 refuses, part 2. OpenSSL refuses it too, but for lengths, which it isn't told.
+/// What ES256 refuses, part 2. OpenSSL refuses it too; lengths aren't told to it.
 static ES256_OTHERS_2: [Row; 13] = [
     Row {
         shows: "key 5, one octet more in the message",
@@ -592,7 +592,7 @@ static ES256_OTHERS_2: [Row; 13] = [
     },
 ];
 
-/// What ES256 refuses, part 3. OpenSSL refuses it too, but for lengths, which it isn't told.
+/// What ES256 refuses, part 3. OpenSSL refuses it too; lengths aren't told to it.
 static ES256_OTHERS_3: [Row; 13] = [
     Row {
         shows: "the last sum is infinity",
@@ -700,7 +700,7 @@ static ES256_OTHERS_3: [Row; 13] = [
     },
 ];
 
-/// What ES256 refuses, part 4. OpenSSL refuses it too, but for lengths, which it isn't told.
+/// What ES256 refuses, part 4. OpenSSL refuses it too; lengths aren't told to it.
 static ES256_OTHERS_4: [Row; 11] = [
     Row {
         shows: "ES256, a digest of another hash",
@@ -792,7 +792,7 @@ static ES256_OTHERS_4: [Row; 11] = [
     },
 ];
 
-/// What ES384 refuses, part 1. OpenSSL refuses it too, but for lengths, which it isn't told.
+/// What ES384 refuses, part 1. OpenSSL refuses it too; lengths aren't told to it.
 static ES384_OTHERS_1: [Row; 12] = [
     Row {
         shows: "ES384, r = 0",
@@ -984,7 +984,7 @@ static ES384_OTHERS_2: [Row; 11] = [
     },
 ];
 
-/// What ES512 refuses, part 1. OpenSSL refuses it too, but for lengths, which it isn't told, and coordinates of p or more.
+/// What ES512 refuses, part 1. OpenSSL refuses it too, coordinates of p or more aside; lengths aren't told to it.
 static ES512_OTHERS_1: [Row; 14] = [
     Row {
         shows: "ES512, r = 0",
@@ -1100,7 +1100,7 @@ static ES512_OTHERS_1: [Row; 14] = [
     },
 ];
 
-/// What ES512 refuses, part 2. OpenSSL refuses it too, but for lengths, which it isn't told, and coordinates of p or more.
+/// What ES512 refuses, part 2. OpenSSL refuses it too, coordinates of p or more aside; lengths aren't told to it.
 static ES512_OTHERS_2: [Row; 13] = [
     Row {
         shows: "ES512, a digest of another hash",

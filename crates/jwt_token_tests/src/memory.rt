@@ -189,7 +189,7 @@ fn a_token_that_comes_again_is_judged_by_its_claims(rt: HostRuntime) -> Result<(
     Ok(())
 }
 
-/// What is made of the token of RFC 7515, appendix A.2, by a memory and what was told.
+/// The outcome of the token of RFC 7515, appendix A.2, by a memory and the caller's answers.
 fn word_by(
     alloc: Global,
     memory: &mut Memory,
