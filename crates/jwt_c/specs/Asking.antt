@@ -13,6 +13,7 @@ use Rattle.jwt_ed25519.specs.Meanings.{ed25519_meaning}
 use Rattle.jwt_rsa.specs.Meanings.{rsa_meaning}
 use Rattle.jwt_told.specs.Told.{ToldParts, told}
 use Rattle.jwt_told.specs.Questions.{QuestionParts, told_of}
+use Rattle.jwt_told.specs.Ranks.{key_first, key_second}
 use Rattle.jwt_c.specs.declared.asking.Proved.{Proved}
 use Rattle.jwt_c.specs.declared.asking.Proved.TheVariants.{Rsa, Ed25519 as OnEd25519, Any}
 use Rattle.jwt_c.specs.declared.desk.Desk.{Desk}
@@ -49,20 +50,6 @@ kind_number (OctKey k) = 1
 kind_number (RsaKey n e) = 2
 kind_number (EcKey c x y) = curve_number c
 kind_number (OkpKey c x) = ed_curve_number c
-
--- a key's first member: the secret, the modulus, the coordinate x
-abbrev pub key_first : KeyOctets → List ℕ
-key_first (OctKey k) = k
-key_first (RsaKey n e) = n
-key_first (EcKey c x y) = x
-key_first (OkpKey c x) = x
-
--- its second: the exponent, the coordinate y
-abbrev pub key_second : KeyOctets → List ℕ
-key_second (OctKey k) = []
-key_second (RsaKey n e) = e
-key_second (EcKey c x y) = y
-key_second (OkpKey c x) = []
 
 -- what a question is written as: the signing input, the signature, the key's two members
 abbrev pub question_octets : QuestionParts → List ℕ

@@ -157,8 +157,8 @@ asked_at (Err f) keys i j = None
 -- what is asked of the token is the first try of a run by what was told of which nothing was told, and comes with the token
 abbrev pub IsAsking : List ToldParts → Documents → ℤ → List ℕ → Asking → Type 0
 IsAsking answers it now x asks = AreTries (terms it.policy it.keys now (told_meaning answers ∷ [])) x it.policy.run.work asks.tries.items
-    × IsFirstOpen answers it.policy x (key_set it.keys).keys asks.tries.items asks.question.signature asks.question.key
-    × IsOpen answers it.policy x (key_set it.keys).keys asks.question.signature asks.question.key
+    × IsFirstOpen answers it.policy x (key_set it.keys).keys asks.tries.items asks.pair.signature asks.pair.key
+    × IsOpen answers it.policy x (key_set it.keys).keys asks.pair.signature asks.pair.key
     × (token_of it.policy x ≡ Ok (token asks.token))
 
 -- The tries that are kept are those of a run that finds memory, where what wasn't told counts as invalid. The pair that is named is the

@@ -15,7 +15,7 @@ ghost use Rattle.jwt_told.specs.Questions.{AreTries, IsFirstOpen, IsOpen, NoneOp
 
 use crate::answers::Answers;
 use crate::laws::right_answers;
-use crate::questions::{Asking, Question, first_open};
+use crate::questions::{Asking, OpenPair, first_open};
 use jwt_jws::Signed;
 use jwt_keys::KeySet;
 use jwt_mac::{Budget, CountDown, Verifier};
@@ -63,8 +63,8 @@ fn found_memory(verdict: &Verdict<'_>) -> bool
 /// What is to be asked, where this try is the first of the report's whose question is open.
 fn asking<'a>(first: Try, report: Report<'_>, token: Signed<'a>) -> Asking<'a>
     ensures token { result.token ≡ token.entry }
-    ensures signature { result.question.signature ≡ first.signature }
-    ensures key { result.question.key ≡ first.key }
+    ensures signature { result.pair.signature ≡ first.signature }
+    ensures key { result.pair.key ≡ first.key }
     ensures tries { result.tries.items ≡ report.entry.tries.items }
 {
     let Report {
@@ -74,7 +74,7 @@ fn asking<'a>(first: Try, report: Report<'_>, token: Signed<'a>) -> Asking<'a>
     } = report;
     Asking {
         token,
-        question: Question::of(first),
+        pair: OpenPair::of(first),
         tries,
     }
 }
@@ -199,10 +199,10 @@ pub fn judge_told<'a, 'p>(
         octets.now (⟦<CountDown as Budget>⟧.ceiling budget.old) a.tries.items) }
     ensures first { IfErr result (λ a. IsFirstOpen (told answers.now)
         policy.now octets.now (key_set keys.now).keys a.tries.items
-        a.question.signature a.question.key) }
+        a.pair.signature a.pair.key) }
     ensures question { IfErr result (λ a. IsOpen (told answers.now)
         policy.now octets.now (key_set keys.now).keys
-        a.question.signature a.question.key) }
+        a.pair.signature a.pair.key) }
 
     // It comes with the token.
     ensures token { IfErr result (λ a. token_of policy.now octets.now ≡ Ok (token a.token)) }
