@@ -13,12 +13,12 @@ use Rattle.jwt_verify.specs.declared.report.SigState.{SigState}
 use Rattle.jwt_verify.specs.declared.report.SigState.TheVariants.{NotReached, Stopped}
 use Rattle.jwt_verify.specs.declared.tries.RowEnd.TheVariants.{Through, Stop}
 use Rattle.jwt_verify.specs.declared.tries.Tried.TheVariants.{Verified as Valid, Failed, Stop as Halt}
-use Rattle.jwt_verify.specs.declared.settled.Settled.{Settled}
-use Rattle.jwt_verify.specs.declared.settled.Settled.TheVariants.{Verified, Barred, NoKey, BadSignature}
+use Rattle.jwt_verify.specs.declared.signature_outcome.SignatureOutcome.{SignatureOutcome}
+use Rattle.jwt_verify.specs.declared.signature_outcome.SignatureOutcome.TheVariants.{Verified, Barred, NoKey, BadSignature}
 use Rattle.jwt_verify.specs.declared.pair.Pair.{Pair}
 use Rattle.jwt_verify.specs.AskedTable.{Means}
 use Rattle.jwt_verify.specs.Pairs.{pair_entry, IsNextPair, IsTried}
-use Rattle.jwt_verify.specs.Settled.{is_verified, settled_key, settled_state}
+use Rattle.jwt_verify.specs.SignatureOutcome.{is_verified, outcome_key, outcome_state}
 use Rattle.jwt_verify.specs.declared.tries.End.TheVariants.{Done, WorkExceeded, CallsExceeded, VerifierMemory}
 use Rattle.jwt_verify.specs.Table.{Table, below, reached, entry, work, is_within, outcome, state_at, states_at}
 use Rattle.jwt_verify.specs.Walk.{state_of, IsAt, IsThrough, IsPending, IsEnd, IsRowEnd, IsRecorded, goes_on, IsNextKey, NoneEligible}
@@ -66,23 +66,23 @@ pending_next {t} {i} {from} {j} {es} a n =
     }
 
 -- what a signature that nothing bars comes to, where no key verifies it
-abbrev pub unverified : Bool → Settled
+abbrev pub unverified : Bool → SignatureOutcome
 unverified seen = if seen then BadSignature else NoKey
 
 unverified_not : (seen : Bool) → is_verified (unverified seen) ≡ false
 unverified_not true = refl
 unverified_not false = refl
 
-unverified_state : (seen : Bool) → settled_state (unverified seen) ≡ state_of None seen None
+unverified_state : (seen : Bool) → outcome_state (unverified seen) ≡ state_of None seen None
 unverified_state true = refl
 unverified_state false = refl
 
-unverified_key : (seen : Bool) → settled_key (unverified seen) ≡ None
+unverified_key : (seen : Bool) → outcome_key (unverified seen) ≡ None
 unverified_key true = refl
 unverified_key false = refl
 
 -- no eligible key is left
-pub row_end : {t : Table} {i from : ℕ} {es : List Try} {s : Settled} (ceiling : ℕ) (calls : Option ℕ) → IsAt t i from es → from ≤ t.keys → t.bar i ≡ None
+pub row_end : {t : Table} {i from : ℕ} {es : List Try} {s : SignatureOutcome} (ceiling : ℕ) (calls : Option ℕ) → IsAt t i from es → from ≤ t.keys → t.bar i ≡ None
     → s ≡ unverified (list_any (t.eligible i) (below from)) → NoneEligible t i from t.keys → IsRowEnd t i ceiling calls es (Through s)
 unfolding outcome
 row_end {t} {i} {from} {es} {s} ceiling calls a l bar settles none =

@@ -33,8 +33,8 @@ use Rattle.jwt_verify.specs.Trying.{at_pair, table_of}
 use Rattle.jwt_verify.specs.Verdict.{Terms, Signing, VerifiedBy, Unverified, checked, claims_verdict, conclusion, unless_stopped, token_verdict, signing_of, formed, token_of, table, decided, verdict_of, without_line_feed}
 use Rattle.jwt_verify.specs.Reports.{FoundMemory}
 use Rattle.jwt_verify.specs.Steps.{IsWhole}
-use Rattle.jwt_verify.specs.declared.settled.Signing.{Signing as Decided}
-use Rattle.jwt_verify.specs.Settled.{signing_view}
+use Rattle.jwt_verify.specs.declared.signature_outcome.Signing.{Signing as Decided}
+use Rattle.jwt_verify.specs.SignatureOutcome.{signing_view}
 use Rattle.jwt_verify.specs.Pairs.{IsSigned}
 use Rattle.jwt_verify.proofs.Below.{below-zero}
 use Rattle.jwt_verify.proofs.Paying.{work-nil}

@@ -23,13 +23,13 @@ use Rattle.jwt_policy.specs.Bars.{alg, can_verify, bar_of, bar_rows}
 use Rattle.jwt_policy.specs.Eligible.{suits, is_for, fits, eligible_for}
 use Rattle.jwt_policy.specs.Texts.{some_passes}
 use Rattle.jwt_verify.specs.declared.asked.Asked.{Asked}
-use Rattle.jwt_verify.specs.declared.unbarred.Numbered.{Numbered}
-use Rattle.jwt_verify.specs.declared.unbarred.Unbarred.{Unbarred}
+use Rattle.jwt_verify.specs.declared.live_signature.Numbered.{Numbered}
+use Rattle.jwt_verify.specs.declared.live_signature.LiveSignature.{LiveSignature}
 use Rattle.jwt_verify.specs.declared.pair.Way.{Way}
 use Rattle.jwt_verify.specs.declared.pair.Way.TheVariants as way
 use Rattle.jwt_verify.specs.declared.pair.Pair.{Pair}
 use Rattle.jwt_verify.specs.AskedTable.{Means, asked_table}
-use Rattle.jwt_verify.specs.Pairs.{IsVerifier, IsOpen, IsFor, IsWay, IsUnbarred, way_accepts, way_may_lack, way_cost, IsNextPair}
+use Rattle.jwt_verify.specs.Pairs.{IsVerifier, IsLive, IsFor, IsWay, IsLiveOf, way_accepts, way_may_lack, way_cost, IsNextPair}
 use Rattle.jwt_verify.specs.Trying.{at_pair, table_of, valid_under, may_lack_under, cost_under, valid_by, may_lack_by, cost_by}
 use Rattle.jwt_verify.specs.Table.{Table}
 use Rattle.jwt_verify.specs.Walk.{NoneEligible, IsNextKey, goes_on}
@@ -87,11 +87,11 @@ pub verifier_first : (v : List Meaning) (a : Alg) (o : Option Meaning) → is_hm
 verifier_first v a None h c e = let q = rw (h, sym e) at c in cc
 verifier_first v a (Some m) h c e = (h, sym e)
 
-pub open_bar : {V : Type 0} {D : V → Type 0} (means : Means V D) (a : Asked V D) (u : Unbarred V D) → IsOpen means a u → (asked_table means a u.signed.now).bar u.number ≡ None
+pub open_bar : {V : Type 0} {D : V → Type 0} (means : Means V D) (a : Asked V D) (u : LiveSignature V D) → IsLive means a u → (asked_table means a u.signed.now).bar u.number ≡ None
 unfolding asked_table
 open_bar means a u o = rw o.signature o.unbarred
 
-pub open_within : {V : Type 0} {D : V → Type 0} (means : Means V D) (a : Asked V D) (u : Unbarred V D) → IsOpen means a u → u.number < (asked_table means a u.signed.now).signatures
+pub open_within : {V : Type 0} {D : V → Type 0} (means : Means V D) (a : Asked V D) (u : LiveSignature V D) → IsLive means a u → u.number < (asked_table means a u.signed.now).signatures
 unfolding asked_table
 open_within means a u o = slice_get_within (token u.signed.now).signatures u.number (parts u.signature.now) o.signature
 
@@ -176,7 +176,7 @@ cost_named m s k a e = rw e refl
 
 -- ---- the next pair
 
-pub none_next : {V : Type 0} {D : V → Type 0} (means : Means V D) (a : Asked V D) (u : Unbarred V D) (from : ℕ) → IsOpen means a u
+pub none_next : {V : Type 0} {D : V → Type 0} (means : Means V D) (a : Asked V D) (u : LiveSignature V D) (from : ℕ) → IsLive means a u
     → IsLeastFrom (fits a.policy.now (parts u.signature.now)) (key_set a.keys.now).keys from None
     → NoneEligible (asked_table means a u.signed.now) u.number from (asked_table means a u.signed.now).keys
 unfolding asked_table
@@ -188,7 +188,7 @@ key_fits f ks j k h e = rw e at h
 key_suits : (p : Settings) (s : SignatureParts) (ks : List KeyParts) (from j : ℕ) (k : KeyParts) (a : Alg) → alg s ≡ Some a → IsLeastFrom (fits p s) ks from (Some j) → slice_get ks j ≡ Some k → suits a k.octets ≡ true
 key_suits p s ks from j k a n h e = fits_suits p s k a n (key_fits (fits p s) ks j k h.1 e)
 
-pub some_next : {V : Type 0} {D : V → Type 0} (means : Means V D) (a : Asked V D) (u : Unbarred V D) (from : ℕ) (p : Pair V D) (k : KeyParts) (view : KeyOctets) → IsOpen means a u
+pub some_next : {V : Type 0} {D : V → Type 0} (means : Means V D) (a : Asked V D) (u : LiveSignature V D) (from : ℕ) (p : Pair V D) (k : KeyParts) (view : KeyOctets) → IsLive means a u
     → IsLeastFrom (fits a.policy.now (parts u.signature.now)) (key_set a.keys.now).keys from (Some p.key)
     → slice_get (key_set a.keys.now).keys p.key ≡ Some k
     → view ≡ k.octets → IsWay means (option_map (λ v. means v.now) u.verifier) view (Some p.way)
@@ -245,10 +245,10 @@ none_past xs i l h = elim (cases_lt i (length xs)) [
 
 -- ---- what is said of an unbarred signature is said of the one of that number
 
-pub of_numbered : {V : Type 0} {D : V → Type 0} {means : Means V D} {a : Asked V D} {n : Numbered} {u : Unbarred V D} (P : Table → ℕ → Type 0) → IsUnbarred means a n u
+pub of_numbered : {V : Type 0} {D : V → Type 0} {means : Means V D} {a : Asked V D} {n : Numbered} {u : LiveSignature V D} (P : Table → ℕ → Type 0) → IsLiveOf means a n u
     → P (asked_table means a n.signed.now) n.number → P (asked_table means a u.signed.now) u.number
 of_numbered P h p = rw (h.same_token, h.same_number) p
 
-pub to_numbered : {V : Type 0} {D : V → Type 0} {means : Means V D} {a : Asked V D} {n : Numbered} {u : Unbarred V D} (P : Table → ℕ → Type 0) → IsUnbarred means a n u
+pub to_numbered : {V : Type 0} {D : V → Type 0} {means : Means V D} {a : Asked V D} {n : Numbered} {u : LiveSignature V D} (P : Table → ℕ → Type 0) → IsLiveOf means a n u
     → P (asked_table means a u.signed.now) u.number → P (asked_table means a n.signed.now) n.number
 to_numbered P h p = rw (sym h.same_token, sym h.same_number) p

@@ -7,8 +7,8 @@ use Rattle.jwt_mac.specs.Verifying.{Meaning, KeyOctets, OctKey, MessageOctets, k
 use Rattle.jwt_jws.specs.Views.{token, parts}
 use Rattle.jwt_policy.specs.Bars.{alg, bar_of}
 use Rattle.jwt_verify.specs.declared.asked.Asked.{Asked}
-use Rattle.jwt_verify.specs.declared.unbarred.Numbered.{Numbered}
-use Rattle.jwt_verify.specs.declared.unbarred.Unbarred.{Unbarred}
+use Rattle.jwt_verify.specs.declared.live_signature.Numbered.{Numbered}
+use Rattle.jwt_verify.specs.declared.live_signature.LiveSignature.{LiveSignature}
 use Rattle.jwt_verify.specs.declared.pair.Way.{Way}
 use Rattle.jwt_verify.specs.declared.pair.Way.TheVariants as way
 use Rattle.jwt_verify.specs.declared.pair.Pair.{Pair}
@@ -18,8 +18,8 @@ use Rattle.jwt_verify.specs.declared.tries.Tried.{Tried}
 use Rattle.jwt_verify.specs.declared.tries.Tried.TheVariants.{Verified, Failed, Stop}
 use Rattle.jwt_verify.specs.declared.tries.End.{End}
 use Rattle.jwt_verify.specs.declared.tries.End.TheVariants.{Done, WorkExceeded, CallsExceeded, VerifierMemory}
-use Rattle.jwt_verify.specs.declared.settled.Signing.{Signing}
-use Rattle.jwt_verify.specs.Settled.{signing_view}
+use Rattle.jwt_verify.specs.declared.signature_outcome.Signing.{Signing}
+use Rattle.jwt_verify.specs.SignatureOutcome.{signing_view}
 use Rattle.jwt_verify.specs.Table.{Table, work, is_within}
 use Rattle.jwt_verify.specs.Verdict.{signing_of}
 use Rattle.jwt_verify.specs.Walk.{IsNextKey}
@@ -32,20 +32,20 @@ IsVerifier verifiers algorithm None = is_hmac_alg algorithm ≡ true
 IsVerifier verifiers algorithm (Some verifier) = (is_hmac_alg algorithm ≡ false) × (first_naming verifiers algorithm ≡ Some verifier)
 
 -- it is this signature of its token, nothing bars it, and its algorithm and its verifier are these
-pub record IsOpen {V : Type 0} {D : V → Type 0} (means : Means V D) (asked : Asked V D) (opened : Unbarred V D) : Type 0 where
-  pub signature : slice_get (token opened.signed.now).signatures opened.number ≡ Some (parts opened.signature.now)
-  pub unbarred : bar_of asked.policy.now (parts opened.signature.now) (map means asked.verifiers.now) ≡ None
-  pub named : alg (parts opened.signature.now) ≡ Some opened.alg
-  pub verifier : IsVerifier (map means asked.verifiers.now) opened.alg (option_map (λ v. means v.now) opened.verifier)
+pub record IsLive {V : Type 0} {D : V → Type 0} (means : Means V D) (asked : Asked V D) (live : LiveSignature V D) : Type 0 where
+  pub signature : slice_get (token live.signed.now).signatures live.number ≡ Some (parts live.signature.now)
+  pub unbarred : bar_of asked.policy.now (parts live.signature.now) (map means asked.verifiers.now) ≡ None
+  pub named : alg (parts live.signature.now) ≡ Some live.alg
+  pub verifier : IsVerifier (map means asked.verifiers.now) live.alg (option_map (λ v. means v.now) live.verifier)
 
 -- it is this one of its token
 abbrev pub IsThere : Numbered → Type 0
 IsThere numbered = slice_get (token numbered.signed.now).signatures numbered.number ≡ Some (parts numbered.signature.now)
 
-pub record IsUnbarred {V : Type 0} {D : V → Type 0} (means : Means V D) (asked : Asked V D) (numbered : Numbered) (opened : Unbarred V D) : Type 0 where
-  pub same_token : opened.signed.now ≡ numbered.signed.now
-  pub same_number : opened.number ≡ numbered.number
-  pub is_open : IsOpen means asked opened
+pub record IsLiveOf {V : Type 0} {D : V → Type 0} (means : Means V D) (asked : Asked V D) (numbered : Numbered) (live : LiveSignature V D) : Type 0 where
+  pub same_token : live.signed.now ≡ numbered.signed.now
+  pub same_number : live.number ≡ numbered.number
+  pub is_live : IsLive means asked live
 
 -- ---- the try of a pair
 

@@ -4,7 +4,7 @@ use Rattle.std.specs.List.{list_any, filter, flat_map, find}
 use Rattle.std.specs.Option.{option_map_or}
 use Rattle.jwt_verify.specs.declared.tries.RowEnd.{RowEnd}
 use Rattle.jwt_verify.specs.declared.tries.RowEnd.TheVariants.{Through, Stop}
-use Rattle.jwt_verify.specs.declared.settled.Settled.{Settled}
+use Rattle.jwt_verify.specs.declared.signature_outcome.SignatureOutcome.{SignatureOutcome}
 use Rattle.jwt_verify.specs.declared.tries.End.{End}
 use Rattle.jwt_verify.specs.declared.tries.End.TheVariants.{Done, WorkExceeded, CallsExceeded, VerifierMemory}
 use Rattle.jwt_verify.specs.declared.report.SigState.{SigState}
@@ -13,7 +13,7 @@ use Rattle.jwt_policy.specs.declared.sig_fault.SigFault.{SigFault}
 use Rattle.jwt_policy.specs.declared.mode.Mode.{Mode}
 use Rattle.jwt_policy.specs.declared.mode.Mode.TheVariants.{Any, All}
 use Rattle.jwt_verify.specs.declared.report.Try.{Try}
-use Rattle.jwt_verify.specs.Settled.{is_verified, settled_key, settled_state}
+use Rattle.jwt_verify.specs.SignatureOutcome.{is_verified, outcome_key, outcome_state}
 use Rattle.jwt_verify.specs.Table.{Table, below, verifies, verified, reached, tried, entry, tries, work, is_within, outcome, state_at}
 use Rattle.jwt_verify.specs.Paying.{IsFront, IsNext}
 
@@ -84,9 +84,9 @@ stopped_at table (CallsExceeded signature key) = Some (entry table signature key
 stopped_at table (VerifierMemory signature key) = Some (entry table signature key)
 
 -- what becomes of the signature, and the key that verifies it
-pub record IsSettled (table : Table) (signature : ℕ) (settled : Settled) : Type 0 where
-  pub state : settled_state settled ≡ outcome table signature
-  pub key : find (verifies table signature) (below table.keys) ≡ settled_key settled
+pub record IsOutcome (table : Table) (signature : ℕ) (ended : SignatureOutcome) : Type 0 where
+  pub state : outcome_state ended ≡ outcome table signature
+  pub key : find (verifies table signature) (below table.keys) ≡ outcome_key ended
 
 -- what becomes of a signature, by its bar, whether a key is eligible, and the key that verifies it
 abbrev pub state_of : Option SigFault → Bool → Option ℕ → SigState
@@ -94,7 +94,7 @@ state_of bar seen found = option_map_or Barred bar (option_map_or Verified found
 
 -- how the tries of one signature ended
 abbrev pub IsRowEnd : Table → ℕ → ℕ → Option ℕ → List Try → RowEnd → Type 0
-IsRowEnd table signature ceiling calls made (Through settled) = IsThrough table signature (is_verified settled) made × IsSettled table signature settled
+IsRowEnd table signature ceiling calls made (Through ended) = IsThrough table signature (is_verified ended) made × IsOutcome table signature ended
 IsRowEnd table signature ceiling calls made (Stop end) = IsEnd table ceiling calls made end × (reached table signature ≡ true) × ((key : ℕ) × (stopped_at table end ≡ Some (entry table signature key)))
 
 -- the states of the first signatures were recorded, and no later signature is reached

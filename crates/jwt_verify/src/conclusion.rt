@@ -4,12 +4,12 @@ ghost use Rattle.std.specs.Prelude.{◌≡◌, ◌≢◌};
 ghost use Rattle.jwt_verify.specs.Verdict.{conclusion, unless_stopped};
 ghost use Rattle.jwt_verify.specs.declared.report.Verdict.TheVariants.{Refused};
 ghost use Rattle.jwt_verify.specs.declared.report.Fault.TheVariants.{OutOfMemory};
-ghost use Rattle.jwt_verify.specs.Settled.{signing_view};
+ghost use Rattle.jwt_verify.specs.SignatureOutcome.{signing_view};
 
 use crate::asked::Asked;
 use crate::report::{Fault, Verdict};
-use crate::settled::Signing;
-use crate::tries::{End, Outcome};
+use crate::signature_outcome::Signing;
+use crate::tries::{End, RunOutcome};
 use jwt_policy::{ClaimFault, Claims, check};
 use jwt_text::Scratch;
 use std::alloc::Global;
@@ -51,7 +51,7 @@ pub(crate) fn verdict_after<'p>(
     alloc: Global,
     asked: &Asked<'_, 'p, '_>,
     payload: &[u8],
-    outcome: Outcome,
+    outcome: RunOutcome,
     scratch: &mut Scratch,
 ) -> Verdict<'p>
     ensures { result ≢ Refused OutOfMemory → result

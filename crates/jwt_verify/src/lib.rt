@@ -10,12 +10,12 @@ mod asked;
 mod conclusion;
 mod judging;
 pub mod laws;
+mod live_signature;
 mod next_key;
 mod pair;
 mod report;
-mod settled;
+mod signature_outcome;
 mod tries;
-mod unbarred;
 
 pub use judging::{JudgedToken, judge, judge_signed, read_token, validate, without_line_feed};
 pub use report::{Fault, InputFault, Report, SigState, Try, Verdict};

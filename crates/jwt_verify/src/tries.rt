@@ -12,8 +12,8 @@ use crate::asked::Asked;
 use crate::next_key::next_eligible;
 use crate::pair::{Pair, try_pair};
 use crate::report::{SigState, Try};
-use crate::settled::{Settled, Signing};
-use crate::unbarred::{Numbered, Unbarred};
+use crate::signature_outcome::{SignatureOutcome, Signing};
+use crate::live_signature::{Numbered, LiveSignature};
 use jwt_jws::Signed;
 use jwt_mac::{Answer, Budget};
 use jwt_policy::{Mode, SigFault};
@@ -34,7 +34,7 @@ pub(crate) enum End {
 
 /// How a run ended and, where each try was made, what the signatures come to.
 #[derive(Clone, Copy)]
-pub(crate) struct Outcome {
+pub(crate) struct RunOutcome {
     pub(crate) end: End,
     pub(crate) signing: Signing,
 }
@@ -43,7 +43,7 @@ pub(crate) struct Outcome {
 #[derive(Clone, Copy)]
 enum RowEnd {
     /// Its keys are gone through.
-    Through(Settled),
+    Through(SignatureOutcome),
     /// The run ends there.
     Stop(End),
 }
@@ -130,21 +130,21 @@ fn try_signature<'v, B: Budget>(
         (B.ceiling budget.old) asked.now.policy.now.max_calls tries.new.items)
         (λ _. IsFront t tries.new.items) }
 {
-    let unbarred = match Unbarred::of(asked, numbered) {
-        Ok(unbarred) => unbarred,
-        Err(fault) => return Ok(RowEnd::Through(Settled::Barred(fault))),
+    let live = match LiveSignature::of(asked, numbered) {
+        Ok(live) => live,
+        Err(fault) => return Ok(RowEnd::Through(SignatureOutcome::Barred(fault))),
     };
-    let mut settled = Settled::NoKey;
+    let mut outcome = SignatureOutcome::NoKey;
     let mut from = 0;
-    'keys: while let Some(pair) = next_eligible(asked, &unbarred, from) {
+    'keys: while let Some(pair) = next_eligible(asked, &live, from) {
         match pay(&pair, asked.policy.max_calls(), budget, tries)? {
-            Tried::Verified => return Ok(RowEnd::Through(Settled::Verified(pair.key))),
-            Tried::Failed => settled = Settled::BadSignature,
+            Tried::Verified => return Ok(RowEnd::Through(SignatureOutcome::Verified(pair.key))),
+            Tried::Failed => outcome = SignatureOutcome::BadSignature,
             Tried::Stop(end) => return Ok(RowEnd::Stop(end)),
         }
         from = pair.key + 1;
     }
-    Ok(RowEnd::Through(settled))
+    Ok(RowEnd::Through(outcome))
 }
 
 /// Whether the run goes on after a signature that was found verified or not.
@@ -165,7 +165,7 @@ fn walk<B: Budget>(
     budget: &mut B,
     tries: &mut Vec<Try>,
     states: &mut Vec<SigState>,
-) -> Result<Outcome, AllocError>
+) -> Result<RunOutcome, AllocError>
     requires no_tries { tries.old.items ≡ [] }
     requires no_states { states.old.items ≡ [] }
     requires no_octets { B.octets budget.old ≡ 0 }
@@ -190,26 +190,26 @@ fn walk<B: Budget>(
             number,
             signature,
         };
-        let settled = match try_signature(asked, &numbered, budget, tries)? {
-            RowEnd::Through(settled) => settled,
+        let outcome = match try_signature(asked, &numbered, budget, tries)? {
+            RowEnd::Through(outcome) => outcome,
             RowEnd::Stop(end) => {
                 states.push(SigState::Stopped)?;
-                return Ok(Outcome { end, signing });
+                return Ok(RunOutcome { end, signing });
             }
         };
-        states.push(settled.state())?;
-        if !runs_on(asked.policy.mode(), settled.is_verified()) {
-            return Ok(Outcome {
+        states.push(outcome.state())?;
+        if !runs_on(asked.policy.mode(), outcome.is_verified()) {
+            return Ok(RunOutcome {
                 end: End::Done,
-                signing: settled.decides(number),
+                signing: outcome.decides(number),
             });
         }
         if number == 0 {
-            signing = settled.decides(0);
+            signing = outcome.decides(0);
         }
         number += 1;
     }
-    Ok(Outcome {
+    Ok(RunOutcome {
         end: End::Done,
         signing,
     })
@@ -235,7 +235,7 @@ pub(crate) fn run<B: Budget>(
     budget: &mut B,
     tries: &mut Vec<Try>,
     states: &mut Vec<SigState>,
-) -> Result<Outcome, AllocError>
+) -> Result<RunOutcome, AllocError>
     requires no_tries { tries.old.items ≡ [] }
     requires no_states { states.old.items ≡ [] }
     requires no_octets { B.octets budget.old ≡ 0 }

@@ -1,6 +1,6 @@
 use Rattle.jwt_jws.specs.Views.{token}
 use Rattle.jwt_verify.specs.AskedTable.{asked_table, asked_terms}
-use Rattle.jwt_verify.specs.Settled.{signing_view}
+use Rattle.jwt_verify.specs.SignatureOutcome.{signing_view}
 use Rattle.jwt_verify.proofs.Judged.{run_says, run_whole, run_read, whole_none, read_none}
 use Rattle.jwt_verify.proofs.judging.judge_token.Goals.{in-Ok, in-Err}
 use Rattle.jwt_verify.proofs.judging.judge_token.Goals as goal

@@ -7,13 +7,13 @@ use Rattle.jwt_verify.proofs.Ending.{unverified}
 use Rattle.jwt_verify.proofs.tries.try_signature.Given as goal
 
 abbrev pub invariant-keys : goal.invariant-keys
-invariant-keys g l = let t = asked_table (λ b. (goal.Verifier-dyn g (b.vtable, b.value)).meaning b.value) l.asked l.unbarred.signed.now in record {
-  at : IsAt t l.unbarred.number l.from l.tries.items;
+invariant-keys g l = let t = asked_table (λ b. (goal.Verifier-dyn g (b.vtable, b.value)).meaning b.value) l.asked l.live.signed.now in record {
+  at : IsAt t l.live.number l.from l.tries.items;
   within : l.from ≤ t.keys;
-  settled : l.settled ≡ unverified (list_any (t.eligible l.unbarred.number) (below l.from));
+  outcome : l.outcome ≡ unverified (list_any (t.eligible l.live.number) (below l.from));
   counted : IsCounted (g.B.Budget.octets l.budget) (g.B.Budget.calls l.budget) (g.B.Budget.ceiling l.budget) l.asked.policy.now.max_calls l.tries.items;
   ceiling : g.B.Budget.ceiling l.budget ≡ g.B.Budget.ceiling l.initial.budget;
 }
 
 abbrev pub decreases-keys : goal.decreases-keys
-decreases-keys g l = (asked_table (λ b. (goal.Verifier-dyn g (b.vtable, b.value)).meaning b.value) l.asked l.unbarred.signed.now).keys - l.from
+decreases-keys g l = (asked_table (λ b. (goal.Verifier-dyn g (b.vtable, b.value)).meaning b.value) l.asked l.live.signed.now).keys - l.from

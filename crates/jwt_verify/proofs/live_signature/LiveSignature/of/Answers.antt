@@ -3,8 +3,8 @@ use Rattle.std.specs.Prelude.{option_map}
 use Rattle.jwt_jws.specs.Views.{parts}
 use Rattle.jwt_verify.proofs.Pairs.{asked_bar, named_alg, named_verified, verifier_hmac, verifier_first}
 use Rattle.jwt_verify.specs.Pairs.{IsVerifier}
-use Rattle.jwt_verify.proofs.unbarred.Unbarred.of.Goals.{then-is_hmac, else-is_hmac}
-use Rattle.jwt_verify.proofs.unbarred.Unbarred.of.Goals as goal
+use Rattle.jwt_verify.proofs.live_signature.LiveSignature.of.Goals.{then-is_hmac, else-is_hmac}
+use Rattle.jwt_verify.proofs.live_signature.LiveSignature.of.Goals as goal
 
 pub returns-in-Some : goal.returns-in-Some
 returns-in-Some g c =
@@ -33,5 +33,5 @@ returns g c =
     record {
       same_token = refl;
       same_number = refl;
-      is_open = record { signature = c.requires; unbarred = bar; named = named; verifier = verifier };
+      is_live = record { signature = c.requires; unbarred = bar; named = named; verifier = verifier };
     }

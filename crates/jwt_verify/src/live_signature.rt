@@ -5,7 +5,7 @@ ghost use Rattle.jwt_mac.specs.Verifying.{message_octets};
 ghost use Rattle.jwt_jws.specs.Token.{message_of};
 ghost use Rattle.jwt_jws.specs.Views.{parts, token};
 ghost use Rattle.jwt_verify.specs.AskedTable.{asked_table};
-ghost use Rattle.jwt_verify.specs.Pairs.{IsThere, IsUnbarred};
+ghost use Rattle.jwt_verify.specs.Pairs.{IsThere, IsLiveOf};
 
 use crate::asked::Asked;
 use jwt_jws::{Signature, Signed};
@@ -23,7 +23,7 @@ pub(crate) struct Numbered<'s, 't> {
 
 /// A signature of a token that nothing bars, with what each of its tries needs.
 #[derive(Clone, Copy)]
-pub(crate) struct Unbarred<'s, 't, 'v> {
+pub(crate) struct LiveSignature<'s, 't, 'v> {
     pub(crate) signed: &'s Signed<'t>,
     pub(crate) number: u32,
     pub(crate) signature: &'s Signature<'t>,
@@ -33,15 +33,15 @@ pub(crate) struct Unbarred<'s, 't, 'v> {
     pub(crate) verifier: Option<&'v Box<dyn Verifier>>,
 }
 
-impl<'s, 't, 'v> Unbarred<'s, 't, 'v> {
+impl<'s, 't, 'v> LiveSignature<'s, 't, 'v> {
     /// The signature, or what bars it. Its algorithm and its verifier are looked up once.
     pub(crate) fn of(
         asked: &Asked<'_, '_, 'v>,
         numbered: &Numbered<'s, 't>,
-    ) -> Result<Unbarred<'s, 't, 'v>, SigFault>
+    ) -> Result<LiveSignature<'s, 't, 'v>, SigFault>
         requires { IsThere numbered.now }
         ensures { MatchResult result
-            (IsUnbarred meaning asked.now numbered.now)
+            (IsLiveOf meaning asked.now numbered.now)
             (λ f. (asked_table meaning asked.now numbered.now.signed.now).bar numbered.now.number
             ≡ Some f) }
     {
@@ -62,7 +62,7 @@ impl<'s, 't, 'v> Unbarred<'s, 't, 'v> {
         } else {
             first_for(asked.verifiers, alg)
         };
-        Ok(Unbarred {
+        Ok(LiveSignature {
             signed,
             number,
             signature,
