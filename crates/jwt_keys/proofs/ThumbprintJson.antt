@@ -19,8 +19,8 @@ use Rattle.jwt_keys.specs.Kinds.{key_type_named, key_type_at, curve_named, ed_cu
 use Rattle.jwt_keys.specs.SkipTable.{octets_at, is_misspelled, shape_rows, octet_rows_of}
 use Rattle.jwt_keys.specs.Thumbprints.{member_text, oct_text, rsa_text, ec_text, okp_text, thumbprint_text}
 use Rattle.jwt_keys.specs.Laws.{picked, ThumbprintsAreOfJson}
-use Rattle.jwt_keys.specs.declared.kind.Kind.{Kind}
-use Rattle.jwt_keys.specs.declared.kind.Kind.TheVariants as kind
+use Rattle.jwt_keys.specs.declared.kind.KeyKind.{KeyKind}
+use Rattle.jwt_keys.specs.declared.kind.KeyKind.TheVariants as kind
 use Rattle.jwt_keys.specs.declared.kind.KeyType.{KeyType}
 use Rattle.jwt_keys.specs.declared.kind.KeyType.TheVariants.{Oct, Rsa, Ec, Okp}
 use Rattle.jwt_keys.specs.declared.skip.SkipReason.TheVariants.{NotObject}
@@ -85,11 +85,11 @@ okp_curve : (o : Option EdCurve) (curve : EdCurve) → option_map kind.Okp o ≡
 okp_curve None curve e = absurd cc
 okp_curve (Some c) curve e = cc
 
-no_ec : (o : Option Curve) (k : Kind) → ((c : Curve) → kind.Ec c ≢ k) → option_map kind.Ec o ≢ Some k
+no_ec : (o : Option Curve) (k : KeyKind) → ((c : Curve) → kind.Ec c ≢ k) → option_map kind.Ec o ≢ Some k
 no_ec None k never e = absurd cc
 no_ec (Some c) k never e = never c cc
 
-no_okp : (o : Option EdCurve) (k : Kind) → ((c : EdCurve) → kind.Okp c ≢ k) → option_map kind.Okp o ≢ Some k
+no_okp : (o : Option EdCurve) (k : KeyKind) → ((c : EdCurve) → kind.Okp c ≢ k) → option_map kind.Okp o ≢ Some k
 no_okp None k never e = absurd cc
 no_okp (Some c) k never e = never c cc
 
@@ -99,7 +99,7 @@ there : (b : Bool) → not b ≡ false → b ≡ true
 there true e = refl
 there false e = absurd cc
 
-spelled_row : (k : Option Kind) (kind : Kind) (ms : Members) → k ≡ Some kind → NoRow ((false ⇒ NotObject) ∷ (shape_rows ms ++ octet_rows_of k ms)) → is_misspelled kind ms ≡ false
+spelled_row : (k : Option KeyKind) (kind : KeyKind) (ms : Members) → k ≡ Some kind → NoRow ((false ⇒ NotObject) ∷ (shape_rows ms ++ octet_rows_of k ms)) → is_misspelled kind ms ≡ false
 spelled_row None kind ms e none = absurd cc
 spelled_row (Some k) kind ms e none = let same : k ≡ kind = cc in subst (λ k. is_misspelled k ms ≡ false) same (none 7 _ refl)
 
@@ -155,7 +155,7 @@ module _ (spells : (text octets : List ℕ) → (octets_of text ≡ Some octets)
   member_plain : (name : List ℕ) (ms : Members) → is_some (octets_at name ms) ≡ true → Plain (member_text name ms)
   member_plain name ms e = spelled_plain (text_at name ms) e
 
-  text_is : (ms : Members) (key_type : KeyType) (kind : Kind) → option_and_then key_type_named (text_at (codes "kty") ms) ≡ Some key_type → kind_named key_type ms ≡ Some kind
+  text_is : (ms : Members) (key_type : KeyType) (kind : KeyKind) → option_and_then key_type_named (text_at (codes "kty") ms) ≡ Some key_type → kind_named key_type ms ≡ Some kind
       → list_all (λ name. is_some (octets_at name ms)) (encoded kind) ≡ true
       → thumbprint_text kind ms ≡ compact_text (object (picked (codes "kty" ∷ required key_type) ms))
   unfolding thumbprint_text
@@ -187,7 +187,7 @@ module _ (spells : (text octets : List ℕ) → (octets_of text ≡ Some octets)
       (ed_curve_plain (text_at (codes "crv") ms) curve (okp_curve (option_and_then ed_curve_named (text_at (codes "crv") ms)) curve k))
       (member_plain (codes "x") ms (and_parts _ _ all).0) (type_named (text_at (codes "kty") ms) Okp t)
 
-  by_type : (ms : Members) (key_type : KeyType) (kind : Kind) (o : Option KeyType) → key_type_at ms ≡ o → o ≡ Some key_type → option_and_then (λ key_type. kind_named key_type ms) o ≡ Some kind
+  by_type : (ms : Members) (key_type : KeyType) (kind : KeyKind) (o : Option KeyType) → key_type_at ms ≡ o → o ≡ Some key_type → option_and_then (λ key_type. kind_named key_type ms) o ≡ Some kind
       → kind_named key_type ms ≡ Some kind
   by_type ms key_type kind None is e k = absurd cc
   by_type ms key_type kind (Some found) is e k = let same : found ≡ key_type = cc in subst (λ f. kind_named f ms ≡ Some kind) same k

@@ -9,8 +9,8 @@ use Rattle.jwt_mac.specs.declared.message.EdCurve.{EdCurve}
 use Rattle.jwt_mac.specs.declared.message.EdCurve.TheVariants.{Ed25519, Ed448}
 use Rattle.jwt_keys.specs.declared.kind.KeyType.{KeyType}
 use Rattle.jwt_keys.specs.declared.kind.KeyType.TheVariants.{Oct, Rsa, Ec, Okp}
-use Rattle.jwt_keys.specs.declared.kind.Kind.{Kind}
-use Rattle.jwt_keys.specs.declared.kind.Kind.TheVariants.{Oct as OctKind, Rsa as RsaKind, Ec as EcKind, Okp as OkpKind}
+use Rattle.jwt_keys.specs.declared.kind.KeyKind.{KeyKind}
+use Rattle.jwt_keys.specs.declared.kind.KeyKind.TheVariants.{Oct as OctKind, Rsa as RsaKind, Ec as EcKind, Okp as OkpKind}
 
 -- the key types, compared by case (RFC 7518, section 6.1; RFC 8037, section 2)
 abbrev pub key_type_named : List ℕ → Option KeyType
@@ -41,14 +41,14 @@ ed_curve_named t =
     else None
 
 -- a key type with the curve that `crv` names, where it has one
-abbrev pub kind_named : KeyType → Members → Option Kind
+abbrev pub kind_named : KeyType → Members → Option KeyKind
 kind_named Oct ms = Some OctKind
 kind_named Rsa ms = Some RsaKind
 kind_named Ec ms = option_map EcKind (option_and_then curve_named (text_at (codes "crv") ms))
 kind_named Okp ms = option_map OkpKind (option_and_then ed_curve_named (text_at (codes "crv") ms))
 
 -- the kind that `kty` and `crv` name
-abbrev pub kind_at : Members → Option Kind
+abbrev pub kind_at : Members → Option KeyKind
 kind_at ms = option_and_then (λ key_type. kind_named key_type ms) (key_type_at ms)
 
 -- the required members (RFC 7518, sections 6.2.1, 6.3.1 and 6.4; RFC 8037, section 2)
@@ -59,7 +59,7 @@ required Ec = codes "crv" ∷ codes "x" ∷ codes "y" ∷ []
 required Okp = codes "crv" ∷ codes "x" ∷ []
 
 -- those of them that are base64url
-abbrev pub encoded : Kind → List (List ℕ)
+abbrev pub encoded : KeyKind → List (List ℕ)
 encoded OctKind = codes "k" ∷ []
 encoded RsaKind = codes "n" ∷ codes "e" ∷ []
 encoded (EcKind curve) = codes "x" ∷ codes "y" ∷ []
@@ -77,7 +77,7 @@ point_size Ed25519 = 32
 point_size Ed448 = 57
 
 -- the numbers of octets that such a member may have: 1 to 4,096 here, or what the curve says
-abbrev pub allows_size : Kind → ℕ → Bool
+abbrev pub allows_size : KeyKind → ℕ → Bool
 allows_size OctKind n = nat_le 1 n && nat_le n 4096
 allows_size RsaKind n = nat_le 1 n && nat_le n 4096
 allows_size (EcKind curve) n = n == coordinate_size curve

@@ -11,7 +11,7 @@ ghost use Rattle.jwt_keys.specs.Views.{key_parts};
 
 use crate::fault::EntryFault;
 use crate::key::Key;
-use crate::kind::Kind;
+use crate::kind::KeyKind;
 use crate::material::{Material, read_material};
 use crate::shape::shape;
 use crate::skip::{Skip, SkipReason};
@@ -71,7 +71,7 @@ fn copy_texts(
 fn make_key(
     alloc: Global,
     place: u32,
-    kind: Kind,
+    kind: KeyKind,
     material: Material,
     members: &ObjectRef<'_>,
 ) -> Result<Key, AllocError>

@@ -17,7 +17,7 @@ pub(crate) enum KeyType {
 
 /// A key type with its curve, where it has one.
 #[derive(Clone, Copy, Debug, PartialEq, Eq)]
-pub(crate) enum Kind {
+pub(crate) enum KeyKind {
     Oct,
     Rsa,
     Ec(Curve),
@@ -61,14 +61,14 @@ fn ed_curve_of(name: &str) -> Option<EdCurve>
 }
 
 /// The kind of a key of this type, where its curve is known.
-pub(crate) fn kind_of(key_type: KeyType, members: &ObjectRef<'_>) -> Option<Kind>
+pub(crate) fn kind_of(key_type: KeyType, members: &ObjectRef<'_>) -> Option<KeyKind>
     ensures { result ≡ kind_named key_type members.now }
 {
     match key_type {
-        KeyType::Oct => Some(Kind::Oct),
-        KeyType::Rsa => Some(Kind::Rsa),
-        KeyType::Ec => Some(Kind::Ec(curve_of(members.text("crv")?)?)),
-        KeyType::Okp => Some(Kind::Okp(ed_curve_of(members.text("crv")?)?)),
+        KeyType::Oct => Some(KeyKind::Oct),
+        KeyType::Rsa => Some(KeyKind::Rsa),
+        KeyType::Ec => Some(KeyKind::Ec(curve_of(members.text("crv")?)?)),
+        KeyType::Okp => Some(KeyKind::Okp(ed_curve_of(members.text("crv")?)?)),
     }
 }
 
@@ -94,12 +94,12 @@ fn point_size(curve: EdCurve) -> usize
 }
 
 /// Whether a member of a key of this kind may have so many octets.
-pub(crate) fn allows_size(kind: Kind, count: usize) -> bool
+pub(crate) fn allows_size(kind: KeyKind, count: usize) -> bool
     ensures { result ≡ allows_size kind count }
 {
     match kind {
-        Kind::Oct | Kind::Rsa => 1 <= count && count <= 4096,
-        Kind::Ec(curve) => count == coordinate_size(curve),
-        Kind::Okp(curve) => count == point_size(curve),
+        KeyKind::Oct | KeyKind::Rsa => 1 <= count && count <= 4096,
+        KeyKind::Ec(curve) => count == coordinate_size(curve),
+        KeyKind::Okp(curve) => count == point_size(curve),
     }
 }

@@ -9,7 +9,7 @@ ghost use Rattle.jwt_keys.specs.Keys.{secret_length};
 ghost use Rattle.jwt_keys.specs.Materials.{material_octets};
 
 use crate::fault::EntryFault;
-use crate::kind::{Kind, allows_size};
+use crate::kind::{KeyKind, allows_size};
 use crate::skip::SkipReason;
 use jwt_mac::{Curve, EdCurve};
 use jwt_text::{ObjectRef, TextFault, decode};
@@ -54,7 +54,7 @@ fn octets(alloc: Global, members: &ObjectRef<'_>, name: &str) -> Result<Vec<u8>,
 #[tactic(auto, unfolding(crate::specs::SkipTable::octet_skip_of))]
 pub(crate) fn read_material(
     alloc: Global,
-    kind: Kind,
+    kind: KeyKind,
     members: &ObjectRef<'_>,
 ) -> Result<Material, EntryFault>
     ensures answer { let answer = unless (octet_skip_of kind members.now)
@@ -63,14 +63,14 @@ pub(crate) fn read_material(
     ensures bounded { IfOk result (λ material. secret_length (material_octets material) ≤ 4096) }
 {
     match kind {
-        Kind::Oct => {
+        KeyKind::Oct => {
             let k = octets(alloc, members, "k")?;
             if !allows_size(kind, k.len()) {
                 return Err(EntryFault::Skipped(SkipReason::Length));
             }
             Ok(Material::Oct { k })
         }
-        Kind::Rsa => {
+        KeyKind::Rsa => {
             let n = octets(alloc, members, "n")?;
             let e = octets(alloc, members, "e")?;
             if !(allows_size(kind, n.len()) && allows_size(kind, e.len())) {
@@ -78,7 +78,7 @@ pub(crate) fn read_material(
             }
             Ok(Material::Rsa { n, e })
         }
-        Kind::Ec(curve) => {
+        KeyKind::Ec(curve) => {
             let x = octets(alloc, members, "x")?;
             let y = octets(alloc, members, "y")?;
             if !(allows_size(kind, x.len()) && allows_size(kind, y.len())) {
@@ -86,7 +86,7 @@ pub(crate) fn read_material(
             }
             Ok(Material::Ec { curve, x, y })
         }
-        Kind::Okp(curve) => {
+        KeyKind::Okp(curve) => {
             let x = octets(alloc, members, "x")?;
             if !allows_size(kind, x.len()) {
                 return Err(EntryFault::Skipped(SkipReason::Length));

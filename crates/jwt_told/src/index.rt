@@ -18,7 +18,7 @@ use std::sync::Arc;
 
 /// Answers in the order of their questions. None is to the question of another.
 #[derive(Drop)]
-pub struct Index {
+pub struct AnswerIndex {
     pub(crate) answers: Vec<Arc<Answered>>,
     ghost rising: { Rises (views answers.items) },
 }
@@ -89,12 +89,12 @@ impl Answered {
     }
 }
 
-impl Index {
+impl AnswerIndex {
     /// No answers. It takes no memory.
-    pub(crate) fn new(alloc: Global) -> Index
+    pub(crate) fn new(alloc: Global) -> AnswerIndex
         ensures { result.answers.items ≡ [] }
     {
-        Index {
+        AnswerIndex {
             answers: Vec::new(alloc),
         }
     }
@@ -140,11 +140,11 @@ impl Index {
     ///
     /// # Errors
     /// Where an allocation was refused.
-    pub(crate) fn copy(&self, alloc: Global) -> Result<Index, AllocError>
+    pub(crate) fn copy(&self, alloc: Global) -> Result<AnswerIndex, AllocError>
         ensures { IfOk result (λ i. views i.answers.items ≡ views self.now.answers.items) }
     {
         let answers = copied(alloc, &self.answers)?;
-        Ok(Index { answers })
+        Ok(AnswerIndex { answers })
     }
 }
 

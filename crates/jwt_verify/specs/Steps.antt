@@ -20,9 +20,9 @@ use Rattle.jwt_verify.specs.Asks.{IsToken}
 use Rattle.jwt_verify.specs.Reports.{FoundMemory, IsReport, AreEligible, IsBounded}
 
 -- the octets that are held, and what is still to come; or nothing is held, and at most the limit was taken
-abbrev pub Holds : Result Bounded Fault → ℕ → List ℕ → Option (List ℕ) → Type 0
-Holds (Ok held) limit octets rest = (held.octets ≡ taken octets limit) × (rest ≡ Some (drop (limit + 1) octets))
-Holds (Err _) limit octets rest = (front back : List ℕ) × (octets ≡ front ++ back) × (rest ≡ Some back) × (length front ≤ limit)
+abbrev pub IsTakenIn : Result Bounded Fault → ℕ → List ℕ → Option (List ℕ) → Type 0
+IsTakenIn (Ok held) limit octets rest = (held.octets ≡ taken octets limit) × (rest ≡ Some (drop (limit + 1) octets))
+IsTakenIn (Err _) limit octets rest = (front back : List ℕ) × (octets ≡ front ++ back) × (rest ≡ Some back) × (length front ≤ limit)
 
 -- why nothing is held, by whether the source had failed, and whether it has: where memory was refused, it didn't fail now
 abbrev pub IsSourceFault : Bool → Bool → Fault → Type 0
@@ -66,16 +66,16 @@ TellsReports = (terms : Terms) (octets : List ℕ) (ceiling : ℕ) (report : Rep
 -- ---- the states of a run, one by one
 
 -- the key that verifies a signature in this state
-abbrev pub key_of : SigState → Option ℕ
-key_of (Verified key) = Some key
-key_of _ = None
+abbrev pub verifying_key : SigState → Option ℕ
+verifying_key (Verified key) = Some key
+verifying_key _ = None
 
-abbrev pub key_in : List SigState → ℕ → Option ℕ
-key_in states signature = option_and_then key_of (slice_get states signature)
+abbrev pub verifying_key_in : List SigState → ℕ → Option ℕ
+verifying_key_in states signature = option_and_then verifying_key (slice_get states signature)
 
 abbrev pub fault_in : List SigState → ℕ → Option SigFault
 fault_in states signature = option_and_then fault_of (slice_get states signature)
 
 -- what the signatures in these states come to
 abbrev pub signing_by : Mode → List SigState → Signing
-signing_by mode states = signing_in mode (first_in (key_in states) (below (length states))) (first_in (fault_in states) (below (length states)))
+signing_by mode states = signing_in mode (first_in (verifying_key_in states) (below (length states))) (first_in (fault_in states) (below (length states)))

@@ -29,7 +29,7 @@ unfoldable pub rows : Table → ℕ → List Try
 rows table signature = flat_map (λ n. row table n table.keys) (below signature)
 
 -- the run has come to this signature and this key, and has made the tries before that pair
-pub record IsAt (table : Table) (signature key : ℕ) (made : List Try) : Type 0 where
+pub record HasComeTo (table : Table) (signature key : ℕ) (made : List Try) : Type 0 where
   pub listed : made ≡ rows table signature ++ row table signature key
   pub reached : reached table signature ≡ true
   pub unverified : list_any (verifies table signature) (below key) ≡ false
@@ -65,7 +65,7 @@ pub record IsCounted (fed called ceiling : ℕ) (max_calls : Option ℕ) (made :
 
 -- these tries were made, and the run asks for this pair next
 pub record IsPending (table : Table) (signature key : ℕ) (made : List Try) : Type 0 where
-  pub at : IsAt table signature key made
+  pub at : HasComeTo table signature key made
   pub within : key < table.keys
   pub eligible : table.eligible signature key ≡ true
 

@@ -13,7 +13,7 @@ ghost use Rattle.jwt_verify.specs.Laws.{IsBefore};
 ghost use Rattle.jwt_verify.specs.Paying.{IsWithin};
 ghost use Rattle.jwt_text.specs.Intake.{TakesAtMost};
 ghost use Rattle.jwt_verify.specs.Reports.{FoundMemory, IsReport, IsReadAs, AreEligible, IsBounded, TakesMemory, Failed, terms};
-ghost use Rattle.jwt_verify.specs.Steps.{IsWhole, IsListed, Holds, IsSourceFault};
+ghost use Rattle.jwt_verify.specs.Steps.{IsWhole, IsListed, IsTakenIn, IsSourceFault};
 ghost use Rattle.jwt_verify.specs.declared.report.InputFault.TheVariants.{Read};
 ghost use Rattle.jwt_verify.specs.declared.report.Fault.TheVariants.{OutOfMemory, Text};
 ghost use Rattle.jwt_verify.specs.declared.report.Verdict.TheVariants.{Refused};
@@ -300,7 +300,7 @@ fn take_in<'p, R: Source>(alloc: Global, source: &mut R, limit: u32) -> Result<I
     requires least { 1 ≤ limit }
     requires greatest { limit ≤ 1048576 }
     ensures octets { IfSome (R.remaining source.old)
-        (λ x. Holds result limit x (R.remaining source.new)) }
+        (λ x. IsTakenIn result limit x (R.remaining source.new)) }
     ensures bound { IfOk result (λ held. length held.octets ≤ limit + 1) }
     ensures ok { OnOk result (R.failed source.new ≡ false) }
     ensures fault { IfErr result (IsSourceFault (R.failed source.old) (R.failed source.new)) }

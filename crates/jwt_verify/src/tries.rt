@@ -2,8 +2,8 @@
 
 ghost use Rattle.std.specs.Prelude.{◌≡◌, ◌<◌, ◌≤◌, ◌+◌, ◌-◌, ◌^◌, replicate, OnOk, ◌++◌, [], List, length, OnErr, IfOk, MatchResult};
 ghost use Rattle.jwt_jws.specs.Views.{token};
-ghost use Rattle.jwt_verify.specs.Table.{work, is_within, paid, IsRun};
-ghost use Rattle.jwt_verify.specs.Walk.{IsAt, IsCounted, IsRowEnd, IsEnd, stopped_at, goes_on, IsRecorded};
+ghost use Rattle.jwt_verify.specs.Table.{work, is_within, paid, IsWholeRun};
+ghost use Rattle.jwt_verify.specs.Walk.{HasComeTo, IsCounted, IsRowEnd, IsEnd, stopped_at, goes_on, IsRecorded};
 ghost use Rattle.jwt_verify.specs.Paying.{IsFront};
 ghost use Rattle.jwt_verify.specs.AskedTable.{asked_table};
 ghost use Rattle.jwt_verify.specs.Pairs.{IsFor, IsThere, IsTried, IsSigned};
@@ -117,7 +117,7 @@ fn try_signature<'v, B: Budget>(
     tries: &mut Vec<Try>,
 ) -> Result<RowEnd, AllocError>
     requires there { IsThere numbered.now }
-    requires at { IsAt (asked_table meaning asked.now numbered.now.signed.now)
+    requires at { HasComeTo (asked_table meaning asked.now numbered.now.signed.now)
         numbered.now.number 0 tries.old.items }
     requires counted { IsCounted (B.octets budget.old) (B.calls budget.old) (B.ceiling budget.old)
         asked.now.policy.now.max_calls tries.old.items }
@@ -248,7 +248,7 @@ pub(crate) fn run<B: Budget>(
     ensures front { (more : List Try) × (paid (asked_table meaning asked.now signed.now)
         (B.ceiling budget.old) asked.now.policy.now.max_calls ≡ tries.new.items ++ more) }
 
-    ensures run { IfOk result (λ o. IsRun (asked_table meaning asked.now signed.now)
+    ensures run { IfOk result (λ o. IsWholeRun (asked_table meaning asked.now signed.now)
         (B.ceiling budget.old) asked.now.policy.now.max_calls tries.new.items states.new.items
         o.end) }
     ensures signing { IfOk result

@@ -1,6 +1,6 @@
 use Rattle.std.proofs.Common.{◌∙◌, refl, arith}
 use Rattle.std.proofs.lemmas.Result.{err_from_is_err_and}
-use Rattle.jwt_verify.specs.Walk.{IsAt, IsRowEnd}
+use Rattle.jwt_verify.specs.Walk.{HasComeTo, IsRowEnd}
 use Rattle.jwt_verify.specs.Paying.{IsFront}
 use Rattle.jwt_verify.specs.declared.tries.RowEnd.TheVariants.{Through, Stop}
 use Rattle.jwt_verify.specs.declared.signature_outcome.SignatureOutcome.TheVariants.{Verified}
@@ -17,7 +17,7 @@ returns-in-Err-clause-end g c =
 
 pub keys-init : goal.keys-init
 keys-init g c = record {
-  at = of_numbered (λ t i. IsAt t i 0 c.args.tries.now.items) c.in-Ok.ensures c.requires.at;
+  at = of_numbered (λ t i. HasComeTo t i 0 c.args.tries.now.items) c.in-Ok.ensures c.requires.at;
   within = omega arith;
   outcome = rw below-zero refl;
   counted = c.requires.counted;

@@ -5,7 +5,7 @@ use Rattle.jwt_jws.specs.Views.{token, parts}
 use Rattle.jwt_verify.specs.AskedTable.{asked_table}
 use Rattle.jwt_verify.specs.Table.{below, outcome}
 use Rattle.jwt_verify.specs.SignatureOutcome.{is_verified}
-use Rattle.jwt_verify.specs.Walk.{IsAt, stopped_at}
+use Rattle.jwt_verify.specs.Walk.{HasComeTo, stopped_at}
 use Rattle.jwt_verify.proofs.Below.{below-zero, map-below}
 use Rattle.jwt_verify.proofs.Walking.{at_start, through_front, through_next, through_last, at_last}
 use Rattle.jwt_verify.proofs.Paying.{counted_none}
@@ -104,13 +104,13 @@ pub returns-clause-end : goal.returns-clause-end
 returns-clause-end g c =
     let t = asked_table (λ b. (goal.Verifier-dyn g (b.vtable, b.value)).meaning b.value) c.args.asked.now c.args.signed.now in
     let e : c.signatures.number ≡ t.signatures = none_past (token c.args.signed.now).signatures c.signatures.number c.signatures.invariant.within (sym (rw c.in_default.is at c.signature.ensures)) ∙ sym (asked_signatures (λ b. (goal.Verifier-dyn g (b.vtable, b.value)).meaning b.value) c.args.asked.now c.args.signed.now) in
-    at_last t c.signatures.tries.items (subst (λ k. IsAt t k 0 c.signatures.tries.items) e c.signatures.invariant.at)
+    at_last t c.signatures.tries.items (subst (λ k. HasComeTo t k 0 c.signatures.tries.items) e c.signatures.invariant.at)
 
 pub returns-clause-states : goal.returns-clause-states
 returns-clause-states g c =
     let t = asked_table (λ b. (goal.Verifier-dyn g (b.vtable, b.value)).meaning b.value) c.args.asked.now c.args.signed.now in
     let e : c.signatures.number ≡ t.signatures = none_past (token c.args.signed.now).signatures c.signatures.number c.signatures.invariant.within (sym (rw c.in_default.is at c.signature.ensures)) ∙ sym (asked_signatures (λ b. (goal.Verifier-dyn g (b.vtable, b.value)).meaning b.value) c.args.asked.now c.args.signed.now) in
-    recorded_all t c.signatures.tries.items c.signatures.states.items (subst (λ k. IsAt t k 0 c.signatures.tries.items) e c.signatures.invariant.at)
+    recorded_all t c.signatures.tries.items c.signatures.states.items (subst (λ k. HasComeTo t k 0 c.signatures.tries.items) e c.signatures.invariant.at)
     (c.signatures.invariant.states ∙ ap (λ k. map (outcome t) (below k)) e)
 
 pub returns-clause-signing : goal.returns-clause-signing

@@ -6,7 +6,7 @@ use Rattle.jwt_told.specs.Parts.{ToldParts, told_view, views}
 use Rattle.jwt_told.specs.Questions.{QuestionParts, kept_parts}
 use Rattle.jwt_told.specs.Ranks.{Rank, rank, told_rank, Rises, IsFoundAt, IsGapFor, IsAdded}
 use Rattle.jwt_told.proofs.Telling.{insert_mapped, surely, rises_with}
-use Rattle.jwt_told.proofs.index.Index.add.Goals as goal
+use Rattle.jwt_told.proofs.index.AnswerIndex.add.Goals as goal
 
 abbrev rank_of : QuestionParts → Rank
 rank_of q = rank q.alg q.key q.message q.signature
