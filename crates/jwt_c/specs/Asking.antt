@@ -2,10 +2,10 @@
 use Rattle.std.specs.Prelude.{◌≡◌, ◌≢◌, ◌<◌, ℕ, Bool, true, false, ◌&&◌, ◌||◌, if◌then◌else◌, ◌++◌, List, [], ◌∷◌, length, Option, Some, None}
 use Rattle.jwt_mac.specs.declared.algorithm.Alg.{Alg}
 use Rattle.jwt_mac.specs.declared.algorithm.Alg.TheVariants as alg
-use Rattle.jwt_mac.specs.declared.message.Curve.{Curve}
-use Rattle.jwt_mac.specs.declared.message.Curve.TheVariants.{P256, P384, P521}
-use Rattle.jwt_mac.specs.declared.message.EdCurve.{EdCurve}
-use Rattle.jwt_mac.specs.declared.message.EdCurve.TheVariants.{Ed25519, Ed448}
+use Rattle.jwt_mac.specs.declared.key_view.EcCurve.{EcCurve}
+use Rattle.jwt_mac.specs.declared.key_view.EcCurve.TheVariants.{P256, P384, P521}
+use Rattle.jwt_mac.specs.declared.key_view.EdCurve.{EdCurve}
+use Rattle.jwt_mac.specs.declared.key_view.EdCurve.TheVariants.{Ed25519, Ed448}
 use Rattle.jwt_mac.specs.Algorithm.{is_hmac_alg}
 use Rattle.jwt_mac.specs.Verifying.{KeyOctets, OctKey, RsaKey, EcKey, OkpKey, signing_input}
 use Rattle.jwt_ecdsa.specs.Meanings.{ecdsa_meaning}
@@ -36,7 +36,7 @@ alg_number alg.ES384 = 11
 alg_number alg.ES512 = 12
 alg_number alg.EdDSA = 13
 
-abbrev curve_number : Curve → ℕ
+abbrev curve_number : EcCurve → ℕ
 curve_number P256 = 256
 curve_number P384 = 384
 curve_number P521 = 521

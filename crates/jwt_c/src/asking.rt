@@ -14,7 +14,7 @@ use crate::desk::{Desk, Last};
 use crate::report::FowQuestion;
 use jwt_ecdsa::Ecdsa;
 use jwt_ed25519::Ed25519;
-use jwt_mac::{Alg, Answer, Curve, EdCurve, KeyView, Verifier};
+use jwt_mac::{Alg, Answer, EcCurve, EdCurve, KeyView, Verifier};
 use jwt_rsa::Rsa;
 use jwt_told::{Answers, OpenPair, Question, first_member, read_token, second_member};
 use std::alloc::{AllocError, Global};
@@ -49,9 +49,9 @@ fn kind_number(key: &KeyView) -> u32
         KeyView::Oct { .. } => 1,
         KeyView::Rsa { .. } => 2,
         KeyView::Ec { curve, .. } => match curve {
-            Curve::P256 => 256,
-            Curve::P384 => 384,
-            Curve::P521 => 521,
+            EcCurve::P256 => 256,
+            EcCurve::P384 => 384,
+            EcCurve::P521 => 521,
         },
         KeyView::Okp { curve, .. } => match curve {
             EdCurve::Ed25519 => 255,

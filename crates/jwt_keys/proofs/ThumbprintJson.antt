@@ -11,10 +11,10 @@ use Rattle.serde_json.specs.Written.{compact_text}
 use Rattle.jwt_text.specs.Base64url.{Spells, spelling, octets_of}
 use Rattle.jwt_text.specs.Members.{text_at}
 use Rattle.jwt_text.specs.Rows.{NoRow, ◌⇒◌}
-use Rattle.jwt_mac.specs.declared.message.Curve.{Curve}
-use Rattle.jwt_mac.specs.declared.message.Curve.TheVariants.{P256, P384, P521}
-use Rattle.jwt_mac.specs.declared.message.EdCurve.{EdCurve}
-use Rattle.jwt_mac.specs.declared.message.EdCurve.TheVariants.{Ed25519, Ed448}
+use Rattle.jwt_mac.specs.declared.key_view.EcCurve.{EcCurve}
+use Rattle.jwt_mac.specs.declared.key_view.EcCurve.TheVariants.{P256, P384, P521}
+use Rattle.jwt_mac.specs.declared.key_view.EdCurve.{EdCurve}
+use Rattle.jwt_mac.specs.declared.key_view.EdCurve.TheVariants.{Ed25519, Ed448}
 use Rattle.jwt_keys.specs.Kinds.{key_type_named, key_type_at, curve_named, ed_curve_named, kind_named, kind_at, required, encoded}
 use Rattle.jwt_keys.specs.SkipTable.{octets_at, is_misspelled, shape_rows, octet_rows_of}
 use Rattle.jwt_keys.specs.Thumbprints.{member_text, oct_text, rsa_text, ec_text, okp_text, thumbprint_text}
@@ -35,7 +35,7 @@ named : (t name : List ℕ) → bytes_eq t name ≡ true → t ≡ name
 named t name e = (bytes_eq-Decides t name).0 e
 
 module _ (t : List ℕ) where
-  curve_by : (a b c : Bool) → bytes_eq t (codes "P-256") ≡ a → bytes_eq t (codes "P-384") ≡ b → bytes_eq t (codes "P-521") ≡ c → (curve : Curve)
+  curve_by : (a b c : Bool) → bytes_eq t (codes "P-256") ≡ a → bytes_eq t (codes "P-384") ≡ b → bytes_eq t (codes "P-521") ≡ c → (curve : EcCurve)
       → cond a (Some P256) (cond b (Some P384) (cond c (Some P521) None)) ≡ Some curve → Plain t
   unfolding escape_byte
   curve_by true b c p q r curve e = subst Plain (sym (named t (codes "P-256") p)) refl
@@ -64,7 +64,7 @@ module _ (t : List ℕ) where
   type_by false false false true p q r s key_type e = let same : Okp ≡ key_type = cc in subst IsNamed same (named t (codes "OKP") s)
   type_by false false false false p q r s key_type e = absurd cc
 
-curve_plain : (o : Option (List ℕ)) (curve : Curve) → option_and_then curve_named o ≡ Some curve → Plain (unwrap_or o [])
+curve_plain : (o : Option (List ℕ)) (curve : EcCurve) → option_and_then curve_named o ≡ Some curve → Plain (unwrap_or o [])
 curve_plain None curve e = absurd cc
 curve_plain (Some t) curve e = curve_by t (bytes_eq t (codes "P-256")) (bytes_eq t (codes "P-384")) (bytes_eq t (codes "P-521")) refl refl refl curve e
 
@@ -77,7 +77,7 @@ type_named None key_type e = absurd cc
 type_named (Some t) key_type e =
     type_by t (bytes_eq t (codes "oct")) (bytes_eq t (codes "RSA")) (bytes_eq t (codes "EC")) (bytes_eq t (codes "OKP")) refl refl refl refl key_type e
 
-ec_curve : (o : Option Curve) (curve : Curve) → option_map kind.Ec o ≡ Some (kind.Ec curve) → o ≡ Some curve
+ec_curve : (o : Option EcCurve) (curve : EcCurve) → option_map kind.Ec o ≡ Some (kind.Ec curve) → o ≡ Some curve
 ec_curve None curve e = absurd cc
 ec_curve (Some c) curve e = cc
 
@@ -85,7 +85,7 @@ okp_curve : (o : Option EdCurve) (curve : EdCurve) → option_map kind.Okp o ≡
 okp_curve None curve e = absurd cc
 okp_curve (Some c) curve e = cc
 
-no_ec : (o : Option Curve) (k : KeyKind) → ((c : Curve) → kind.Ec c ≢ k) → option_map kind.Ec o ≢ Some k
+no_ec : (o : Option EcCurve) (k : KeyKind) → ((c : EcCurve) → kind.Ec c ≢ k) → option_map kind.Ec o ≢ Some k
 no_ec None k never e = absurd cc
 no_ec (Some c) k never e = never c cc
 

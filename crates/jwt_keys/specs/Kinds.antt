@@ -3,10 +3,10 @@ use Rattle.std.specs.Prelude.{ℕ, ◌&&◌, ◌==◌, Bool, List, [], ◌∷◌
 use Rattle.std.specs.Str.{bytes_eq}
 use Rattle.serde_json.specs.Data.{Members}
 use Rattle.jwt_text.specs.Members.{text_at}
-use Rattle.jwt_mac.specs.declared.message.Curve.{Curve}
-use Rattle.jwt_mac.specs.declared.message.Curve.TheVariants.{P256, P384, P521}
-use Rattle.jwt_mac.specs.declared.message.EdCurve.{EdCurve}
-use Rattle.jwt_mac.specs.declared.message.EdCurve.TheVariants.{Ed25519, Ed448}
+use Rattle.jwt_mac.specs.declared.key_view.EcCurve.{EcCurve}
+use Rattle.jwt_mac.specs.declared.key_view.EcCurve.TheVariants.{P256, P384, P521}
+use Rattle.jwt_mac.specs.declared.key_view.EdCurve.{EdCurve}
+use Rattle.jwt_mac.specs.declared.key_view.EdCurve.TheVariants.{Ed25519, Ed448}
 use Rattle.jwt_keys.specs.declared.kind.KeyType.{KeyType}
 use Rattle.jwt_keys.specs.declared.kind.KeyType.TheVariants.{Oct, Rsa, Ec, Okp}
 use Rattle.jwt_keys.specs.declared.kind.KeyKind.{KeyKind}
@@ -26,7 +26,7 @@ abbrev pub key_type_at : Members → Option KeyType
 key_type_at ms = option_and_then key_type_named (text_at (codes "kty") ms)
 
 -- the curves of `EC` (RFC 7518, section 6.2.1.1)
-abbrev pub curve_named : List ℕ → Option Curve
+abbrev pub curve_named : List ℕ → Option EcCurve
 curve_named t =
     if bytes_eq t (codes "P-256") then Some P256
     else if bytes_eq t (codes "P-384") then Some P384
@@ -66,7 +66,7 @@ encoded (EcKind curve) = codes "x" ∷ codes "y" ∷ []
 encoded (OkpKind curve) = codes "x" ∷ []
 
 -- the octets of a coordinate (RFC 7518, section 6.2.1.2)
-abbrev pub coordinate_size : Curve → ℕ
+abbrev pub coordinate_size : EcCurve → ℕ
 coordinate_size P256 = 32
 coordinate_size P384 = 48
 coordinate_size P521 = 66

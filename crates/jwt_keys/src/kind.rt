@@ -3,7 +3,7 @@
 ghost use Rattle.std.specs.Prelude.{◌≡◌};
 ghost use Rattle.jwt_keys.specs.Kinds.{key_type_at, curve_named, ed_curve_named, kind_named, coordinate_size, point_size, allows_size};
 
-use jwt_mac::{Curve, EdCurve};
+use jwt_mac::{EcCurve, EdCurve};
 use jwt_text::ObjectRef;
 
 /// A key type (RFC 7518, section 6.1; RFC 8037, section 2).
@@ -20,7 +20,7 @@ pub(crate) enum KeyType {
 pub(crate) enum KeyKind {
     Oct,
     Rsa,
-    Ec(Curve),
+    Ec(EcCurve),
     Okp(EdCurve),
 }
 
@@ -38,13 +38,13 @@ pub(crate) fn key_type_of(members: &ObjectRef<'_>) -> Option<KeyType>
 }
 
 /// The curve of this name (RFC 7518, section 6.2.1.1).
-fn curve_of(name: &str) -> Option<Curve>
+fn curve_of(name: &str) -> Option<EcCurve>
     ensures { result ≡ curve_named name.now }
 {
     match name {
-        "P-256" => Some(Curve::P256),
-        "P-384" => Some(Curve::P384),
-        "P-521" => Some(Curve::P521),
+        "P-256" => Some(EcCurve::P256),
+        "P-384" => Some(EcCurve::P384),
+        "P-521" => Some(EcCurve::P521),
         _ => None,
     }
 }
@@ -73,13 +73,13 @@ pub(crate) fn kind_of(key_type: KeyType, members: &ObjectRef<'_>) -> Option<KeyK
 }
 
 /// The octets of a coordinate on this curve (RFC 7518, section 6.2.1.2).
-fn coordinate_size(curve: Curve) -> usize
+fn coordinate_size(curve: EcCurve) -> usize
     ensures { result ≡ coordinate_size curve }
 {
     match curve {
-        Curve::P256 => 32,
-        Curve::P384 => 48,
-        Curve::P521 => 66,
+        EcCurve::P256 => 32,
+        EcCurve::P384 => 48,
+        EcCurve::P521 => 66,
     }
 }
 

@@ -11,30 +11,9 @@ ghost use Rattle.jwt_keys.specs.Materials.{material_octets};
 use crate::fault::EntryFault;
 use crate::kind::{KeyKind, allows_size};
 use crate::skip::SkipReason;
-use jwt_mac::{Curve, EdCurve};
+use jwt_mac::OwnedKey;
 use jwt_text::{ObjectRef, TextFault, decode};
 use std::alloc::Global;
-
-/// The octets that a key's members spell, with its curve where it has one.
-#[derive(Drop)]
-pub(crate) enum Material {
-    Oct {
-        k: Vec<u8>,
-    },
-    Rsa {
-        n: Vec<u8>,
-        e: Vec<u8>,
-    },
-    Ec {
-        curve: Curve,
-        x: Vec<u8>,
-        y: Vec<u8>,
-    },
-    Okp {
-        curve: EdCurve,
-        x: Vec<u8>,
-    },
-}
 
 /// The octets that the member of this name spells.
 fn octets(alloc: Global, members: &ObjectRef<'_>, name: &str) -> Result<Vec<u8>, EntryFault>
@@ -56,7 +35,7 @@ pub(crate) fn read_material(
     alloc: Global,
     kind: KeyKind,
     members: &ObjectRef<'_>,
-) -> Result<Material, EntryFault>
+) -> Result<OwnedKey<Vec<u8>>, EntryFault>
     ensures answer { let answer = unless (octet_skip_of kind members.now)
         (Ok (octets_in kind members.now)) in
         ReadsAs material_octets result answer }
@@ -68,7 +47,7 @@ pub(crate) fn read_material(
             if !allows_size(kind, k.len()) {
                 return Err(EntryFault::Skipped(SkipReason::Length));
             }
-            Ok(Material::Oct { k })
+            Ok(OwnedKey::Oct { k })
         }
         KeyKind::Rsa => {
             let n = octets(alloc, members, "n")?;
@@ -76,7 +55,7 @@ pub(crate) fn read_material(
             if !(allows_size(kind, n.len()) && allows_size(kind, e.len())) {
                 return Err(EntryFault::Skipped(SkipReason::Length));
             }
-            Ok(Material::Rsa { n, e })
+            Ok(OwnedKey::Rsa { n, e })
         }
         KeyKind::Ec(curve) => {
             let x = octets(alloc, members, "x")?;
@@ -84,14 +63,14 @@ pub(crate) fn read_material(
             if !(allows_size(kind, x.len()) && allows_size(kind, y.len())) {
                 return Err(EntryFault::Skipped(SkipReason::Length));
             }
-            Ok(Material::Ec { curve, x, y })
+            Ok(OwnedKey::Ec { curve, x, y })
         }
         KeyKind::Okp(curve) => {
             let x = octets(alloc, members, "x")?;
             if !allows_size(kind, x.len()) {
                 return Err(EntryFault::Skipped(SkipReason::Length));
             }
-            Ok(Material::Okp { curve, x })
+            Ok(OwnedKey::Okp { curve, x })
         }
     }
 }

@@ -11,7 +11,7 @@ ghost use Rattle.jwt_told.specs.Ranks.{rank, told_rank, key_kind, order_of, octe
 use crate::members::{first_member, second_member};
 use crate::questions::Question;
 use crate::told::Answered;
-use jwt_mac::{Curve, EdCurve, KeyView};
+use jwt_mac::{EcCurve, EdCurve, KeyView};
 use std::alloc::{AllocError, Global};
 use std::cmp::Ordering;
 use std::sync::Arc;
@@ -31,9 +31,9 @@ fn kind(key: &KeyView) -> &'static str
         KeyView::Oct { .. } => "oct",
         KeyView::Rsa { .. } => "RSA",
         KeyView::Ec { curve, .. } => match curve {
-            Curve::P256 => "P-256",
-            Curve::P384 => "P-384",
-            Curve::P521 => "P-521",
+            EcCurve::P256 => "P-256",
+            EcCurve::P384 => "P-384",
+            EcCurve::P521 => "P-521",
         },
         KeyView::Okp { curve, .. } => match curve {
             EdCurve::Ed25519 => "Ed25519",
