@@ -9,7 +9,7 @@ ghost use Rattle.jwt_access.specs.Denials.{demand_rows};
 ghost use Rattle.jwt_access.specs.Views.{allowed, demand, found};
 
 use crate::denial::{Denial, DeniedName};
-use crate::place::Place;
+use crate::place::ClaimPlace;
 use crate::spot::Spot;
 use jwt_policy::Claims;
 use jwt_text::List;
@@ -25,7 +25,7 @@ pub(crate) enum ClaimValue {
 /// A claim, and the values that are allowed for it: it has to have one of them.
 #[derive(Drop)]
 pub(crate) struct ClaimRule {
-    pub(crate) place: Place,
+    pub(crate) place: ClaimPlace,
     pub(crate) allowed: Vec<ClaimValue>,
 }
 

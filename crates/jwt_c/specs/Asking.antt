@@ -2,10 +2,10 @@
 use Rattle.std.specs.Prelude.{◌≡◌, ◌≢◌, ◌<◌, ℕ, Bool, true, false, ◌&&◌, ◌||◌, if◌then◌else◌, ◌++◌, List, [], ◌∷◌, length, Option, Some, None}
 use Rattle.jwt_mac.specs.declared.algorithm.Alg.{Alg}
 use Rattle.jwt_mac.specs.declared.algorithm.Alg.TheVariants as alg
-use Rattle.jwt_mac.specs.declared.message.Curve.{Curve}
-use Rattle.jwt_mac.specs.declared.message.Curve.TheVariants.{P256, P384, P521}
-use Rattle.jwt_mac.specs.declared.message.EdCurve.{EdCurve}
-use Rattle.jwt_mac.specs.declared.message.EdCurve.TheVariants.{Ed25519, Ed448}
+use Rattle.jwt_mac.specs.declared.key_view.EcCurve.{EcCurve}
+use Rattle.jwt_mac.specs.declared.key_view.EcCurve.TheVariants.{P256, P384, P521}
+use Rattle.jwt_mac.specs.declared.key_view.EdCurve.{EdCurve}
+use Rattle.jwt_mac.specs.declared.key_view.EdCurve.TheVariants.{Ed25519, Ed448}
 use Rattle.jwt_mac.specs.Algorithm.{is_hmac_alg}
 use Rattle.jwt_mac.specs.Verifying.{KeyOctets, OctKey, RsaKey, EcKey, OkpKey, signing_input}
 use Rattle.jwt_ecdsa.specs.Meanings.{ecdsa_meaning}
@@ -13,6 +13,7 @@ use Rattle.jwt_ed25519.specs.Meanings.{ed25519_meaning}
 use Rattle.jwt_rsa.specs.Meanings.{rsa_meaning}
 use Rattle.jwt_told.specs.Told.{ToldParts, told}
 use Rattle.jwt_told.specs.Questions.{QuestionParts, told_of}
+use Rattle.jwt_told.specs.Ranks.{key_first, key_second}
 use Rattle.jwt_c.specs.declared.asking.Proved.{Proved}
 use Rattle.jwt_c.specs.declared.asking.Proved.TheVariants.{Rsa, Ed25519 as OnEd25519, Any}
 use Rattle.jwt_c.specs.declared.desk.Desk.{Desk}
@@ -35,7 +36,7 @@ alg_number alg.ES384 = 11
 alg_number alg.ES512 = 12
 alg_number alg.EdDSA = 13
 
-abbrev curve_number : Curve → ℕ
+abbrev curve_number : EcCurve → ℕ
 curve_number P256 = 256
 curve_number P384 = 384
 curve_number P521 = 521
@@ -49,20 +50,6 @@ kind_number (OctKey k) = 1
 kind_number (RsaKey n e) = 2
 kind_number (EcKey curve x y) = curve_number curve
 kind_number (OkpKey curve x) = ed_curve_number curve
-
--- a key's first member: the secret, the modulus, the coordinate x
-abbrev pub key_first : KeyOctets → List ℕ
-key_first (OctKey k) = k
-key_first (RsaKey n e) = n
-key_first (EcKey curve x y) = x
-key_first (OkpKey curve x) = x
-
--- its second: the exponent, the coordinate y
-abbrev pub key_second : KeyOctets → List ℕ
-key_second (OctKey k) = []
-key_second (RsaKey n e) = e
-key_second (EcKey curve x y) = y
-key_second (OkpKey curve x) = []
 
 -- what a question is written as: the signing input, the signature, the key's two members
 abbrev pub question_octets : QuestionParts → List ℕ

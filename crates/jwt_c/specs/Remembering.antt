@@ -2,7 +2,7 @@
 use Rattle.std.specs.Prelude.{◌≡◌, ℕ, ℤ, Bool, true, false, List, [], Option, Some, None}
 use Rattle.jwt_verify.specs.declared.report.Report.{Report}
 use Rattle.jwt_told.specs.Told.{Truth, ToldParts, AreRight, told}
-use Rattle.jwt_memory.specs.declared.memory.Entry.{Entry}
+use Rattle.jwt_memory.specs.declared.memory.MemoryEntry.{MemoryEntry}
 use Rattle.jwt_memory.specs.declared.memory.Memory.{Memory}
 use Rattle.jwt_memory.specs.Entries.{Holds}
 use Rattle.jwt_memory.specs.ToldKept.{AreTrulyKept, IsToldNow, IsTrulyRemembered}
@@ -26,7 +26,7 @@ RestsOn true answers memory grounds now octets report = RestsOnMemory memory gro
 -- the memory keeps all these octets, accepted under this ceiling
 abbrev pub Knows : Option Memory → List ℕ → ℕ → Type 0
 Knows None octets ceiling = ⊥
-Knows (Some memory) octets ceiling = (entry : Entry) × Holds memory entry × (entry.octets.items ≡ octets) × (entry.ceiling ≡ ceiling)
+Knows (Some memory) octets ceiling = (entry : MemoryEntry) × Holds memory entry × (entry.octets.items ≡ octets) × (entry.ceiling ≡ ceiling)
 
 -- what is remembered is known to the memory
 abbrev pub IsHeldIn : Bool → Option Memory → List ℕ → ℕ → Type 0

@@ -174,6 +174,6 @@ IsAskedBy desk now octets said (Some after) = IsAsked desk now octets said after
 -- what is asked of the token is the first try of a run by what was told of which nothing was told, and comes with the token
 abbrev pub IsAsking : List ToldParts → Documents → ℤ → List ℕ → Asking → Type 0
 IsAsking answers grounds now octets asks = AreTries (terms grounds.policy grounds.keys now (told_meaning answers ∷ [])) octets grounds.policy.run.work asks.tries.items
-    × IsFirstOpen answers grounds.policy octets (key_set grounds.keys).keys asks.tries.items asks.question.signature asks.question.key
-    × IsOpen answers grounds.policy octets (key_set grounds.keys).keys asks.question.signature asks.question.key
+    × IsFirstOpen answers grounds.policy octets (key_set grounds.keys).keys asks.tries.items asks.pair.signature asks.pair.key
+    × IsOpen answers grounds.policy octets (key_set grounds.keys).keys asks.pair.signature asks.pair.key
     × (token_of grounds.policy octets ≡ Ok (token asks.token))

@@ -13,11 +13,11 @@ use Rattle.jwt_keys.specs.Thumbprints.{thumbprint_of}
 use Rattle.jwt_keys.specs.declared.skip.SkipReason.{SkipReason}
 use Rattle.jwt_keys.specs.declared.skip.SkipReason.TheVariants.{NotObject, CrvUnknown}
 use Rattle.jwt_keys.specs.declared.skip.Skip.{Skip}
-use Rattle.jwt_keys.specs.declared.kind.Kind.{Kind}
-use Rattle.jwt_keys.specs.declared.kind.Kind.TheVariants.{Oct, Rsa, Ec, Okp}
+use Rattle.jwt_keys.specs.declared.kind.KeyKind.{KeyKind}
+use Rattle.jwt_keys.specs.declared.kind.KeyKind.TheVariants.{Oct, Rsa, Ec, Okp}
 
 -- the octets that the members of a key of this kind spell; a readable key has them all
-abbrev pub octets_in : Kind → Members → KeyOctets
+abbrev pub octets_in : KeyKind → Members → KeyOctets
 octets_in Oct ms = OctKey (member_octets (codes "k") ms)
 octets_in Rsa ms = RsaKey (member_octets (codes "n") ms) (member_octets (codes "e") ms)
 octets_in (Ec curve) ms = EcKey curve (member_octets (codes "x") ms) (member_octets (codes "y") ms)
@@ -28,7 +28,7 @@ abbrev pub text_or_empty : Data → List ℕ
 text_or_empty d = unwrap_or (as_str d) []
 
 -- the key of this kind with these members, at its place
-abbrev pub parts_of : ℕ → Kind → Members → KeyParts
+abbrev pub parts_of : ℕ → KeyKind → Members → KeyParts
 parts_of place kind ms = record {
   octets = octets_in kind ms;
   kid = text_at (codes "kid") ms;
@@ -61,7 +61,7 @@ skip_if place (Err reason) = record { place = place; reason = reason } ∷ []
 
 -- ---- the same in the order in which the rows are tried
 
-abbrev pub key_of_kind : ℕ → Option Kind → Members → Result KeyParts SkipReason
+abbrev pub key_of_kind : ℕ → Option KeyKind → Members → Result KeyParts SkipReason
 key_of_kind place None ms = Err CrvUnknown
 key_of_kind place (Some kind) ms = unless (octet_skip_of kind ms) (Ok (parts_of place kind ms))
 

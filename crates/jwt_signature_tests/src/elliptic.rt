@@ -3,7 +3,7 @@
 use crate::told::told_by;
 use hex::decode;
 use jwt_ecdsa::{Ecdsa, verifies_es256, verifies_es384, verifies_es512};
-use jwt_mac::{Alg, Answer, Curve, KeyView, Message, Verifier};
+use jwt_mac::{Alg, Answer, EcCurve, KeyView, Message, Verifier};
 use jwt_verify::SigState;
 use std::alloc::{AllocError, Global};
 use std::process::Abort;
@@ -1423,7 +1423,7 @@ fn answer_by(alg: Alg, key: &KeyView, signature: &[u8]) -> Answer {
 }
 
 /// What it answers where that key is said to be of a curve.
-fn answer_on(alloc: Global, alg: Alg, curve: Curve) -> Result<Answer, Fail> {
+fn answer_on(alloc: Global, alg: Alg, curve: EcCurve) -> Result<Answer, Fail> {
     let x = decode(alloc, A3.x.as_bytes())?;
     let y = decode(alloc, A3.y.as_bytes())?;
     let signature = decode(alloc, A3.signature.as_bytes())?;
@@ -1442,10 +1442,10 @@ fn answer_on(alloc: Global, alg: Alg, curve: Curve) -> Result<Answer, Fail> {
 #[test]
 fn it_takes_the_curve_of_the_algorithm(rt: HostRuntime) -> Result<(), Fail> {
     let alloc = rt.alloc();
-    assert!(rt; answer_on(alloc, Alg::ES256, Curve::P256)? == Answer::Valid);
-    assert!(rt; answer_on(alloc, Alg::ES256, Curve::P384)? == Answer::Invalid);
-    assert!(rt; answer_on(alloc, Alg::ES384, Curve::P256)? == Answer::Invalid);
-    assert!(rt; answer_on(alloc, Alg::RS256, Curve::P256)? == Answer::Invalid);
+    assert!(rt; answer_on(alloc, Alg::ES256, EcCurve::P256)? == Answer::Valid);
+    assert!(rt; answer_on(alloc, Alg::ES256, EcCurve::P384)? == Answer::Invalid);
+    assert!(rt; answer_on(alloc, Alg::ES384, EcCurve::P256)? == Answer::Invalid);
+    assert!(rt; answer_on(alloc, Alg::RS256, EcCurve::P256)? == Answer::Invalid);
     Ok(())
 }
 

@@ -17,8 +17,8 @@ use Rattle.jwt_verify.specs.Asks.{AtPair, IsToken}
 use Rattle.jwt_verify.specs.Accepted.{IsVerdict}
 use Rattle.jwt_verify.specs.Reports.{FoundMemory, IsReport}
 use Rattle.jwt_verify.specs.Verdict.{Terms}
-use Rattle.jwt_told.specs.declared.questions.Asked.{Asked}
-use Rattle.jwt_told.specs.declared.told.AskedCopy.{AskedCopy}
+use Rattle.jwt_told.specs.declared.questions.Question.{Question}
+use Rattle.jwt_told.specs.declared.told.OwnedQuestion.{OwnedQuestion}
 use Rattle.jwt_told.specs.Told.{ToldParts, Truth, AreRight, told_meaning, true_meaning, answer_to, key_view}
 
 -- a question about a signature: whether the key made it over the message by the algorithm
@@ -28,11 +28,11 @@ pub record QuestionParts : Type 0 where
   pub message : MessageOctets
   pub signature : List ℕ
 
-abbrev pub question_parts : Asked → QuestionParts
-question_parts asked = record { alg = asked.alg; key = key_octets asked.key; message = message_octets asked.message; signature = asked.signature.now }
+abbrev pub question_parts : Question → QuestionParts
+question_parts question = record { alg = question.alg; key = key_octets question.key; message = message_octets question.message; signature = question.signature.now }
 
 -- that of a copy
-unfoldable pub kept_parts : AskedCopy → QuestionParts
+unfoldable pub kept_parts : OwnedQuestion → QuestionParts
 kept_parts copy = record { alg = copy.alg; key = key_view copy.key; message = record { protected = (arc_value copy.protected).items; payload = (arc_value copy.payload).items }; signature = (arc_value copy.signature).items }
 
 -- the question with an answer

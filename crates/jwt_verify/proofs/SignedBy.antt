@@ -8,19 +8,19 @@ use Rattle.jwt_verify.specs.Table.{below, states}
 use Rattle.jwt_verify.specs.Verdict.{Signing, fault_of, first_in, signing_in}
 
 -- the key that verifies a signature in this state
-abbrev pub key_of : SigState → Option ℕ
-key_of (Verified key) = Some key
-key_of _ = None
+abbrev pub verifying_key : SigState → Option ℕ
+verifying_key (Verified key) = Some key
+verifying_key _ = None
 
-abbrev pub key_in : List SigState → ℕ → Option ℕ
-key_in states signature = option_and_then key_of (slice_get states signature)
+abbrev pub verifying_key_in : List SigState → ℕ → Option ℕ
+verifying_key_in states signature = option_and_then verifying_key (slice_get states signature)
 
 abbrev pub fault_in : List SigState → ℕ → Option SigFault
 fault_in states signature = option_and_then fault_of (slice_get states signature)
 
 -- what the signatures in these states come to
 abbrev pub signing_by : Mode → List SigState → Signing
-signing_by mode states = signing_in mode (first_in (key_in states) (below (length states))) (first_in (fault_in states) (below (length states)))
+signing_by mode states = signing_in mode (first_in (verifying_key_in states) (below (length states))) (first_in (fault_in states) (below (length states)))
 
 -- what becomes of a signature, by its bar, whether a key is eligible, and the key that verifies it
 abbrev pub state_of : Option SigFault → Bool → Option ℕ → SigState

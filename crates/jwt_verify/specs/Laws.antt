@@ -107,9 +107,9 @@ MoreKeys = (terms : Terms) (more : List KeyParts) (octets : List ℕ) (ceiling m
     → (another : ℕ) × (another_key : ℕ) × (verdict_of (with_keys terms more) octets more_w ≡ Accepted another another_key claims)
 
 -- a state, a verdict without the key that it names
-abbrev pub kind_of : SigState → SigState
-kind_of (Verified key) = Verified 0
-kind_of state = state
+abbrev pub kind_of_state : SigState → SigState
+kind_of_state (Verified key) = Verified 0
+kind_of_state state = state
 
 abbrev pub without_key : Verdict → Verdict
 without_key (Accepted signature key claims) = Accepted signature 0 claims
@@ -120,4 +120,4 @@ abbrev pub SameKeys : Type 0
 SameKeys = (terms : Terms) (others : List KeyParts) (octets : List ℕ) (ceiling other_w : ℕ) → AreAmong others terms.keys → AreAmong terms.keys others
     → HasRoom (table terms octets) ceiling terms.policy.max_calls → HasRoom (table (with_keys terms others) octets) other_w terms.policy.max_calls
     → (without_key (verdict_of terms octets ceiling) ≡ without_key (verdict_of (with_keys terms others) octets other_w))
-    × (map kind_of (states (table terms octets) ceiling terms.policy.max_calls) ≡ map kind_of (states (table (with_keys terms others) octets) other_w terms.policy.max_calls))
+    × (map kind_of_state (states (table terms octets) ceiling terms.policy.max_calls) ≡ map kind_of_state (states (table (with_keys terms others) octets) other_w terms.policy.max_calls))

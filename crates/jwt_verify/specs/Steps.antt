@@ -52,9 +52,9 @@ TellsReports = (terms : Terms) (octets : List ℕ) (ceiling : ℕ) (report : Rep
 -- ---- Cited by contracts of private functions alone
 
 -- the octets that are held, and what is still to come; or nothing is held, and at most the limit was taken
-abbrev pub Holds : Result Bounded Fault → ℕ → List ℕ → Option (List ℕ) → Type 0
-Holds (Ok held) limit octets rest = (held.octets ≡ taken octets limit) × (rest ≡ Some (drop (limit + 1) octets))
-Holds (Err _) limit octets rest = (front back : List ℕ) × (octets ≡ front ++ back) × (rest ≡ Some back) × (length front ≤ limit)
+abbrev pub IsTakenIn : Result Bounded Fault → ℕ → List ℕ → Option (List ℕ) → Type 0
+IsTakenIn (Ok held) limit octets rest = (held.octets ≡ taken octets limit) × (rest ≡ Some (drop (limit + 1) octets))
+IsTakenIn (Err _) limit octets rest = (front back : List ℕ) × (octets ≡ front ++ back) × (rest ≡ Some back) × (length front ≤ limit)
 
 -- why nothing is held, by whether the source had failed, and whether it has: where memory was refused, it didn't fail now
 abbrev pub IsSourceFault : Bool → Bool → Fault → Type 0

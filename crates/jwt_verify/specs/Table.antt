@@ -101,6 +101,6 @@ ending table octets calls = option_map_or (λ e. if is_within calls (length (pai
 -- ---- Cited by contracts of private functions alone
 
 -- what a run that finds memory leaves: the paid tries, the states and the ending; where a verifier found none, the tries end with the pair that was asked
-abbrev pub IsRun : Table → ℕ → Option ℕ → List Try → List SigState → End → Type 0
-IsRun table octets calls made found (VerifierMemory signature key) = ((before : List Try) × (made ≡ before ++ entry table signature key ∷ [])) × (table.may_lack signature key ≡ true) × (found ≡ states_at table (Some (entry table signature key)))
-IsRun table octets calls made found end = (made ≡ paid table octets calls) × (found ≡ states table octets calls) × (end ≡ ending table octets calls)
+abbrev pub IsWholeRun : Table → ℕ → Option ℕ → List Try → List SigState → End → Type 0
+IsWholeRun table octets calls made found (VerifierMemory signature key) = ((before : List Try) × (made ≡ before ++ entry table signature key ∷ [])) × (table.may_lack signature key ≡ true) × (found ≡ states_at table (Some (entry table signature key)))
+IsWholeRun table octets calls made found end = (made ≡ paid table octets calls) × (found ≡ states table octets calls) × (end ≡ ending table octets calls)

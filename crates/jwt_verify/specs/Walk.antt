@@ -3,7 +3,7 @@ use Rattle.std.specs.Prelude.{ℕ, ◌+◌, ◌<◌, ◌≤◌, ◌≡◌, ◌++
 use Rattle.std.specs.List.{list_any, filter, flat_map, find}
 use Rattle.jwt_verify.specs.declared.tries.RowEnd.{RowEnd}
 use Rattle.jwt_verify.specs.declared.tries.RowEnd.TheVariants.{Through, Stop}
-use Rattle.jwt_verify.specs.declared.settled.Settled.{Settled}
+use Rattle.jwt_verify.specs.declared.signature_outcome.SignatureOutcome.{SignatureOutcome}
 use Rattle.jwt_verify.specs.declared.tries.End.{End}
 use Rattle.jwt_verify.specs.declared.tries.End.TheVariants.{Done, WorkExceeded, CallsExceeded, VerifierMemory}
 use Rattle.jwt_verify.specs.declared.report.SigState.{SigState}
@@ -11,7 +11,7 @@ use Rattle.jwt_verify.specs.declared.report.SigState.TheVariants.{NotReached}
 use Rattle.jwt_policy.specs.declared.mode.Mode.{Mode}
 use Rattle.jwt_policy.specs.declared.mode.Mode.TheVariants.{Any, All}
 use Rattle.jwt_verify.specs.declared.report.Try.{Try}
-use Rattle.jwt_verify.specs.Settled.{is_verified, settled_key, settled_state}
+use Rattle.jwt_verify.specs.SignatureOutcome.{is_verified, outcome_key, outcome_state}
 use Rattle.jwt_verify.specs.Table.{Table, below, verifies, verified, reached, tried, entry, tries, work, is_within, outcome, state_at}
 use Rattle.jwt_verify.specs.Paying.{IsFront, IsNext}
 
@@ -27,7 +27,7 @@ unfoldable pub rows : Table → ℕ → List Try
 rows table signature = flat_map (λ n. row table n table.keys) (below signature)
 
 -- the run has come to this signature and this key, and has made the tries before that pair
-pub record IsAt (table : Table) (signature key : ℕ) (made : List Try) : Type 0 where
+pub record HasComeTo (table : Table) (signature key : ℕ) (made : List Try) : Type 0 where
   pub listed : made ≡ rows table signature ++ row table signature key
   pub reached : reached table signature ≡ true
   pub unverified : list_any (verifies table signature) (below key) ≡ false
@@ -76,13 +76,13 @@ stopped_at table (CallsExceeded signature key) = Some (entry table signature key
 stopped_at table (VerifierMemory signature key) = Some (entry table signature key)
 
 -- what becomes of the signature, and the key that verifies it
-pub record IsSettled (table : Table) (signature : ℕ) (settled : Settled) : Type 0 where
-  pub state : settled_state settled ≡ outcome table signature
-  pub key : find (verifies table signature) (below table.keys) ≡ settled_key settled
+pub record IsOutcome (table : Table) (signature : ℕ) (ended : SignatureOutcome) : Type 0 where
+  pub state : outcome_state ended ≡ outcome table signature
+  pub key : find (verifies table signature) (below table.keys) ≡ outcome_key ended
 
 -- how the tries of one signature ended
 abbrev pub IsRowEnd : Table → ℕ → ℕ → Option ℕ → List Try → RowEnd → Type 0
-IsRowEnd table signature ceiling calls made (Through settled) = IsThrough table signature (is_verified settled) made × IsSettled table signature settled
+IsRowEnd table signature ceiling calls made (Through ended) = IsThrough table signature (is_verified ended) made × IsOutcome table signature ended
 IsRowEnd table signature ceiling calls made (Stop end) = IsEnd table ceiling calls made end × (reached table signature ≡ true) × ((key : ℕ) × (stopped_at table end ≡ Some (entry table signature key)))
 
 -- the states of the first signatures were recorded, and no later signature is reached
