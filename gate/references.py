@@ -77,7 +77,7 @@ def main():
         count += 1
         if name not in used:
             failed.append(f"no row of docs/PROMISES.md has the wrong body {name}")
-    for page in [TOP / "README.md", *sorted((TOP / "docs").glob("*.md"))]:
+    for page in [*sorted(TOP.glob("*.md")), *sorted((TOP / "docs").glob("*.md"))]:
         for path in sorted(paths_of(page.read_text())):
             count += 1
             if not list(TOP.glob(path.rstrip("/"))):

@@ -2,17 +2,24 @@
 """Says which definitions a reader has to believe: what contracts of public functions rest on, what laws alone rest on, and what private functions
 alone do.
 
-    gate/rooms.py              of each crate how many definitions there are of each, and which files have several
+    gate/rooms.py              of each crate how many definitions there are of each, and whether each stands where it belongs
     gate/rooms.py CRATE ..     each definition of these crates, with its file
 
-A definition belongs to the first of these that cites it, or cites one that cites it. It is a rough reader of the layout of `rt fmt`, and of definitions by
-their names. What proofs alone cite is said last: it belongs in `proofs/`.
+A definition belongs to the first of these that cites it, or cites one that cites it. `specs/Lib.antt` lists the files in these three parts, a
+file in the part of its first definition; in a file that has several, a line parts them. What proofs alone cite belongs in `proofs/`. It
+is a rough reader of the layout of `rt fmt`, and of definitions by their names.
 """
 import collections, pathlib, re, sys
 
 TOP = pathlib.Path(__file__).resolve().parent.parent
 PUBLIC, LAW, PRIVATE, PROOF = range(4)
 ROOMS = ["public contracts", "laws alone", "private functions alone", "proofs alone"]
+PARTS = [
+    "-- ---- What contracts of public functions cite, in reading order",
+    "-- ---- What laws alone cite",
+    "-- ---- What contracts of private functions alone cite, which nobody has to believe",
+]
+LINES = {"-- ---- Cited by laws alone": LAW, "-- ---- Cited by contracts of private functions alone": PRIVATE}
 # Crates that nothing stands on.
 ASIDE = re.compile(r"_tests$|^jwt_(support|bench|example|tool)$")
 # Both forms of an import: names of a module, and the module by a name of its own.
@@ -146,7 +153,7 @@ def contracts(path, crate):
             found.append((room, clauses))
             at = end + 1
             continue
-        if re.match(r"\s*ghost (?!use)", line):
+        if re.match(r"\s*(?:pub(?:\([^)]*\))? )?ghost (?!use)", line):
             end = at
             while end < len(lines) and not lines[end].rstrip().endswith((";", "},")) and lines[end].strip():
                 end += 1
@@ -189,23 +196,55 @@ def rooms():
     return all_of, {it: room for it, room in room_of.items() if not ASIDE.search(it[0].split(".")[0])}
 
 
+def misplaced_files(crate, room_of_file):
+    """What is wrong in the parts of a crate's `specs/Lib.antt`."""
+    path = TOP / "crates" / crate / "specs/Lib.antt"
+    part, found = None, []
+    for line in path.read_text().split("\n") if path.exists() else []:
+        module = re.match(r"pub mod (\w+)", line)
+        if line in PARTS:
+            part = PARTS.index(line)
+        elif module and module[1] in room_of_file and part != room_of_file[module[1]]:
+            found.append(f"{path.relative_to(TOP)}: {module[1]} belongs to the part of {ROOMS[room_of_file[module[1]]]}")
+    return found
+
+
+def misplaced_definitions(path, listed, room_of):
+    """What is wrong in the order of a file: each definition stands below the line of its room, the file's first room aside."""
+    below, found = min(room_of[it] for it in listed), []
+    starts = {}
+    for line in path.read_text().split("\n"):
+        head = HEAD.match(line)
+        below = LINES.get(line, below)
+        if head:
+            starts.setdefault(head[1] or head[2], below)
+    for it in listed:
+        if room_of[it] == PROOF or starts.get(it[1]) != room_of[it]:
+            found.append(f"{path.relative_to(TOP)}: {it[1]} is cited by {ROOMS[room_of[it]]}")
+    return found
+
+
 def main():
     all_of, room_of = rooms()
-    counts, mixed = collections.defaultdict(collections.Counter), collections.Counter()
-    for it, room in room_of.items():
-        counts[it[0].split(".")[0]][room] += 1
-    for path, listed in all_of.order.items():
-        if len({room_of[it] for it in listed if it in room_of}) > 1:
-            mixed[listed[0][0].split(".")[0]] += 1
     if sys.argv[1:]:
         for (module, name), room in sorted(room_of.items(), key=lambda it: (it[1], it[0])):
             if module.split(".")[0] in sys.argv[1:]:
                 print(f"{ROOMS[room]}: {module}.{name}")
         return 0
-    print("crate", *ROOMS, "files with several", sep="\t")
+    counts, wrong, files = collections.defaultdict(collections.Counter), [], collections.defaultdict(dict)
+    for path, listed in all_of.order.items():
+        listed = [it for it in listed if it in room_of]
+        if listed:
+            crate = listed[0][0].split(".")[0]
+            counts[crate].update(room_of[it] for it in listed)
+            files[crate][path.stem] = min(room_of[it] for it in listed)
+            wrong += misplaced_definitions(path, listed, room_of)
+    print("crate", *ROOMS, sep="\t")
     for crate in sorted(counts):
-        print(crate, *(counts[crate][room] for room in range(4)), mixed[crate], sep="\t")
-    return 0
+        print(crate, *(counts[crate][room] for room in range(4)), sep="\t")
+        wrong += misplaced_files(crate, files[crate])
+    print("\n".join([*wrong, f"{len(room_of) - len(wrong)} passed, {len(wrong)} failed"]))
+    return int(bool(wrong))
 
 
 sys.exit(main())

@@ -3,7 +3,7 @@
  *     fow_validator validator = FOW_VALIDATOR_INIT;
  *     fow_report report;
  *     uint32_t fault, most;
- *     if (fow_abi() != FOW_ABI) { ... another library was loaded than this header is of: fow_abi() and FOW_ABI name both }
+ *     if (fow_abi() != FOW_ABI) { ... the library that was loaded has another interface than this header }
  *     if (fow_open(&validator, policy, policy_len, keys, keys_len, &fault) != FOW_OK) { ... }
  *     if (fow_most_questions(&validator, &most) != FOW_OK || most > FOW_MOST_QUESTIONS) { ... set `max_calls` in the policy }
  *     while (fow_judge(&validator, token, token_len, now, &report) == FOW_ASKS) {
@@ -12,7 +12,7 @@
  *         if (fow_answer_asked(&validator, valid) != FOW_OK) break;
  *     }
  *     if (report.verdict == FOW_OK) { ... it is accepted; every other verdict is none ... }
- *     fow_forget(&validator); (after each token: what was told is kept until then)
+ *     fow_forget(&validator); (after each token: your answers are kept until then)
  *     ... the next token ...
  *     fow_close(&validator);
  *
@@ -61,7 +61,7 @@ const char *fow_version(void);
  * (fow_most_questions). */
 #define FOW_MOST_QUESTIONS 64
 
-/* A policy, a key set, what was told of signatures, and the last report. The members are private. */
+/* A policy, a key set, your answers on signatures, and the last report. The members are private. */
 typedef struct fow_validator {
     void *at;
     bool held;
@@ -113,7 +113,7 @@ enum fow_fault {
     FOW_FORM_NAME_TWICE = 405,          /* a name is doubled in an object of the JSON form */
     FOW_FORM_MEMBERS = 406,             /* a member is missing, of another kind, or not to be there */
     FOW_FORM_TOO_MANY_SIGNATURES = 407, /* more signatures than the policy allows */
-    FOW_FORM_BASE64 = 408,              /* a text is no base64url; the part, and its signature but for the payload */
+    FOW_FORM_BASE64 = 408,              /* a text is no base64url; the part, and where it isn't the payload its signature */
     FOW_FORM_HEADER = 409,              /* the protected header of this signature is no object text */
     FOW_FORM_UNPROTECTED_KIND = 410,    /* the member `header` of this signature is no object */
     FOW_FORM_NAMES_OVERLAP = 411,       /* a name is in both headers of this signature */
@@ -176,11 +176,11 @@ enum fow_fault {
     FOW_DENIED_CLAIM_NOT_ALLOWED = 1003  /* this claim has no value that is allowed */
 };
 
-/* The part of a token of which FOW_FORM_BASE64 speaks. */
+/* The part of a token that FOW_FORM_BASE64 names. */
 enum fow_part { FOW_NO_PART = 0, FOW_PART_PAYLOAD = 1, FOW_PART_PROTECTED = 2, FOW_PART_SIGNATURE = 3 };
 
-/* The claim of which FOW_CLAIM_KIND and FOW_CLAIM_DATE speak, which is a registered one. FOW_CLAIM_MISSING always has FOW_CLAIM_BY_NAME,
- * also where a registered claim such as `exp` is missing: fow_refused_claim gives the name. */
+/* The registered claim that FOW_CLAIM_KIND and FOW_CLAIM_DATE name. FOW_CLAIM_MISSING always has FOW_CLAIM_BY_NAME, also where a
+ * registered claim such as `exp` is missing: fow_refused_claim gives the name. */
 enum fow_claim_number {
     FOW_NO_CLAIM = 0,
     FOW_ISS = 1,
@@ -193,7 +193,7 @@ enum fow_claim_number {
     FOW_CLAIM_BY_NAME = 8
 };
 
-/* What is said of a token. A number that the verdict or the fault doesn't speak of is 0. */
+/* The report on a token. A number that neither the verdict nor the fault names is 0. */
 typedef struct fow_report {
     uint64_t work;      /* the octets that were fed to HMAC; 0 of FOW_ASKS, though the tries, each with its cost, are there then too */
     uint64_t tries;     /* the tries of a key on a signature that were made; fow_try_of gives each */
@@ -273,8 +273,8 @@ enum fow_form { FOW_COMPACT = 1, FOW_GENERAL = 2, FOW_FLATTENED = 3 };
 
 /* Reads a policy and a key set.
  *
- * Proved: FOW_OK: the policy and the key set that these octets spell are held from now on, and nothing is told. FOW_REFUSED:
- * *fault says why the first of the two that is refused is refused. FOW_OUT_OF_MEMORY: memory was refused. Where the answer
+ * Proved: FOW_OK: the policy and the key set that these octets spell are held from now on, and no answers. FOW_REFUSED: *fault
+ * says why the first of the two that is refused is refused. FOW_OUT_OF_MEMORY: memory was refused. Where the answer
  * isn't FOW_OK, the validator holds what it held. The octets aren't needed any more after the call.
  *
  * A caller who answers questions sets `max_calls` in the policy: each question is a try, so `max_calls` bounds how many are
@@ -286,10 +286,9 @@ uint32_t fow_open(fow_validator *validator, const uint8_t *policy, size_t policy
 
 /* Opens a validator beside another one: on the policy and the key set that the other holds, which aren't read again. The two may be used
  * at the same time by two threads, and closed in any order: the policy and the key set are freed when the last of those that hold them
- * is closed or opened anew. What is told to the one, and what is kept of its last judging, the other doesn't have. While this call
- * runs, it has both to itself.
+ * is closed or opened anew. Each has its own answers and its own last judging. While this call runs, it has both to itself.
  *
- * Proved: FOW_OK: the policy and the key set that the other holds are held from now on, and nothing is told. FOW_NOT_OPEN: the other
+ * Proved: FOW_OK: the policy and the key set that the other holds are held from now on, and no answers. FOW_NOT_OPEN: the other
  * holds nothing. FOW_OUT_OF_MEMORY: memory was refused. Where the answer isn't FOW_OK, the validator holds what it held. The other
  * holds what it held in each case. */
 uint32_t fow_open_beside(fow_validator *validator, fow_validator *another);
@@ -313,44 +312,41 @@ void fow_close(fow_validator *validator);
 
 /* Judges a token at a moment, in seconds since 1970-01-01T00:00:00Z. It answers the verdict, which *report has too.
  *
- * Proved: what is accepted or refused, and all that *report says of it, is the verdict of validate's contract on these octets
- * under the policy, the key set and the moment, where HMAC is verified and for the other algorithms what was told is believed.
- * Where each answer that was told is right, it is the verdict under what is right. Of FOW_ASKS: fow_try_of gives the tries of a run
- * in which what wasn't told counts as invalid, and the report names the first of them of which nothing was told. FOW_NOT_OPEN:
- * nothing is held. FOW_OUT_OF_MEMORY: nothing is said.
+ * Proved: an acceptance or a refusal, with all that *report says of it, is the verdict of validate's contract on these octets under the
+ * policy, the key set and the moment. HMAC is verified; for the other algorithms your answers are believed. Where each answer is right, it
+ * is the verdict under what is right. FOW_ASKS: fow_try_of gives the tries of a run in which a pair without an answer counts as invalid,
+ * and the report names the first try that has none. FOW_NOT_OPEN: nothing is held. FOW_OUT_OF_MEMORY: nothing is said.
  *
- * After FOW_ASKS a caller answers the pair that the report names (fow_asked, fow_answer_asked), and may answer the tries after it too,
- * those whose `cost` is 0, until one is valid (fow_ask, fow_answer, which read the token again): then what is tried may be other pairs, and the token is judged again. So a token is judged at most once more than it
- * has signatures, however many keys there are. */
+ * After FOW_ASKS a caller answers the pair that the report names (fow_asked, fow_answer_asked). It may answer the later tries with `cost` 0
+ * too, until one is valid (fow_ask, fow_answer, which read the token again): after a valid answer other pairs may be tried, so judge the
+ * token again. A token is judged at most once more than it has signatures, however many keys there are. */
 uint32_t fow_judge(fow_validator *validator, const uint8_t *token, size_t token_len, int64_t now, fow_report *report);
 
 /* Judges a token as fow_judge does, by this library's own verifiers of RSA (RFC 7518, sections 3.3 and 3.5), of ECDSA (section 3.4) and
- * of Ed25519 (RFC 8037, section 3.1), which are proved. It asks nothing, needs no other library, and what was told counts for nothing.
+ * of Ed25519 (RFC 8037, section 3.1), which are proved. It asks nothing, needs no other library, and your answers count for nothing.
  * A signature by Ed448 is refused: FOW_SIG_BAD_SIGNATURE.
  *
  * Proved: what is accepted or refused, and all that *report says of it, is the verdict of validate's contract on these octets under the
  * policy, the key set, the moment and these verifiers. It never answers FOW_ASKS. FOW_NOT_OPEN, FOW_OUT_OF_MEMORY: as of fow_judge. */
 uint32_t fow_proved_judge(fow_validator *validator, const uint8_t *token, size_t token_len, int64_t now, fow_report *report);
 
-/* Remembers tokens from now on: of those that fow_judge accepts at most `tokens`, none longer than `octets` octets, and as many of those that
- * fow_proved_judge accepts; the least used goes first. 0 tokens: none, as after fow_open and fow_open_beside, which remember nothing until this is
- * called. What was remembered is forgotten. fow_forget leaves it. A validator that is opened beside another has a memory of its own.
+/* Remembers accepted tokens from now on: at most `tokens` of those that fow_judge accepts, and as many of those that fow_proved_judge accepts,
+ * none longer than `octets` octets. The least used goes first. With 0 tokens nothing is remembered, as after fow_open and fow_open_beside.
+ * This call forgets the tokens remembered so far; fow_forget doesn't. A validator that is opened beside another has a memory of its own.
  *
- * A token that is remembered is found by its octets, all of which are compared, and only its claims are looked at: nothing is hashed, nothing
- * asked. The report is the one of the judging that accepted it, with what its claims come to at the new moment: its tries and its work are those
- * that were paid then, and fow_remembered says that none was paid now. Only accepted tokens in compact form are remembered, so nobody pushes one
- * out but by other accepted ones.
+ * A remembered token is found by all its octets, and only its claims are checked again: nothing is hashed, nothing asked. The report has the
+ * tries and the work of the judging that accepted it, and the verdict on its claims at the new moment; fow_remembered says that nothing was
+ * paid now. Only accepted tokens in compact form are remembered, so only other accepted tokens push one out.
  *
- * What fow_judge remembers rests on what was told when the token was accepted: an answer that was told and was wrong stays wrong for as long as
- * the token is remembered, also after fow_forget. Accepted tokens and their claims lie in memory until they go, and aren't wiped. One of 179
+ * The memory of fow_judge rests on your answers at the time when a token was accepted: a wrong answer stays wrong for as long as the token is
+ * remembered, also after fow_forget. Accepted tokens and their claims lie in memory until they go, and aren't wiped. One of 179
  * octets takes some 850 octets in all, one of 1,300 with 26 claims some 3,200. Where there is no memory to keep one, it isn't kept, and the verdict
  * is the same. A kept token that has expired is refused by its claims, and stays until others push it out.
  *
  * Proved: FOW_OK: so many tokens of so many octets are remembered from now on, none yet, and nothing else has changed. FOW_OUT_OF_MEMORY: memory
  * was refused. FOW_NOT_OPEN: nothing is held. Where the answer isn't FOW_OK, the validator holds what it held. And of every judging: a verdict of
- * fow_proved_judge is the one that its contract says, remembered or not. One of fow_judge that is remembered is the verdict under what is right,
- * where each answer was right that was told of the tokens that are remembered when they were accepted; where each that is told now is right too,
- * that stays so. A verdict is remembered only where the memory holds all octets of the token. (That it is remembered, and that the least used goes
+ * fow_proved_judge is the one that its contract says, remembered or not. A remembered verdict of fow_judge is the verdict under what is right,
+ * where your answers on the remembered tokens were right when these were accepted. That stays so where your present answers are right too. A verdict is remembered only where the memory holds all octets of the token. (That it is remembered, and that the least used goes
  * first, is tested.) */
 uint32_t fow_remember(fow_validator *validator, size_t tokens, size_t octets);
 
@@ -380,8 +376,8 @@ uint32_t fow_asked(fow_validator *validator, uint8_t *out, size_t out_len, fow_q
 
 /* Tells whether the key made the signature that the last judging asks about. Later verdicts rest on it as on fow_answer.
  *
- * Proved: FOW_OK: exactly this answer is told besides those told before. Else what was told is as before. FOW_ABSENT: the last judging
- * asked nothing, or that is answered. After each of them nothing is asked. */
+ * Proved: FOW_OK: exactly this answer is added to those before. Else the answers are as before. FOW_ABSENT: the last judging asked
+ * nothing, or that is answered. After each of them nothing is asked. */
 uint32_t fow_answer_asked(fow_validator *validator, bool valid);
 
 /* Writes a question at the front of `out`. The token's length and 16,384 octets are always enough. A secret is never written: no question is
@@ -392,18 +388,18 @@ uint32_t fow_answer_asked(fow_validator *validator, bool valid);
 uint32_t fow_ask(fow_validator *validator, const uint8_t *token, size_t token_len, uint32_t signature, uint32_t key, uint8_t *out,
     size_t out_len, fow_question *asked);
 
-/* Tells whether the key made the signature. Later verdicts rest on it, for this very algorithm, key, signing input and
- * signature, and for nothing else. Where the same question is answered twice, the first answer counts.
+/* Tells whether the key made the signature. Later verdicts rest on it, for this algorithm, key, signing input and
+ * signature alone. Where the same question is answered twice, the first answer counts.
  *
- * Proved: FOW_OK: exactly this answer is told besides those told before. Else what was told is as before. FOW_ABSENT: the
- * octets are no token, or there is no such pair. */
+ * Proved: FOW_OK: exactly this answer is added to those before. Else the answers are as before. FOW_ABSENT: the octets are no token,
+ * or there is no such pair. */
 uint32_t fow_answer(fow_validator *validator, const uint8_t *token, size_t token_len, uint32_t signature, uint32_t key, bool valid);
 
 /* Tells what this library's proved verifier of RSA says of the signature, in place of fow_ask and fow_answer: for RS256, RS384,
  * RS512, PS256, PS384 and PS512. It accepts what RFC 8017 does, with keys of 2,048 to 8,192 bits.
  *
- * Proved: FOW_OK: exactly that answer is told besides those told before. Else what was told is as before. FOW_ABSENT: the
- * octets are no token, there is no such pair, or its algorithm is another one. */
+ * Proved: FOW_OK: exactly that answer is added to those before. Else the answers are as before. FOW_ABSENT: the octets are no
+ * token, there is no such pair, or its algorithm is another one. */
 uint32_t fow_answer_rsa(fow_validator *validator, const uint8_t *token, size_t token_len, uint32_t signature, uint32_t key);
 
 /* The same by this library's proved verifier of Ed25519 (RFC 8032, section 5.1.7): for EdDSA with a key of that curve. It accepts a
@@ -421,8 +417,8 @@ uint32_t fow_answer_ed25519(fow_validator *validator, const uint8_t *token, size
  * the curve Ed448. */
 uint32_t fow_answer_proved(fow_validator *validator, const uint8_t *token, size_t token_len, uint32_t signature, uint32_t key);
 
-/* Forgets what was told: do so from time to time, since all answers are kept until then. Proved: nothing is told, and the
- * policy and the key set are as before. */
+/* Forgets your answers: do so from time to time, since all of them are kept until then. Proved: no answer is kept, and the policy
+ * and the key set are as before. */
 void fow_forget(fow_validator *validator);
 
 /* Writes the octets of the payload of a token, whether it was judged or not: judge it first.
@@ -499,8 +495,8 @@ typedef struct fow_access {
 /* Reads an access rule, of at most 65,536 octets.
  *
  * Proved: FOW_OK: the rule that these octets say is held from now on. FOW_REFUSED: *fault says why it is refused, the first cause.
- * FOW_OUT_OF_MEMORY: memory was refused. Where the answer isn't FOW_OK, what was held is held on. The octets aren't needed any more after
- * the call. */
+ * FOW_OUT_OF_MEMORY: memory was refused. Where the answer isn't FOW_OK, the fow_access holds what it held. The octets aren't needed after the
+ * call. */
 uint32_t fow_access_open(fow_access *access, const uint8_t *rule, size_t rule_len, uint32_t *fault);
 
 /* Writes the name of the member, or of the claim, for which a rule is refused, in UTF-8, with JSON escapes undone. It reads the rule's

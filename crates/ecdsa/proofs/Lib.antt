@@ -3,7 +3,6 @@
 pub mod LimbValues
 pub mod Residues
 pub mod MontgomerySteps
-pub mod Congruence
 pub mod Rows
 pub mod NineLimbs
 -- ---- inverses: the functions of euclid
@@ -14,11 +13,11 @@ pub mod Inverses
 -- ---- the field: the functions of field
 
 pub mod Units
-pub mod FieldValues
 pub mod Forms
-pub mod Made
 -- ---- points: the functions of formulas and sums
-
+pub mod Congruence
+pub mod FieldValues
+pub mod Made
 pub mod Slopes
 pub mod Chord
 pub mod Tangent

@@ -17,6 +17,8 @@ domain C = record {
   bits = C.bits;
 }
 
+-- ---- Cited by contracts of private functions alone
+
 -- two points at coordinates over one Z, or a sum without a result and a Z without an inverse
 pub record AreBoth (E : Domain) (U S U2 S2 Z : ℕ) (left right : Option Point) : Type 0 where
   pub x1 : ℕ

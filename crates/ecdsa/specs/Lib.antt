@@ -2,27 +2,29 @@
 
 -- the inverse of a number modulo another
 pub mod Inverse
--- points, their sum and multiples, and when r and s are a signature
+-- elliptic curves over a prime field, and ECDSA on them (SEC 1 version 2, sections 2.2.1, 3.2.2.1 and 4.1.4
 pub mod Curve
--- P-256, P-384 and P-521
+-- the curves of NIST SP 800-186, sections 3.2.1.3 to 3.2.1.5
 pub mod Curves
--- keys, digests and signatures as octets
+-- ECDSA signatures as octets
 pub mod Ecdsa
--- ---- What contracts of private functions cite, which nobody has to believe
-
--- the numbers that limbs write
+-- numbers as limbs of 64 bits
 pub mod Limbs
--- the primes that have arithmetic of their own
+-- the primes of P-256 and P-521 (NIST SP 800-186, sections 3.2.1.3 and 3.2.1.5)
 pub mod Primes
--- what Euclid's algorithm keeps
-pub mod Reached
--- congruence, and what has an inverse
+-- ---- What laws alone cite
+
+-- congruence modulo m, and what has an inverse
 pub mod Residues
--- numbers in Montgomery's form
+-- numbers modulo n, in the form of Montgomery over limbs
 pub mod Field
--- the result that Jacobian coordinates stand for
+-- jacobian coordinates that stand for a result of the curve's definition
 pub mod Stands
--- the domain parameters that constants stand for
+-- the definition's parameters of a curve as it is held
 pub mod Domains
--- the rows of a table of doubles
+-- the doubles of a curve's base point, as a table has them
 pub mod Doubles
+-- ---- What contracts of private functions alone cite, which nobody has to believe
+
+-- the invariant of Euclid's algorithm, of x and the modulus m
+pub mod Reached

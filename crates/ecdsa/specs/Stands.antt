@@ -1,4 +1,4 @@
--- When Jacobian coordinates stand for a result of the curve's definition.
+-- Jacobian coordinates that stand for a result of the curve's definition.
 use Rattle.std.specs.Prelude.{ℕ, ◌≡◌, ◌+◌, ◌*◌, ◌<◌, Option, Some, None}
 use Rattle.ecdsa.specs.declared.field.Field.{Field}
 use Rattle.ecdsa.specs.declared.point.Point.{Point}
@@ -19,6 +19,8 @@ abbrev pub AreFor : ℕ → ℕ → ℕ → ℕ → Option CurvePoint → Type 0
 AreFor m X Y Z None = NoInverse m Z
 AreFor m X Y Z (Some Infinity) = ⊥
 AreFor m X Y Z (Some (Affine x y)) = IsAt m X Y Z x y
+
+-- ---- Cited by contracts of private functions alone
 
 -- no coordinates stand for infinity
 abbrev pub Stands : {N KIND : ℕ} → Field N KIND → Option (Point N) → Option CurvePoint → Type 0

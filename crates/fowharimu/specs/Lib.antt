@@ -1,3 +1,5 @@
+-- ---- What contracts of public functions cite, in reading order
+
 -- What the contracts of the calls that this crate names cite: a crate above writes Rattle.fowharimu.specs and the name here.
 pub use Rattle.jwt_text.specs.Answers
 pub use Rattle.jwt_text.specs.Base64url
@@ -59,5 +61,5 @@ pub use Rattle.jwt_issue.specs.Issued
 pub use Rattle.jwt_issue.specs.Paying as IssuePaying
 pub use Rattle.jwt_issue.specs.Signed as IssueSigned
 pub use Rattle.jwt_issue.specs.Views as IssueViews
--- What a verdict with a memory rests on.
+-- the grounds of a verdict with a memory
 pub mod Remembering

@@ -1,4 +1,4 @@
--- What a verdict with a memory rests on.
+-- The grounds of a verdict with a memory.
 use Rattle.std.specs.Prelude.{ℤ, List, [], ◌∷◌}
 use Rattle.jwt_mac.specs.Verifying.{Meaning}
 use Rattle.jwt_rsa.specs.Meanings.{rsa_meaning}

@@ -44,7 +44,7 @@ pub use remembering::Remembering;
 // Verifiers of signatures by public keys.
 pub use jwt_ecdsa::Ecdsa;
 pub use jwt_ed25519::Ed25519;
-pub use jwt_mac::{Answer, Curve, EdCurve, KeyView, Message, Verifier};
+pub use jwt_mac::{Answer, EcCurve, EdCurve, KeyView, Message, Verifier};
 pub use jwt_rsa::{Pkcs1, Pss, Rsa};
 
 // Showing a token without trusting it.

@@ -79,6 +79,8 @@ pub record IsGranted (rule : Rule) (members : Members) : Type 0 where
   pub scopes : (scope : List ℕ) → Contains rule.scopes scope → HasScope rule.scope_claim members scope
   pub claims : (demand : Demand) → Contains rule.claims demand → IsMet rule.scope_claim members demand
 
+-- ---- Cited by laws alone
+
 -- the second rule asks for all that the first asks for, of the same claims
 pub record AsksNoMore (less more : Rule) : Type 0 where
   pub scope_claim : less.scope_claim ≡ more.scope_claim

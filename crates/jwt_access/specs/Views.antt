@@ -6,7 +6,7 @@ use Rattle.jwt_access.specs.Rules.{Allowed, text, flag, whole, Demand}
 use Rattle.jwt_access.specs.declared.claim_rule.ClaimValue.{ClaimValue}
 use Rattle.jwt_access.specs.declared.claim_rule.ClaimValue.TheVariants.{Text, Flag, Whole}
 use Rattle.jwt_access.specs.declared.claim_rule.ClaimRule.{ClaimRule}
-use Rattle.jwt_access.specs.declared.place.Place.{Place}
+use Rattle.jwt_access.specs.declared.place.ClaimPlace.{ClaimPlace}
 use Rattle.jwt_access.specs.declared.spot.Spot.{Spot}
 
 abbrev pub allowed : ClaimValue → Allowed
@@ -15,7 +15,7 @@ allowed (Flag wanted) = flag wanted
 allowed (Whole wanted) = whole wanted
 
 -- the name of a claim, as it stands in the rule
-abbrev pub name_of : Place → List ℕ
+abbrev pub name_of : ClaimPlace → List ℕ
 name_of place = string_bytes place.name
 
 abbrev pub demand : ClaimRule → Demand

@@ -1,4 +1,4 @@
-//! Why the document of an access rule is refused.
+//! The causes to refuse the document of an access rule.
 
 ghost use Rattle.std.specs.Prelude.{◌≡◌, ◌≢◌, IfOk};
 ghost use Rattle.jwt_access.specs.declared.access_fault.AccessFault.TheVariants.{OutOfMemory};

@@ -1,4 +1,4 @@
-//! What a rule asks of one claim.
+//! The demand of a rule on one claim.
 
 ghost use Rattle.std.specs.Prelude.{◌≡◌, map, slice_get};
 ghost use Rattle.std.specs.List.{list_any};
@@ -9,7 +9,7 @@ ghost use Rattle.jwt_access.specs.Denials.{demand_rows};
 ghost use Rattle.jwt_access.specs.Views.{allowed, demand, found};
 
 use crate::denial::{Denial, DeniedName};
-use crate::place::Place;
+use crate::place::ClaimPlace;
 use crate::spot::Spot;
 use jwt_policy::Claims;
 use jwt_text::List;
@@ -22,10 +22,10 @@ pub(crate) enum ClaimValue {
     Whole(i64),
 }
 
-/// A claim, and the values of which it has to have one.
+/// A claim, and the values that are allowed for it: it has to have one of them.
 #[derive(Drop)]
 pub(crate) struct ClaimRule {
-    pub(crate) place: Place,
+    pub(crate) place: ClaimPlace,
     pub(crate) allowed: Vec<ClaimValue>,
 }
 

@@ -1,4 +1,4 @@
-//! Why claims don't meet a rule.
+//! The first demand of a rule that claims don't meet.
 
 ghost use Rattle.std.specs.Prelude.{◌≡◌, ◌↔◌, IsTrue, IsNone, IfSome, map, string_bytes};
 ghost use Rattle.jwt_text.specs.Rows.{first_row};
@@ -11,7 +11,7 @@ ghost use Rattle.jwt_access.specs.Scopes.{grants};
 ghost use Rattle.jwt_access.specs.Views.{demand, name_of};
 
 use crate::claim_rule::ClaimRule;
-use crate::place::Place;
+use crate::place::ClaimPlace;
 use crate::rule::AccessRule;
 use jwt_policy::Claims;
 use std::marker::Model;
@@ -88,7 +88,7 @@ impl<'a> Denial<'a> {
 }
 
 /// Whether the claim at this place grants the scope.
-fn is_granted(place: &Place, claims: &Claims, scope: &str) -> bool
+fn is_granted(place: &ClaimPlace, claims: &Claims, scope: &str) -> bool
     ensures { result
         ≡ some_passes (grants scope.now) (claim_at (name_of place.now) claims.now) }
 {
@@ -100,7 +100,7 @@ fn is_granted(place: &Place, claims: &Claims, scope: &str) -> bool
 
 /// The first of these scopes that the claim at this place doesn't grant.
 fn first_scope_missing<'a>(
-    place: &Place,
+    place: &ClaimPlace,
     scopes: &'a [String],
     claims: &Claims,
 ) -> Option<Denial<'a>>

@@ -1,4 +1,4 @@
-//! What a service asks of the claims of an accepted token beyond who it is from: scopes and roles (RFC 6749, section 3.3;
+//! The demands of a service on the claims of an accepted token beyond who it is from: scopes and roles (RFC 6749, section 3.3;
 //! RFC 9068, section 2.2.3).
 //!
 //! [`AccessRule::read`] reads the document of a rule, and [`AccessRule::denial`] answers which demand of it the claims don't meet.

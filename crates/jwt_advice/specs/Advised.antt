@@ -1,4 +1,4 @@
--- What ought to be written otherwise in a policy and its keys: each advice is one line.
+-- The advice on a policy and its keys, one line each.
 use Rattle.std.specs.Prelude.{ℕ, List, [], ◌∷◌, length, Bool, true, false, not, ◌==◌, ◌&&◌, ◌||◌, nat_lt, codes, is_none}
 use Rattle.std.specs.List.{list_any, count_by}
 use Rattle.std.specs.Option.{option_map_or}

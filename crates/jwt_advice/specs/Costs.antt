@@ -1,4 +1,4 @@
--- What one token can cost.
+-- The cost of one token.
 use Rattle.std.specs.Prelude.{ℕ, ◌*◌, ◌<◌, ◌≤◌, ◌&&◌, Bool, true, List, map, length, Option, Some, None, unwrap_or, if◌then◌else◌}
 use Rattle.std.specs.List.{sum_by}
 use Rattle.std.specs.Option.{option_map_or}
@@ -10,7 +10,7 @@ use Rattle.jwt_keys.specs.Keys.{KeyParts, secret_length, has_name}
 use Rattle.jwt_policy.specs.Settings.{Settings}
 use Rattle.jwt_verify.specs.Table.{Table, tries, work}
 use Rattle.jwt_verify.specs.Verdict.{Terms}
-use Rattle.jwt_verify.specs.Asks.{IsAsking}
+use Rattle.jwt_verify.specs.Asks.{IsTokenWithTable}
 use Rattle.jwt_verify.specs.Paying.{IsWithin}
 use Rattle.jwt_verify.specs.Verdicts.{IsUnstopped}
 use Rattle.jwt_verify.specs.Laws.{greatest}
@@ -52,9 +52,11 @@ most_of_signature cost policy verifiers keys = if policy.header.need_kid then mo
 abbrev pub most : Cost → Settings → List Meaning → List KeyParts → ℕ
 most cost policy verifiers keys = policy.run.max_signatures * most_of_signature cost policy verifiers keys
 
+-- ---- Cited by laws alone
+
 -- no token costs more
 abbrev pub CostsAreBounded : Type 0
-CostsAreBounded = (terms : Terms) (octets : List ℕ) (token : Token) (table : Table) → IsAsking terms octets token table → 0 < terms.policy.run.max_signatures
+CostsAreBounded = (terms : Terms) (octets : List ℕ) (token : Token) (table : Table) → IsTokenWithTable terms octets token table → 0 < terms.policy.run.max_signatures
     → (work (tries table) ≤ most Work terms.policy terms.verifiers terms.keys) × (length (tries table) ≤ most Calls terms.policy terms.verifiers terms.keys)
 
 -- ceilings of as much stop no run

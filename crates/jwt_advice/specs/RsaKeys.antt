@@ -12,6 +12,8 @@ abbrev pub is_refused_rsa : KeyOctets → Bool
 is_refused_rsa (RsaKey modulus exponent) = not (is_key (os2ip modulus) (os2ip exponent))
 is_refused_rsa _ = false
 
+-- ---- Cited by laws alone
+
 -- the verifier accepts no signature by the key, whatever the algorithm, the message and the signature
 abbrev pub AcceptsNone : Meaning → KeyOctets → Type 0
 AcceptsNone verifier key = (algorithm : Alg) (message : MessageOctets) (signature : List ℕ) → verifier.accepts algorithm key message signature ≡ false

@@ -1,4 +1,4 @@
--- Which keys can verify, by which algorithms.
+-- The keys that can verify, by algorithm.
 use Rattle.std.specs.Prelude.{ℕ, List, Bool, not, ◌&&◌, codes}
 use Rattle.std.specs.List.{count_by, list_any}
 use Rattle.jwt_mac.specs.declared.algorithm.Alg.{Alg}

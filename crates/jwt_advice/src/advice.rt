@@ -1,4 +1,4 @@
-//! What ought to be written otherwise in a policy and its keys.
+//! The advice on a policy and its keys.
 
 ghost use Rattle.std.specs.Prelude.{◌≡◌, ◌==◌, false, IfOk, filter, map, not, slice_get};
 ghost use Rattle.std.specs.List.{list_any};

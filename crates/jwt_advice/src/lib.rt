@@ -1,4 +1,4 @@
-//! What a policy and a key set mean together, and what is unwise about them.
+//! The meaning of a policy and a key set together, and the advice on them.
 //!
 //! [`key_count`] tells for an algorithm how many keys can verify it, [`most`] the most that one token can cost, and [`advices`] what ought
 //! to be written otherwise; [`advised_keys`] and [`private_entries`] tell of which keys.

@@ -1,4 +1,4 @@
--- What one run of a workload comes to.
+-- One run of a workload.
 use Rattle.std.specs.Prelude.{ℕ, Bool, true, false, ◌&&◌, List, [], length, pos, nat_le, None, Result, if◌then◌else◌}
 use Rattle.std.specs.Result.{is_ok}
 use Rattle.std.specs.Option.{option_map_or}

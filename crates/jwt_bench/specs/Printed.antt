@@ -1,4 +1,4 @@
--- What the command prints.
+-- The lines of the command.
 use Rattle.std.specs.Prelude.{ℕ, List, Option}
 use Rattle.std.specs.Io.KnownBytes.{Appends}
 use Rattle.jwt_mac.specs.Verifying.{Meaning}

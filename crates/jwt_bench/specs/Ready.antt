@@ -1,4 +1,4 @@
--- What is read once of an input.
+-- An input, read once.
 use Rattle.std.specs.Prelude.{◌≡◌, ℕ, ◌-◌, List, length, slice_get, Some, Ok}
 use Rattle.jwt_text.specs.Base64url.{spelled}
 use Rattle.jwt_mac.specs.Algorithm.{alg_named}

@@ -1,4 +1,4 @@
--- What runs come to.
+-- The sums of several runs.
 use Rattle.std.specs.Prelude.{ℕ, ◌+◌, ◌*◌, Bool, true, false, List, ◌++◌, codes}
 use Rattle.std.specs.Fmt.{decimal}
 use Rattle.jwt_bench.specs.declared.totals.Ran.{Ran}

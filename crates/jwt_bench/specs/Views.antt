@@ -1,4 +1,4 @@
--- What contracts see of this crate's own values.
+-- This crate's own values as contracts see them.
 use Rattle.std.specs.Prelude.{ℕ, List}
 use Rattle.std.specs.Borrow.{Bor}
 use Rattle.jwt_mac.specs.Verifying.{message_octets, signing_input}

@@ -1,4 +1,4 @@
--- What the words ask for.
+-- The request that the words make.
 use Rattle.std.specs.Prelude.{◌≡◌, ◌≤◌, ℕ, List, [], ◌∷◌, Some}
 use Rattle.std.specs.Str.Parse.{IsNumeral, digits_value, without_leading_plus}
 use Rattle.jwt_bench.specs.Workloads.{workload_named}

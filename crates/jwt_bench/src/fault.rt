@@ -1,4 +1,4 @@
-//! Why nothing was run, or not all.
+//! The causes to run nothing, or not all.
 
 use std::alloc::AllocError;
 

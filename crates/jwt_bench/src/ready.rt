@@ -1,4 +1,4 @@
-//! What is read once, and one run over it.
+//! An input read once, and one run over it.
 ghost use Rattle.std.specs.Prelude.{◌≡◌, ◌≢◌, ◌≤◌, [], IfOk, is_ok, map};
 ghost use Rattle.jwt_text.specs.ObjectText.{object_of};
 ghost use Rattle.jwt_keys.specs.KeySets.{key_set_of};

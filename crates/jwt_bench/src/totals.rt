@@ -1,4 +1,4 @@
-//! What runs come to.
+//! The sums of several runs.
 ghost use Rattle.std.specs.Prelude.{◌≡◌, ◌+◌, ◌<◌, ◌≤◌, ◌*◌, ◌^◌, string_bytes, IfOk};
 ghost use Rattle.jwt_bench.specs.Totals.{after, line_of, accepted_number};
 

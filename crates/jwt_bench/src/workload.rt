@@ -1,4 +1,4 @@
-//! What can be run.
+//! The workloads.
 ghost use Rattle.std.specs.Prelude.{◌≡◌};
 
 /// A call of the library.

@@ -1,6 +1,10 @@
-pub mod Counting
+-- ---- For handle.rt
 pub mod Handles
+-- ---- For judging.rt
 pub mod Resting
+-- ---- For rule_handle.rt
 pub mod RuleHandles
+-- ---- For several files
+pub mod Counting
 pub mod Telling
 pub mod Values

@@ -45,8 +45,8 @@ held_if (Err e) m x w h = tt
 -- what is asked, from its four parts
 pub asks_if : {T : Type 0} (result : Result T Asking) (ts : List ToldParts) (it : Documents) (now : ℤ) (x : List ℕ)
     → IfErr result (λ a. AreTries (terms it.policy it.keys now (told_meaning ts ∷ [])) x it.policy.run.work a.tries.items)
-    → IfErr result (λ a. IsFirstOpen ts it.policy x (key_set it.keys).keys a.tries.items a.question.signature a.question.key)
-    → IfErr result (λ a. IsOpen ts it.policy x (key_set it.keys).keys a.question.signature a.question.key)
+    → IfErr result (λ a. IsFirstOpen ts it.policy x (key_set it.keys).keys a.tries.items a.pair.signature a.pair.key)
+    → IfErr result (λ a. IsOpen ts it.policy x (key_set it.keys).keys a.pair.signature a.pair.key)
     → IfErr result (λ a. token_of it.policy x ≡ Ok (token a.token))
     → IfErr result (λ a. IsAsking ts it now x a)
 asks_if (Ok o) ts it now x t f q k = tt

@@ -64,7 +64,7 @@ IsHeldAgainst rule (Some claims) status number =
 
 -- the scope or the claim of their denial is written; 6 where the claims meet the rule, or there are none
 abbrev pub PutsDenied : Rule → Option Members → ℕ → ℕ → List ℕ → List ℕ → Type 0
-PutsDenied rule None status n old out = status ≡ 6
-PutsDenied rule (Some claims) status n old out =
+PutsDenied rule None status size old out = status ≡ 6
+PutsDenied rule (Some claims) status size old out =
     (status ≡ 6 → IsGranted rule claims)
-    × (status ≢ 6 → (denial : Denial) × IsDenial rule claims denial × Puts (denied denial) status n old out)
+    × (status ≢ 6 → (denial : Denial) × IsDenial rule claims denial × Puts (denied denial) status size old out)

@@ -4,4 +4,4 @@ use Rattle.jwt_c.specs.declared.grounds.Documents.{Documents}
 
 -- the policy and the key set that it judges by
 abbrev pub documents : Desk → Documents
-documents d = d.grounds.0
+documents desk = desk.grounds.0

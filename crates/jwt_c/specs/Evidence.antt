@@ -1,4 +1,4 @@
--- What a report has beside its numbers.
+-- The parts of a report beside its numbers.
 use Rattle.std.specs.Prelude.{◌≡◌, Bool, true, false, List, [], Option, Some, None}
 use Rattle.std.specs.Arc.{arc_value}
 use Rattle.serde_json.specs.Data.{Members}

@@ -110,24 +110,24 @@ part_number (place.Signature _) = 3
 
 abbrev pub place_signature : Place → ℕ
 place_signature place.Payload = 0
-place_signature (place.Protected i) = i
-place_signature (place.Signature i) = i
+place_signature (place.Protected signature) = signature
+place_signature (place.Signature signature) = signature
 
 abbrev pub form_part : FormFault → ℕ
-form_part (form.Base64 p) = part_number p
+form_part (form.Base64 position) = part_number position
 form_part _ = 0
 
 abbrev pub form_signature : FormFault → ℕ
-form_signature (form.Base64 p) = place_signature p
-form_signature (form.Header i) = i
-form_signature (form.UnprotectedKind i) = i
-form_signature (form.NamesOverlap i) = i
+form_signature (form.Base64 position) = place_signature position
+form_signature (form.Header signature) = signature
+form_signature (form.UnprotectedKind signature) = signature
+form_signature (form.NamesOverlap signature) = signature
 form_signature _ = 0
 
 abbrev pub issue_signature : IssueFault → ℕ
-issue_signature (issue.AlgNotHmac i) = i
-issue_signature (issue.KeyUnfit i) = i
-issue_signature (issue.Spent i) = i
+issue_signature (issue.AlgNotHmac signature) = signature
+issue_signature (issue.KeyUnfit signature) = signature
+issue_signature (issue.Spent signature) = signature
 issue_signature _ = 0
 
 abbrev pub claim_number : Claim → ℕ
@@ -140,8 +140,8 @@ claim_number which.Iat = 6
 claim_number which.Jti = 7
 
 abbrev pub claim_of : ClaimFault → ℕ
-claim_of (claim.ClaimKind c) = claim_number c
-claim_of (claim.ClaimDate c) = claim_number c
+claim_of (claim.ClaimKind named) = claim_number named
+claim_of (claim.ClaimDate named) = claim_number named
 claim_of (claim.ClaimMissing _) = 8
 claim_of _ = 0
 
@@ -164,43 +164,43 @@ pub record Numbers : Type 0 where
 
 -- a verdict that speaks of nothing more
 abbrev pub bare : ℕ → Numbers
-bare v = record { verdict = v; fault = 0; part = 0; signature = 0; key = 0; claim = 0 }
+bare verdict = record { verdict = verdict; fault = 0; part = 0; signature = 0; key = 0; claim = 0 }
 
 -- a refusal
 abbrev pub refusal : ℕ → ℕ → ℕ → ℕ → ℕ → Numbers
-refusal f p i j c = record { verdict = 1; fault = f; part = p; signature = i; key = j; claim = c }
+refusal fault part signature key claim = record { verdict = 1; fault = fault; part = part; signature = signature; key = key; claim = claim }
 
 -- an acceptance
 abbrev pub accepted : ℕ → ℕ → Numbers
-accepted i j = record { verdict = 0; fault = 0; part = 0; signature = i; key = j; claim = 0 }
+accepted signature key = record { verdict = 0; fault = 0; part = 0; signature = signature; key = key; claim = 0 }
 
 abbrev pub form_numbers : FormFault → Numbers
 form_numbers form.OutOfMemory = bare 3
-form_numbers f = refusal (form_number f) (form_part f) (form_signature f) 0 0
+form_numbers why = refusal (form_number why) (form_part why) (form_signature why) 0 0
 
 abbrev pub claim_numbers : ClaimFault → Numbers
 claim_numbers claim.OutOfMemory = bare 3
-claim_numbers f = refusal (claim_fault_number f) 0 0 0 (claim_of f)
+claim_numbers why = refusal (claim_fault_number why) 0 0 0 (claim_of why)
 
 abbrev pub issue_numbers : IssueFault → Numbers
 issue_numbers issue.OutOfMemory = bare 3
-issue_numbers f = refusal (issue_number f) 0 (issue_signature f) 0 0
+issue_numbers why = refusal (issue_number why) 0 (issue_signature why) 0 0
 
 abbrev pub fault_numbers : Fault → Numbers
 fault_numbers fault.OutOfMemory = bare 3
-fault_numbers (fault.Text f) = refusal (input_number f) 0 0 0 0
-fault_numbers (fault.Form f) = form_numbers f
-fault_numbers (fault.WorkExceeded i j) = refusal 501 0 i j 0
-fault_numbers (fault.CallsExceeded i j) = refusal 502 0 i j 0
-fault_numbers (fault.Signature i f) = refusal (sig_number f) 0 i 0 0
-fault_numbers (fault.Claim f) = claim_numbers f
+fault_numbers (fault.Text why) = refusal (input_number why) 0 0 0 0
+fault_numbers (fault.Form why) = form_numbers why
+fault_numbers (fault.WorkExceeded signature key) = refusal 501 0 signature key 0
+fault_numbers (fault.CallsExceeded signature key) = refusal 502 0 signature key 0
+fault_numbers (fault.Signature signature why) = refusal (sig_number why) 0 signature 0 0
+fault_numbers (fault.Claim why) = claim_numbers why
 fault_numbers fault.VerifierMemory = bare 3
 
 abbrev pub verdict_numbers : Verdict → Numbers
-verdict_numbers (Accepted i j claims) = accepted i j
-verdict_numbers (Refused f) = fault_numbers f
+verdict_numbers (Accepted signature key claims) = accepted signature key
+verdict_numbers (Refused why) = fault_numbers why
 
 -- the name of the claim that the verdict finds missing, and none of any other
 abbrev pub missing_in : Verdict → List ℕ
-missing_in (Refused (fault.Claim f)) = missing_name f
+missing_in (Refused (fault.Claim why)) = missing_name why
 missing_in _ = []

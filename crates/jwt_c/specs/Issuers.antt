@@ -37,15 +37,15 @@ named_issuer payload = text_in (codes "iss") (object_of payload)
 
 -- it is written, where it is there; it takes no memory
 abbrev pub PutsHeld : Option (List ℕ) → ℕ → ℕ → List ℕ → List ℕ → Type 0
-PutsHeld None status n old out = status ≡ 6
-PutsHeld (Some x) status n old out = Puts x status n old out
+PutsHeld None status size old out = status ≡ 6
+PutsHeld (Some octets) status size old out = Puts octets status size old out
 
 -- it is written, where it is there: 8 where it isn't; unless memory was refused
 abbrev pub PutsNamed : Option (List ℕ) → ℕ → ℕ → List ℕ → List ℕ → Type 0
-PutsNamed None status n old out = status ≢ 3 → status ≡ 8
-PutsNamed (Some x) status n old out = status ≢ 3 → Puts x status n old out
+PutsNamed None status size old out = status ≢ 3 → status ≡ 8
+PutsNamed (Some octets) status size old out = status ≢ 3 → Puts octets status size old out
 
 -- the issuer that a token names is written; 6 where the octets are no token
 abbrev pub PutsIssuer : Result Token Fault → ℕ → ℕ → List ℕ → List ℕ → Type 0
-PutsIssuer (Err fault) status n old out = IsAbsent status
-PutsIssuer (Ok token) status n old out = PutsNamed (named_issuer token.payload) status n old out
+PutsIssuer (Err fault) status size old out = IsAbsent status
+PutsIssuer (Ok signed) status size old out = PutsNamed (named_issuer signed.payload) status size old out

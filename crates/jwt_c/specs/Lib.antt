@@ -1,15 +1,32 @@
-pub mod Access
-pub mod Asking
+-- ---- What contracts of public functions cite, in reading order
+
+-- the documents of a desk
 pub mod Documents
+-- the parts of a report beside its numbers
 pub mod Evidence
+-- the numbers of faults, of their places, and of verdicts
 pub mod Faults
-pub mod Handles
-pub mod Issuers
-pub mod Issuing
-pub mod MostQuestions
+-- the meaning of the proved verifiers, and the memory of tokens that they accepted
 pub mod ProvedKept
-pub mod Proving
+-- the memories of a validator, and the grounds of a verdict that comes out of one
 pub mod Remembering
+-- judging, and the report that an exported function writes
 pub mod Reports
-pub mod RuleHandles
+-- the octets that are written for the caller, by the status
 pub mod Written
+-- access rules that are held, and what they say of the claims of the last acceptance
+pub mod Access
+-- questions, as they are written for the caller, and their answers
+pub mod Asking
+-- the ownership of a validator's handle
+pub mod Handles
+-- the issuer that a token names, and what is told of a policy and a key set
+pub mod Issuers
+-- issuing by a validator, in the numbers of the header
+pub mod Issuing
+-- the most questions that one token can raise
+pub mod MostQuestions
+-- a token judged by the proved verifiers
+pub mod Proving
+-- the ownership of the handle of an access rule
+pub mod RuleHandles

@@ -1,4 +1,4 @@
--- How many questions one token can raise.
+-- The most questions that one token can raise.
 use Rattle.std.specs.Prelude.{ℕ, ◌*◌, List, Bool, not, ◌&&◌, nat_lt, if◌then◌else◌, codes, Option, Some, None}
 use Rattle.std.specs.List.{count_by, list_any}
 use Rattle.jwt_mac.specs.declared.algorithm.Alg.{Alg}

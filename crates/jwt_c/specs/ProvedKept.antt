@@ -1,4 +1,4 @@
--- What the proved verifiers mean, and what a memory keeps that they accepted.
+-- The meaning of the proved verifiers, and the memory of tokens that they accepted.
 use Rattle.std.specs.Prelude.{◌≡◌, List, [], ◌∷◌, Option, Some, None}
 use Rattle.jwt_mac.specs.Verifying.{Meaning}
 use Rattle.jwt_rsa.specs.Meanings.{rsa_meaning}
@@ -18,14 +18,16 @@ abbrev pub AreProvedKept : Documents → Option Memory → Type 0
 AreProvedKept it None = Unit {0}
 AreProvedKept it (Some memory) = AreKept it.policy it.keys proved_meanings memory
 
--- no token is kept
-abbrev pub IsNothingKept : Option Memory → Type 0
-IsNothingKept None = Unit {0}
-IsNothingKept (Some memory) = memory.table.entries ≡ []
-
 -- the two have room for as many tokens of as many octets, or neither keeps any
 abbrev pub HasSameRoom : Option Memory → Option Memory → Type 0
 HasSameRoom None None = Unit {0}
 HasSameRoom None (Some other) = ⊥
 HasSameRoom (Some memory) None = ⊥
 HasSameRoom (Some memory) (Some other) = HasRoomOf memory other
+
+-- ---- Cited by contracts of private functions alone
+
+-- no token is kept
+abbrev pub IsNothingKept : Option Memory → Type 0
+IsNothingKept None = Unit {0}
+IsNothingKept (Some memory) = memory.table.entries ≡ []

@@ -1,8 +1,8 @@
--- What is remembered of tokens, and what a verdict rests on that comes out of a memory.
+-- The memories of a validator, and the grounds of a verdict that comes out of one.
 use Rattle.std.specs.Prelude.{◌≡◌, ℕ, ℤ, Bool, true, false, List, [], Option, Some, None}
 use Rattle.jwt_verify.specs.declared.report.Report.{Report}
 use Rattle.jwt_told.specs.Told.{Truth, ToldParts, AreRight, told}
-use Rattle.jwt_memory.specs.declared.memory.Entry.{Entry}
+use Rattle.jwt_memory.specs.declared.memory.MemoryEntry.{MemoryEntry}
 use Rattle.jwt_memory.specs.declared.memory.Memory.{Memory}
 use Rattle.jwt_memory.specs.Entries.{Holds}
 use Rattle.jwt_memory.specs.ToldKept.{AreTrulyKept, IsToldNow, IsTrulyRemembered}
@@ -15,49 +15,49 @@ use Rattle.jwt_c.specs.ProvedKept.{HasSameRoom}
 
 -- where what was told of the tokens that the memory keeps is true, the verdict is the true one, and the report is that of a run by true answers
 abbrev pub RestsOnMemory : Option Memory → Documents → ℤ → List ℕ → Report → Type 0
-RestsOnMemory None it now x r = ⊥
-RestsOnMemory (Some memory) it now x r = (truth : Truth) → AreTrulyKept truth it.policy it.keys memory → IsTrulyRemembered truth it.policy it.keys now x it.policy.run.work r
+RestsOnMemory None grounds now octets report = ⊥
+RestsOnMemory (Some memory) grounds now octets report = (truth : Truth) → AreTrulyKept truth grounds.policy grounds.keys memory → IsTrulyRemembered truth grounds.policy grounds.keys now octets grounds.policy.run.work report
 
 -- a report that isn't remembered rests on what is told now, one that is remembered on what was told when the token was accepted
 abbrev pub RestsOn : Bool → List ToldParts → Option Memory → Documents → ℤ → List ℕ → Report → Type 0
-RestsOn false answers memory it now x r = IsToldNow answers it.policy it.keys now x it.policy.run.work r
-RestsOn true answers memory it now x r = RestsOnMemory memory it now x r
+RestsOn false answers memory grounds now octets report = IsToldNow answers grounds.policy grounds.keys now octets grounds.policy.run.work report
+RestsOn true answers memory grounds now octets report = RestsOnMemory memory grounds now octets report
 
 -- the memory keeps all these octets, accepted under this ceiling
 abbrev pub Knows : Option Memory → List ℕ → ℕ → Type 0
-Knows None x ceiling = ⊥
-Knows (Some memory) x ceiling = (entry : Entry) × Holds memory entry × (entry.octets.items ≡ x) × (entry.ceiling ≡ ceiling)
+Knows None octets ceiling = ⊥
+Knows (Some memory) octets ceiling = (entry : MemoryEntry) × Holds memory entry × (entry.octets.items ≡ octets) × (entry.ceiling ≡ ceiling)
 
 -- what is remembered is known to the memory
 abbrev pub IsHeldIn : Bool → Option Memory → List ℕ → ℕ → Type 0
-IsHeldIn false memory x ceiling = Unit {0}
-IsHeldIn true memory x ceiling = Knows memory x ceiling
+IsHeldIn false memory octets ceiling = Unit {0}
+IsHeldIn true memory octets ceiling = Knows memory octets ceiling
 
 -- ---- what becomes of the memories of a desk
 
 -- what was told of the tokens that the memory keeps is true
 abbrev pub IsTrulyKept : Truth → Documents → Option Memory → Type 0
-IsTrulyKept truth it None = Unit {0}
-IsTrulyKept truth it (Some memory) = AreTrulyKept truth it.policy it.keys memory
+IsTrulyKept truth grounds None = Unit {0}
+IsTrulyKept truth grounds (Some memory) = AreTrulyKept truth grounds.policy grounds.keys memory
 
 -- where what is told is true, the memory keeps what was told truly, if it did before
 abbrev pub StaysTrue : List ToldParts → Documents → Option Memory → Option Memory → Type 0
-StaysTrue answers it before after = (truth : Truth) → AreRight truth answers → IsTrulyKept truth it before → IsTrulyKept truth it after
+StaysTrue answers grounds before after = (truth : Truth) → AreRight truth answers → IsTrulyKept truth grounds before → IsTrulyKept truth grounds after
 
 -- what a judging by what is told does to them
 abbrev pub RemembersTold : Desk → Option Desk → Type 0
-RemembersTold d None = ⊥
-RemembersTold d (Some e) = StaysTrue (told d.answers) (documents d) d.memory e.memory × HasSameRoom e.memory d.memory × (e.grounds ≡ d.grounds)
+RemembersTold before None = ⊥
+RemembersTold before (Some after) = StaysTrue (told before.answers) (documents before) before.memory after.memory × HasSameRoom after.memory before.memory × (after.grounds ≡ before.grounds)
 
 -- what a judging by the proved verifiers does to them
 abbrev pub RemembersProved : Desk → Option Desk → Type 0
-RemembersProved d None = ⊥
-RemembersProved d (Some e) = HasSameRoom e.grounds.1 d.grounds.1 × (e.memory ≡ d.memory)
+RemembersProved before None = ⊥
+RemembersProved before (Some after) = HasSameRoom after.grounds.1 before.grounds.1 × (after.memory ≡ before.memory)
 
 -- they stay as they are
 abbrev pub RemembersAlike : Desk → Option Desk → Type 0
-RemembersAlike d None = ⊥
-RemembersAlike d (Some e) = (e.memory ≡ d.memory) × (e.grounds ≡ d.grounds)
+RemembersAlike before None = ⊥
+RemembersAlike before (Some after) = (after.memory ≡ before.memory) × (after.grounds ≡ before.grounds)
 
 -- a memory of at most so many tokens of at most so many octets, which keeps none yet; no memory where that is none
 abbrev pub IsMemoryFor : ℕ → ℕ → Option Memory → Type 0
@@ -66,9 +66,9 @@ IsMemoryFor tokens octets (Some memory) = (memory.table.cap ≡ tokens) × (memo
 
 -- from now on so many tokens of so many octets are remembered of each way of judging, and nothing else has changed
 abbrev pub IsRemembering : ℕ → ℕ → Desk → Desk → Type 0
-IsRemembering tokens octets d e = IsMemoryFor tokens octets e.memory × IsMemoryFor tokens octets e.grounds.1
-    × (documents e ≡ documents d) × (e.answers ≡ d.answers) × (e.last ≡ d.last)
+IsRemembering tokens octets before after = IsMemoryFor tokens octets after.memory × IsMemoryFor tokens octets after.grounds.1
+    × (documents after ≡ documents before) × (after.answers ≡ before.answers) × (after.last ≡ before.last)
 
 abbrev pub Remembers : ℕ → ℕ → Desk → Option Desk → Type 0
-Remembers tokens octets d None = ⊥
-Remembers tokens octets d (Some e) = IsRemembering tokens octets d e
+Remembers tokens octets before None = ⊥
+Remembers tokens octets before (Some after) = IsRemembering tokens octets before after

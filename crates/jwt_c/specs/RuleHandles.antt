@@ -11,10 +11,10 @@ use Rattle.jwt_c.specs.contracts.rule_desk.RuleDesk.{the_row}
 
 -- the desk's block, which the heap may free, where one is held
 abbrev pub rule_handle_owns : heap.the_row.Denot → Bool → Ptr → Option the_row.Denot → Fml
-rule_handle_owns a true p (Some d) = box_owns (ghosts.dealloc_token a) the_row p d
-rule_handle_owns a true p None = ffalse
-rule_handle_owns a false p (Some d) = ffalse
-rule_handle_owns a false p None = ftrue
+rule_handle_owns allocator true block (Some desk) = box_owns (ghosts.dealloc_token allocator) the_row block desk
+rule_handle_owns allocator true block None = ffalse
+rule_handle_owns allocator false block (Some desk) = ffalse
+rule_handle_owns allocator false block None = ftrue
 
 abbrev pub rule_desk_coded : Coded (Option the_row.Denot)
 rule_desk_coded = coded_option the_row.coded

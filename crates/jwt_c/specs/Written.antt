@@ -1,4 +1,4 @@
--- What is written for the caller, by the status that is answered: 0 done, 3 out of memory, 5 too short, 6 absent.
+-- The octets that are written for the caller, by the status: 0 done, 3 out of memory, 5 too short, 6 absent.
 use Rattle.std.specs.Prelude.{◌≡◌, ◌≢◌, ◌<◌, ℕ, ℤ, ◌++◌, List, [], ◌∷◌, length, slice_get, Option, Some, None, option_and_then, Result, Ok, Err}
 use Rattle.serde_json.specs.Data.{Members}
 use Rattle.jwt_text.specs.Base64url.{octets_of}
@@ -14,13 +14,13 @@ use Rattle.jwt_c.specs.declared.report.FowState.{FowState}
 use Rattle.jwt_c.specs.declared.report.FowTry.{FowTry}
 use Rattle.jwt_c.specs.Reports.{state_parts, state_numbers, try_of, try_parts}
 
--- n is the number of these octets, and out begins with them
+-- what is written begins with these octets, and the size is their number
 abbrev pub BeginsWith : List ℕ → ℕ → List ℕ → Type 0
-BeginsWith x n out = (n ≡ length x) × ((more : List ℕ) × (out ≡ x ++ more))
+BeginsWith octets size out = (size ≡ length octets) × ((more : List ℕ) × (out ≡ octets ++ more))
 
 -- these octets are written, or there is too little room for them
 abbrev pub Puts : List ℕ → ℕ → ℕ → List ℕ → List ℕ → Type 0
-Puts x status n old out = (status ≡ 0 → BeginsWith x n out) × (status ≢ 0 → (status ≡ 5) × (length old < length x))
+Puts octets status size old out = (status ≡ 0 → BeginsWith octets size out) × (status ≢ 0 → (status ≡ 5) × (length old < length octets))
 
 -- there is nothing to be written, unless memory was refused
 abbrev pub IsAbsent : ℕ → Type 0
@@ -28,13 +28,13 @@ IsAbsent status = status ≢ 3 → status ≡ 6
 
 -- the payload is written, unless memory was refused
 abbrev pub PutsPayload : Result Token Fault → ℕ → ℕ → List ℕ → List ℕ → Type 0
-PutsPayload (Err f) status n old out = IsAbsent status
-PutsPayload (Ok t) status n old out = status ≢ 3 → Puts t.payload status n old out
+PutsPayload (Err fault) status size old out = IsAbsent status
+PutsPayload (Ok signed) status size old out = status ≢ 3 → Puts signed.payload status size old out
 
--- the octets of the protected header of signature i; none where the octets are no token, or it has no such signature
+-- the octets of the protected header of the signature of this index; none where the octets are no token, or it has no such signature
 abbrev pub header_at : Result Token Fault → ℕ → Option (List ℕ)
-header_at (Ok t) i = option_and_then (λ s. octets_of s.protected_text) (slice_get t.signatures i)
-header_at (Err f) i = None
+header_at (Ok signed) index = option_and_then (λ signature. octets_of signature.protected_text) (slice_get signed.signatures index)
+header_at (Err fault) index = None
 
 -- the member for which a policy is refused
 abbrev pub refused_member : Result Settings PolicyFault → Option (List ℕ)
@@ -44,34 +44,34 @@ refused_member _ = None
 
 -- the name is written, where it isn't empty
 abbrev pub PutsName : List ℕ → ℕ → ℕ → List ℕ → List ℕ → Type 0
-PutsName [] status n old out = status ≡ 6
-PutsName (c ∷ cs) status n old out = Puts (c ∷ cs) status n old out
+PutsName [] status size old out = status ≡ 6
+PutsName (first ∷ rest) status size old out = Puts (first ∷ rest) status size old out
 
 -- the state, where there is one
 abbrev pub IsState : Option SigState → ℕ → FowState → Type 0
-IsState None status s = status ≡ 6
-IsState (Some x) status s = (status ≡ 0) × (state_parts s ≡ state_numbers x)
+IsState None status written = status ≡ 6
+IsState (Some known) status written = (status ≡ 0) × (state_parts written ≡ state_numbers known)
 
 -- the try, where there is one
 abbrev pub IsTry : Option Try → ℕ → FowTry → Type 0
-IsTry None status t = status ≡ 6
-IsTry (Some x) status t = (status ≡ 0) × (try_of t ≡ try_parts x)
+IsTry None status written = status ≡ 6
+IsTry (Some known) status written = (status ≡ 0) × (try_of written ≡ try_parts known)
 
 -- the compact JSON text of a claim, a text or a list of texts, of the claims that are kept
 abbrev pub claim_at : Option Members → List ℕ → Option (List ℕ)
 claim_at None name = None
-claim_at (Some ms) name = compact_at name ms
+claim_at (Some claims) name = compact_at name claims
 
 -- a whole number of 64 signed bits, of the claims that are kept
 abbrev pub number_at : Option Members → List ℕ → Option ℤ
 number_at None name = None
-number_at (Some ms) name = whole_at name ms
+number_at (Some claims) name = whole_at name claims
 
 -- it is written, where it is there, unless memory was refused
 abbrev pub PutsSome : Option (List ℕ) → ℕ → ℕ → List ℕ → List ℕ → Type 0
-PutsSome None status n old out = IsAbsent status
-PutsSome (Some x) status n old out = status ≢ 3 → Puts x status n old out
+PutsSome None status size old out = IsAbsent status
+PutsSome (Some octets) status size old out = status ≢ 3 → Puts octets status size old out
 
 abbrev pub PutsNumber : Option ℤ → ℕ → ℤ → Type 0
-PutsNumber None status n = status ≡ 6
-PutsNumber (Some x) status n = (status ≡ 0) × (n ≡ x)
+PutsNumber None status written = status ≡ 6
+PutsNumber (Some number) status written = (status ≡ 0) × (written ≡ number)

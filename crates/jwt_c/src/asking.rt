@@ -8,15 +8,15 @@ ghost use Rattle.jwt_told.specs.Questions.{kept_parts, question_parts};
 ghost use Rattle.jwt_told.specs.Told.{told};
 ghost use Rattle.jwt_c.specs.Documents.{documents};
 ghost use Rattle.jwt_c.specs.Reports.{asked_at};
-ghost use Rattle.jwt_c.specs.Asking.{alg_number, kind_number, key_first, key_second, question_octets, PutsQuestion, TellsOne, TellsDesk, is_ed25519, is_secret, public_asked, rsa_asked, rsa_says, ecdsa_asked, ecdsa_says, ed25519_asked, ed25519_says, proved_asked, proved_says, asked_of, said_by};
+ghost use Rattle.jwt_c.specs.Asking.{alg_number, kind_number, question_octets, PutsQuestion, TellsOne, TellsDesk, is_ed25519, is_secret, public_asked, rsa_asked, rsa_says, ecdsa_asked, ecdsa_says, ed25519_asked, ed25519_says, proved_asked, proved_says, asked_of, said_by};
 
 use crate::desk::{Desk, Last};
 use crate::report::FowQuestion;
 use jwt_ecdsa::Ecdsa;
 use jwt_ed25519::Ed25519;
-use jwt_mac::{Alg, Answer, Curve, EdCurve, KeyView, Verifier};
+use jwt_mac::{Alg, Answer, EcCurve, EdCurve, KeyView, Verifier};
 use jwt_rsa::Rsa;
-use jwt_told::{Answers, Asked, Question, read_token};
+use jwt_told::{Answers, OpenPair, Question, first_member, read_token, second_member};
 use std::alloc::{AllocError, Global};
 use std::mem::replace;
 
@@ -49,38 +49,14 @@ fn kind_number(key: &KeyView) -> u32
         KeyView::Oct { .. } => 1,
         KeyView::Rsa { .. } => 2,
         KeyView::Ec { curve, .. } => match curve {
-            Curve::P256 => 256,
-            Curve::P384 => 384,
-            Curve::P521 => 521,
+            EcCurve::P256 => 256,
+            EcCurve::P384 => 384,
+            EcCurve::P521 => 521,
         },
         KeyView::Okp { curve, .. } => match curve {
             EdCurve::Ed25519 => 255,
             EdCurve::Ed448 => 448,
         },
-    }
-}
-
-/// A key's first member.
-fn first<'a>(key: &KeyView<'a>) -> &'a [u8]
-    ensures { result.now ≡ key_first (key_octets key.now) }
-{
-    match key {
-        KeyView::Oct { k } => k,
-        KeyView::Rsa { n, .. } => n,
-        KeyView::Ec { x, .. } => x,
-        KeyView::Okp { x, .. } => x,
-    }
-}
-
-/// A key's second member; of a secret and of an OKP key none.
-fn second<'a>(key: &KeyView<'a>) -> &'a [u8]
-    ensures { result.now ≡ key_second (key_octets key.now) }
-{
-    match key {
-        KeyView::Oct { .. } => &[],
-        KeyView::Rsa { e, .. } => e,
-        KeyView::Ec { y, .. } => y,
-        KeyView::Okp { .. } => &[],
     }
 }
 
@@ -95,7 +71,7 @@ struct Spelled {
 }
 
 /// What a question is written as.
-fn spell(alloc: Global, asked: &Asked<'_>) -> Result<Spelled, AllocError>
+fn spell(alloc: Global, asked: &Question<'_>) -> Result<Spelled, AllocError>
     ensures octets { IfOk result (λ s. s.all.items ≡ question_octets (question_parts asked.now)) }
     ensures input { IfOk result (λ s.
         s.input ≡ length (signing_input (question_parts asked.now).message)) }
@@ -106,13 +82,18 @@ fn spell(alloc: Global, asked: &Asked<'_>) -> Result<Spelled, AllocError>
     all.extend_from_slice(asked.message.payload)?;
     let input = all.len();
     all.extend_from_slice(asked.signature)?;
-    all.extend_from_slice(first(&asked.key))?;
-    all.extend_from_slice(second(&asked.key))?;
+    all.extend_from_slice(first_member(&asked.key))?;
+    all.extend_from_slice(second_member(&asked.key))?;
     Ok(Spelled { all, input })
 }
 
 /// Writes a question at the front of `out`. 0; 3: memory was refused; 5: `out` is too short.
-fn write_question(alloc: Global, asked: &Asked<'_>, out: &mut [u8], into: &mut FowQuestion) -> u32
+fn write_question(
+    alloc: Global,
+    asked: &Question<'_>,
+    out: &mut [u8],
+    into: &mut FowQuestion,
+) -> u32
     ensures { PutsQuestion (Some (question_parts asked.now)) result into.new out.old out.new }
 {
     let Ok(Spelled { all, input }) = spell(alloc, asked) else {
@@ -127,8 +108,8 @@ fn write_question(alloc: Global, asked: &Asked<'_>, out: &mut [u8], into: &mut F
         kind: kind_number(&asked.key),
         input,
         signature: asked.signature.len(),
-        first: first(&asked.key).len(),
-        second: second(&asked.key).len(),
+        first: first_member(&asked.key).len(),
+        second: second_member(&asked.key).len(),
     };
     0
 }
@@ -145,7 +126,7 @@ pub(crate) fn is_secret(key: &KeyView) -> bool
 
 /// Writes a question at the front of `out`, unless it is about HMAC or a secret. 0; 3: memory was refused; 5: `out` is too short; 6: it
 /// isn't written.
-fn write_public(alloc: Global, asked: &Asked<'_>, out: &mut [u8], into: &mut FowQuestion) -> u32
+fn write_public(alloc: Global, asked: &Question<'_>, out: &mut [u8], into: &mut FowQuestion) -> u32
     ensures { PutsQuestion (public_asked (Some (question_parts asked.now))) result into.new out.old out.new }
 {
     if asked.alg.is_hmac() || is_secret(&asked.key) {
@@ -171,7 +152,7 @@ pub(crate) fn ask_about(
         result into.new out.old out.new }
 {
     match read_token(alloc, token, &desk.grounds.documents().policy) {
-        Ok(Some(signed)) => match (Question { signature, key }).about(
+        Ok(Some(signed)) => match (OpenPair { signature, key }).about(
             &signed,
             &desk.grounds.documents().keys,
         ) {
@@ -188,7 +169,7 @@ pub(crate) fn ask_last(alloc: Global, last: &Last, out: &mut [u8], into: &mut Fo
     ensures { PutsQuestion (option_map kept_parts last.now.asked) result into.new out.old out.new }
 {
     match &last.asked {
-        Some(copy) => write_question(alloc, &copy.asked(), out, into),
+        Some(copy) => write_question(alloc, &copy.lent(), out, into),
         None => 6,
     }
 }
@@ -210,19 +191,11 @@ pub(crate) fn tell_last(alloc: Global, desk: &mut Desk, valid: bool) -> u32
 }
 
 /// Tells the answer to a question. 0; 3: memory was refused.
-fn tell_of(alloc: Global, answers: &mut Answers, asked: &Asked<'_>, valid: bool) -> u32
+fn tell_of(alloc: Global, answers: &mut Answers, asked: &Question<'_>, valid: bool) -> u32
     ensures { TellsOne (question_parts asked.now) valid result (told answers.old)
         (told answers.new) }
 {
-    let told = answers.tell(
-        alloc,
-        asked.alg,
-        &asked.key,
-        asked.message,
-        asked.signature,
-        valid,
-    );
-    match told {
+    match answers.tell(alloc, asked, valid) {
         Ok(()) => 0,
         Err(_) => 3,
     }
@@ -242,7 +215,7 @@ pub(crate) fn tell(
     ensures memories { (desk.new.memory ≡ desk.old.memory) × (desk.new.grounds ≡ desk.old.grounds) }
 {
     match read_token(alloc, token, &desk.grounds.documents().policy) {
-        Ok(Some(signed)) => match (Question { signature, key }).about(
+        Ok(Some(signed)) => match (OpenPair { signature, key }).about(
             &signed,
             &desk.grounds.documents().keys,
         ) {
@@ -266,7 +239,7 @@ pub enum Proved {
 }
 
 /// Whether the verifier of RSA accepts the signature.
-fn rsa_accepts(asked: &Asked<'_>) -> bool
+fn rsa_accepts(asked: &Question<'_>) -> bool
     ensures { result ≡ rsa_says (Some (question_parts asked.now)) }
 {
     match Rsa.verify(asked.alg, &asked.key, asked.message, asked.signature) {
@@ -276,7 +249,7 @@ fn rsa_accepts(asked: &Asked<'_>) -> bool
 }
 
 /// Whether the verifier of Ed25519 accepts the signature.
-fn ed25519_accepts(asked: &Asked<'_>) -> bool
+fn ed25519_accepts(asked: &Question<'_>) -> bool
     ensures { result ≡ ed25519_says (Some (question_parts asked.now)) }
 {
     match Ed25519.verify(asked.alg, &asked.key, asked.message, asked.signature) {
@@ -286,7 +259,7 @@ fn ed25519_accepts(asked: &Asked<'_>) -> bool
 }
 
 /// Whether the verifier of ECDSA accepts the signature.
-fn ecdsa_accepts(asked: &Asked<'_>) -> bool
+fn ecdsa_accepts(asked: &Question<'_>) -> bool
     ensures { result ≡ ecdsa_says (Some (question_parts asked.now)) }
 {
     match Ecdsa.verify(asked.alg, &asked.key, asked.message, asked.signature) {
@@ -309,7 +282,7 @@ fn is_ed25519(key: &KeyView) -> bool
 }
 
 /// What the verifier of RSA says of a signature; `None` where it names another algorithm.
-fn rsa_answer(asked: &Asked<'_>) -> Option<bool>
+fn rsa_answer(asked: &Question<'_>) -> Option<bool>
     ensures { result ≡ option_map (λ q. rsa_says (Some q)) (rsa_asked (Some (question_parts asked.now))) }
 {
     if Rsa.names(asked.alg) {
@@ -320,7 +293,7 @@ fn rsa_answer(asked: &Asked<'_>) -> Option<bool>
 }
 
 /// What the verifier of ECDSA says of a signature; `None` where it names another algorithm.
-fn ecdsa_answer(asked: &Asked<'_>) -> Option<bool>
+fn ecdsa_answer(asked: &Question<'_>) -> Option<bool>
     ensures { result ≡ option_map (λ q. ecdsa_says (Some q)) (ecdsa_asked (Some (question_parts asked.now))) }
 {
     if Ecdsa.names(asked.alg) {
@@ -331,7 +304,7 @@ fn ecdsa_answer(asked: &Asked<'_>) -> Option<bool>
 }
 
 /// What the verifier of Ed25519 says of a signature; `None` where it is about another algorithm or curve.
-fn ed25519_answer(asked: &Asked<'_>) -> Option<bool>
+fn ed25519_answer(asked: &Question<'_>) -> Option<bool>
     ensures { result ≡ option_map (λ q. ed25519_says (Some q)) (ed25519_asked (Some (question_parts asked.now))) }
 {
     if Ed25519.names(asked.alg) && is_ed25519(&asked.key) {
@@ -342,7 +315,7 @@ fn ed25519_answer(asked: &Asked<'_>) -> Option<bool>
 }
 
 /// What the verifier that names the algorithm says of a signature; `None` where none does, or the curve is of no verifier.
-fn any_answer(asked: &Asked<'_>) -> Option<bool>
+fn any_answer(asked: &Question<'_>) -> Option<bool>
     ensures { result ≡ option_map (λ q. proved_says (Some q)) (proved_asked (Some (question_parts asked.now))) }
 {
     if Rsa.names(asked.alg) {
@@ -355,7 +328,7 @@ fn any_answer(asked: &Asked<'_>) -> Option<bool>
 }
 
 /// What a proved verifier says of a signature; `None` where it is about an algorithm or a curve of others.
-fn proved_answer(by: Proved, asked: &Asked<'_>) -> Option<bool>
+fn proved_answer(by: Proved, asked: &Question<'_>) -> Option<bool>
     ensures { result ≡ option_map (λ q. said_by by (Some q))
         (asked_of by (Some (question_parts asked.now))) }
 {
@@ -385,7 +358,7 @@ pub(crate) fn tell_by(
 {
     let documents = desk.grounds.documents();
     match read_token(alloc, token, &documents.policy) {
-        Ok(Some(signed)) => match (Question { signature, key }).about(&signed, &documents.keys) {
+        Ok(Some(signed)) => match (OpenPair { signature, key }).about(&signed, &documents.keys) {
             Some(asked) => match proved_answer(by, &asked) {
                 Some(accepts) => tell_of(alloc, &mut desk.answers, &asked, accepts),
                 None => 6,

@@ -1,10 +1,10 @@
-//! What a validator holds.
+//! The state of a validator.
 
 use crate::grounds::Grounds;
 use jwt_memory::{Basis, Memory};
 use jwt_policy::Claims;
 use jwt_text::Scratch;
-use jwt_told::{Answers, AskedCopy};
+use jwt_told::{Answers, OwnedQuestion};
 use jwt_verify::{SigState, Try};
 use std::sync::Arc;
 
@@ -30,7 +30,7 @@ pub struct Last {
     pub(crate) evidence: Evidence,
     pub(crate) missing: Vec<u8>,
     /// What it asks.
-    pub(crate) asked: Option<AskedCopy>,
+    pub(crate) asked: Option<OwnedQuestion>,
     /// Whether it came out of a memory: then nothing was tried in it.
     pub(crate) remembered: bool,
 }

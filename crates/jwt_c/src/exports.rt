@@ -1,4 +1,4 @@
-//! What C calls.
+//! The functions that C calls.
 
 ghost use Rattle.std.specs.Prelude.{◌≡◌, ◌≢◌, ◌≤◌, IfSome, Some, None, slice_get, option_map, IfOk, IfErr, IsUtf8, false};
 ghost use Rattle.std.specs.Arc.{arc_value};

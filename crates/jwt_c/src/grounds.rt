@@ -1,4 +1,4 @@
-//! What a validator judges by.
+//! The policy and the keys that a validator judges by, with the memory of the proved verifiers.
 
 ghost use Rattle.std.specs.Prelude.{◌≡◌, ◌≢◌, ◌≤◌, None, IfSome};
 ghost use Rattle.std.specs.Arc.{arc_value};

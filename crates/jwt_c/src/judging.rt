@@ -26,7 +26,7 @@ use jwt_mac::{Budget, CountDown};
 use jwt_memory::{Basis, Memory, Outcome};
 use jwt_policy::{ClaimFault, Claims};
 use jwt_text::Scratch;
-use jwt_told::{Answers, AskedCopy, Asking, Question, judge_told};
+use jwt_told::{Answers, Asking, OpenPair, OwnedQuestion, judge_told};
 use jwt_verify::{Fault, Report, SigState, Try, Verdict};
 use std::alloc::{AllocError, Global};
 use std::sync::Arc;
@@ -136,15 +136,15 @@ pub(crate) fn bare(alloc: Global, verdict: u32) -> Judging
 /// A copy of what a question asks about a token; `None` where there is no such pair.
 fn copied(
     alloc: Global,
-    question: Question,
+    pair: OpenPair,
     signed: &Signed<'_>,
     keys: &KeySet,
-) -> Result<Option<AskedCopy>, AllocError>
+) -> Result<Option<OwnedQuestion>, AllocError>
     ensures { IfOk result (λ o. option_map kept_parts o
-        ≡ question_at (token signed.now) (key_set keys.now).keys question.signature question.key) }
+        ≡ question_at (token signed.now) (key_set keys.now).keys pair.signature pair.key) }
 {
-    match question.about(signed, keys) {
-        Some(asked) => Ok(Some(AskedCopy::of(alloc, &asked)?)),
+    match pair.about(signed, keys) {
+        Some(asked) => Ok(Some(OwnedQuestion::of(alloc, &asked)?)),
         None => Ok(None),
     }
 }
@@ -152,25 +152,21 @@ fn copied(
 /// The judging that asks, of which the tries and the question are kept.
 fn asking(alloc: Global, asks: Asking<'_>, keys: &KeySet) -> Result<Judging, AllocError>
     ensures verdict { IfOk result (λ j. j.said.verdict ≡ 2) }
-    ensures signature { IfOk result (λ j. j.said.signature ≡ asks.entry.question.signature) }
-    ensures key { IfOk result (λ j. j.said.key ≡ asks.entry.question.key) }
+    ensures signature { IfOk result (λ j. j.said.signature ≡ asks.entry.pair.signature) }
+    ensures key { IfOk result (λ j. j.said.key ≡ asks.entry.pair.key) }
     ensures count { IfOk result (λ j. j.said.tries ≡ length asks.entry.tries.items) }
     ensures tries { IfOk result (λ j. tries_kept j.last ≡ asks.entry.tries.items) }
     ensures claims { IfOk result (λ j. claims_kept j.last ≡ None) }
     ensures anew { IfOk result (λ j. j.last.remembered ≡ false) }
     ensures asked { IfOk result (λ j. option_map kept_parts j.last.asked
         ≡ question_at (token asks.entry.token) (key_set keys.now).keys
-        asks.entry.question.signature asks.entry.question.key) }
+        asks.entry.pair.signature asks.entry.pair.key) }
 {
-    let Asking {
-        token,
-        question,
-        tries,
-    } = asks;
-    let asked = copied(alloc, question, &token, keys)?;
+    let Asking { token, pair, tries } = asks;
+    let asked = copied(alloc, pair, &token, keys)?;
     let mut said = FowReport::bare(2);
-    said.signature = question.signature;
-    said.key = question.key;
+    said.signature = pair.signature;
+    said.key = pair.key;
     said.tries = tries.len() as u64;
     Ok(Judging {
         said,

@@ -1,4 +1,4 @@
-//! How many questions one token can raise.
+//! The most questions that one token can raise.
 
 ghost use Rattle.std.specs.Prelude.{◌≡◌, ◌≤◌, false, slice_get};
 ghost use Rattle.std.specs.List.{count_by, list_any};

@@ -1,4 +1,4 @@
-//! What the exported functions write.
+//! The structs that the exported functions write.
 
 ghost use Rattle.std.specs.Prelude.{◌≡◌};
 ghost use Rattle.jwt_c.specs.Faults.{accepted, bare, refusal, form_numbers, claim_numbers, issue_numbers, fault_numbers, verdict_numbers};

@@ -1,4 +1,4 @@
-//! What the handle of an access rule holds.
+//! The state behind the handle of an access rule.
 
 use jwt_access::AccessRule;
 

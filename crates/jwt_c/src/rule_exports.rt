@@ -1,4 +1,4 @@
-//! What C calls of access rules.
+//! The functions on access rules that C calls.
 
 ghost use Rattle.std.specs.Prelude.{◌≡◌, ◌≢◌, IfSome, None, slice_get};
 ghost use Rattle.jwt_access.specs.Document.{rule_of};

@@ -97,6 +97,7 @@ impl Drop for RuleHandle {
 
 unsafe impl Send for RuleHandle {}
 
+/// Compiles where the type may be sent to another thread.
 fn needs_send<T: Send>(_value: &T) {}
 
 /// A handle may go to another thread: this is proved only where it may.

@@ -1,9 +1,12 @@
-pub mod AnsweredLines
+-- ---- For mac.rt
 pub mod CostLemmas
-pub mod InputLemmas
-pub mod Jwks
-pub mod LineLemmas
+-- ---- For run.rt
 pub mod Printing
+-- ---- For verify_lines.rt
+pub mod AnsweredLines
 pub mod RunningLines
+-- ---- For several files
+pub mod InputLemmas
+pub mod LineLemmas
 pub mod Verifying
 pub mod WalkedLines

@@ -1,4 +1,4 @@
--- What the command answers to what its words ask for.
+-- The answer of the command to a request.
 use Rattle.std.specs.Prelude.{ℕ, Bool, List, [], ◌∷◌, codes}
 use Rattle.jwt_mac.specs.Verifying.{Meaning}
 use Rattle.jwt_words.specs.InHand.{Held, unread}

@@ -22,6 +22,8 @@ abbrev pub last_document : Option (List ℕ) → List ℕ → List ℕ
 last_document (Some octets) x = octets
 last_document None x = x
 
+-- ---- Cited by contracts of private functions alone
+
 -- ---- what is taken of the input
 
 -- for a document: nothing where it is in hand

@@ -1,4 +1,4 @@
--- What `jwt issue` answers.
+-- The answer of `jwt issue`.
 use Rattle.std.specs.Prelude.{ℕ, Bool, List, length, nat_lt, if◌then◌else◌, Option, Result, Ok, Err, codes, true}
 use Rattle.jwt_keys.specs.KeySets.{KeyList, key_set_of}
 use Rattle.jwt_keys.specs.Keys.{KeyParts}

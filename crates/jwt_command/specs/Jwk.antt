@@ -1,4 +1,4 @@
--- What `jwt jwk` answers.
+-- The answer of `jwt jwk`.
 use Rattle.std.specs.Prelude.{◌≡◌, ◌≢◌, ◌≤◌, ◌<◌, ◌⊎◌, ℕ, ◌==◌, Bool, true, false, List, ◌∷◌, length, codes, Option, Some, None, option_and_then, if◌then◌else◌}
 use Rattle.serde_json.specs.Data.{object}
 use Rattle.serde_json.specs.Written.{compact_text}
@@ -86,10 +86,6 @@ JwkAnswer order held failed x a = JwkNamed (unread order.files held) order held.
 abbrev pub RunsJwk : JwkOrder → Held → List ℕ → Bool → Outcome → Type 0
 RunsJwk order held x failed o = Printed out_of_memory o ⊎ ((a : Answer) × JwkAnswer order held failed x a × Printed a o)
 
--- how much of the input is taken at most: nothing where the keys are in a file
-abbrev pub jwk_most : Held → JwkOrder → ℕ
-jwk_most held order = most_unless_unread (unread order.files held) (last_most 4194305 held.key)
-
 -- ---- new secrets
 
 -- the octets that the system's random source gave, where it gave just as many as a digest has
@@ -109,3 +105,9 @@ secret_line order None = random_failed order.printing
 
 abbrev pub secret_answer : SecretOrder → Held → Answer
 secret_answer order held = secret_line order (secret_in order.alg held.random)
+
+-- ---- Cited by contracts of private functions alone
+
+-- how much of the input is taken at most: nothing where the keys are in a file
+abbrev pub jwk_most : Held → JwkOrder → ℕ
+jwk_most held order = most_unless_unread (unread order.files held) (last_most 4194305 held.key)

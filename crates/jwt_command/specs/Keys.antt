@@ -1,4 +1,4 @@
--- What `jwt keys` answers, in JSON or in lines.
+-- The answer of `jwt keys`, in JSON or in lines.
 use Rattle.std.specs.Prelude.{ℕ, Bool, List, Result, Ok, Err}
 use Rattle.jwt_keys.specs.KeySets.{KeyList, key_set_of}
 use Rattle.jwt_keys.specs.declared.fault.KeysFault.{KeysFault}

@@ -1,16 +1,36 @@
+-- ---- What contracts of public functions cite, in reading order
+
+-- the access rule of `verify`
 pub mod Access
-pub mod Answered
-pub mod Documents
-pub mod Input
-pub mod Issue
-pub mod Jwk
-pub mod Keys
-pub mod Lines
-pub mod Mac
-pub mod RunLines
-pub mod Runs
-pub mod Show
-pub mod Stops
+-- one line of an input
 pub mod TakenLines
+-- the documents of a command
+pub mod Documents
+-- the answer of `jwt issue`
+pub mod Issue
+-- the answer of `jwt keys`, in JSON or in lines
+pub mod Keys
+-- the result of `jwt mac`, and its line
+pub mod Mac
+-- the answer of `jwt show`, in JSON or in lines
+pub mod Show
+-- the answer of `jwt verify`
 pub mod Verify
+-- the answer of the command to a request
+pub mod Answered
+-- the lines of an input, and the answers to them
+pub mod Lines
+-- the end of a run of `verify --lines`
+pub mod RunLines
+-- the answer of `jwt jwk`
+pub mod Jwk
+-- the end of a run of the command
+pub mod Runs
+-- ---- What contracts of private functions alone cite, which nobody has to believe
+
+-- a command's input
+pub mod Input
+-- the amount that is taken of an input
+pub mod Stops
+-- this crate's own values as contracts see them
 pub mod Views

@@ -51,28 +51,6 @@ pub record AnswersLines (at : ℕ → List ℕ → Answer) (says : ℕ → List 
   pub said : AreMoments says now 0 moments done
   pub text : Appends before after (answers at moments done)
 
--- the answer to a line went out
-abbrev pub LineAnswered : (ℕ → List ℕ → Answer) → (ℕ → Type 0) → Option ℕ → List ℕ → Option (List ℕ) → Option (List ℕ) → Type 0
-LineAnswered at says now l before after = (m : ℕ) × IsMoment says now m × Appends before after (at m l).text
-
--- a write failed, and a prefix of the answers that were ready went out
-abbrev pub CutReady : List ℕ → Option (List ℕ) → Option (List ℕ) → Bool → Type 0
-CutReady ready before after failed = (0 < length ready) × (failed ≡ true) × ((n : ℕ) × Appends before after (take n ready))
-
--- the answers that were ready are ready still; or they went out, and none is ready
-abbrev pub MayHaveSent : List ℕ → List ℕ → Option (List ℕ) → Option (List ℕ) → Type 0
-MayHaveSent ready left before after = ((left ≡ ready) × (after ≡ before)) ⊎ ((left ≡ []) × Appends before after ready)
-
--- the answers that were ready went out, and what followed is so; or a write failed
-abbrev pub SendsReady : List ℕ → (Option (List ℕ) → Type 0) → Option (List ℕ) → Option (List ℕ) → Bool → ℕ → Type 0
-SendsReady ready follows before after failed status = ((between : Option (List ℕ)) × Appends before between ready × follows between)
-    ⊎ (CutReady ready before after failed × (status ≡ 3))
-
--- a read failed, or an allocation was refused: that is answered
-abbrev pub StopsBy : LineFault → Answer → Option (List ℕ) → Bool → ℕ → Option (List ℕ) → Type 0
-StopsBy Read unread after failed status between = Prints unread between after failed status ⊎ Prints out_of_memory between after failed status
-StopsBy fault unread after failed status between = Prints out_of_memory between after failed status
-
 -- a write failed, and a prefix of the answer to a line went out
 abbrev pub LineCut : (ℕ → List ℕ → Answer) → (ℕ → Type 0) → Option ℕ → List ℕ → Option (List ℕ) → Option (List ℕ) → Bool → ℕ → Type 0
 LineCut at says now l before after failed status = (m : ℕ) × IsMoment says now m × (failed ≡ true) × (status ≡ 3) × ((n : ℕ) × Appends before after (take n (at m l).text))
@@ -95,3 +73,27 @@ pub record Ended (at : ℕ → List ℕ → Answer) (unread : Answer) (says : �
 abbrev pub GivesLines : (ℕ → List ℕ → Answer) → Answer → (ℕ → List ℕ → ℕ → Type 0) → Option ℕ → List ℕ → Bool → Option (List ℕ) → Option (List ℕ) → Bool → ℕ → Type 0
 GivesLines at unread says now x fails before after failed status = (AnswersLines at says now x [] before after × (status ≡ 0))
     ⊎ Ended at unread says now x fails before after failed status
+
+-- ---- Cited by contracts of private functions alone
+
+-- the answer to a line went out
+abbrev pub LineAnswered : (ℕ → List ℕ → Answer) → (ℕ → Type 0) → Option ℕ → List ℕ → Option (List ℕ) → Option (List ℕ) → Type 0
+LineAnswered at says now l before after = (m : ℕ) × IsMoment says now m × Appends before after (at m l).text
+
+-- a write failed, and a prefix of the answers that were ready went out
+abbrev pub CutReady : List ℕ → Option (List ℕ) → Option (List ℕ) → Bool → Type 0
+CutReady ready before after failed = (0 < length ready) × (failed ≡ true) × ((n : ℕ) × Appends before after (take n ready))
+
+-- the answers that were ready are ready still; or they went out, and none is ready
+abbrev pub MayHaveSent : List ℕ → List ℕ → Option (List ℕ) → Option (List ℕ) → Type 0
+MayHaveSent ready left before after = ((left ≡ ready) × (after ≡ before)) ⊎ ((left ≡ []) × Appends before after ready)
+
+-- the answers that were ready went out, and what followed is so; or a write failed
+abbrev pub SendsReady : List ℕ → (Option (List ℕ) → Type 0) → Option (List ℕ) → Option (List ℕ) → Bool → ℕ → Type 0
+SendsReady ready follows before after failed status = ((between : Option (List ℕ)) × Appends before between ready × follows between)
+    ⊎ (CutReady ready before after failed × (status ≡ 3))
+
+-- a read failed, or an allocation was refused: that is answered
+abbrev pub StopsBy : LineFault → Answer → Option (List ℕ) → Bool → ℕ → Option (List ℕ) → Type 0
+StopsBy Read unread after failed status between = Prints unread between after failed status ⊎ Prints out_of_memory between after failed status
+StopsBy fault unread after failed status between = Prints out_of_memory between after failed status

@@ -1,4 +1,4 @@
--- What `jwt mac` finds of a token, and its line.
+-- The result of `jwt mac`, and its line.
 use Rattle.std.specs.Prelude.{◌+◌, ℕ, Bool, true, false, ◌&&◌, List, length, Option, Some, None, Result, Ok, Err, codes, nat_lt, nat_le, if◌then◌else◌, option_and_then}
 use Rattle.std.specs.Str.{bytes_eq}
 use Rattle.jwt_text.specs.Answers.{◌>>=◌, or_fault, some_or}
@@ -84,6 +84,8 @@ mac_answer key = mac_under (key_spelled key)
 abbrev pub mac_in_hand : Option (List ℕ) → ℕ → Bool → List ℕ → Answer
 mac_in_hand (Some text) limit failed input = mac_answer (without_line_feed true text) limit failed input
 mac_in_hand None limit failed input = key_refused
+
+-- ---- Cited by contracts of private functions alone
 
 -- how much of the input is taken at most: nothing where the key is refused
 abbrev pub behind_key : Option (List ℕ) → ℕ → ℕ

@@ -1,4 +1,4 @@
--- How a run of `verify --lines` ends.
+-- The end of a run of `verify --lines`.
 use Rattle.std.specs.Prelude.{◌⊎◌, ℕ, Bool, List, Option, Some, None, Result, Ok, Err}
 use Rattle.jwt_mac.specs.Verifying.{Meaning}
 use Rattle.jwt_keys.specs.KeySets.{KeyList, key_set_of}

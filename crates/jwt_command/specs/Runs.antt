@@ -1,4 +1,4 @@
--- How a run of the command ends.
+-- The end of a run of the command.
 use Rattle.std.specs.Prelude.{◌≡◌, ℕ, Bool, true, false, List, Option, Some, None, Result, Ok, Err}
 use Rattle.std.specs.Option.{is_none}
 use Rattle.jwt_mac.specs.Verifying.{Meaning}
@@ -28,6 +28,8 @@ abbrev pub IsReading : Result CodeRequest WordsFault → Option Request → Type
 IsReading (Ok request) asked = asked ≡ Some (requested request)
 IsReading (Err (Wrong text)) asked = asked ≡ None
 IsReading (Err OutOfMemory) asked = Unit {0}
+
+-- ---- Cited by contracts of private functions alone
 
 -- nothing is read for words that ask for nothing, for the version, for a new secret, and for a key of `mac` that is refused
 abbrev pub reads_nothing : Option Request → Bool

@@ -1,4 +1,4 @@
--- What `jwt show` answers, in JSON or in lines.
+-- The answer of `jwt show`, in JSON or in lines.
 use Rattle.std.specs.Prelude.{ℕ, Bool, true, List, length, nat_lt, if◌then◌else◌, Result, Ok, Err}
 use Rattle.jwt_jws.specs.Forms.{form_of}
 use Rattle.jwt_jws.specs.Token.{Token}

@@ -1,4 +1,4 @@
--- How much is taken of an input: nothing behind a line that is refused, and one octet past a limit.
+-- The amount that is taken of an input: nothing behind a line that is refused, and one octet past a limit.
 use Rattle.std.specs.Prelude.{◌+◌, ℕ, List, Option, Result, Ok, Err}
 use Rattle.jwt_keys.specs.KeySets.{KeyList, key_set_of}
 use Rattle.jwt_keys.specs.declared.fault.KeysFault.{KeysFault}

@@ -15,6 +15,8 @@ abbrev pub after_line : List ℕ → List ℕ
 after_line [] = []
 after_line (c ∷ cs) = if c == 10 then cs else after_line cs
 
+-- ---- Cited by contracts of private functions alone
+
 -- a line feed is among the octets
 abbrev pub has_line_feed : List ℕ → Bool
 has_line_feed octets = list_any (λ c. c == 10) octets

@@ -1,4 +1,4 @@
--- What `jwt verify` answers.
+-- The answer of `jwt verify`.
 use Rattle.std.specs.Prelude.{ℕ, Bool, true, false, List, [], pos, Option, Some, None, Result, Ok, Err}
 use Rattle.jwt_jws.specs.declared.signed.Signed.{Signed}
 use Rattle.jwt_jws.specs.Views.{token as token_view}
@@ -14,11 +14,6 @@ use Rattle.jwt_words.specs.InHand.{Held}
 use Rattle.jwt_command.specs.Access.{rule_in_hand, under_rule}
 use Rattle.jwt_command.specs.Documents.{behind, document, last_document}
 use Rattle.jwt_printing.specs.Printer.{Printer, unless_read_failed}
-
--- the payload of the token that was read; no octets where none was
-abbrev pub payload_in : Option Signed → List ℕ
-payload_in (Some signed) = (token_view signed).payload
-payload_in None = []
 
 -- ---- the token, behind the lines of the policy and of the key set
 
@@ -49,3 +44,10 @@ under_policy tell verifiers now held (Err fault) x = tell.policy_refused fault
 -- failed or not
 abbrev pub verify_answer : Printer → List Meaning → ℕ → Held → Bool → List ℕ → Answer
 verify_answer tell verifiers now held failed x = unless_read_failed tell failed (under_policy tell verifiers now held (policy_of (document held.policy x)) (behind held.policy x))
+
+-- ---- Cited by contracts of private functions alone
+
+-- the payload of the token that was read; no octets where none was
+abbrev pub payload_in : Option Signed → List ℕ
+payload_in (Some signed) = (token_view signed).payload
+payload_in None = []

@@ -1,4 +1,4 @@
--- What contracts see of this crate's own values.
+-- This crate's own values as contracts see them.
 use Rattle.std.specs.Prelude.{ℕ, List}
 use Rattle.jwt_command.specs.declared.documents.TakenDocument.{TakenDocument}
 use Rattle.jwt_command.specs.declared.documents.TakenDocument.TheVariants.{Line, Held as InHand}

@@ -29,7 +29,7 @@ pub(crate) enum MacFault {
     AlgNotAllowed,
 }
 
-// The octets that one of the three texts spells.
+/// The octets that one of the three texts spells.
 fn octets_of(alloc: Global, text: &[u8]) -> Result<Vec<u8>, MacFault>
     ensures { Answers MacFault.OutOfMemory (λ v. v.items) result
         (or_fault Base64 (spelled text.now)) }
@@ -41,7 +41,7 @@ fn octets_of(alloc: Global, text: &[u8]) -> Result<Vec<u8>, MacFault>
     }
 }
 
-// The algorithm that a header text names.
+/// The algorithm that a header text names.
 #[tactic(auto, unfolding(crate::specs::Mac::algorithm_of))]
 fn algorithm(alloc: Global, header: &[u8]) -> Result<Alg, MacFault>
     ensures value { Answers MacFault.OutOfMemory (λ alg. alg) result (algorithm_of header.now) }
@@ -61,14 +61,14 @@ fn algorithm(alloc: Global, header: &[u8]) -> Result<Alg, MacFault>
     }
 }
 
-// Whether the octets are the tag.
+/// Whether the octets are the tag.
 fn is_tag(tag: &Tag, octets: &[u8]) -> bool
     ensures { result ≡ bytes_eq octets.now tag.now }
 {
     tag.equals(octets)
 }
 
-// The tag of the signing input. The budget is never spent: it is past the cost of what a token can hold.
+/// The tag of the signing input. The budget is never spent: it is past the cost of what a token can hold.
 fn computed(
     alg: Alg,
     key: &[u8],
@@ -95,7 +95,7 @@ fn computed(
     }
 }
 
-// The digest of a token's three texts.
+/// The digest of a token's three texts.
 #[tactic(auto, unfolding(crate::specs::Mac::texts_digest))]
 fn texts_digest(alloc: Global, key: &[u8], texts: &CompactTexts<'_>) -> Result<Digest, MacFault>
     requires key { length key.now ≤ 4096 }
@@ -110,7 +110,7 @@ fn texts_digest(alloc: Global, key: &[u8], texts: &CompactTexts<'_>) -> Result<D
     computed(alg, key, texts, signature.as_slice())
 }
 
-// The digest of a token.
+/// The digest of a token.
 #[tactic(auto, unfolding(crate::specs::Mac::digest_of))]
 fn token_digest(alloc: Global, key: &[u8], token: &[u8]) -> Result<Digest, MacFault>
     requires key { length key.now ≤ 4096 }
@@ -123,7 +123,7 @@ fn token_digest(alloc: Global, key: &[u8], token: &[u8]) -> Result<Digest, MacFa
     }
 }
 
-// The name of a fault.
+/// The name of a fault.
 fn fault_name(fault: MacFault) -> &'static str
     ensures { result.now ≡ fault_name fault }
 {
@@ -137,7 +137,7 @@ fn fault_name(fault: MacFault) -> &'static str
     }
 }
 
-// The line of a token.
+/// The line of a token.
 fn token_line(alloc: Global, key: &[u8], token: &[u8]) -> Result<Reply, AllocError>
     requires key { length key.now ≤ 4096 }
     requires token { length token.now ≤ 1048576 }
@@ -151,7 +151,7 @@ fn token_line(alloc: Global, key: &[u8], token: &[u8]) -> Result<Reply, AllocErr
     }
 }
 
-// The octets of a key, 1 to 4,096, where the text spells such.
+/// The octets of a key, 1 to 4,096, where the text spells such.
 fn key_octets(alloc: Global, text: &[u8]) -> Result<Option<Vec<u8>>, AllocError>
     ensures value { IfOk result (λ o. option_map (λ k. k.items) o ≡ key_spelled text.now) }
     ensures short { IfOk result (λ o. IfSome o (λ k. length k.items ≤ 4096)) }

@@ -233,7 +233,7 @@ pub fn run_read<R: Source, W: Sink, C: Clock>(
     }
 }
 
-// The line of the version.
+/// The line of the version.
 fn version_line(alloc: Global) -> Result<Reply, AllocError>
     ensures { IfOk result (λ a. reply_view a ≡ version_answer) }
 {
@@ -255,7 +255,7 @@ pub(crate) fn asked_for(public_keys: bool, built_in: &[Box<dyn Verifier>]) -> &[
     }
 }
 
-// The answer to an order whose files are in hand, in JSON or in lines.
+/// The answer to an order whose files are in hand, in JSON or in lines.
 fn reply_in_hand<R: Source>(
     alloc: Global,
     printing: Printing,
@@ -307,7 +307,7 @@ fn reply_in_hand<R: Source>(
     }
 }
 
-// The answer to an order, in JSON or in lines, before any of it goes out.
+/// The answer to an order, in JSON or in lines, before any of it goes out.
 fn reply_of<R: Source>(
     alloc: Global,
     printing: Printing,

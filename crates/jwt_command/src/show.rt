@@ -15,7 +15,7 @@ use jwt_text::{Source, TextFault};
 use jwt_words::Printing;
 use std::alloc::{AllocError, Global};
 
-// What stands in a token of these octets, of at most 32 signatures, or why they are none.
+/// What stands in a token of these octets, of at most 32 signatures, or why they are none.
 fn shown(alloc: Global, printing: Printing, octets: &[u8]) -> Result<Reply, AllocError>
     ensures line { IfOk result
         (λ a. reply_view a ≡ shown printing octets.now (form_of 32 octets.now)) }

@@ -31,7 +31,7 @@ use jwt_verify::{judge, judge_signed, validate};
 use jwt_words::{Held, Moment, Printing};
 use std::alloc::{AllocError, Global};
 
-// The verdict on the token, which is all that is left of the input.
+/// The verdict on the token, which is all that is left of the input.
 fn on_token<R: Source>(
     alloc: Global,
     verifiers: &[Box<dyn Verifier>],
@@ -63,7 +63,7 @@ fn on_token<R: Source>(
     report_line(alloc, &report, rule, budget.octets())
 }
 
-// The verdict on a token in hand, in lines.
+/// The verdict on a token in hand, in lines.
 fn on_octets_in_lines(
     alloc: Global,
     verifiers: &[Box<dyn Verifier>],
@@ -103,7 +103,7 @@ fn payload_in<'t>(token: &'t Option<Signed<'_>>) -> &'t [u8]
     }
 }
 
-// The verdict on a token in hand, in JSON.
+/// The verdict on a token in hand, in JSON.
 fn on_octets_in_json(
     alloc: Global,
     verifiers: &[Box<dyn Verifier>],
@@ -160,7 +160,7 @@ pub(crate) fn on_octets(
     }
 }
 
-// The verdict on the token, which is all that is left of the input, in JSON.
+/// The verdict on the token, which is all that is left of the input, in JSON.
 fn on_token_json<R: Source>(
     alloc: Global,
     verifiers: &[Box<dyn Verifier>],
@@ -186,7 +186,7 @@ fn on_token_json<R: Source>(
     }
 }
 
-// The verdict on the token: in hand, or all that is left of the input.
+/// The verdict on the token: in hand, or all that is left of the input.
 fn on_last<R: Source>(
     alloc: Global,
     printing: Printing,
@@ -218,7 +218,7 @@ fn on_last<R: Source>(
     }
 }
 
-// The access rule, where one is in hand, and the token.
+/// The access rule, where one is in hand, and the token.
 fn on_rule<R: Source>(
     alloc: Global,
     printing: Printing,
@@ -257,7 +257,7 @@ fn on_rule<R: Source>(
     }
 }
 
-// The key set, in hand or a line, and what is behind it.
+/// The key set, in hand or a line, and what is behind it.
 fn on_keys<R: Source>(
     alloc: Global,
     printing: Printing,

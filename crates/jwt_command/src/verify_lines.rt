@@ -56,7 +56,7 @@ impl Clock for NoClock {
     }
 }
 
-// The moment of an answer: the one that `--now` names, else the clock's for that line.
+/// The moment of an answer: the one that `--now` names, else the clock's for that line.
 fn moment<C: Clock>(now: Option<Moment>, clock: &mut C, number: u64, line: &[u8]) -> Option<Moment>
     ensures moment { IfSome result
         (λ m. IsMoment (C.says number line.now) (seconds_of now) m.seconds) }
@@ -68,7 +68,7 @@ fn moment<C: Clock>(now: Option<Moment>, clock: &mut C, number: u64, line: &[u8]
     }
 }
 
-// Puts the answer to the line of this number behind those that are ready. Refused with `Read` where the clock can't be read.
+/// Puts the answer to the line of this number behind those that are ready. Refused with `Read` where the clock can't be read.
 fn answer_line<C: Clock>(
     alloc: Global,
     printing: Printing,
@@ -102,7 +102,7 @@ fn answer_line<C: Clock>(
     }
 }
 
-// Takes the next line, of which one octet past the limit is held at most. `Ok(false)`: the input was at its end.
+/// Takes the next line, of which one octet past the limit is held at most. `Ok(false)`: the input was at its end.
 fn take_line<R: Source>(
     ahead: &mut Ahead,
     r: &mut R,
@@ -133,7 +133,7 @@ fn take_line<R: Source>(
     Err(LineFault::OutOfMemory)
 }
 
-// Sends the answers that are ready. Whether all of them went out.
+/// Sends the answers that are ready. Whether all of them went out.
 fn send_ready<W: Sink>(ready: &mut Vec<u8>, w: &mut W) -> bool
     ensures none { ready.new.items ≡ [] }
     ensures sent { result ≡ true
@@ -146,8 +146,8 @@ fn send_ready<W: Sink>(ready: &mut Vec<u8>, w: &mut W) -> bool
     sent
 }
 
-// Sends the answers that are ready, where the next octets may have to be waited for, or where many are ready. Whether what was sent
-// went out.
+/// Sends the answers that are ready, where the next octets may have to be waited for, or where many are ready. Whether what was sent
+/// went out.
 fn send_in_time<W: Sink>(ahead: &Ahead, ready: &mut Vec<u8>, w: &mut W) -> bool
     ensures sent { result ≡ true → MayHaveSent ready.old.items ready.new.items
         (W.contents w.old) (W.contents w.new) }
@@ -160,7 +160,7 @@ fn send_in_time<W: Sink>(ahead: &Ahead, ready: &mut Vec<u8>, w: &mut W) -> bool
     send_ready(ready, w)
 }
 
-// Sends the answers that are ready, at the end of the input. The status.
+/// Sends the answers that are ready, at the end of the input. The status.
 fn end_lines<W: Sink>(ready: &mut Vec<u8>, w: &mut W) -> u8
     ensures { SendsReady ready.old.items
         (λ between. (between ≡ W.contents w.new) × (result ≡ 0))
@@ -169,7 +169,7 @@ fn end_lines<W: Sink>(ready: &mut Vec<u8>, w: &mut W) -> u8
     if send_ready(ready, w) { 0 } else { 3 }
 }
 
-// Sends the answers that are ready, and then what stopped the run. The status.
+/// Sends the answers that are ready, and then what stopped the run. The status.
 fn stop_lines<W: Sink>(
     alloc: Global,
     printing: Printing,
@@ -190,8 +190,8 @@ fn stop_lines<W: Sink>(
     }
 }
 
-// Answers each line of an input as `verify` answers it alone, with a budget of its own. The answers that are ready are sent before
-// the next octets are waited for.
+/// Answers each line of an input as `verify` answers it alone, with a budget of its own. The answers that are ready are sent before
+/// the next octets are waited for.
 fn answer_lines<R: Source, W: Sink, C: Clock>(
     alloc: Global,
     printing: Printing,
@@ -246,7 +246,7 @@ fn answer_lines<R: Source, W: Sink, C: Clock>(
     stop_lines(alloc, printing, LineFault::OutOfMemory, &mut ready, w)
 }
 
-// Answers each line under a policy, a key set, and an access rule, which is read once, where one is in hand.
+/// Answers each line under a policy, a key set, and an access rule, which is read once, where one is in hand.
 fn lines_by_rule<R: Source, W: Sink, C: Clock>(
     alloc: Global,
     printing: Printing,
@@ -294,7 +294,7 @@ fn lines_by_rule<R: Source, W: Sink, C: Clock>(
     }
 }
 
-// Answers each line under a policy and a key set in hand.
+/// Answers each line under a policy and a key set in hand.
 fn lines_in_hand<R: Source, W: Sink, C: Clock>(
     alloc: Global,
     printing: Printing,

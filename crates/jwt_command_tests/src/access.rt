@@ -157,6 +157,7 @@ fn ran_under(
     )
 }
 
+/// With `--access`, each row of granted and denied claims, in lines and in JSON.
 #[test]
 fn a_rule_is_held_against_the_claims_of_an_accepted_token(rt: HostRuntime) -> Result<(), Fail> {
     for row in &RULED {
@@ -172,6 +173,7 @@ static BEFORE: [(&[&str], &str); 2] = [
     (&[HS256, "{}", "none"], "refused Keys NotKeySet"),
 ];
 
+/// A refused rule is told, and only where policy and key set stand.
 #[test]
 fn a_rule_is_refused_behind_the_policy_and_the_keys(rt: HostRuntime) -> Result<(), Fail> {
     for (lines, line) in &BEFORE {
@@ -182,7 +184,7 @@ fn a_rule_is_refused_behind_the_policy_and_the_keys(rt: HostRuntime) -> Result<(
     assert_ran(&rt, rt.alloc(), &found, &["refused Access Json"], 1)
 }
 
-// A document of 65,537 octets is too long, and one of 65,536 isn't.
+/// A document of 65,537 octets is too long, and one of 65,536 isn't.
 #[test]
 fn a_rule_is_refused_where_it_is_too_long(rt: HostRuntime) -> Result<(), Fail> {
     let alloc = rt.alloc();
@@ -262,6 +264,7 @@ static OF_LINES: [(&[&str], Option<&str>, &[&str], u8); 5] = [
     ),
 ];
 
+/// With `--lines`, each token is granted or denied by itself.
 #[test]
 fn a_rule_is_held_against_each_line(rt: HostRuntime) -> Result<(), Fail> {
     for (words, rule, lines, status) in &OF_LINES {

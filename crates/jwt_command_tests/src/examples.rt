@@ -1,4 +1,4 @@
-//! What the tests of several commands name.
+//! Examples that the tests of several commands share.
 
 /// [`NOW`](jwt_support::examples::NOW), as a word.
 pub(crate) const MOMENT: &str = "1300819379";

@@ -90,6 +90,7 @@ fn issued(alloc: Global, words: &[&str], keys: &str, claims: &str) -> Result<Pri
     ran(alloc, words, &input)
 }
 
+/// Each row of `jwt issue`.
 #[test]
 fn issue_prints_the_token_or_the_first_refusal(rt: HostRuntime) -> Result<(), Fail> {
     let token = issued(rt.alloc(), COMPACT, KEYS_Z, "{}\n")?;
@@ -113,6 +114,7 @@ fn issued_in_hand(alloc: Global, keys: Option<&[u8]>, claims: &str) -> Result<Pr
     ran_holding(alloc, &words, held, &mut Reader::new(claims.as_bytes()))
 }
 
+/// A key set from a file is as good as one from standard input.
 #[test]
 fn issue_takes_a_key_set_in_hand(rt: HostRuntime) -> Result<(), Fail> {
     let alloc = rt.alloc();
@@ -135,6 +137,7 @@ static FORMS: [(&str, &str); 3] = [
     ("json", "accepted sig=0 key=0 tries=3 work=597"),
 ];
 
+/// A token of each form, issued and then verified.
 #[test]
 fn what_issue_prints_verify_accepts(rt: HostRuntime) -> Result<(), Fail> {
     let alloc = rt.alloc();

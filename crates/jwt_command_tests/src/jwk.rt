@@ -92,6 +92,7 @@ static SETS: [Row; 7] = [
     },
 ];
 
+/// Each row of keys in PEM, as one JWK or as a key set.
 #[test]
 fn jwk_prints_what_the_keys_are(rt: HostRuntime) -> Result<(), Fail> {
     assert_rows(&rt, rt.alloc(), &SETS)
@@ -213,11 +214,13 @@ static REFUSED: [Row; 16] = [
     },
 ];
 
+/// Each row of texts that are refused, with the fault's name.
 #[test]
 fn jwk_refuses_by_name(rt: HostRuntime) -> Result<(), Fail> {
     assert_rows(&rt, rt.alloc(), &REFUSED)
 }
 
+/// Keys in DER, and DER that is refused.
 #[test]
 fn jwk_takes_der(rt: HostRuntime) -> Result<(), Fail> {
     let alloc = rt.alloc();
@@ -237,7 +240,7 @@ fn jwk_takes_der(rt: HostRuntime) -> Result<(), Fail> {
     assert_ran(&rt, alloc, &found, &["refused Line"], 1)
 }
 
-// A file in hand stands in the place of the input, of which nothing is then read.
+/// A file in hand stands in the place of the input, which isn't read then.
 #[test]
 fn jwk_takes_a_file_in_hand(rt: HostRuntime) -> Result<(), Fail> {
     let alloc = rt.alloc();
@@ -264,6 +267,7 @@ fn jwk_takes_a_file_in_hand(rt: HostRuntime) -> Result<(), Fail> {
     )
 }
 
+/// A read that fails is told as such.
 #[test]
 fn a_read_of_jwk_that_fails_ends_with_status_3(rt: HostRuntime) -> Result<(), Fail> {
     let alloc = rt.alloc();
@@ -338,7 +342,7 @@ static SECRETS: [Secret; 7] = [
     },
 ];
 
-// Nothing is read.
+/// Nothing is read.
 #[test]
 fn a_new_secret_is_what_the_random_source_gave(rt: HostRuntime) -> Result<(), Fail> {
     let alloc = rt.alloc();
@@ -359,6 +363,7 @@ fn a_new_secret_is_what_the_random_source_gave(rt: HostRuntime) -> Result<(), Fa
     Ok(())
 }
 
+/// A secret is made of the random source's octets alone, or not at all.
 #[test]
 fn a_new_secret_is_bare_or_not_made(rt: HostRuntime) -> Result<(), Fail> {
     let alloc = rt.alloc();
@@ -454,6 +459,7 @@ static WRONG: [(&[&str], &str); 10] = [
     ),
 ];
 
+/// Each row of wrong words of `jwt jwk`.
 #[test]
 fn wrong_words_of_jwk_are_named(rt: HostRuntime) -> Result<(), Fail> {
     for (words, said) in &WRONG {
@@ -466,7 +472,7 @@ fn wrong_words_of_jwk_are_named(rt: HostRuntime) -> Result<(), Fail> {
     Ok(())
 }
 
-// A whole line, with what is near.
+/// A whole line, with what is near.
 #[test]
 fn an_alg_that_is_near_is_named(rt: HostRuntime) -> Result<(), Fail> {
     let wanted = ended(

@@ -76,6 +76,7 @@ static LISTS: [Row; 8] = [
     },
 ];
 
+/// Each row of `jwt keys`.
 #[test]
 fn keys_prints_a_line_an_entry(rt: HostRuntime) -> Result<(), Fail> {
     assert_rows(&rt, rt.alloc(), &LISTS)
@@ -140,13 +141,13 @@ static LISTS_IN_JSON: [Row; 7] = [
     },
 ];
 
-// Each key has the members that its line has, and each skipped entry its place and its reason.
+/// Each key has the members that its line has, and each skipped entry its place and its reason.
 #[test]
 fn keys_prints_json(rt: HostRuntime) -> Result<(), Fail> {
     assert_rows(&rt, rt.alloc(), &LISTS_IN_JSON)
 }
 
-// Without `--json` the command is as it was.
+/// Without `--json` the command is as it was.
 #[test]
 fn json_is_asked_for_by_its_word(rt: HostRuntime) -> Result<(), Fail> {
     let input = joined(rt.alloc(), &[KEYS_A])?;

@@ -79,7 +79,7 @@ fn ran_lines(alloc: Global, words: &[&str], lines: &[&str]) -> Result<Printed, F
     ran_with(alloc, words, &[], Some(0), &mut moments, held, &mut r)
 }
 
-// Each line has its answer, by the moment that is named or by the clock's at that line.
+/// Each line has its answer, by the moment that is named or by the clock's at that line.
 #[test]
 fn each_line_is_answered(rt: HostRuntime) -> Result<(), Fail> {
     let alloc = rt.alloc();
@@ -117,7 +117,7 @@ fn ran_dripped(alloc: Global, input: &str, left: usize) -> Result<Printed, Fail>
     Ok(Printed { out, status })
 }
 
-// The answers are the same however the lines come. Where a stream fails, those to the lines before it are out.
+/// The answers are the same however the lines come. Where a stream fails, those to the lines before it are out.
 #[test]
 fn lines_are_answered_up_to_where_a_stream_fails(rt: HostRuntime) -> Result<(), Fail> {
     let alloc = rt.alloc();
@@ -136,6 +136,7 @@ fn lines_are_answered_up_to_where_a_stream_fails(rt: HostRuntime) -> Result<(), 
     Ok(())
 }
 
+/// `--lines` needs the policy and the key set from files.
 #[test]
 fn lines_without_a_policy_file_are_wrong_words(rt: HostRuntime) -> Result<(), Fail> {
     let found = ran_lines(rt.alloc(), &["jwt", "verify", "--lines"], &[TOKEN_A])?;
@@ -145,6 +146,7 @@ fn lines_without_a_policy_file_are_wrong_words(rt: HostRuntime) -> Result<(), Fa
     Ok(())
 }
 
+/// With `--lines --json`, one object a line.
 #[test]
 fn each_line_is_answered_in_json(rt: HostRuntime) -> Result<(), Fail> {
     let found = ran_lines(rt.alloc(), LINES_JSON, &[TOKEN_A, "", ""])?;

@@ -146,6 +146,7 @@ static MACS: [Row; 19] = [
     },
 ];
 
+/// Each row of `jwt mac`.
 #[test]
 fn mac_prints_the_tag_or_the_first_refusal(rt: HostRuntime) -> Result<(), Fail> {
     assert_rows(&rt, rt.alloc(), &MACS)
@@ -218,6 +219,7 @@ fn assert_in_hand(
     Ok(())
 }
 
+/// A key from a file, with or without a line feed at its end.
 #[test]
 fn mac_takes_the_text_of_its_key_in_hand(rt: HostRuntime) -> Result<(), Fail> {
     for row in &KEYS_IN_HAND {
@@ -297,6 +299,7 @@ static LIMITS: [Row; 10] = [
     },
 ];
 
+/// A line feed counts against the limit.
 #[test]
 fn mac_compares_the_limit_before_it_drops_a_line_feed(rt: HostRuntime) -> Result<(), Fail> {
     assert_rows(&rt, rt.alloc(), &LIMITS)
@@ -309,7 +312,7 @@ static TAKES: [(&[&str], usize); 3] = [
     (&["jwt", "mac", "--k", "AA==", "--limit", "100"], 179),
 ];
 
-// One octet past the limit is taken and no more; with a key that is refused none.
+/// One octet past the limit is taken and no more; with a key that is refused none.
 #[test]
 fn mac_takes_what_it_may(rt: HostRuntime) -> Result<(), Fail> {
     for (words, unread) in &TAKES {
@@ -320,6 +323,7 @@ fn mac_takes_what_it_may(rt: HostRuntime) -> Result<(), Fail> {
     Ok(())
 }
 
+/// An input without an end is refused one octet past the limit.
 #[test]
 fn an_endless_input_is_too_long(rt: HostRuntime) -> Result<(), Fail> {
     let mut source = Endless::new();

@@ -109,6 +109,7 @@ static SHOWN: [Row; 10] = [
     },
 ];
 
+/// Each row of `jwt show`.
 #[test]
 fn show_prints_what_stands_in_a_token(rt: HostRuntime) -> Result<(), Fail> {
     assert_rows(&rt, rt.alloc(), &SHOWN)
@@ -211,7 +212,7 @@ static SHOWN_IN_JSON: [Row; 12] = [
     },
 ];
 
-// The headers and the payload stand as they were written, under a name that says that nothing is verified.
+/// The headers and the payload stand as they were written, under a name that says that nothing is verified.
 #[test]
 fn show_prints_json(rt: HostRuntime) -> Result<(), Fail> {
     assert_rows(&rt, rt.alloc(), &SHOWN_IN_JSON)

@@ -81,6 +81,7 @@ fn assert_reading(rt: &impl Abort, alloc: Global, row: &Streamed) -> Result<(), 
     Ok(())
 }
 
+/// Standard input that fails, in lines.
 #[test]
 fn a_read_that_fails_ends_with_status_3(rt: HostRuntime) -> Result<(), Fail> {
     for row in &READING {
@@ -89,6 +90,7 @@ fn a_read_that_fails_ends_with_status_3(rt: HostRuntime) -> Result<(), Fail> {
     Ok(())
 }
 
+/// Standard input that fails, in JSON.
 #[test]
 fn a_read_that_fails_is_told_in_json(rt: HostRuntime) -> Result<(), Fail> {
     for row in &READING_IN_JSON {
@@ -135,6 +137,7 @@ fn assert_writing(rt: &impl Abort, alloc: Global, row: &Streamed) -> Result<(), 
     Ok(())
 }
 
+/// Standard output that fails at each of its octets.
 #[test]
 fn a_write_that_fails_ends_with_status_3(rt: HostRuntime) -> Result<(), Fail> {
     for row in &WRITING {
@@ -159,6 +162,7 @@ fn taken(alloc: Global, source: &mut Drip<'_>, limit: u32) -> Result<Vec<u8>, Li
     line(alloc, source, limit)
 }
 
+/// How much of the input is taken for one line.
 #[test]
 fn a_line_is_taken_up_to_its_end_or_one_octet_past_its_limit(rt: HostRuntime) -> Result<(), Fail> {
     let alloc = rt.alloc();
@@ -205,6 +209,7 @@ static UNREAD: [(Streamed, usize); 3] = [
     ),
 ];
 
+/// Nothing behind a line that is too long is taken in.
 #[test]
 fn what_follows_a_refused_line_is_unread(rt: HostRuntime) -> Result<(), Fail> {
     let alloc = rt.alloc();
@@ -218,6 +223,7 @@ fn what_follows_a_refused_line_is_unread(rt: HostRuntime) -> Result<(), Fail> {
     Ok(())
 }
 
+/// The line and the status of refused memory.
 #[test]
 fn want_of_memory_has_a_line_and_a_status(rt: HostRuntime) -> Result<(), Fail> {
     let mut out: Vec<u8> = Vec::new(rt.alloc());

@@ -34,6 +34,7 @@ fn assert_cases(rt: &impl Abort, alloc: Global, cases: &[Case]) -> Result<(), Fa
     Ok(())
 }
 
+/// Each row of `jwt verify`.
 #[test]
 fn verify_prints_each_verdict(rt: HostRuntime) -> Result<(), Fail> {
     for cases in tables() {
@@ -107,7 +108,7 @@ static VERDICTS: [Row; 9] = [
     },
 ];
 
-// What the program alone can be asked, or says in its own way.
+/// What the program alone can be asked, or says in its own way.
 #[test]
 fn verify_prints_the_verdict(rt: HostRuntime) -> Result<(), Fail> {
     assert_rows(&rt, rt.alloc(), &VERDICTS)
@@ -187,7 +188,7 @@ static ASKED_FOR: [Row; 6] = [
     },
 ];
 
-// RFC 7515, appendix A.2, with a verifier at hand.
+/// RFC 7515, appendix A.2, with a verifier at hand.
 #[test]
 fn public_keys_verify_where_they_are_asked_for(rt: HostRuntime) -> Result<(), Fail> {
     for row in &ASKED_FOR {
@@ -197,6 +198,7 @@ fn public_keys_verify_where_they_are_asked_for(rt: HostRuntime) -> Result<(), Fa
     Ok(())
 }
 
+/// `--public-keys` without verifiers verifies no signature by a public key.
 #[test]
 fn public_keys_verify_nothing_where_none_are_at_hand(rt: HostRuntime) -> Result<(), Fail> {
     let input = joined(rt.alloc(), &[RS256, KEYS_A2, TOKEN_A2])?;
@@ -215,7 +217,7 @@ static CLOCKS: [(&[&str], u32, &str, u8); 4] = [
     (ASKED_LATER, 1_300_819_379, EXPIRED, 1),
 ];
 
-// The clock counts only where no moment is given; without a clock one has to be.
+/// The clock counts only where no moment is given; without a clock one has to be.
 #[test]
 fn the_clock_stands_in_for_the_moment(rt: HostRuntime) -> Result<(), Fail> {
     let alloc = rt.alloc();
@@ -341,6 +343,7 @@ fn ran_in_hand(alloc: Global, row: &InHand) -> Result<Printed, Fail> {
     )
 }
 
+/// A policy and a key set from files are as good as those from standard input.
 #[test]
 fn verify_takes_documents_in_hand(rt: HostRuntime) -> Result<(), Fail> {
     for row in &IN_HAND {
@@ -459,12 +462,13 @@ static VERDICTS_IN_JSON: [Row; 13] = [
     },
 ];
 
-// The claims stand as the payload has them, and only where the token is accepted.
+/// The claims stand as the payload has them, and only where the token is accepted.
 #[test]
 fn verify_prints_json(rt: HostRuntime) -> Result<(), Fail> {
     assert_rows(&rt, rt.alloc(), &VERDICTS_IN_JSON)
 }
 
+/// With `--json`, a file that can't be read is named.
 #[test]
 fn json_names_a_file_that_is_unread(rt: HostRuntime) -> Result<(), Fail> {
     let words = [

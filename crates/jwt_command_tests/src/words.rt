@@ -58,6 +58,7 @@ static WRONG: [&[&str]; 11] = [
     &["jwt", "decrypt"],
 ];
 
+/// Each row of wrong words.
 #[test]
 fn wrong_words_print_what_clap_says(rt: HostRuntime) -> Result<(), Fail> {
     assert_rows(&rt, rt.alloc(), &SAID)?;
@@ -72,6 +73,7 @@ fn wrong_words_print_what_clap_says(rt: HostRuntime) -> Result<(), Fail> {
     Ok(())
 }
 
+/// `--version` reads no input.
 #[test]
 fn the_version_is_printed_and_nothing_read(rt: HostRuntime) -> Result<(), Fail> {
     let mut source = Drip::new(TOKEN_A.as_bytes(), 0);

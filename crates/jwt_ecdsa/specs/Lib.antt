@@ -1,6 +1,6 @@
 -- ---- What contracts of public functions cite, in reading order
 
--- ES256, ES384 and ES512 of octets
+-- ES256, ES384 and ES512
 pub mod Verifying
--- what the verifier `Ecdsa` means
+-- the meaning of this crate's verifier
 pub mod Meanings

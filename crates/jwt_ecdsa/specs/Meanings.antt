@@ -1,8 +1,8 @@
--- What the verifier of this crate means.
+-- The meaning of this crate's verifier.
 use Rattle.std.specs.Prelude.{ℕ, Bool, true, false, List}
 use Rattle.jwt_mac.specs.declared.algorithm.Alg.{Alg}
 use Rattle.jwt_mac.specs.declared.algorithm.Alg.TheVariants.{ES256, ES384, ES512}
-use Rattle.jwt_mac.specs.declared.message.Curve.TheVariants.{P256, P384, P521}
+use Rattle.jwt_mac.specs.declared.key_view.EcCurve.TheVariants.{P256, P384, P521}
 use Rattle.jwt_mac.specs.Verifying.{Meaning, KeyOctets, EcKey, signing_input}
 use Rattle.jwt_ecdsa.specs.Verifying.{es256, es384, es512}
 

@@ -5,7 +5,7 @@ ghost use Rattle.jwt_mac.specs.Verifying.{AnswersBy, key_octets, message_octets,
 ghost use Rattle.jwt_ecdsa.specs.Meanings.{names_ecdsa, accepts_ecdsa};
 
 use crate::verifying::{verifies_es256, verifies_es384, verifies_es512};
-use jwt_mac::{Alg, Answer, Curve, KeyView, Message, Verifier};
+use jwt_mac::{Alg, Answer, EcCurve, KeyView, Message, Verifier};
 
 /// Whether it is ES256, ES384 or ES512.
 fn is_ecdsa(alg: Alg) -> bool
@@ -24,9 +24,9 @@ fn is_accepted(alg: Alg, key: &KeyView, message: Message, signature: &[u8]) -> b
         return false;
     };
     match (alg, *curve) {
-        (Alg::ES256, Curve::P256) => verifies_es256(x, y, message.parts(), signature),
-        (Alg::ES384, Curve::P384) => verifies_es384(x, y, message.parts(), signature),
-        (Alg::ES512, Curve::P521) => verifies_es512(x, y, message.parts(), signature),
+        (Alg::ES256, EcCurve::P256) => verifies_es256(x, y, message.parts(), signature),
+        (Alg::ES384, EcCurve::P384) => verifies_es384(x, y, message.parts(), signature),
+        (Alg::ES512, EcCurve::P521) => verifies_es512(x, y, message.parts(), signature),
         _ => false,
     }
 }

@@ -1,9 +1,22 @@
-pub mod Decoding
-pub mod Elements
-pub mod Encoding
+-- ---- What contracts of public functions cite, in reading order
+
+-- the field of Ed25519
 pub mod Field
-pub mod Limbs
-pub mod Meanings
+-- numbers as octets, the least significant first
 pub mod Octets
+-- points of Ed25519, their sums and their multiples
 pub mod Points
+-- points from octets
+pub mod Decoding
+-- points to octets
+pub mod Encoding
+-- signatures by Ed25519
 pub mod Verifying
+-- the meaning of this crate's verifier
+pub mod Meanings
+-- ---- What contracts of private functions alone cite, which nobody has to believe
+
+-- numbers of 256 bits, as four limbs of 64
+pub mod Limbs
+-- the elements of the field and the points, as they are held
+pub mod Elements

@@ -1,8 +1,8 @@
--- What the verifier of this crate means.
+-- The meaning of this crate's verifier.
 use Rattle.std.specs.Prelude.{ℕ, Bool, true, false, List}
 use Rattle.jwt_mac.specs.declared.algorithm.Alg.{Alg}
 use Rattle.jwt_mac.specs.declared.algorithm.Alg.TheVariants.{EdDSA}
-use Rattle.jwt_mac.specs.declared.message.EdCurve.TheVariants.{Ed25519}
+use Rattle.jwt_mac.specs.declared.key_view.EdCurve.TheVariants.{Ed25519}
 use Rattle.jwt_mac.specs.Verifying.{Meaning, KeyOctets, OkpKey, signing_input}
 use Rattle.jwt_ed25519.specs.Verifying.{verifies}
 

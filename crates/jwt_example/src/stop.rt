@@ -1,4 +1,4 @@
-//! Why the service ends.
+//! The causes that end the service.
 
 use fowharimu::{KeysFault, PolicyFault};
 use std::alloc::{AllocError, AllocFailed};

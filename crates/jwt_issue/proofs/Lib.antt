@@ -1,10 +1,15 @@
-mod Characters
-mod Fit
+-- ---- For general.rt
+mod Steps
+-- ---- For laws.rt
 mod FlattenedForm
 mod GeneralForm
 mod HeaderTexts
-mod Lengths
-pub mod Lists
 mod Spelled
 mod SpentLaw
-mod Steps
+-- ---- For options.rt
+pub mod Lists
+-- ---- For several files
+mod Fit
+mod Lengths
+-- ---- For other lemmas
+mod Characters

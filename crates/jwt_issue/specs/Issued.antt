@@ -1,4 +1,4 @@
--- What is issued: the octets of a token (RFC 7515, sections 5.1 and 7), or the first cause why there is none.
+-- An issued token: its octets (RFC 7515, sections 5.1 and 7), or the first cause why there is none.
 use Rattle.std.specs.Prelude.{ℕ, ◌+◌, ◌-◌, ◌&&◌, Bool, true, false, not, ◌==◌, List, [], ◌∷◌, ◌++◌, length, Option, Some, None, Result, Ok, Err, if◌then◌else◌, nat_le, nat_lt, codes, map}
 use Rattle.std.specs.Str.{bytes_eq}
 use Rattle.std.specs.List.{join_with_byte}

@@ -1,4 +1,4 @@
--- What is issued by the keys of a set.
+-- A token issued by the keys of a set.
 use Rattle.std.specs.Prelude.{ℕ, List, map, slice_get, Option, Result, Err}
 use Rattle.std.specs.Option.{option_map_or}
 use Rattle.jwt_mac.specs.declared.algorithm.Alg.{Alg}

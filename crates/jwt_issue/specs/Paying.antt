@@ -1,4 +1,4 @@
--- What an issuing call takes from its budget.
+-- The cost of issuing, taken from a budget.
 use Rattle.std.specs.Prelude.{ℕ, ◌≤◌, ◌⊎◌, Result, Ok, Err}
 use Rattle.jwt_issue.specs.declared.fault.IssueFault.{IssueFault}
 use Rattle.jwt_issue.specs.declared.fault.IssueFault.TheVariants.{OutOfMemory, Spent}
@@ -17,6 +17,8 @@ Pays (Ok x) most Paid = Paid most
 Pays (Err (Spent i)) most Paid = Paid i
 Pays (Err OutOfMemory) most Paid = (n : ℕ) × (n ≤ most) × Paid n
 Pays (Err _) most Paid = Paid 0
+
+-- ---- Cited by contracts of private functions alone
 
 -- the same of the one signature
 abbrev pub PaysOnce : {X : Type 0} → Result X IssueFault → (ℕ → Type 0) → Type 0

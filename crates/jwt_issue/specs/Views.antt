@@ -1,4 +1,4 @@
--- What contracts see of this crate's values.
+-- This crate's values as contracts see them.
 use Rattle.std.specs.Prelude.{ℕ, List, Option, option_map}
 use Rattle.std.specs.Borrow.{Bor}
 use Rattle.jwt_keys.specs.Views.{key_parts}
@@ -19,8 +19,10 @@ pair_parts pair = pair_of pair.0 pair.1.now
 abbrev pub text_of : Option (Bor (List ℕ)) → Option (List ℕ)
 text_of text = option_map (λ s. s.now) text
 
-abbrev pub signer_parts : Signer → SignerParts
-signer_parts s = record { alg = s.alg; secret = s.secret.now; protected = s.protected.items }
-
 abbrev pub options_parts : IssueOptions → OptionParts
 options_parts options = record { alg = options.alg; typ = text_of options.typ; form = options.form; key = options.key }
+
+-- ---- Cited by contracts of private functions alone
+
+abbrev pub signer_parts : Signer → SignerParts
+signer_parts s = record { alg = s.alg; secret = s.secret.now; protected = s.protected.items }

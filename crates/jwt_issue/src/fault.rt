@@ -1,4 +1,4 @@
-//! Why a claim wasn't added, and why nothing was issued.
+//! The causes to add no claim, and to issue nothing.
 ghost use Rattle.std.specs.Prelude.{◌≡◌};
 ghost use Rattle.jwt_issue.specs.declared.fault.IssueFault.TheVariants.{OutOfMemory};
 

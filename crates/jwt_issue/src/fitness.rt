@@ -1,4 +1,4 @@
-//! Which pairs of an algorithm and a key may sign.
+//! The pairs of an algorithm and a key that may sign.
 ghost use Rattle.std.specs.Prelude.{◌≡◌, option_map};
 ghost use Rattle.jwt_keys.specs.Views.{key_parts};
 ghost use Rattle.jwt_issue.specs.Issued.{secret_in, is_for, may_sign, unfit};

@@ -1,4 +1,4 @@
-//! What one pair of an algorithm and a key signs with.
+//! One pair of an algorithm and a key, ready to sign.
 ghost use Rattle.std.specs.Prelude.{IsTrue};
 ghost use Rattle.jwt_mac.specs.Algorithm.{is_hmac_alg};
 

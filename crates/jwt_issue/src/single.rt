@@ -177,8 +177,8 @@ fn issue_single<B: Budget>(
 ///
 /// The protected header has `alg`, the key's `kid` where it has one, and `typ` where it is given, as compact JSON text with the
 /// names in ascending byte order; the signature is the HMAC of the key over the signing input (RFC 7518, section 3.2). The HMAC is
-/// paid from the budget, at its cost and with one call. What is issued is a signed token, of which `jwt_jws::parse` reads these
-/// claims, this header and this signature. The condition: at least 32 calls are left below `u32::MAX`.
+/// paid from the budget, at its cost and with one call. What is issued is a signed token: `jwt_jws::parse` reads these claims,
+/// this header and this signature from it. The condition: at least 32 calls are left below `u32::MAX`.
 ///
 /// # Errors
 /// The first that holds of `AlgNotHmac(0)` and `KeyUnfit(0)`, the pair may not sign; `TooLong`, the token would have more than
@@ -221,8 +221,8 @@ pub fn issue_compact<B: Budget>(
 ///
 /// The protected header has `alg`, the key's `kid` where it has one, and `typ` where it is given, as compact JSON text with the
 /// names in ascending byte order; the signature is the HMAC of the key over the signing input (RFC 7518, section 3.2). The HMAC is
-/// paid from the budget, at its cost and with one call. What is issued is a signed token, of which `jwt_jws::parse` reads these
-/// claims, this header and this signature. The condition: at least 32 calls are left below `u32::MAX`.
+/// paid from the budget, at its cost and with one call. What is issued is a signed token: `jwt_jws::parse` reads these claims,
+/// this header and this signature from it. The condition: at least 32 calls are left below `u32::MAX`.
 ///
 /// # Errors
 /// The first that holds of `AlgNotHmac(0)` and `KeyUnfit(0)`, the pair may not sign; `TooLong`, the token would have more than

@@ -1,4 +1,4 @@
-//! How many octets a token will have, before anything is signed.
+//! The size of a token before it is signed, in octets.
 ghost use Rattle.std.specs.Prelude.{◌≡◌, ◌≤◌, ◌<◌, ℕ, List, SomeIff, length, map};
 ghost use Rattle.jwt_issue.specs.Issued.{signature_text, compact_token, flattened_token, general_token};
 ghost use Rattle.jwt_issue.specs.Views.{signer_parts};

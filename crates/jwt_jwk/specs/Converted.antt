@@ -1,4 +1,4 @@
--- What a text is that a public key is turned into.
+-- The public key in a text, and its JWK.
 use Rattle.std.specs.Prelude.{◌≡◌, ℕ, Bool, true, false, List, [], ◌∷◌, ◌++◌, Option, Some, None, codes}
 use Rattle.jwt_mac.specs.Verifying.{KeyOctets}
 use Rattle.key_der.specs.Der.{AreOctets, IsPublicKey, IsRsaText, spki}
@@ -74,14 +74,6 @@ AreJwks later kid alg [] text = text ≡ []
 AreJwks later kid alg (key ∷ keys) text =
     (jwk rest : List ℕ) × ReadsBack (kid key) alg key jwk × AreJwks true kid alg keys rest × (text ≡ comma later ++ (jwk ++ rest))
 
--- from these octets to those, the JWKs of the keys of a file are appended
-pub record Adds (later : Bool) (kid : KeyOctets → Option (List ℕ)) (alg : Option (List ℕ)) (text before after : List ℕ) : Type 0 where
-  pub keys : List KeyOctets
-  pub added : List ℕ
-  pub file : IsFileOf keys text
-  pub jwks : AreJwks later kid alg keys added
-  pub appended : after ≡ before ++ added
-
 -- a key set around the texts of its JWKs (RFC 7517, section 5)
 abbrev pub set_text : List ℕ → List ℕ
 set_text jwks = codes "{\"keys\":[" ++ (jwks ++ codes "]}")
@@ -93,3 +85,13 @@ pub record IsSetOf (pem : List ℕ) (kid : KeyOctets → Option (List ℕ)) (alg
   pub file : IsFileOf keys pem
   pub are : AreJwks false kid alg keys jwks
   pub set : text ≡ set_text jwks
+
+-- ---- Cited by contracts of private functions alone
+
+-- from these octets to those, the JWKs of the keys of a file are appended
+pub record Adds (later : Bool) (kid : KeyOctets → Option (List ℕ)) (alg : Option (List ℕ)) (text before after : List ℕ) : Type 0 where
+  pub keys : List KeyOctets
+  pub added : List ℕ
+  pub file : IsFileOf keys text
+  pub jwks : AreJwks later kid alg keys added
+  pub appended : after ≡ before ++ added

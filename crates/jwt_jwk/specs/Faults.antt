@@ -1,4 +1,4 @@
--- What is said of a text that is no single block.
+-- The faults of a text that is no single block.
 use Rattle.key_pem.specs.declared.fault.PemFault.{PemFault}
 use Rattle.key_pem.specs.declared.fault.PemFault.TheVariants as pem
 use Rattle.jwt_jwk.specs.declared.fault.JwkFault.{JwkFault}

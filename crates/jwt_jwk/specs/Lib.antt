@@ -1,12 +1,12 @@
 -- ---- What contracts of public functions cite, in reading order
 
--- the members of a JWK, its thumbprint, and how it is read back
+-- the JWK of a key, and how it is read back
 pub mod Jwk
--- PEM files of one and of several public keys, and what is printed of them
+-- the public key in a text, and its JWK
 pub mod Converted
--- the names of faults, and the remedies
+-- the names of faults, and the commands that make a public key of what is refused
 pub mod FaultNames
--- ---- What contracts of private functions cite, which nobody has to believe
+-- ---- What contracts of private functions alone cite, which nobody has to believe
 
--- what is said of a text that is no block
+-- the faults of a text that is no single block
 pub mod Faults

@@ -1,4 +1,4 @@
-//! Why there is no JWK.
+//! The causes to make no JWK.
 
 ghost use Rattle.std.specs.Prelude.{◌≡◌, option_map};
 ghost use Rattle.jwt_jwk.specs.FaultNames.{jwk_fault_name, key_name, pem_name, remedy};

@@ -15,7 +15,7 @@ use key_der::{Refusal, read_public_key, read_rsa_public_key};
 use key_pem::{Label, PemFault, only_block};
 use std::alloc::Global;
 
-/// The key of which octets are the encoding that this label announces.
+/// The key whose encoding octets are, by the kind that this label announces.
 fn key_in(label: Label, octets: &[u8]) -> Result<KeyView<'_>, Refusal>
     ensures found { IfOk result (λ v. IsPublicKey (key_octets v) × IsEncoding label (key_octets v) octets.now) }
     ensures only { (key : KeyOctets) → IsPublicKey key → IsEncoding label key octets.now → IsOkAnd result (λ v. key_octets v ≡ key) }
@@ -40,7 +40,7 @@ pub(crate) fn pem_fault(fault: PemFault) -> JwkFault
     }
 }
 
-/// The JWK of the key of which octets are the encoding that a label announces.
+/// The JWK of the key whose encoding octets are, by the kind that a label announces.
 pub(crate) fn jwk_of_block(
     alloc: Global,
     label: Label,
@@ -73,7 +73,7 @@ pub fn jwk_of_pem(
 ) -> Result<Vec<u8>, JwkFault>
     // What is printed is read as exactly the key that the file has.
     ensures ok { IfOk result (λ v. IsJwkOfPem text.now (kid_of kid.entry) (text_of alg.entry) v.items) }
-    // A PEM file of one public key is never refused but for want of memory.
+    // A PEM file of one public key is refused for want of memory alone.
     ensures only { (key : KeyOctets) → IsPemOf key text.now → IsOkUnless result JwkFault.OutOfMemory }
 {
     match only_block(alloc, text) {

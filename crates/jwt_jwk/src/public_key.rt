@@ -35,9 +35,9 @@ pub fn jwk_of_der(
     kid: Kid<'_>,
     alg: Option<&str>,
 ) -> Result<Vec<u8>, JwkFault>
-    // What is printed is read as exactly the key of which the octets are the encoding.
+    // What is printed is read as exactly the key whose encoding the octets are.
     ensures ok { IfOk result (λ v. IsJwkOf octets.now (kid_of kid.entry) (text_of alg.entry) v.items) }
-    // The encoding of a key is never refused but for want of memory.
+    // The encoding of a key is refused for want of memory alone.
     ensures only { (label : AnyLabel) (key : KeyOctets) → IsPublicKey key → IsEncoding label key octets.now
         → IsOkUnless result JwkFault.OutOfMemory }
 {

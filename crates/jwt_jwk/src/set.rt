@@ -68,7 +68,7 @@ pub fn jwk_set_of_pem(
 ) -> Result<Vec<u8>, JwkFault>
     // What is printed has, one by one, what is read as exactly the keys that the file has.
     ensures ok { IfOk result (λ v. IsSetOf text.now (kid_of kid.entry) (text_of alg.entry) v.items) }
-    // A PEM file of at most 1,024 public keys is never refused but for want of memory.
+    // A PEM file of at most 1,024 public keys is refused for want of memory alone.
     ensures only { (key : KeyOctets) (keys : List KeyOctets) → IsFileOf (key ∷ keys) text.now → length keys ≤ 1023
         → IsOkUnless result JwkFault.OutOfMemory }
 {

@@ -1,11 +1,16 @@
+-- ---- For compact.rt
+pub mod Periods
+pub mod Texts
+-- ---- For crit.rt
+pub mod CritLemmas
+pub mod Shapes
+-- ---- For laws.rt
 pub mod CauseLaws
 pub mod CompactLaws
-pub mod CritLemmas
-pub mod Each
 pub mod FaultLaws
 pub mod MessageLengths
-pub mod Periods
-pub mod SignaturesLeft
 pub mod SignedLaws
-pub mod Shapes
-pub mod Texts
+-- ---- For signed.rt
+pub mod SignaturesLeft
+-- ---- For several files
+pub mod Each

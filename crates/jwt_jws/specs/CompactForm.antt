@@ -10,6 +10,8 @@ pub record IsCompact (octets protected_text payload_text signature_text : List �
   pub signature : All (λ c. is_period c ≡ false) signature_text
   pub no_object : opens_object octets ≡ false
 
+-- ---- Cited by laws alone
+
 -- what has compact form is read as its three texts
 abbrev pub ReadsCompact : Type 0
 ReadsCompact = (octets protected payload signature : List ℕ) → IsCompact octets protected payload signature → compact octets ≡ Ok (compact_token protected payload signature)

@@ -21,6 +21,8 @@ repeats_text (first ∷ rest) = option_map_or (λ text. list_any (λ e. option_m
 abbrev pub crit_repeats : Members → Bool
 crit_repeats header = option_map_or repeats_text (list_at (codes "crit") header) false
 
+-- ---- Cited by contracts of private functions alone
+
 -- a text is among the keys of a map
 abbrev pub has_text : {X : Type 0} → BTreeMap (Bor (List ℕ)) X → List ℕ → Bool
 has_text seen text = is_some (get_by (λ key. slice_cmp nat_cmp text key.now) seen)

@@ -1,4 +1,4 @@
--- Why octets are no signed token: the first cause that holds, each a property of the octets (RFC 7515, sections 5.2 and 7).
+-- The faults of form: the first cause why octets are no signed token, each a property of the octets (RFC 7515, sections 5.2 and 7).
 use Rattle.std.specs.Prelude.{◌≡◌, ◌≢◌, ℕ, true, false, List, [], ◌<◌, ◌⊎◌, length, Option, Some, None, Err, ◌↔◌, option_map, slice_get, codes}
 use Rattle.std.specs.List.{count_by}
 use Rattle.serde_json.specs.Data.{Members, object}
@@ -50,6 +50,8 @@ IsFormFault most octets TooManySignatures = (members : Members) × ((opens_objec
     × ((count : ℕ) × (token : SpelledToken) × IsGeneral count members token × (most < length token.signatures))
 IsFormFault most octets (Base64 Payload) = (texts : SpelledToken) × IsSpelledToken most octets texts × ((decoded : List ℕ) → ¬ Spells texts.payload decoded)
 IsFormFault most octets fault = (texts : SpelledToken) × IsSpelledToken most octets texts × ((decoded : List ℕ) × Spells texts.payload decoded) × IsFirstSignatureFault texts.form texts.signatures fault
+
+-- ---- Cited by laws alone
 
 -- the answer of reading is a fault exactly where it is the first cause that holds
 abbrev pub TellsFormFaults : Type 0

@@ -140,10 +140,6 @@ signed_of token = do
   signatures ← each (signature_of token.form) 0 token.signatures
   Ok (record { form = token.form; payload_text = token.payload; payload = payload; signatures = signatures })
 
--- the token in JSON form that an object is, with at most so many signatures
-abbrev pub token_in : ℕ → Members → Result Token FormFault
-token_in most members = json_of most members >>= signed_of
-
 -- ---- the whole
 
 -- the first octet that isn't JSON white space (RFC 8259, section 2) is '{'
@@ -157,3 +153,9 @@ spelled_token most octets = if opens_object octets then (read_as (object_of octe
 unfoldable pub form_of : ℕ → List ℕ → Result Token FormFault
 form_of most [] = Err Empty
 form_of most (octet ∷ rest) = spelled_token most (octet ∷ rest) >>= signed_of
+
+-- ---- Cited by contracts of private functions alone
+
+-- the token in JSON form that an object is, with at most so many signatures
+abbrev pub token_in : ℕ → Members → Result Token FormFault
+token_in most members = json_of most members >>= signed_of

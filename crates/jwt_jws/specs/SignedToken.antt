@@ -1,4 +1,4 @@
--- When octets are a signed token (RFC 7515, sections 5.2 and 7), and of which signatures.
+-- Signed tokens and their signatures, as properties of octets (RFC 7515, sections 5.2 and 7).
 use Rattle.std.specs.Prelude.{◌≡◌, ℕ, true, false, List, [], ◌∷◌, ◌<◌, ◌≤◌, ◌⊎◌, ◌↔◌, Ok, length, None, Some, All, option_map, codes}
 use Rattle.std.specs.List.{AllZip}
 use Rattle.serde_json.specs.Data.{Data, Members, no_members}
@@ -73,6 +73,8 @@ pub record IsSignature (form : Form) (texts : Spelled) (parts : SignatureParts) 
 pub record IsSignedToken (most : ℕ) (octets : List ℕ) (token : Token) : Type 0 where
   pub texts : (spelled : SpelledToken) × IsSpelledToken most octets spelled × (token.form ≡ spelled.form) × (token.payload_text ≡ spelled.payload) × AllZip (IsSignature spelled.form) spelled.signatures token.signatures
   pub payload : Spells token.payload_text token.payload
+
+-- ---- Cited by laws alone
 
 -- what is read is a signed token, and each signed token is read
 abbrev pub ReadsSignedTokens : Type 0

@@ -1,4 +1,4 @@
--- What contracts see of this crate's values.
+-- This crate's values as contracts see them.
 use Rattle.std.specs.Prelude.{Option, Some, None, List, ◌∷◌, drop, map, All}
 use Rattle.serde_json.specs.Data.{Members}
 use Rattle.jwt_text.specs.Parts.{part_octets, IsLent}
@@ -29,13 +29,15 @@ AreLent signed = IsLent signed.payload_text × All (λ (s : Signature). IsLent s
 
 -- ---- while a token is read
 
+abbrev pub texts_view : LentTexts → CompactTexts
+texts_view texts = record { protected = texts.protected.now; payload = texts.payload.now; signature = texts.signature.now }
+
+-- ---- Cited by contracts of private functions alone
+
 abbrev pub header_view : Unprotected → Option (Option Members)
 header_view Absent = None
 header_view OtherKind = Some None
 header_view (AnObject members) = Some (Some members)
-
-abbrev pub texts_view : LentTexts → CompactTexts
-texts_view texts = record { protected = texts.protected.now; payload = texts.payload.now; signature = texts.signature.now }
 
 abbrev pub compact_view : LentTexts → SpelledToken
 compact_view texts = compact_token texts.protected.now texts.payload.now texts.signature.now

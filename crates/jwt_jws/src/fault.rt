@@ -1,4 +1,4 @@
-//! Why octets are no signed token.
+//! The causes why octets are no signed token.
 ghost use Rattle.std.specs.Prelude.{◌≡◌};
 ghost use Rattle.jwt_jws.specs.declared.fault.FormFault.TheVariants.{OutOfMemory};
 

@@ -16,7 +16,7 @@ use Rattle.jwt_keys.specs.Laws.{is_readable, given_at, ListsEachEntry}
 use Rattle.jwt_keys.specs.Numbers.{numbers}
 use Rattle.jwt_keys.specs.declared.skip.Skip.{Skip}
 use Rattle.jwt_keys.specs.declared.skip.SkipReason.{SkipReason}
-use Rattle.jwt_keys.specs.declared.kind.Kind.{Kind}
+use Rattle.jwt_keys.specs.declared.kind.KeyKind.{KeyKind}
 use Rattle.jwt_keys.proofs.SkipTable.{ByRows, by_rows, key_in_is}
 
 -- ---- a key has the place of its entry
@@ -25,11 +25,11 @@ abbrev HasPlace : ℕ → Result KeyParts SkipReason → Type 0
 HasPlace place (Ok k) = k.place ≡ place
 HasPlace place (Err reason) = Unit {0}
 
-of_octets : (place : ℕ) (kind : Kind) (ms : Members) (o : Option SkipReason) → HasPlace place (unless o (Ok (parts_of place kind ms)))
+of_octets : (place : ℕ) (kind : KeyKind) (ms : Members) (o : Option SkipReason) → HasPlace place (unless o (Ok (parts_of place kind ms)))
 of_octets place kind ms None = refl
 of_octets place kind ms (Some reason) = tt
 
-of_kind : (place : ℕ) (kind : Option Kind) (ms : Members) → HasPlace place (key_of_kind place kind ms)
+of_kind : (place : ℕ) (kind : Option KeyKind) (ms : Members) → HasPlace place (key_of_kind place kind ms)
 of_kind place None ms = tt
 of_kind place (Some kind) ms = of_octets place kind ms (octet_skip_of kind ms)
 

@@ -11,7 +11,7 @@ use Rattle.jwt_keys.specs.Entries.{key_with, key_in, key_of, key_of_kind, key_by
 use Rattle.jwt_keys.specs.Laws.{IsKeyOf, SkipsByTheTable}
 use Rattle.jwt_keys.specs.declared.skip.SkipReason.{SkipReason}
 use Rattle.jwt_keys.specs.declared.skip.SkipReason.TheVariants.{NotObject}
-use Rattle.jwt_keys.specs.declared.kind.Kind.{Kind}
+use Rattle.jwt_keys.specs.declared.kind.KeyKind.{KeyKind}
 use Rattle.jwt_keys.proofs.FirstRows.{no_row, first_row_is}
 
 abbrev or_first : {F : Type 0} → Option F → Option F → Option F
@@ -29,11 +29,11 @@ first_row-append (r ∷ rs) ss = elim r.holds as (λ b. cond b (Some r.answer) (
 abbrev pub ByRows : List (Row SkipReason) → Result KeyParts SkipReason → Type 0
 ByRows rs answer = MatchResult answer (λ k. first_row rs ≡ None) (λ reason. first_row rs ≡ Some reason)
 
-of_octets : (place : ℕ) (kind : Kind) (ms : Members) (o : Option SkipReason) → first_row (octet_rows kind ms) ≡ o → ByRows (octet_rows kind ms) (unless o (Ok (parts_of place kind ms)))
+of_octets : (place : ℕ) (kind : KeyKind) (ms : Members) (o : Option SkipReason) → first_row (octet_rows kind ms) ≡ o → ByRows (octet_rows kind ms) (unless o (Ok (parts_of place kind ms)))
 of_octets place kind ms None e = e
 of_octets place kind ms (Some r) e = e
 
-of_kind : (place : ℕ) (ms : Members) (k : Option Kind) → is_none k ≡ false → ByRows (octet_rows_of k ms) (key_of_kind place k ms)
+of_kind : (place : ℕ) (ms : Members) (k : Option KeyKind) → is_none k ≡ false → ByRows (octet_rows_of k ms) (key_of_kind place k ms)
 unfolding octet_skip_of
 of_kind place ms None e = absurd (cc e)
 of_kind place ms (Some kind) e = of_octets place kind ms (first_row (octet_rows kind ms)) refl
@@ -55,11 +55,11 @@ by_steps place None = refl
 by_steps place (Some ms) = of_members place ms
 
 module _ (place : ℕ) (ms : Members) (k : KeyParts) where
-  of_rows : (o : Option SkipReason) (kind : Kind) → kind_at ms ≡ Some kind → unless o (Ok (parts_of place kind ms)) ≡ Ok k → IsKeyOf place (Some ms) k
+  of_rows : (o : Option SkipReason) (kind : KeyKind) → kind_at ms ≡ Some kind → unless o (Ok (parts_of place kind ms)) ≡ Ok k → IsKeyOf place (Some ms) k
   of_rows None kind is e = let same : parts_of place kind ms ≡ k = cc in (ms, kind, refl, is, sym same)
   of_rows (Some reason) kind is e = absurd cc
 
-  of_shape : (o : Option SkipReason) (kind : Option Kind) → kind_at ms ≡ kind → unless o (key_of_kind place kind ms) ≡ Ok k → IsKeyOf place (Some ms) k
+  of_shape : (o : Option SkipReason) (kind : Option KeyKind) → kind_at ms ≡ kind → unless o (key_of_kind place kind ms) ≡ Ok k → IsKeyOf place (Some ms) k
   of_shape (Some reason) kind is e = absurd cc
   of_shape None None is e = absurd cc
   of_shape None (Some kind) is e = of_rows (octet_skip_of kind ms) kind is e

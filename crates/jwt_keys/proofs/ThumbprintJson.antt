@@ -11,16 +11,16 @@ use Rattle.serde_json.specs.Written.{compact_text}
 use Rattle.jwt_text.specs.Base64url.{Spells, spelling, octets_of}
 use Rattle.jwt_text.specs.Members.{text_at}
 use Rattle.jwt_text.specs.Rows.{NoRow, ◌⇒◌}
-use Rattle.jwt_mac.specs.declared.message.Curve.{Curve}
-use Rattle.jwt_mac.specs.declared.message.Curve.TheVariants.{P256, P384, P521}
-use Rattle.jwt_mac.specs.declared.message.EdCurve.{EdCurve}
-use Rattle.jwt_mac.specs.declared.message.EdCurve.TheVariants.{Ed25519, Ed448}
+use Rattle.jwt_mac.specs.declared.key_view.EcCurve.{EcCurve}
+use Rattle.jwt_mac.specs.declared.key_view.EcCurve.TheVariants.{P256, P384, P521}
+use Rattle.jwt_mac.specs.declared.key_view.EdCurve.{EdCurve}
+use Rattle.jwt_mac.specs.declared.key_view.EdCurve.TheVariants.{Ed25519, Ed448}
 use Rattle.jwt_keys.specs.Kinds.{key_type_named, key_type_at, curve_named, ed_curve_named, kind_named, kind_at, required, encoded}
 use Rattle.jwt_keys.specs.SkipTable.{octets_at, is_misspelled, shape_rows, octet_rows_of}
 use Rattle.jwt_keys.specs.Thumbprints.{member_text, oct_text, rsa_text, ec_text, okp_text, thumbprint_text}
 use Rattle.jwt_keys.specs.Laws.{picked, ThumbprintsAreOfJson}
-use Rattle.jwt_keys.specs.declared.kind.Kind.{Kind}
-use Rattle.jwt_keys.specs.declared.kind.Kind.TheVariants as kind
+use Rattle.jwt_keys.specs.declared.kind.KeyKind.{KeyKind}
+use Rattle.jwt_keys.specs.declared.kind.KeyKind.TheVariants as kind
 use Rattle.jwt_keys.specs.declared.kind.KeyType.{KeyType}
 use Rattle.jwt_keys.specs.declared.kind.KeyType.TheVariants.{Oct, Rsa, Ec, Okp}
 use Rattle.jwt_keys.specs.declared.skip.SkipReason.TheVariants.{NotObject}
@@ -35,7 +35,7 @@ named : (t name : List ℕ) → bytes_eq t name ≡ true → t ≡ name
 named t name e = (bytes_eq-Decides t name).0 e
 
 module _ (t : List ℕ) where
-  curve_by : (a b c : Bool) → bytes_eq t (codes "P-256") ≡ a → bytes_eq t (codes "P-384") ≡ b → bytes_eq t (codes "P-521") ≡ c → (curve : Curve)
+  curve_by : (a b c : Bool) → bytes_eq t (codes "P-256") ≡ a → bytes_eq t (codes "P-384") ≡ b → bytes_eq t (codes "P-521") ≡ c → (curve : EcCurve)
       → cond a (Some P256) (cond b (Some P384) (cond c (Some P521) None)) ≡ Some curve → Plain t
   unfolding escape_byte
   curve_by true b c p q r curve e = subst Plain (sym (named t (codes "P-256") p)) refl
@@ -64,7 +64,7 @@ module _ (t : List ℕ) where
   type_by false false false true p q r s key_type e = let same : Okp ≡ key_type = cc in subst IsNamed same (named t (codes "OKP") s)
   type_by false false false false p q r s key_type e = absurd cc
 
-curve_plain : (o : Option (List ℕ)) (curve : Curve) → option_and_then curve_named o ≡ Some curve → Plain (unwrap_or o [])
+curve_plain : (o : Option (List ℕ)) (curve : EcCurve) → option_and_then curve_named o ≡ Some curve → Plain (unwrap_or o [])
 curve_plain None curve e = absurd cc
 curve_plain (Some t) curve e = curve_by t (bytes_eq t (codes "P-256")) (bytes_eq t (codes "P-384")) (bytes_eq t (codes "P-521")) refl refl refl curve e
 
@@ -77,7 +77,7 @@ type_named None key_type e = absurd cc
 type_named (Some t) key_type e =
     type_by t (bytes_eq t (codes "oct")) (bytes_eq t (codes "RSA")) (bytes_eq t (codes "EC")) (bytes_eq t (codes "OKP")) refl refl refl refl key_type e
 
-ec_curve : (o : Option Curve) (curve : Curve) → option_map kind.Ec o ≡ Some (kind.Ec curve) → o ≡ Some curve
+ec_curve : (o : Option EcCurve) (curve : EcCurve) → option_map kind.Ec o ≡ Some (kind.Ec curve) → o ≡ Some curve
 ec_curve None curve e = absurd cc
 ec_curve (Some c) curve e = cc
 
@@ -85,11 +85,11 @@ okp_curve : (o : Option EdCurve) (curve : EdCurve) → option_map kind.Okp o ≡
 okp_curve None curve e = absurd cc
 okp_curve (Some c) curve e = cc
 
-no_ec : (o : Option Curve) (k : Kind) → ((c : Curve) → kind.Ec c ≢ k) → option_map kind.Ec o ≢ Some k
+no_ec : (o : Option EcCurve) (k : KeyKind) → ((c : EcCurve) → kind.Ec c ≢ k) → option_map kind.Ec o ≢ Some k
 no_ec None k never e = absurd cc
 no_ec (Some c) k never e = never c cc
 
-no_okp : (o : Option EdCurve) (k : Kind) → ((c : EdCurve) → kind.Okp c ≢ k) → option_map kind.Okp o ≢ Some k
+no_okp : (o : Option EdCurve) (k : KeyKind) → ((c : EdCurve) → kind.Okp c ≢ k) → option_map kind.Okp o ≢ Some k
 no_okp None k never e = absurd cc
 no_okp (Some c) k never e = never c cc
 
@@ -99,7 +99,7 @@ there : (b : Bool) → not b ≡ false → b ≡ true
 there true e = refl
 there false e = absurd cc
 
-spelled_row : (k : Option Kind) (kind : Kind) (ms : Members) → k ≡ Some kind → NoRow ((false ⇒ NotObject) ∷ (shape_rows ms ++ octet_rows_of k ms)) → is_misspelled kind ms ≡ false
+spelled_row : (k : Option KeyKind) (kind : KeyKind) (ms : Members) → k ≡ Some kind → NoRow ((false ⇒ NotObject) ∷ (shape_rows ms ++ octet_rows_of k ms)) → is_misspelled kind ms ≡ false
 spelled_row None kind ms e none = absurd cc
 spelled_row (Some k) kind ms e none = let same : k ≡ kind = cc in subst (λ k. is_misspelled k ms ≡ false) same (none 7 _ refl)
 
@@ -155,7 +155,7 @@ module _ (spells : (text octets : List ℕ) → (octets_of text ≡ Some octets)
   member_plain : (name : List ℕ) (ms : Members) → is_some (octets_at name ms) ≡ true → Plain (member_text name ms)
   member_plain name ms e = spelled_plain (text_at name ms) e
 
-  text_is : (ms : Members) (key_type : KeyType) (kind : Kind) → option_and_then key_type_named (text_at (codes "kty") ms) ≡ Some key_type → kind_named key_type ms ≡ Some kind
+  text_is : (ms : Members) (key_type : KeyType) (kind : KeyKind) → option_and_then key_type_named (text_at (codes "kty") ms) ≡ Some key_type → kind_named key_type ms ≡ Some kind
       → list_all (λ name. is_some (octets_at name ms)) (encoded kind) ≡ true
       → thumbprint_text kind ms ≡ compact_text (object (picked (codes "kty" ∷ required key_type) ms))
   unfolding thumbprint_text
@@ -187,7 +187,7 @@ module _ (spells : (text octets : List ℕ) → (octets_of text ≡ Some octets)
       (ed_curve_plain (text_at (codes "crv") ms) curve (okp_curve (option_and_then ed_curve_named (text_at (codes "crv") ms)) curve k))
       (member_plain (codes "x") ms (and_parts _ _ all).0) (type_named (text_at (codes "kty") ms) Okp t)
 
-  by_type : (ms : Members) (key_type : KeyType) (kind : Kind) (o : Option KeyType) → key_type_at ms ≡ o → o ≡ Some key_type → option_and_then (λ key_type. kind_named key_type ms) o ≡ Some kind
+  by_type : (ms : Members) (key_type : KeyType) (kind : KeyKind) (o : Option KeyType) → key_type_at ms ≡ o → o ≡ Some key_type → option_and_then (λ key_type. kind_named key_type ms) o ≡ Some kind
       → kind_named key_type ms ≡ Some kind
   by_type ms key_type kind None is e k = absurd cc
   by_type ms key_type kind (Some found) is e k = let same : found ≡ key_type = cc in subst (λ f. kind_named f ms ≡ Some kind) same k

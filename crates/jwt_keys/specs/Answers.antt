@@ -1,4 +1,4 @@
--- What reading an entry of a key set answers, want of memory aside.
+-- The result of reading an entry of a key set, where memory suffices.
 use Rattle.std.specs.Prelude.{◌≡◌, Result, Ok, Err}
 use Rattle.jwt_keys.specs.declared.skip.SkipReason.{SkipReason}
 use Rattle.jwt_keys.specs.declared.fault.EntryFault.{EntryFault}

@@ -1,4 +1,4 @@
--- What an entry of a key set is read as (RFC 7517, sections 4 and 5).
+-- The key in an entry of a key set (RFC 7517, sections 4 and 5).
 use Rattle.std.specs.Prelude.{ℕ, List, [], ◌∷◌, map, Option, Some, None, option_map, option_and_then, unwrap_or, codes, Result, Ok, Err}
 use Rattle.serde_json.specs.Data.{Data, Members}
 use Rattle.serde_json.specs.Find.{as_str}
@@ -13,11 +13,11 @@ use Rattle.jwt_keys.specs.Thumbprints.{thumbprint_of}
 use Rattle.jwt_keys.specs.declared.skip.SkipReason.{SkipReason}
 use Rattle.jwt_keys.specs.declared.skip.SkipReason.TheVariants.{NotObject, CrvUnknown}
 use Rattle.jwt_keys.specs.declared.skip.Skip.{Skip}
-use Rattle.jwt_keys.specs.declared.kind.Kind.{Kind}
-use Rattle.jwt_keys.specs.declared.kind.Kind.TheVariants.{Oct, Rsa, Ec, Okp}
+use Rattle.jwt_keys.specs.declared.kind.KeyKind.{KeyKind}
+use Rattle.jwt_keys.specs.declared.kind.KeyKind.TheVariants.{Oct, Rsa, Ec, Okp}
 
 -- the octets that the members of a key of this kind spell; a readable key has them all
-abbrev pub octets_in : Kind → Members → KeyOctets
+abbrev pub octets_in : KeyKind → Members → KeyOctets
 octets_in Oct ms = OctKey (member_octets (codes "k") ms)
 octets_in Rsa ms = RsaKey (member_octets (codes "n") ms) (member_octets (codes "e") ms)
 octets_in (Ec curve) ms = EcKey curve (member_octets (codes "x") ms) (member_octets (codes "y") ms)
@@ -28,7 +28,7 @@ abbrev pub text_or_empty : Data → List ℕ
 text_or_empty d = unwrap_or (as_str d) []
 
 -- the key of this kind with these members, at its place
-abbrev pub parts_of : ℕ → Kind → Members → KeyParts
+abbrev pub parts_of : ℕ → KeyKind → Members → KeyParts
 parts_of place kind ms = record {
   octets = octets_in kind ms;
   kid = text_at (codes "kid") ms;
@@ -47,19 +47,6 @@ key_with place ms = option_map (λ kind. parts_of place kind ms) (kind_at ms)
 unfoldable pub key_in : ℕ → Option Members → Result KeyParts SkipReason
 key_in place entry = unless (first_row (skip_rows entry)) (some_or NotObject (option_and_then (key_with place) entry))
 
--- ---- the same in the order in which the rows are tried
-
-abbrev pub key_of_kind : ℕ → Option Kind → Members → Result KeyParts SkipReason
-key_of_kind place None ms = Err CrvUnknown
-key_of_kind place (Some kind) ms = unless (octet_skip_of kind ms) (Ok (parts_of place kind ms))
-
--- the key with these members, or the first of rows 2 to 9 that holds
-unfoldable pub key_of : ℕ → Members → Result KeyParts SkipReason
-key_of place ms = unless (shape_skip_of ms) (key_of_kind place (kind_at ms) ms)
-
-abbrev pub key_by_steps : ℕ → Option Members → Result KeyParts SkipReason
-key_by_steps place entry = some_or NotObject entry >>= key_of place
-
 -- ---- what an entry adds to the keys and to the skips
 
 abbrev pub key_if : Result KeyParts SkipReason → List KeyParts
@@ -69,3 +56,18 @@ key_if (Err reason) = []
 abbrev pub skip_if : ℕ → Result KeyParts SkipReason → List Skip
 skip_if place (Ok k) = []
 skip_if place (Err reason) = record { place = place; reason = reason } ∷ []
+
+-- ---- Cited by contracts of private functions alone
+
+-- ---- the same in the order in which the rows are tried
+
+abbrev pub key_of_kind : ℕ → Option KeyKind → Members → Result KeyParts SkipReason
+key_of_kind place None ms = Err CrvUnknown
+key_of_kind place (Some kind) ms = unless (octet_skip_of kind ms) (Ok (parts_of place kind ms))
+
+-- the key with these members, or the first of rows 2 to 9 that holds
+unfoldable pub key_of : ℕ → Members → Result KeyParts SkipReason
+key_of place ms = unless (shape_skip_of ms) (key_of_kind place (kind_at ms) ms)
+
+abbrev pub key_by_steps : ℕ → Option Members → Result KeyParts SkipReason
+key_by_steps place entry = some_or NotObject entry >>= key_of place

@@ -1,4 +1,4 @@
--- What the octets of a key set are read as (RFC 7517, section 5).
+-- The key set that octets spell (RFC 7517, section 5).
 use Rattle.std.specs.Prelude.{ℕ, suc, List, [], ◌∷◌, ◌++◌, length, Option, Some, None, Result, Ok, Err, if◌then◌else◌, nat_lt, codes, map}
 use Rattle.serde_json.specs.Data.{Data, Members}
 use Rattle.serde_json.specs.Find.{as_object}

@@ -12,13 +12,13 @@ use Rattle.jwt_keys.specs.Thumbprints.{member_text, thumbprint_text}
 use Rattle.jwt_keys.specs.Entries.{key_in, parts_of}
 use Rattle.jwt_keys.specs.Numbers.{numbers}
 use Rattle.jwt_keys.specs.KeySets.{KeyList, key_list}
-use Rattle.jwt_keys.specs.declared.kind.Kind.{Kind}
+use Rattle.jwt_keys.specs.declared.kind.KeyKind.{KeyKind}
 use Rattle.jwt_keys.specs.declared.kind.KeyType.{KeyType}
 use Rattle.jwt_keys.specs.declared.skip.SkipReason.{SkipReason}
 
 -- the key of an entry: it has the members of that object, by the kind that they name, and its place
 abbrev pub IsKeyOf : ℕ → Option Members → KeyParts → Type 0
-IsKeyOf place entry k = (ms : Members) × (kind : Kind) × (entry ≡ Some ms) × (kind_at ms ≡ Some kind) × (k ≡ parts_of place kind ms)
+IsKeyOf place entry k = (ms : Members) × (kind : KeyKind) × (entry ≡ Some ms) × (kind_at ms ≡ Some kind) × (k ≡ parts_of place kind ms)
 
 -- an entry is skipped for the first row of the table that holds, and where none does, it gives that key
 abbrev pub SkipsByTheTable : Type 0
@@ -55,5 +55,5 @@ picked (name ∷ names) ms = put name (string (member_text name ms)) (picked nam
 -- the text of a readable key's thumbprint is the compact JSON of its required members with `kty`, their names in ascending order
 -- (RFC 7638, sections 3 and 3.2)
 abbrev pub ThumbprintsAreOfJson : Type 0
-ThumbprintsAreOfJson = (ms : Members) (key_type : KeyType) (kind : Kind) → key_type_at ms ≡ Some key_type → kind_at ms ≡ Some kind → NoRow (skip_rows (Some ms))
+ThumbprintsAreOfJson = (ms : Members) (key_type : KeyType) (kind : KeyKind) → key_type_at ms ≡ Some key_type → kind_at ms ≡ Some kind → NoRow (skip_rows (Some ms))
     → thumbprint_text kind ms ≡ compact_text (object (picked (codes "kty" ∷ required key_type) ms))

@@ -1,10 +1,8 @@
--- What contracts see of the octets that a key holds.
-use Rattle.jwt_mac.specs.Verifying.{KeyOctets, OctKey, RsaKey, EcKey, OkpKey}
-use Rattle.jwt_keys.specs.declared.material.Material.{Material}
-use Rattle.jwt_keys.specs.declared.material.Material.TheVariants.{Oct, Rsa, Ec, Okp}
+-- The octets of a key as contracts see them.
+use Rattle.std.specs.Prelude.{ℕ, Vec}
+use Rattle.std.specs.Global.{Global}
+use Rattle.jwt_mac.specs.Verifying.{KeyOctets, owned_octets}
+use Rattle.jwt_mac.specs.declared.owned_key.OwnedKey.{OwnedKey}
 
-abbrev pub material_octets : Material → KeyOctets
-material_octets (Oct k) = OctKey k.items
-material_octets (Rsa n e) = RsaKey n.items e.items
-material_octets (Ec curve x y) = EcKey curve x.items y.items
-material_octets (Okp curve x) = OkpKey curve x.items
+abbrev pub material_octets : OwnedKey (Vec ℕ Global) → KeyOctets
+material_octets = owned_octets (λ v. v.items)

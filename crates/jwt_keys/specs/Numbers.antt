@@ -16,6 +16,8 @@ abbrev pub IsLeastFrom : {X : Type 0} → (X → Bool) → List X → ℕ → Op
 IsLeastFrom p xs from None = (i : ℕ) → from ≤ i → PassesAt p xs i → ⊥
 IsLeastFrom p xs from (Some j) = (from ≤ j) × PassesAt p xs j × ((i : ℕ) → from ≤ i → i < j → PassesAt p xs i → ⊥)
 
+-- ---- Cited by contracts of private functions alone
+
 -- the earlier of two numbers, where there are any
 abbrev pub earlier : Option ℕ → Option ℕ → Option ℕ
 earlier None b = b

@@ -1,4 +1,4 @@
--- Why an entry of a key set is skipped: the first row that holds.
+-- The reasons to skip an entry of a key set: the first row that holds.
 use Rattle.std.specs.Prelude.{ℕ, ◌&&◌, ◌||◌, Bool, false, not, List, [], ◌∷◌, ◌++◌, length, Option, Some, None, is_some, is_none, option_and_then, unwrap_or, codes, Result}
 use Rattle.std.specs.Option.{option_map_or}
 use Rattle.std.specs.List.{list_all}
@@ -11,7 +11,7 @@ use Rattle.jwt_keys.specs.Kinds.{key_type_at, kind_at, required, encoded, allows
 use Rattle.jwt_keys.specs.declared.skip.SkipReason.{SkipReason}
 use Rattle.jwt_keys.specs.declared.skip.SkipReason.TheVariants.{NotObject, MemberMissing, MemberKind, KtyUnknown, CrvUnknown, Base64, Length}
 use Rattle.jwt_keys.specs.declared.kind.KeyType.{KeyType}
-use Rattle.jwt_keys.specs.declared.kind.Kind.{Kind}
+use Rattle.jwt_keys.specs.declared.kind.KeyKind.{KeyKind}
 
 -- ---- presence and kinds of the members
 
@@ -67,14 +67,10 @@ octets_at name ms = option_and_then octets_of (text_at name ms)
 abbrev pub member_octets : List ℕ → Members → List ℕ
 member_octets name ms = unwrap_or (octets_at name ms) []
 
--- those octets, or the reason that there are none
-abbrev pub spelled : List ℕ → Members → Result (List ℕ) SkipReason
-spelled name ms = some_or Base64 (octets_at name ms)
-
-abbrev pub is_misspelled : Kind → Members → Bool
+abbrev pub is_misspelled : KeyKind → Members → Bool
 is_misspelled kind ms = not (list_all (λ name. is_some (octets_at name ms)) (encoded kind))
 
-abbrev pub has_other_size : Kind → Members → Bool
+abbrev pub has_other_size : KeyKind → Members → Bool
 has_other_size kind ms = not (list_all (λ name. allows_size kind (length (member_octets name ms))) (encoded kind))
 
 -- ---- the table
@@ -91,13 +87,13 @@ shape_rows ms =
     ∷ []
 
 -- rows 8 and 9, of a key of this kind
-abbrev pub octet_rows : Kind → Members → List (Row SkipReason)
+abbrev pub octet_rows : KeyKind → Members → List (Row SkipReason)
 octet_rows kind ms =
     (is_misspelled kind ms ⇒ Base64)
     ∷ (has_other_size kind ms ⇒ Length)
     ∷ []
 
-abbrev pub octet_rows_of : Option Kind → Members → List (Row SkipReason)
+abbrev pub octet_rows_of : Option KeyKind → Members → List (Row SkipReason)
 octet_rows_of None ms = []
 octet_rows_of (Some kind) ms = octet_rows kind ms
 
@@ -108,10 +104,16 @@ object_rows ms = shape_rows ms ++ octet_rows_of (kind_at ms) ms
 abbrev pub skip_rows : Option Members → List (Row SkipReason)
 skip_rows entry = (is_no_object entry ⇒ NotObject) ∷ object_rows (unwrap_or entry no_members)
 
+-- ---- Cited by contracts of private functions alone
+
+-- those octets, or the reason that there are none
+abbrev pub spelled : List ℕ → Members → Result (List ℕ) SkipReason
+spelled name ms = some_or Base64 (octets_at name ms)
+
 -- the first of rows 2 to 7 that holds
 unfoldable pub shape_skip_of : Members → Option SkipReason
 shape_skip_of ms = first_row (shape_rows ms)
 
 -- the first of rows 8 and 9 that holds
-unfoldable pub octet_skip_of : Kind → Members → Option SkipReason
+unfoldable pub octet_skip_of : KeyKind → Members → Option SkipReason
 octet_skip_of kind ms = first_row (octet_rows kind ms)

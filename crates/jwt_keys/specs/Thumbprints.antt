@@ -5,8 +5,8 @@ use Rattle.serde_json.specs.Data.{Members}
 use Rattle.jwt_text.specs.Members.{text_at}
 use Rattle.jwt_text.specs.Base64url.{spelling}
 use Rattle.jwt_mac.specs.Algorithm.{sha256_of}
-use Rattle.jwt_keys.specs.declared.kind.Kind.{Kind}
-use Rattle.jwt_keys.specs.declared.kind.Kind.TheVariants.{Oct, Rsa, Ec, Okp}
+use Rattle.jwt_keys.specs.declared.kind.KeyKind.{KeyKind}
+use Rattle.jwt_keys.specs.declared.kind.KeyKind.TheVariants.{Oct, Rsa, Ec, Okp}
 
 -- the text of a member, as it is spelled in the key
 abbrev pub member_text : List ℕ → Members → List ℕ
@@ -31,12 +31,12 @@ ec_text crv x y =
 abbrev pub okp_text : List ℕ → List ℕ → List ℕ
 okp_text crv x = joined (codes "{\"crv\":\"" ∷ crv ∷ codes "\",\"kty\":\"OKP\",\"x\":\"" ∷ x ∷ codes "\"}" ∷ [])
 
-unfoldable pub thumbprint_text : Kind → Members → List ℕ
+unfoldable pub thumbprint_text : KeyKind → Members → List ℕ
 thumbprint_text Oct ms = oct_text (member_text (codes "k") ms)
 thumbprint_text Rsa ms = rsa_text (member_text (codes "e") ms) (member_text (codes "n") ms)
 thumbprint_text (Ec curve) ms = ec_text (member_text (codes "crv") ms) (member_text (codes "x") ms) (member_text (codes "y") ms)
 thumbprint_text (Okp curve) ms = okp_text (member_text (codes "crv") ms) (member_text (codes "x") ms)
 
 -- the base64url text of its digest (RFC 7638, section 3)
-unfoldable pub thumbprint_of : Kind → Members → List ℕ
+unfoldable pub thumbprint_of : KeyKind → Members → List ℕ
 thumbprint_of kind ms = spelling (sha256_of (thumbprint_text kind ms))

@@ -1,4 +1,4 @@
--- What contracts see of a key and of an index.
+-- A key and an index as contracts see them.
 use Rattle.std.specs.Prelude.{◌≡◌, ℕ, List, [], ◌∷◌, ◌++◌, Bool, if◌then◌else◌, option_map, map, string_bytes, Vec, String}
 use Rattle.std.specs.Global.{Global}
 use Rattle.std.specs.Option.{option_map_or}
@@ -28,11 +28,13 @@ Groups = BTreeMap (String Global) (Vec ℕ Global)
 abbrev pub group : Groups → List ℕ → List ℕ
 group m q = option_map_or (λ v. v.items) (get_by_text m q) []
 
--- the numbers of a name with one more, where it has that too
-abbrev pub added : Bool → ℕ → List ℕ → List ℕ
-added has n ns = if has then ns ++ n ∷ [] else ns
-
 -- each name has the numbers of the keys with that `kid`, and of those without `kid` and with that thumbprint
 pub record IsIndex (index : Index) (keys : List Key) : Type 0 where
   pub kids : (q : List ℕ) → group index.by_kid q ≡ numbers (has_kid q) 0 (map key_parts keys)
   pub thumbprints : (q : List ℕ) → group index.by_thumbprint q ≡ numbers (has_thumbprint q) 0 (map key_parts keys)
+
+-- ---- Cited by contracts of private functions alone
+
+-- the numbers of a name with one more, where it has that too
+abbrev pub added : Bool → ℕ → List ℕ → List ℕ
+added has n ns = if has then ns ++ n ∷ [] else ns

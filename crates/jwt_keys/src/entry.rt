@@ -11,11 +11,12 @@ ghost use Rattle.jwt_keys.specs.Views.{key_parts};
 
 use crate::fault::EntryFault;
 use crate::key::Key;
-use crate::kind::Kind;
-use crate::material::{Material, read_material};
+use crate::kind::KeyKind;
+use crate::material::read_material;
 use crate::shape::shape;
 use crate::skip::{Skip, SkipReason};
 use crate::thumbprint::thumbprint;
+use jwt_mac::OwnedKey;
 use jwt_text::{List, ObjectRef};
 use std::alloc::{AllocError, Global};
 
@@ -71,8 +72,8 @@ fn copy_texts(
 fn make_key(
     alloc: Global,
     place: u32,
-    kind: Kind,
-    material: Material,
+    kind: KeyKind,
+    material: OwnedKey<Vec<u8>>,
     members: &ObjectRef<'_>,
 ) -> Result<Key, AllocError>
     requires octets { material_octets material ≡ octets_in kind members.now }

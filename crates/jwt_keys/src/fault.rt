@@ -1,4 +1,4 @@
-//! Why a key set is refused, and why an entry gives no key.
+//! The causes to refuse a key set, and to skip an entry.
 
 ghost use Rattle.std.specs.Prelude.{◌≡◌};
 ghost use Rattle.jwt_keys.specs.declared.fault.EntryFault.TheVariants.{OutOfMemory};

@@ -6,13 +6,12 @@ ghost use Rattle.std.specs.Str.{bytes_eq};
 ghost use Rattle.jwt_keys.specs.Keys.{allows, is_for_signatures, secret_length};
 ghost use Rattle.jwt_keys.specs.Materials.{material_octets};
 
-use crate::material::Material;
-use jwt_mac::KeyView;
+use jwt_mac::{KeyView, OwnedKey};
 
 /// A readable key of a key set (RFC 7517, section 4).
 #[derive(Drop)]
 pub struct Key {
-    pub(crate) material: Material,
+    pub(crate) material: OwnedKey<Vec<u8>>,
     pub(crate) kid: Option<String>,
     pub(crate) alg: Option<String>,
     pub(crate) key_use: Option<String>,
@@ -33,14 +32,14 @@ impl Key {
         ensures { key_octets result ≡ (key_parts self.now).octets }
     {
         match &self.material {
-            Material::Oct { k } => KeyView::Oct { k },
-            Material::Rsa { n, e } => KeyView::Rsa { n, e },
-            Material::Ec { curve, x, y } => KeyView::Ec {
+            OwnedKey::Oct { k } => KeyView::Oct { k },
+            OwnedKey::Rsa { n, e } => KeyView::Rsa { n, e },
+            OwnedKey::Ec { curve, x, y } => KeyView::Ec {
                 curve: *curve,
                 x,
                 y,
             },
-            Material::Okp { curve, x } => KeyView::Okp { curve: *curve, x },
+            OwnedKey::Okp { curve, x } => KeyView::Okp { curve: *curve, x },
         }
     }
 

@@ -3,7 +3,7 @@
 ghost use Rattle.std.specs.Prelude.{◌≡◌};
 ghost use Rattle.jwt_keys.specs.Kinds.{key_type_at, curve_named, ed_curve_named, kind_named, coordinate_size, point_size, allows_size};
 
-use jwt_mac::{Curve, EdCurve};
+use jwt_mac::{EcCurve, EdCurve};
 use jwt_text::ObjectRef;
 
 /// A key type (RFC 7518, section 6.1; RFC 8037, section 2).
@@ -17,10 +17,10 @@ pub(crate) enum KeyType {
 
 /// A key type with its curve, where it has one.
 #[derive(Clone, Copy, Debug, PartialEq, Eq)]
-pub(crate) enum Kind {
+pub(crate) enum KeyKind {
     Oct,
     Rsa,
-    Ec(Curve),
+    Ec(EcCurve),
     Okp(EdCurve),
 }
 
@@ -38,13 +38,13 @@ pub(crate) fn key_type_of(members: &ObjectRef<'_>) -> Option<KeyType>
 }
 
 /// The curve of this name (RFC 7518, section 6.2.1.1).
-fn curve_of(name: &str) -> Option<Curve>
+fn curve_of(name: &str) -> Option<EcCurve>
     ensures { result ≡ curve_named name.now }
 {
     match name {
-        "P-256" => Some(Curve::P256),
-        "P-384" => Some(Curve::P384),
-        "P-521" => Some(Curve::P521),
+        "P-256" => Some(EcCurve::P256),
+        "P-384" => Some(EcCurve::P384),
+        "P-521" => Some(EcCurve::P521),
         _ => None,
     }
 }
@@ -61,25 +61,25 @@ fn ed_curve_of(name: &str) -> Option<EdCurve>
 }
 
 /// The kind of a key of this type, where its curve is known.
-pub(crate) fn kind_of(key_type: KeyType, members: &ObjectRef<'_>) -> Option<Kind>
+pub(crate) fn kind_of(key_type: KeyType, members: &ObjectRef<'_>) -> Option<KeyKind>
     ensures { result ≡ kind_named key_type members.now }
 {
     match key_type {
-        KeyType::Oct => Some(Kind::Oct),
-        KeyType::Rsa => Some(Kind::Rsa),
-        KeyType::Ec => Some(Kind::Ec(curve_of(members.text("crv")?)?)),
-        KeyType::Okp => Some(Kind::Okp(ed_curve_of(members.text("crv")?)?)),
+        KeyType::Oct => Some(KeyKind::Oct),
+        KeyType::Rsa => Some(KeyKind::Rsa),
+        KeyType::Ec => Some(KeyKind::Ec(curve_of(members.text("crv")?)?)),
+        KeyType::Okp => Some(KeyKind::Okp(ed_curve_of(members.text("crv")?)?)),
     }
 }
 
 /// The octets of a coordinate on this curve (RFC 7518, section 6.2.1.2).
-fn coordinate_size(curve: Curve) -> usize
+fn coordinate_size(curve: EcCurve) -> usize
     ensures { result ≡ coordinate_size curve }
 {
     match curve {
-        Curve::P256 => 32,
-        Curve::P384 => 48,
-        Curve::P521 => 66,
+        EcCurve::P256 => 32,
+        EcCurve::P384 => 48,
+        EcCurve::P521 => 66,
     }
 }
 
@@ -94,12 +94,12 @@ fn point_size(curve: EdCurve) -> usize
 }
 
 /// Whether a member of a key of this kind may have so many octets.
-pub(crate) fn allows_size(kind: Kind, count: usize) -> bool
+pub(crate) fn allows_size(kind: KeyKind, count: usize) -> bool
     ensures { result ≡ allows_size kind count }
 {
     match kind {
-        Kind::Oct | Kind::Rsa => 1 <= count && count <= 4096,
-        Kind::Ec(curve) => count == coordinate_size(curve),
-        Kind::Okp(curve) => count == point_size(curve),
+        KeyKind::Oct | KeyKind::Rsa => 1 <= count && count <= 4096,
+        KeyKind::Ec(curve) => count == coordinate_size(curve),
+        KeyKind::Okp(curve) => count == point_size(curve),
     }
 }

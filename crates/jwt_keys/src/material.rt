@@ -9,32 +9,11 @@ ghost use Rattle.jwt_keys.specs.Keys.{secret_length};
 ghost use Rattle.jwt_keys.specs.Materials.{material_octets};
 
 use crate::fault::EntryFault;
-use crate::kind::{Kind, allows_size};
+use crate::kind::{KeyKind, allows_size};
 use crate::skip::SkipReason;
-use jwt_mac::{Curve, EdCurve};
+use jwt_mac::OwnedKey;
 use jwt_text::{ObjectRef, TextFault, decode};
 use std::alloc::Global;
-
-/// The octets that a key's members spell, with its curve where it has one.
-#[derive(Drop)]
-pub(crate) enum Material {
-    Oct {
-        k: Vec<u8>,
-    },
-    Rsa {
-        n: Vec<u8>,
-        e: Vec<u8>,
-    },
-    Ec {
-        curve: Curve,
-        x: Vec<u8>,
-        y: Vec<u8>,
-    },
-    Okp {
-        curve: EdCurve,
-        x: Vec<u8>,
-    },
-}
 
 /// The octets that the member of this name spells.
 fn octets(alloc: Global, members: &ObjectRef<'_>, name: &str) -> Result<Vec<u8>, EntryFault>
@@ -54,44 +33,44 @@ fn octets(alloc: Global, members: &ObjectRef<'_>, name: &str) -> Result<Vec<u8>,
 #[tactic(auto, unfolding(crate::specs::SkipTable::octet_skip_of))]
 pub(crate) fn read_material(
     alloc: Global,
-    kind: Kind,
+    kind: KeyKind,
     members: &ObjectRef<'_>,
-) -> Result<Material, EntryFault>
+) -> Result<OwnedKey<Vec<u8>>, EntryFault>
     ensures answer { let answer = unless (octet_skip_of kind members.now)
         (Ok (octets_in kind members.now)) in
         ReadsAs material_octets result answer }
     ensures bounded { IfOk result (λ material. secret_length (material_octets material) ≤ 4096) }
 {
     match kind {
-        Kind::Oct => {
+        KeyKind::Oct => {
             let k = octets(alloc, members, "k")?;
             if !allows_size(kind, k.len()) {
                 return Err(EntryFault::Skipped(SkipReason::Length));
             }
-            Ok(Material::Oct { k })
+            Ok(OwnedKey::Oct { k })
         }
-        Kind::Rsa => {
+        KeyKind::Rsa => {
             let n = octets(alloc, members, "n")?;
             let e = octets(alloc, members, "e")?;
             if !(allows_size(kind, n.len()) && allows_size(kind, e.len())) {
                 return Err(EntryFault::Skipped(SkipReason::Length));
             }
-            Ok(Material::Rsa { n, e })
+            Ok(OwnedKey::Rsa { n, e })
         }
-        Kind::Ec(curve) => {
+        KeyKind::Ec(curve) => {
             let x = octets(alloc, members, "x")?;
             let y = octets(alloc, members, "y")?;
             if !(allows_size(kind, x.len()) && allows_size(kind, y.len())) {
                 return Err(EntryFault::Skipped(SkipReason::Length));
             }
-            Ok(Material::Ec { curve, x, y })
+            Ok(OwnedKey::Ec { curve, x, y })
         }
-        Kind::Okp(curve) => {
+        KeyKind::Okp(curve) => {
             let x = octets(alloc, members, "x")?;
             if !allows_size(kind, x.len()) {
                 return Err(EntryFault::Skipped(SkipReason::Length));
             }
-            Ok(Material::Okp { curve, x })
+            Ok(OwnedKey::Okp { curve, x })
         }
     }
 }

@@ -6,7 +6,7 @@ ghost use Rattle.jwt_text.specs.Members.{text_at, is_no_text};
 ghost use Rattle.jwt_keys.specs.Kinds.{kind_at, required};
 ghost use Rattle.jwt_keys.specs.SkipTable.{lacks, is_no_texts, has_other_kind, shape_skip_of};
 
-use crate::kind::{KeyType, Kind, key_type_of, kind_of};
+use crate::kind::{KeyKind, KeyType, key_type_of, kind_of};
 use crate::skip::SkipReason;
 use jwt_text::ObjectRef;
 
@@ -75,7 +75,7 @@ fn has_other_kind(key_type: KeyType, members: &ObjectRef<'_>) -> bool
 /// The kind of a key with these members, or the first reason of their presence and kinds why there is none. It
 /// takes no memory.
 #[tactic(auto, unfolding(crate::specs::SkipTable::shape_skip_of))]
-pub(crate) fn shape(members: &ObjectRef<'_>) -> Result<Kind, SkipReason>
+pub(crate) fn shape(members: &ObjectRef<'_>) -> Result<KeyKind, SkipReason>
     ensures { MatchResult result
         (λ kind. (shape_skip_of members.now ≡ None) × (kind_at members.now ≡ Some kind))
         (λ reason. shape_skip_of members.now ≡ Some reason) }

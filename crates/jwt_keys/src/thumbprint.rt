@@ -4,7 +4,7 @@ ghost use Rattle.std.specs.Prelude.{◌≡◌, length, string_bytes, IfOk};
 ghost use Rattle.jwt_mac.specs.Algorithm.{sha256_of};
 ghost use Rattle.jwt_keys.specs.Thumbprints.{member_text, oct_text, rsa_text, ec_text, okp_text, thumbprint_text, thumbprint_of};
 
-use crate::kind::Kind;
+use crate::kind::KeyKind;
 use jwt_mac::sha256;
 use jwt_text::{ObjectRef, encode_text};
 use std::alloc::{AllocError, Global};
@@ -55,19 +55,19 @@ fn oct_digest(k: &str) -> [u8; 32]
 
 /// The SHA-256 digest of the object of the required members of a key of this kind.
 #[tactic(auto, unfolding(crate::specs::Thumbprints::thumbprint_text))]
-fn digest(alloc: Global, kind: Kind, members: &ObjectRef<'_>) -> Result<[u8; 32], AllocError>
+fn digest(alloc: Global, kind: KeyKind, members: &ObjectRef<'_>) -> Result<[u8; 32], AllocError>
     ensures { IfOk result (λ d. d ≡ sha256_of (thumbprint_text kind members.now)) }
 {
     let text = match kind {
-        Kind::Oct => return Ok(oct_digest(member_text(members, "k"))),
-        Kind::Rsa => rsa_text(alloc, member_text(members, "e"), member_text(members, "n"))?,
-        Kind::Ec(_) => ec_text(
+        KeyKind::Oct => return Ok(oct_digest(member_text(members, "k"))),
+        KeyKind::Rsa => rsa_text(alloc, member_text(members, "e"), member_text(members, "n"))?,
+        KeyKind::Ec(_) => ec_text(
             alloc,
             member_text(members, "crv"),
             member_text(members, "x"),
             member_text(members, "y"),
         )?,
-        Kind::Okp(_) => okp_text(
+        KeyKind::Okp(_) => okp_text(
             alloc,
             member_text(members, "crv"),
             member_text(members, "x"),
@@ -80,7 +80,7 @@ fn digest(alloc: Global, kind: Kind, members: &ObjectRef<'_>) -> Result<[u8; 32]
 #[tactic(auto, unfolding(crate::specs::Thumbprints::thumbprint_of), using(crate::proofs::Spellings::length_spelling))]
 pub(crate) fn thumbprint(
     alloc: Global,
-    kind: Kind,
+    kind: KeyKind,
     members: &ObjectRef<'_>,
 ) -> Result<String, AllocError>
     ensures text { IfOk result (λ s. string_bytes s ≡ thumbprint_of kind members.now) }

@@ -1,12 +1,16 @@
--- What a verifier that the caller hands in means, over the octets that it is asked about.
+-- The meaning of a verifier that the caller hands in, over the octets that it is asked about.
 use Rattle.std.specs.Prelude.{◌≡◌, ℕ, Bool, true, false, List, [], ◌∷◌, ◌++◌, Option}
 use Rattle.std.specs.List.{find}
 use Rattle.jwt_mac.specs.declared.algorithm.Alg.{Alg}
 use Rattle.jwt_mac.specs.declared.message.Message.{Message}
-use Rattle.jwt_mac.specs.declared.message.Curve.{Curve}
-use Rattle.jwt_mac.specs.declared.message.EdCurve.{EdCurve}
-use Rattle.jwt_mac.specs.declared.message.KeyView.{KeyView}
-use Rattle.jwt_mac.specs.declared.message.KeyView.TheVariants.{Oct, Rsa, Ec, Okp}
+use Rattle.jwt_mac.specs.declared.key_view.EcCurve.{EcCurve}
+use Rattle.jwt_mac.specs.declared.key_view.EdCurve.{EdCurve}
+use Rattle.jwt_mac.specs.declared.key_view.EcCurve.TheVariants.{P256, P384, P521}
+use Rattle.jwt_mac.specs.declared.key_view.EdCurve.TheVariants.{Ed25519, Ed448}
+use Rattle.jwt_mac.specs.declared.key_view.KeyView.{KeyView}
+use Rattle.jwt_mac.specs.declared.key_view.KeyView.TheVariants.{Oct, Rsa, Ec, Okp}
+use Rattle.jwt_mac.specs.declared.owned_key.OwnedKey.{OwnedKey}
+use Rattle.jwt_mac.specs.declared.owned_key.OwnedKey.TheVariants as owned
 use Rattle.jwt_mac.specs.declared.message.Answer.{Answer}
 use Rattle.jwt_mac.specs.declared.message.Answer.TheVariants.{Valid, Invalid, NoMemory}
 
@@ -14,7 +18,7 @@ use Rattle.jwt_mac.specs.declared.message.Answer.TheVariants.{Valid, Invalid, No
 pub data KeyOctets : Type 0 where
   OctKey : (k : List ℕ) → KeyOctets
   RsaKey : (n e : List ℕ) → KeyOctets
-  EcKey : (curve : Curve) (x y : List ℕ) → KeyOctets
+  EcKey : (curve : EcCurve) (x y : List ℕ) → KeyOctets
   OkpKey : (curve : EdCurve) (x : List ℕ) → KeyOctets
 
 -- a message, by the octets of the two texts of its signing input
@@ -28,6 +32,25 @@ key_octets (Oct k) = OctKey k.now
 key_octets (Rsa n e) = RsaKey n.now e.now
 key_octets (Ec curve x y) = EcKey curve x.now y.now
 key_octets (Okp curve x) = OkpKey curve x.now
+
+-- the octets that a key owns, by those that each of its containers holds
+abbrev pub owned_octets : {T : Type 0} → (T → List ℕ) → OwnedKey T → KeyOctets
+owned_octets octets (owned.Oct k) = OctKey (octets k)
+owned_octets octets (owned.Rsa n e) = RsaKey (octets n) (octets e)
+owned_octets octets (owned.Ec curve x y) = EcKey curve (octets x) (octets y)
+owned_octets octets (owned.Okp curve x) = OkpKey curve (octets x)
+
+-- whether two curves are the same
+abbrev pub same_curve : EcCurve → EcCurve → Bool
+same_curve P256 P256 = true
+same_curve P384 P384 = true
+same_curve P521 P521 = true
+same_curve _ _ = false
+
+abbrev pub same_ed_curve : EdCurve → EdCurve → Bool
+same_ed_curve Ed25519 Ed25519 = true
+same_ed_curve Ed448 Ed448 = true
+same_ed_curve _ _ = false
 
 -- the octets that a message lends
 abbrev pub message_octets : Message → MessageOctets

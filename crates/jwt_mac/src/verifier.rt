@@ -7,7 +7,8 @@ ghost use Rattle.jwt_mac.specs.Verifying.{Meaning, AnswersBy, key_octets, messag
 
 use crate::algorithm::Alg;
 use crate::budget::Budget;
-use crate::message::{Answer, KeyView, Message};
+use crate::key_view::KeyView;
+use crate::message::{Answer, Message};
 
 /// A verifier of signatures by algorithms of its own, such as RSA or elliptic curves.
 ///

@@ -1,4 +1,4 @@
--- What holds of each token that a memory keeps.
+-- The invariant of each token that a memory keeps.
 use Rattle.std.specs.Prelude.{ℕ, ℤ, List}
 use Rattle.std.specs.Arc.{arc_value}
 use Rattle.jwt_mac.specs.Verifying.{Meaning}
@@ -6,7 +6,7 @@ use Rattle.jwt_keys.specs.declared.set.KeySet.{KeySet}
 use Rattle.jwt_policy.specs.Settings.{Settings}
 use Rattle.jwt_verify.specs.Reports.{IsReport, terms}
 use Rattle.jwt_memory.specs.declared.memory.Basis.{Basis}
-use Rattle.jwt_memory.specs.declared.memory.Entry.{Entry}
+use Rattle.jwt_memory.specs.declared.memory.MemoryEntry.{MemoryEntry}
 use Rattle.jwt_memory.specs.declared.memory.Memory.{Memory}
 use Rattle.jwt_memory.specs.Entries.{Holds}
 use Rattle.jwt_memory.specs.Laws.{verdict_on}
@@ -20,7 +20,7 @@ IsBasis policy keys verifiers octets ceiling basis = (now : ℤ)
 
 -- that is so of each token that the memory holds
 abbrev pub AreKept : Settings → KeySet → List Meaning → Memory → Type 0
-AreKept policy keys verifiers memory = (entry : Entry) → Holds memory entry → IsBasis policy keys verifiers entry.octets.items entry.ceiling (arc_value entry.basis)
+AreKept policy keys verifiers memory = (entry : MemoryEntry) → Holds memory entry → IsBasis policy keys verifiers entry.octets.items entry.ceiling (arc_value entry.basis)
 
 -- the memory is of every policy, all keys and all verifiers: it holds nothing
 abbrev pub IsEmpty : Memory → Type 0

@@ -1,4 +1,4 @@
--- What is accepted, at every moment.
+-- The laws of a memory: the same verdict at every moment.
 use Rattle.std.specs.Prelude.{ℕ, ℤ, List}
 use Rattle.serde_json.specs.Data.{Members}
 use Rattle.jwt_policy.specs.Checks.{check_of}
@@ -9,14 +9,16 @@ use Rattle.jwt_verify.specs.Accepted.{IsVerdict}
 use Rattle.jwt_verify.specs.Reports.{IsReport}
 use Rattle.jwt_verify.specs.Verdict.{Terms, checked}
 
--- the same terms, at another moment
-abbrev pub at : Terms → ℤ → Terms
-at terms now = record { policy = terms.policy; keys = terms.keys; now = now; verifiers = terms.verifiers }
-
 -- the verdict on a token that this signature and this key verify and that has these claims, at the moment of the terms: it is accepted, unless
 -- the policy refuses the claims (RFC 7519, section 7.2)
 abbrev pub verdict_on : Terms → (signature key : ℕ) → Members → Verdict
 verdict_on terms signature key claims = checked signature key claims (check_of terms.policy claims terms.now)
+
+-- ---- Cited by laws alone
+
+-- the same terms, at another moment
+abbrev pub at : Terms → ℤ → Terms
+at terms now = record { policy = terms.policy; keys = terms.keys; now = now; verifiers = terms.verifiers }
 
 -- the same report, with another verdict
 abbrev pub with_verdict : Report → Verdict → Report

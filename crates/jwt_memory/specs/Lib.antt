@@ -1,13 +1,14 @@
--- What public contracts cite, in reading order:
--- the law, and the verdict on a token by what its claims come to at a moment
+-- ---- What contracts of public functions cite, in reading order
+
+-- the laws of a memory
 pub mod Laws
--- what an outcome says
-pub mod Outcomes
 -- the table of a memory
 pub mod Tables
--- what a memory holds
+-- the entries of a memory
 pub mod Entries
--- what holds of each token that a memory keeps
+-- an outcome as contracts see it
+pub mod Outcomes
+-- the invariant of each token that a memory keeps
 pub mod Kept
--- the same, where its signatures were told of
+-- the invariant of each token that a memory keeps, where the caller checked its signatures
 pub mod ToldKept

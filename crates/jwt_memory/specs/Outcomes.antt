@@ -1,4 +1,4 @@
--- What an outcome says.
+-- An outcome as contracts see it.
 use Rattle.std.specs.Prelude.{◌≡◌, ℕ, Bool, true, false, List, []}
 use Rattle.std.specs.Arc.{arc_value}
 use Rattle.jwt_verify.specs.declared.report.Try.{Try}
@@ -7,7 +7,7 @@ use Rattle.jwt_verify.specs.declared.report.Verdict.{Verdict}
 use Rattle.jwt_verify.specs.declared.report.Verdict.TheVariants as verdict
 use Rattle.jwt_verify.specs.Verdict.{checked}
 use Rattle.jwt_memory.specs.declared.memory.Basis.{Basis}
-use Rattle.jwt_memory.specs.declared.memory.Entry.{Entry}
+use Rattle.jwt_memory.specs.declared.memory.MemoryEntry.{MemoryEntry}
 use Rattle.jwt_memory.specs.declared.memory.Memory.{Memory}
 use Rattle.jwt_memory.specs.declared.outcome.Outcome.{Outcome}
 use Rattle.jwt_memory.specs.declared.outcome.Outcome.TheVariants.{Judged, Accepted, Remembered}
@@ -17,13 +17,13 @@ use Rattle.jwt_memory.specs.Entries.{Holds}
 abbrev pub report_of : Verdict → Basis → Report
 report_of verdict basis = record { verdict = verdict; states = basis.states; tries = basis.tries }
 
-abbrev pub accepted_by : Basis → Verdict
-accepted_by basis = verdict.Accepted basis.signature basis.key basis.claims
+abbrev pub acceptance_of : Basis → Verdict
+acceptance_of basis = verdict.Accepted basis.signature basis.key basis.claims
 
 -- the report that an outcome is
 abbrev pub report_in : Outcome → Report
 report_in (Judged report) = report
-report_in (Accepted basis) = report_of (accepted_by (arc_value basis)) (arc_value basis)
+report_in (Accepted basis) = report_of (acceptance_of (arc_value basis)) (arc_value basis)
 report_in (Remembered basis fault) = report_of (checked (arc_value basis).signature (arc_value basis).key (arc_value basis).claims fault) (arc_value basis)
 
 -- the tries that were paid in this call
@@ -41,4 +41,4 @@ is_remembered (Remembered basis fault) = true
 -- what is remembered is held by the memory: all these octets, accepted under this ceiling
 abbrev pub IsFound : Bool → Memory → List ℕ → ℕ → Type 0
 IsFound false memory octets ceiling = Unit {0}
-IsFound true memory octets ceiling = (entry : Entry) × Holds memory entry × (entry.octets.items ≡ octets) × (entry.ceiling ≡ ceiling)
+IsFound true memory octets ceiling = (entry : MemoryEntry) × Holds memory entry × (entry.octets.items ≡ octets) × (entry.ceiling ≡ ceiling)

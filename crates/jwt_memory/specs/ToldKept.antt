@@ -1,4 +1,4 @@
--- What holds of each token that a memory keeps, where its signatures were told of.
+-- The invariant of each token that a memory keeps, where the caller checked its signatures.
 use Rattle.std.specs.Prelude.{ℕ, ℤ, List, [], ◌∷◌}
 use Rattle.std.specs.Arc.{arc_value}
 use Rattle.jwt_keys.specs.declared.set.KeySet.{KeySet}
@@ -8,7 +8,7 @@ use Rattle.jwt_verify.specs.Accepted.{IsVerdict}
 use Rattle.jwt_verify.specs.Reports.{FoundMemory, IsReport, terms}
 use Rattle.jwt_told.specs.Told.{Truth, ToldParts, AreRight, told_meaning, true_meaning}
 use Rattle.jwt_memory.specs.declared.memory.Basis.{Basis}
-use Rattle.jwt_memory.specs.declared.memory.Entry.{Entry}
+use Rattle.jwt_memory.specs.declared.memory.MemoryEntry.{MemoryEntry}
 use Rattle.jwt_memory.specs.declared.memory.Memory.{Memory}
 use Rattle.jwt_memory.specs.Entries.{Holds}
 use Rattle.jwt_memory.specs.Laws.{verdict_on}
@@ -39,7 +39,7 @@ pub record IsTrueBasis (truth : Truth) (policy : Settings) (keys : KeySet) (octe
 
 -- that is so of each token that the memory holds
 abbrev pub AreTrulyKept : Truth → Settings → KeySet → Memory → Type 0
-AreTrulyKept truth policy keys memory = (entry : Entry) → Holds memory entry → IsTrueBasis truth policy keys entry.octets.items entry.ceiling (arc_value entry.basis)
+AreTrulyKept truth policy keys memory = (entry : MemoryEntry) → Holds memory entry → IsTrueBasis truth policy keys entry.octets.items entry.ceiling (arc_value entry.basis)
 
 -- the memory is of every policy and all keys, whatever is true: it holds nothing
 abbrev pub IsTrulyEmpty : Memory → Type 0

@@ -13,7 +13,7 @@ ghost use Rattle.jwt_verify.specs.declared.report.Fault.TheVariants.{OutOfMemory
 ghost use Rattle.jwt_verify.specs.declared.report.Verdict.TheVariants.{Refused};
 ghost use Rattle.jwt_memory.specs.Entries.{Holds, HasRoomOf};
 ghost use Rattle.jwt_memory.specs.Kept.{AreKept};
-ghost use Rattle.jwt_memory.specs.Outcomes.{report_in, paid_in, report_of, accepted_by, is_remembered, IsFound};
+ghost use Rattle.jwt_memory.specs.Outcomes.{report_in, paid_in, report_of, acceptance_of, is_remembered, IsFound};
 
 use crate::laws::accepted_ever;
 use crate::memory::{Basis, Memory};
@@ -33,7 +33,7 @@ fn accepted<'p>(
     ceiling: u64,
     basis: Basis,
 ) -> Outcome<'p>
-    ensures report { report_in result ≡ report_of (accepted_by basis) basis }
+    ensures report { report_in result ≡ report_of (acceptance_of basis) basis }
     ensures paid { paid_in result ≡ basis.tries.items }
     ensures anew { is_remembered result ≡ false }
     ensures held { (entry : _) → Holds memory.new entry → Holds memory.old entry
@@ -66,7 +66,7 @@ pub(crate) fn kept<'p>(
     ensures anew { is_remembered result ≡ false }
     ensures held { (entry : _) → Holds memory.new entry → Holds memory.old entry
         ⊎ ((entry.octets.items ≡ octets.now) × (entry.ceiling ≡ ceiling)
-        × (report.entry ≡ report_of (accepted_by (arc_value entry.basis)) (arc_value entry.basis))) }
+        × (report.entry ≡ report_of (acceptance_of (arc_value entry.basis)) (arc_value entry.basis))) }
     ensures room { HasRoomOf memory.new memory.old }
 {
     let Report {

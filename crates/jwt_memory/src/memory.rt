@@ -35,11 +35,11 @@ pub struct Basis {
 }
 
 impl Basis {
-    ghost use Rattle.jwt_memory.specs.Outcomes.{report_of, accepted_by};
+    ghost use Rattle.jwt_memory.specs.Outcomes.{report_of, acceptance_of};
 
     /// The report on the acceptance.
     pub(crate) fn into_report<'p>(self) -> Report<'p>
-        ensures { result ≡ report_of (accepted_by self) self }
+        ensures { result ≡ report_of (acceptance_of self) self }
     {
         let Basis {
             signature,
@@ -63,13 +63,13 @@ impl Basis {
 
 /// A token that was accepted under a ceiling.
 #[derive(Drop)]
-pub struct Entry {
+pub struct MemoryEntry {
     pub(crate) octets: Vec<u8>,
     pub(crate) ceiling: u64,
     pub(crate) basis: Arc<Basis>,
 }
 
-impl Entry {
+impl MemoryEntry {
     /// Whether it is of these octets, and was accepted under this ceiling. Each octet is read, wherever the first difference stands.
     fn is_of(&self, octets: &[u8], ceiling: u64) -> bool
         ensures { IsTrue result
@@ -99,7 +99,7 @@ fn mark_of(octets: &[u8]) -> u64 {
 
 /// What is kept under a mark of these octets, accepted under this ceiling.
 fn look_up(
-    table: &mut LruCache<u64, Entry>,
+    table: &mut LruCache<u64, MemoryEntry>,
     mark: u64,
     octets: &[u8],
     ceiling: u64,
@@ -123,7 +123,7 @@ fn look_up(
 /// An accepted token in JSON form isn't kept: who holds one good token could spell it in many accepted ways, and push all others out.
 #[derive(Drop)]
 pub struct Memory {
-    pub(crate) table: LruCache<u64, Entry>,
+    pub(crate) table: LruCache<u64, MemoryEntry>,
     pub(crate) longest: usize,
     ghost short: { (entry : _) → Has table entry → length entry.octets.items ≤ longest },
     ghost compact: { (entry : _) → Has table entry → opens_object entry.octets.items ≡ false },
@@ -188,7 +188,7 @@ impl Memory {
         let Some(basis) = shared(basis) else {
             return;
         };
-        let entry = Entry {
+        let entry = MemoryEntry {
             octets: copy,
             ceiling,
             basis,

@@ -87,10 +87,10 @@ pub fn judge_told<'a, 'p>(
         octets.now (⟦<CountDown as Budget>⟧.ceiling budget.old) a.tries.items) }
     ensures first { IfErr result (λ a. IsFirstOpen (told answers.now)
         policy.now octets.now (key_set keys.now).keys a.tries.items
-        a.question.signature a.question.key) }
+        a.pair.signature a.pair.key) }
     ensures question { IfErr result (λ a. IsOpen (told answers.now)
         policy.now octets.now (key_set keys.now).keys
-        a.question.signature a.question.key) }
+        a.pair.signature a.pair.key) }
     ensures token { IfErr result (λ a. token_of policy.now octets.now ≡ Ok (token a.token)) }
 
     // What the budget counts: what was paid in this call.

@@ -1,9 +1,16 @@
-pub mod AllSome
+-- ---- For checks.rt
+pub mod RowsLemmas
+-- ---- For document.rt
+pub mod NamesLemmas
+-- ---- For laws.rt
 pub mod ClaimsLemmas
 pub mod EligibleLemmas
-pub mod ItemsLemmas
-pub mod MediaLemmas
-pub mod NamesLemmas
 pub mod PayloadLemmas
-pub mod RowsLemmas
+-- ---- For media.rt
+pub mod MediaLemmas
+-- ---- For member_kinds.rt
+pub mod AllSome
+-- ---- For several files
+pub mod ItemsLemmas
+-- ---- For other lemmas
 pub mod TestLemmas

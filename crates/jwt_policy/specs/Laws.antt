@@ -1,4 +1,4 @@
--- What the tables come to, in words.
+-- The laws of the tables, in words.
 use Rattle.std.specs.Prelude.{◌≡◌, ℕ, ℤ, pos, ◌+◌, ◌+ℤ◌, ◌<ℤ◌, ◌≤ℤ◌, ◌⊎◌, List, [], codes, true, Some, None}
 use Rattle.std.specs.List.{Contains}
 use Rattle.serde_json.specs.Data.{Data, string, Members}

@@ -1,4 +1,4 @@
--- What a policy says.
+-- The values of a policy's members.
 use Rattle.std.specs.Prelude.{ℕ, List, Bool, Option}
 use Rattle.jwt_mac.specs.declared.algorithm.Alg.{Alg}
 use Rattle.jwt_policy.specs.declared.mode.Mode.{Mode}

@@ -154,7 +154,7 @@ fn is_too_old(policy: &Policy, claims: &ObjectRef<'_>, now: i64) -> bool
     }
 }
 
-/// The first cause to refuse the claims, but for what the policy's `required` asks for.
+/// The first cause to refuse the claims, the policy's `required` aside.
 #[tactic(auto, unfolding(crate::specs::Checks::later_rows))]
 fn later_fault(policy: &Policy, claims: &ObjectRef<'_>, now: i64) -> Option<ClaimFault<'static>>
     ensures { result ≡ first_row (later_rows policy.now claims.now now) }

@@ -1,4 +1,4 @@
-//! Why claims are refused.
+//! The causes to refuse claims.
 
 ghost use Rattle.std.specs.Prelude.{◌≡◌};
 

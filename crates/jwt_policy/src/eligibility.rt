@@ -1,4 +1,4 @@
-//! Which pairs of a signature and a key are eligible.
+//! The eligible pairs of a signature and a key.
 
 ghost use Rattle.std.specs.Prelude.{◌≡◌, Some, map};
 ghost use Rattle.jwt_mac.specs.Verifying.{key_octets};
@@ -12,7 +12,7 @@ use crate::bars::bar;
 use crate::policy::Policy;
 use jwt_jws::Signature;
 use jwt_keys::Key;
-use jwt_mac::{Alg, Curve, KeyView, Verifier};
+use jwt_mac::{Alg, EcCurve, KeyView, Verifier};
 
 /// Whether the key is of the kind, curve and size that the algorithm asks for (RFC 7518, sections 3.2 to 3.5; RFC 8037,
 /// section 3.1). The least size of an RSA key is the verifier's to ask for.
@@ -31,8 +31,9 @@ fn suits(alg: Alg, key: KeyView<'_>) -> bool
             _ => false,
         },
         KeyView::Ec { curve, x: _, y: _ } => match (alg, curve) {
-            (Alg::ES256, Curve::P256) | (Alg::ES384, Curve::P384) | (Alg::ES512, Curve::P521) =>
-                true,
+            (Alg::ES256, EcCurve::P256)
+            | (Alg::ES384, EcCurve::P384)
+            | (Alg::ES512, EcCurve::P521) => true,
             _ => false,
         },
         KeyView::Okp { curve: _, x: _ } => match alg {

@@ -1,4 +1,4 @@
-//! What a policy asks of signatures, keys and claims (RFC 8725).
+//! The demands of a policy on signatures, keys and claims (RFC 8725).
 //!
 //! [`Policy::read`] reads the policy's document. Under it [`bar`] answers why a signature is refused before any key is
 //! tried, [`eligible`] which keys may be tried on it, and [`check`] why the claims of a payload are refused at a moment;

@@ -1,4 +1,4 @@
-//! Which signatures of a token have to be verified.
+//! The signatures of a token that have to be verified: any, or all.
 
 /// Which signatures of a token must be verified. RFC 7515, section 5.2, leaves this to the application.
 #[derive(Clone, Copy, Debug, PartialEq, Eq)]

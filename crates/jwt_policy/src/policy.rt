@@ -256,7 +256,7 @@ impl Policy {
         claims.issuers.as_slice()
     }
 
-    /// The recipient's own names, one of which `aud` must hold where it is there (RFC 7519, section 4.1.3). By default none, so
+    /// The recipient's own names. Where `aud` is there, it must hold one of them (RFC 7519, section 4.1.3). By default none, so
     /// every token with `aud` is refused. A token without `aud` is taken unless `required` names it.
     pub fn audiences(&self) -> &[String]
         ensures { map string_bytes result.now ≡ self.now.claims.audiences }

@@ -1,4 +1,4 @@
-//! Why a policy document is refused.
+//! The causes to refuse a policy document.
 
 ghost use Rattle.std.specs.Prelude.{◌≡◌, ◌≢◌, IfOk};
 ghost use Rattle.jwt_policy.specs.declared.policy_fault.PolicyFault.TheVariants.{OutOfMemory};

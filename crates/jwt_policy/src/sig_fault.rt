@@ -1,4 +1,4 @@
-//! Why a signature isn't verified.
+//! The causes why a signature isn't verified.
 
 ghost use Rattle.std.specs.Prelude.{◌≡◌};
 

@@ -1,7 +1,13 @@
-pub mod JsonLemmas
-pub mod Listing
-pub mod NearLemmas
-pub mod Passing
-pub mod Showing
+-- ---- For json_show.rt
 pub mod ShowingJson
+-- ---- For keys.rt
+pub mod Listing
+-- ---- For laws.rt
+pub mod Passing
+-- ---- For nearest.rt
+pub mod NearLemmas
+-- ---- For show.rt
+pub mod Showing
 pub mod SpelledLemmas
+-- ---- For several files
+pub mod JsonLemmas

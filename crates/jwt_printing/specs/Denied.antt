@@ -1,4 +1,4 @@
--- What the claims of an accepted token lack of an access rule.
+-- The first demand of an access rule that the claims of an accepted token don't meet.
 use Rattle.std.specs.Prelude.{Option, Some, None}
 use Rattle.serde_json.specs.Data.{Members}
 use Rattle.jwt_access.specs.Denials.{denial_of}
@@ -12,6 +12,8 @@ use Rattle.jwt_verify.specs.declared.report.Verdict.TheVariants.{Accepted, Refus
 abbrev pub lacking : Option Rule → Members → Option Denial
 lacking None claims = None
 lacking (Some rule) claims = denial_of rule claims
+
+-- ---- Cited by laws alone
 
 -- ---- in words
 

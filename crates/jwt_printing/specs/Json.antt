@@ -1,4 +1,4 @@
--- What `verify --json` answers: one JSON object on one line, as the kit's writer spells it.
+-- The output of `verify --json`: one JSON object on one line, as the kit's writer spells it.
 use Rattle.std.specs.Prelude.{ℕ, List, [], ◌∷◌, ◌++◌, map, unwrap_or, if◌then◌else◌, Option, Some, None, codes}
 use Rattle.std.specs.Fmt.{decimal}
 use Rattle.std.specs.Str.{is_utf8}

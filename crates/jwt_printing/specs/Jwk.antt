@@ -1,4 +1,4 @@
--- What `jwt jwk` prints.
+-- The output of `jwt jwk`.
 use Rattle.std.specs.Prelude.{ℕ, List, [], ◌∷◌, ◌++◌, codes, Option, Some, None}
 use Rattle.json.specs.Print.{quoted as quoted_text}
 use Rattle.jwt_printing.specs.Json.{json_line, some_text, text}

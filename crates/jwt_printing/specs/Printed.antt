@@ -1,4 +1,4 @@
--- What a command prints, and its status.
+-- The output of a command, and its status.
 use Rattle.std.specs.Prelude.{◌≡◌, ◌<◌, ◌⊎◌, ℕ, Bool, true, false, length, List, [], ◌∷◌, ◌++◌, Option, take, codes}
 use Rattle.std.specs.Io.KnownBytes.{Appends}
 

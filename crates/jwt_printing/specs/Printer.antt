@@ -1,4 +1,4 @@
--- How answers are printed: in JSON, or in lines.
+-- The two ways to print an answer: in JSON, or in lines.
 use Rattle.std.specs.Prelude.{ℕ, Bool, true, false, List, [], ◌∷◌, codes, Option, Some, None}
 use Rattle.jwt_keys.specs.declared.fault.KeysFault.{KeysFault}
 use Rattle.jwt_policy.specs.declared.policy_fault.PolicyFault.{PolicyFault}

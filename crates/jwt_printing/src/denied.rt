@@ -1,4 +1,4 @@
-//! What the claims of an accepted token lack of an access rule.
+//! The first demand of an access rule that the claims of an accepted token don't meet.
 ghost use Rattle.std.specs.Prelude.{◌≡◌};
 ghost use Rattle.jwt_printing.specs.Denied.{lacking};
 ghost use Rattle.jwt_printing.specs.Views.{rule_view};

@@ -31,7 +31,7 @@ pub(crate) fn form_fault_text(alloc: Global, fault: FormFault) -> Result<String,
     }
 }
 
-// A name, a label, and the compact JSON text of a text.
+/// A name, a label, and the compact JSON text of a text.
 fn labelled(alloc: Global, name: &str, label: &str, text: &str) -> Result<Vec<u8>, AllocError>
     ensures { IfOk result (λ v. v.items ≡ name.now ++ (label.now ++ quoted_text text.now)) }
 {

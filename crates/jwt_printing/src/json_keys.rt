@@ -1,4 +1,4 @@
-//! What `keys --json` prints.
+//! The output of `keys --json`.
 ghost use Rattle.std.specs.Prelude.{◌≡◌, ◌++◌, ◌∷◌, [], IfOk, OnOk, map, codes};
 ghost use Rattle.json.specs.Tree.{json_tokens};
 ghost use Rattle.jwt_keys.specs.KeySets.{key_set};
@@ -14,7 +14,7 @@ use crate::reply::Reply;
 use jwt_keys::{Key, KeySet, Skip};
 use std::alloc::{AllocError, Global};
 
-// Where the entry of a key stands, and its names.
+/// Where the entry of a key stands, and its names.
 fn put_start(out: &mut JsonOut, key: &Key) -> Result<(), AllocError>
     ensures { OnOk result (out.new ≡ out.old ++ named_tokens (key_start (key_parts key.now))) }
 {
@@ -24,7 +24,7 @@ fn put_start(out: &mut JsonOut, key: &Key) -> Result<(), AllocError>
     out.some_text("alg", key.alg_text())
 }
 
-// Its number of octets, and its thumbprint.
+/// Its number of octets, and its thumbprint.
 fn put_end(out: &mut JsonOut, key: &Key) -> Result<(), AllocError>
     ensures { OnOk result (out.new ≡ out.old ++ named_tokens (key_end (key_parts key.now))) }
 {
@@ -32,6 +32,7 @@ fn put_end(out: &mut JsonOut, key: &Key) -> Result<(), AllocError>
     out.text("thumbprint", key.thumbprint_text())
 }
 
+/// Puts the object of one key.
 fn put_key(out: &mut JsonOut, key: &Key) -> Result<(), AllocError>
     ensures { OnOk result (out.new ≡ out.old ++ json_tokens (key_json (key_parts key.now))) }
 {
@@ -41,6 +42,7 @@ fn put_key(out: &mut JsonOut, key: &Key) -> Result<(), AllocError>
     out.end_object()
 }
 
+/// Puts the list of the keys.
 fn put_keys(out: &mut JsonOut, set: &KeySet) -> Result<(), AllocError>
     ensures { OnOk result (out.new
         ≡ out.old ++ named_tokens
@@ -55,6 +57,7 @@ fn put_keys(out: &mut JsonOut, set: &KeySet) -> Result<(), AllocError>
     out.end_list()
 }
 
+/// Puts the object of one skipped entry.
 fn put_skip(out: &mut JsonOut, skip: &Skip) -> Result<(), AllocError>
     ensures { OnOk result (out.new ≡ out.old ++ json_tokens (skip_json skip.now)) }
 {
@@ -64,6 +67,7 @@ fn put_skip(out: &mut JsonOut, skip: &Skip) -> Result<(), AllocError>
     out.end_object()
 }
 
+/// Puts the list of the skipped entries.
 #[tactic(auto, using(std::proofs::lemmas::List::at_drop_more, std::proofs::lemmas::List::at_drop_all))]
 fn put_skips(out: &mut JsonOut, skips: &[Skip]) -> Result<(), AllocError>
     ensures { OnOk result (out.new

@@ -42,12 +42,14 @@ impl JsonOut {
         Ok(JsonOut { writer })
     }
 
+    /// Opens an object.
     pub(crate) fn begin_object(&mut self) -> Result<(), AllocError>
         ensures { OnOk result (self.new ≡ self.old ++ begin_object ∷ []) }
     {
         self.writer.begin_object()
     }
 
+    /// Closes an object.
     pub(crate) fn end_object(&mut self) -> Result<(), AllocError>
         ensures { OnOk result (self.new ≡ self.old ++ end_object ∷ []) }
     {
@@ -62,6 +64,7 @@ impl JsonOut {
         self.writer.begin_array()
     }
 
+    /// Closes a list.
     pub(crate) fn end_list(&mut self) -> Result<(), AllocError>
         ensures { OnOk result (self.new ≡ self.old ++ end_array ∷ []) }
     {

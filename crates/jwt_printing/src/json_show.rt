@@ -1,4 +1,4 @@
-//! What `show --json` prints.
+//! The output of `show --json`.
 ghost use Rattle.std.specs.Prelude.{◌≡◌, ◌++◌, ◌∷◌, [], Err, IfOk, IfSome, OnOk, option_map, codes};
 ghost use Rattle.json.specs.Find.{at, get};
 ghost use Rattle.json.specs.Tree.{HasNumbers, json_tokens};
@@ -21,7 +21,7 @@ use jwt_policy::{ClaimFault, Claims};
 use jwt_text::{TextFault, decode};
 use std::alloc::{AllocError, Global};
 
-// The octets that a text spells, and none where it spells none.
+/// The octets that a text spells, and none where it spells none.
 fn spelled_octets(alloc: Global, text: &[u8]) -> Result<Vec<u8>, AllocError>
     ensures { IfOk result (λ v. v.items ≡ spelled_octets text.now) }
 {
@@ -32,7 +32,7 @@ fn spelled_octets(alloc: Global, text: &[u8]) -> Result<Vec<u8>, AllocError>
     }
 }
 
-// The protected header, where its text isn't empty.
+/// The protected header, where its text isn't empty.
 fn put_protected(alloc: Global, out: &mut JsonOut, text: &[u8]) -> Result<(), AllocError>
     ensures { OnOk result (out.new ≡ out.old ++ named_tokens (protected_json text.now)) }
 {
@@ -43,7 +43,7 @@ fn put_protected(alloc: Global, out: &mut JsonOut, text: &[u8]) -> Result<(), Al
     out.value(alloc, "protected", octets.as_slice())
 }
 
-// The member of a value.
+/// The member of a value.
 fn member_of<'d, 'a>(value: &'d Value<'a>, name: &str) -> Option<&'d Value<'a>>
     requires { HasNumbers (value_view value.now) }
     ensures value { option_map (λ v. value_view v.now) result
@@ -53,7 +53,7 @@ fn member_of<'d, 'a>(value: &'d Value<'a>, name: &str) -> Option<&'d Value<'a>>
     value.get(name)
 }
 
-// The element of a value.
+/// The element of a value.
 fn element_of<'d, 'a>(value: &'d Value<'a>, i: u32) -> Option<&'d Value<'a>>
     requires { HasNumbers (value_view value.now) }
     ensures value { option_map (λ v. value_view v.now) result ≡ at i (value_view value.now) }
@@ -62,7 +62,7 @@ fn element_of<'d, 'a>(value: &'d Value<'a>, i: u32) -> Option<&'d Value<'a>>
     value.at(i as usize)
 }
 
-// The object that signature `i` stands in, of a token in JSON form.
+/// The object that signature `i` stands in, of a token in JSON form.
 fn signature_at<'d, 'a>(form: Form, document: &'d Value<'a>, i: u32) -> Option<&'d Value<'a>>
     requires { HasNumbers (value_view document.now) }
     ensures value { option_map (λ v. value_view v.now) result
@@ -76,7 +76,7 @@ fn signature_at<'d, 'a>(form: Form, document: &'d Value<'a>, i: u32) -> Option<&
     }
 }
 
-// Its unprotected header.
+/// Its unprotected header.
 fn header_at<'d, 'a>(form: Form, document: &'d Value<'a>, i: u32) -> Option<&'d Value<'a>>
     requires { HasNumbers (value_view document.now) }
     ensures value { option_map (λ v. value_view v.now) result
@@ -86,6 +86,7 @@ fn header_at<'d, 'a>(form: Form, document: &'d Value<'a>, i: u32) -> Option<&'d 
     member_of(signature_at(form, document, i)?, "header")
 }
 
+/// Puts a header as it stands, or null where there is none.
 fn put_header(out: &mut JsonOut, header: Option<&Value<'_>>) -> Result<(), AllocError>
     requires { IfSome header (λ v. HasNumbers (value_view v.now)) }
     ensures { OnOk result (out.new ≡ out.old
@@ -97,7 +98,7 @@ fn put_header(out: &mut JsonOut, header: Option<&Value<'_>>) -> Result<(), Alloc
     }
 }
 
-// The headers of a signature, and how many octets it has.
+/// The headers of a signature, and how many octets it has.
 fn put_members(
     alloc: Global,
     out: &mut JsonOut,
@@ -113,6 +114,7 @@ fn put_members(
     out.count("octets", signature.octets().len() as u64)
 }
 
+/// Puts the object of one signature.
 fn put_signature(
     alloc: Global,
     out: &mut JsonOut,
@@ -128,6 +130,7 @@ fn put_signature(
     out.end_object()
 }
 
+/// Puts the list of the signatures.
 fn put_signatures(
     alloc: Global,
     out: &mut JsonOut,
@@ -149,7 +152,7 @@ fn put_signatures(
     out.end_list()
 }
 
-// The fault of some claims, and the claim that it names.
+/// The fault of some claims, and the claim that it names.
 fn put_claim_fault(out: &mut JsonOut, fault: &ClaimFault<'_>) -> Result<(), AllocError>
     ensures { OnOk result (out.new ≡ out.old ++ named_tokens (claims_refused (Err fault.now))) }
 {
@@ -158,6 +161,7 @@ fn put_claim_fault(out: &mut JsonOut, fault: &ClaimFault<'_>) -> Result<(), Allo
     out.end_object()
 }
 
+/// Puts what a fault of the claims names.
 fn put_claim_fault_members(out: &mut JsonOut, fault: &ClaimFault<'_>) -> Result<(), AllocError>
     ensures { OnOk result (out.new ≡ out.old ++ named_tokens (claim_fault_members fault.now)) }
 {
@@ -165,7 +169,7 @@ fn put_claim_fault_members(out: &mut JsonOut, fault: &ClaimFault<'_>) -> Result<
     put_claim_place(out, fault)
 }
 
-// Why the claims of a payload are refused before any policy is looked at, if they are.
+/// Why the claims of a payload are refused before any policy is looked at, if they are.
 fn put_claims_refused(alloc: Global, out: &mut JsonOut, payload: &[u8]) -> Result<(), AllocError>
     ensures { OnOk result (out.new
         ≡ out.old ++ named_tokens (claims_refused (claims_of payload.now))) }
@@ -180,7 +184,7 @@ fn put_claims_refused(alloc: Global, out: &mut JsonOut, payload: &[u8]) -> Resul
     }
 }
 
-// What stands in a token.
+/// What stands in a token.
 fn put_unverified(
     alloc: Global,
     out: &mut JsonOut,

@@ -1,4 +1,4 @@
-//! What `verify --json` prints.
+//! The output of `verify --json`.
 ghost use Rattle.std.specs.Prelude.{◌≡◌, ◌++◌, ◌∷◌, [], IfOk, OnOk, map, codes};
 ghost use Rattle.json.specs.Tree.{json_tokens};
 ghost use Rattle.jwt_verify.specs.FaultNames.{fault_name};
@@ -44,7 +44,7 @@ pub(crate) fn put_form_place(out: &mut JsonOut, fault: FormFault) -> Result<(), 
     }
 }
 
-// The claim that a fault names.
+/// The claim that a fault names.
 pub(crate) fn put_claim_place(out: &mut JsonOut, fault: &ClaimFault<'_>) -> Result<(), AllocError>
     ensures { OnOk result (out.new ≡ out.old ++ named_tokens (claim_place fault.now)) }
 {
@@ -57,6 +57,7 @@ pub(crate) fn put_claim_place(out: &mut JsonOut, fault: &ClaimFault<'_>) -> Resu
     }
 }
 
+/// Puts the members of a signature and its key.
 fn put_pair(out: &mut JsonOut, i: u32, j: u32) -> Result<(), AllocError>
     ensures { OnOk result
         (out.new ≡ out.old
@@ -66,7 +67,7 @@ fn put_pair(out: &mut JsonOut, i: u32, j: u32) -> Result<(), AllocError>
     out.count("key", j as u64)
 }
 
-// What a fault names.
+/// What a fault names.
 fn put_place(out: &mut JsonOut, fault: &Fault<'_>) -> Result<(), AllocError>
     ensures { OnOk result (out.new ≡ out.old ++ named_tokens (place_of fault.now)) }
 {
@@ -79,7 +80,7 @@ fn put_place(out: &mut JsonOut, fault: &Fault<'_>) -> Result<(), AllocError>
     }
 }
 
-// A member, and the one of a policy that is near to its name.
+/// A member, and the one of a policy that is near to its name.
 fn put_member(alloc: Global, out: &mut JsonOut, name: &str) -> Result<(), AllocError>
     ensures { OnOk result (out.new ≡ out.old ++ named_tokens (text (codes "member") name.now
         ∷ some_text (codes "nearest") (nearest_member name.now))) }
@@ -88,7 +89,7 @@ fn put_member(alloc: Global, out: &mut JsonOut, name: &str) -> Result<(), AllocE
     out.some_text("nearest", nearest_member(alloc, name)?)
 }
 
-// The member that a fault of the policy names.
+/// The member that a fault of the policy names.
 fn put_policy_place(alloc: Global, out: &mut JsonOut, fault: &PolicyFault) -> Result<(), AllocError>
     ensures { OnOk result (out.new ≡ out.old ++ named_tokens (policy_place fault.now)) }
 {
@@ -99,6 +100,7 @@ fn put_policy_place(alloc: Global, out: &mut JsonOut, fault: &PolicyFault) -> Re
     }
 }
 
+/// Puts what became of a signature.
 fn put_state_members(out: &mut JsonOut, state: SigState) -> Result<(), AllocError>
     ensures { OnOk result (out.new ≡ out.old ++ named_tokens (state_members state)) }
 {
@@ -118,7 +120,7 @@ fn put_state_members(out: &mut JsonOut, state: SigState) -> Result<(), AllocErro
     }
 }
 
-// What became of a signature.
+/// What became of a signature.
 fn put_state(out: &mut JsonOut, state: SigState) -> Result<(), AllocError>
     ensures { OnOk result (out.new ≡ out.old ++ json_tokens (state_json state)) }
 {
@@ -127,6 +129,7 @@ fn put_state(out: &mut JsonOut, state: SigState) -> Result<(), AllocError>
     out.end_object()
 }
 
+/// Puts the list of what became of the signatures.
 #[tactic(auto, using(std::proofs::lemmas::List::at_drop_more, std::proofs::lemmas::List::at_drop_all))]
 fn put_states(out: &mut JsonOut, states: &[SigState]) -> Result<(), AllocError>
     ensures { OnOk result
@@ -140,7 +143,7 @@ fn put_states(out: &mut JsonOut, states: &[SigState]) -> Result<(), AllocError>
     out.end_list()
 }
 
-// A try, with its cost.
+/// A try, with its cost.
 fn put_try(out: &mut JsonOut, entry: Try) -> Result<(), AllocError>
     ensures { OnOk result (out.new ≡ out.old ++ json_tokens (try_json entry)) }
 {
@@ -150,6 +153,7 @@ fn put_try(out: &mut JsonOut, entry: Try) -> Result<(), AllocError>
     out.end_object()
 }
 
+/// Puts the list of the tries.
 #[tactic(auto, using(std::proofs::lemmas::List::at_drop_more, std::proofs::lemmas::List::at_drop_all))]
 fn put_tries(out: &mut JsonOut, tries: &[Try]) -> Result<(), AllocError>
     ensures { OnOk result
@@ -162,7 +166,7 @@ fn put_tries(out: &mut JsonOut, tries: &[Try]) -> Result<(), AllocError>
     out.end_list()
 }
 
-// What became of each signature, the tries, and what they cost.
+/// What became of each signature, the tries, and what they cost.
 fn put_evidence(
     out: &mut JsonOut,
     states: &[SigState],
@@ -176,6 +180,7 @@ fn put_evidence(
     out.count("work", work)
 }
 
+/// Puts the members of an acceptance.
 fn put_accepted(
     alloc: Global,
     out: &mut JsonOut,
@@ -193,7 +198,7 @@ fn put_accepted(
     out.value(alloc, "claims", payload)
 }
 
-// What claims lack of a rule: its name, and the scope or the claim.
+/// What claims lack of a rule: its name, and the scope or the claim.
 fn put_lacked(out: &mut JsonOut, denial: &Denial<'_>) -> Result<(), AllocError>
     ensures { OnOk result (out.new ≡ out.old ++ named_tokens (lacked denial.now ∷ [])) }
 {
@@ -205,6 +210,7 @@ fn put_lacked(out: &mut JsonOut, denial: &Denial<'_>) -> Result<(), AllocError>
     }
 }
 
+/// Puts the members of an acceptance that the access rule denies.
 fn put_denied(
     out: &mut JsonOut,
     denial: &Denial<'_>,
@@ -222,7 +228,7 @@ fn put_denied(
     put_pair(out, signature, key)
 }
 
-// Of an accepted token: its claims where they lack nothing, and else what they lack.
+/// Of an accepted token: its claims where they lack nothing, and else what they lack.
 fn put_unless_lacking(
     alloc: Global,
     out: &mut JsonOut,
@@ -241,6 +247,7 @@ fn put_unless_lacking(
     }
 }
 
+/// Puts the members of a refusal.
 fn put_refused(out: &mut JsonOut, fault: &Fault<'_>) -> Result<(), AllocError>
     ensures { OnOk result
         (out.new ≡ out.old ++ named_tokens (text (codes "verdict") (codes "refused")
@@ -251,6 +258,7 @@ fn put_refused(out: &mut JsonOut, fault: &Fault<'_>) -> Result<(), AllocError>
     put_place(out, fault)
 }
 
+/// Puts the members of a verdict.
 fn put_verdict(
     alloc: Global,
     out: &mut JsonOut,
@@ -278,6 +286,7 @@ fn put_verdict(
     }
 }
 
+/// The status of an acceptance: 0, or 1 where the access rule denies it.
 fn accepted_status(denial: &Option<Denial<'_>>) -> u8
     ensures { result ≡ accepted_status denial.now }
 {
@@ -287,6 +296,7 @@ fn accepted_status(denial: &Option<Denial<'_>>) -> u8
     }
 }
 
+/// The status of a verdict.
 fn verdict_status(rule: Option<&AccessRule>, verdict: &Verdict<'_>) -> u8
     ensures { result ≡ verdict_status (rule_view rule.entry) verdict.now }
 {
@@ -296,7 +306,7 @@ fn verdict_status(rule: Option<&AccessRule>, verdict: &Verdict<'_>) -> u8
     }
 }
 
-// The line of a report on a token with this payload.
+/// The line of a report on a token with this payload.
 fn said(
     alloc: Global,
     report: &Report<'_>,
@@ -393,7 +403,7 @@ pub(crate) fn policy_refused_json(alloc: Global, fault: &PolicyFault) -> Result<
     out.reply(1)
 }
 
-// The member that a fault of an access rule names, or the claim that it asks for.
+/// The member that a fault of an access rule names, or the claim that it asks for.
 fn put_access_place(out: &mut JsonOut, fault: &AccessFault) -> Result<(), AllocError>
     ensures { OnOk result (out.new ≡ out.old ++ named_tokens (access_place fault.now)) }
 {

@@ -73,6 +73,7 @@ pub fn random_failed(alloc: Global, printing: Printing) -> Result<Reply, AllocEr
     }
 }
 
+/// The JSON of a random source that can't be read.
 fn random_failed_json(alloc: Global) -> Result<Reply, AllocError>
     ensures { IfOk result (λ a. reply_view a ≡ random_failed Json) }
 {

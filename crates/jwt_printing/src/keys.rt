@@ -40,6 +40,7 @@ pub(crate) fn size_of(view: KeyView<'_>) -> usize
     }
 }
 
+/// Puts the line of one key.
 fn put_key(alloc: Global, out: &mut Vec<u8>, number: u32, key: &Key) -> Result<(), AllocError>
     ensures { IfOk result
         (λ _. out.new.items ≡ out.old.items ++ key_line number (key_parts key.now)) }
@@ -58,6 +59,7 @@ fn put_key(alloc: Global, out: &mut Vec<u8>, number: u32, key: &Key) -> Result<(
     Ok(())
 }
 
+/// Puts the line of one skipped entry.
 fn put_skip(alloc: Global, out: &mut Vec<u8>, skip: &Skip) -> Result<(), AllocError>
     ensures { IfOk result (λ _. out.new.items ≡ out.old.items ++ skip_line skip.now) }
 {
@@ -67,6 +69,7 @@ fn put_skip(alloc: Global, out: &mut Vec<u8>, skip: &Skip) -> Result<(), AllocEr
     out.extend_from_slice(line.as_bytes())
 }
 
+/// Puts a line for each skipped entry.
 #[tactic(auto, using(std::proofs::lemmas::List::at_drop_more, std::proofs::lemmas::List::at_drop_all))]
 fn put_skips(alloc: Global, out: &mut Vec<u8>, skips: &[Skip]) -> Result<(), AllocError>
     ensures { IfOk result (λ _. out.new.items ≡ out.old.items ++ flat_map skip_line skips.now) }
@@ -77,7 +80,7 @@ fn put_skips(alloc: Global, out: &mut Vec<u8>, skips: &[Skip]) -> Result<(), All
     Ok(())
 }
 
-// How many skips stand before the first at or behind this place.
+/// How many skips stand before the first at or behind this place.
 #[tactic(auto, using(std::proofs::lemmas::List::at_drop_more, std::proofs::lemmas::List::at_drop_all))]
 fn before(place: u32, skips: &[Skip]) -> usize
     ensures value { result ≡ before place skips.now }
@@ -91,7 +94,7 @@ fn before(place: u32, skips: &[Skip]) -> usize
     skips.len()
 }
 
-// The lines of a key set, in the order of places.
+/// The lines of a key set, in the order of places.
 fn set_lines(alloc: Global, set: &KeySet) -> Result<Vec<u8>, AllocError>
     ensures { IfOk result
         (λ v. v.items ≡ set_lines 0 (key_set set.now).keys (key_set set.now).skips) }

@@ -1,4 +1,4 @@
-//! What the command `jwt` prints: lines and JSON of a verdict, of a key set, of a token that is shown, of a tag, of a JWK and of what
+//! The output of the command `jwt`: lines and JSON of a verdict, of a key set, of a token that is shown, of a tag, of a JWK and of what
 //! is refused, and how they go out.
 //!
 //! A [`Reply`] is a whole answer with its status; [`give`] and [`send`] send it.

@@ -5,7 +5,7 @@ ghost use Rattle.jwt_printing.specs.Nearest.{at_edits, nearest_member};
 use std::alloc::{AllocError, Global};
 use strsim::levenshtein;
 
-// The first of some names to which so many edits lead.
+/// The first of some names to which so many edits lead.
 fn at_edits(
     alloc: Global,
     count: usize,

@@ -1,4 +1,4 @@
-//! What a command answers besides a verdict, in JSON or in lines.
+//! The answers of a command besides a verdict, in JSON or in lines.
 ghost use Rattle.std.specs.Prelude.{◌≡◌, IfOk};
 ghost use Rattle.jwt_printing.specs.Printer.{file_failed, printer, printed_file_fault};
 ghost use Rattle.jwt_printing.specs.Verdicts.{access_refused, policy_refused};

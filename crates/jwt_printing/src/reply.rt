@@ -1,4 +1,4 @@
-//! What a command answers: its whole output and its status.
+//! The answer of a command: its whole output and its status.
 ghost use Rattle.std.specs.Prelude.{◌≡◌, ◌++◌, ◌∷◌, [], IfOk, codes};
 ghost use Rattle.jwt_printing.specs.Printed.{line, refused};
 

@@ -1,4 +1,4 @@
-//! How an answer goes out.
+//! The way of an answer to standard output.
 ghost use Rattle.std.specs.Prelude.{IfErr, IfOk};
 ghost use Rattle.jwt_printing.specs.Printed.{Prints, out_of_memory};
 ghost use Rattle.jwt_printing.specs.Views.{reply_view};

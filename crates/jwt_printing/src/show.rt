@@ -27,7 +27,7 @@ pub(crate) fn form_name(form: Form) -> &'static str
     }
 }
 
-// A text of the header: `-` where it is absent, `?` where it is of another kind.
+/// A text of the header: `-` where it is absent, `?` where it is of another kind.
 fn header_text(alloc: Global, there: bool, text: Option<&str>) -> Result<Vec<u8>, AllocError>
     ensures { IfOk result (λ v. v.items ≡ header_text there (option_map (λ t. t.now) text.entry)) }
 {
@@ -37,6 +37,7 @@ fn header_text(alloc: Global, there: bool, text: Option<&str>) -> Result<Vec<u8>
     quoted_or_dash(alloc, text)
 }
 
+/// How many members unprotected headers have.
 fn unprotected_count(signature: &Signature<'_>) -> usize
     ensures { result ≡ member_count (parts signature.now).unprotected }
 {
@@ -46,7 +47,7 @@ fn unprotected_count(signature: &Signature<'_>) -> usize
     }
 }
 
-// How many octets a base64url text of so many characters spells (RFC 4648, section 5).
+/// How many octets a base64url text of so many characters spells (RFC 4648, section 5).
 fn spelled_len(chars: usize) -> usize
     ensures value { result ≡ spelled_len chars }
     ensures spelled { (text octets : List ℕ) → length text ≡ chars → Spells text octets
@@ -55,7 +56,7 @@ fn spelled_len(chars: usize) -> usize
     chars / 4 * 3 + chars % 4 * 3 / 4
 }
 
-// The sizes of a signature. The signing input has one period between its two texts.
+/// The sizes of a signature. The signing input has one period between its two texts.
 fn signature_sizes(
     alloc: Global,
     signature: &Signature<'_>,
@@ -73,7 +74,7 @@ fn signature_sizes(
     )
 }
 
-// The line of signature `i`.
+/// The line of signature `i`.
 fn put_signature(
     alloc: Global,
     out: &mut Vec<u8>,
@@ -95,7 +96,7 @@ fn put_signature(
     Ok(())
 }
 
-// The compact text of `aud`, and `-` for none.
+/// The compact text of `aud`, and `-` for none.
 fn audience(alloc: Global, claims: &Claims) -> Result<Vec<u8>, AllocError>
     ensures { IfOk result (λ v. v.items ≡ audience claims.now) }
 {
@@ -106,6 +107,7 @@ fn audience(alloc: Global, claims: &Claims) -> Result<Vec<u8>, AllocError>
     }
 }
 
+/// Puts the claims of a payload, or why it has none.
 fn put_claims(alloc: Global, out: &mut Vec<u8>, claims: &Claims) -> Result<(), AllocError>
     ensures { IfOk result (λ _. out.new.items ≡ out.old.items ++ claims_line (Ok claims.now)) }
 {
@@ -121,7 +123,7 @@ fn put_claims(alloc: Global, out: &mut Vec<u8>, claims: &Claims) -> Result<(), A
     Ok(())
 }
 
-// The line of claims that are refused before any policy is looked at.
+/// The line of claims that are refused before any policy is looked at.
 fn put_refused_claims(
     alloc: Global,
     out: &mut Vec<u8>,
@@ -135,6 +137,7 @@ fn put_refused_claims(
     Ok(())
 }
 
+/// Puts the line of the claims.
 fn put_claims_line(alloc: Global, out: &mut Vec<u8>, payload: &[u8]) -> Result<(), AllocError>
     ensures { IfOk result
         (λ _. out.new.items ≡ out.old.items ++ claims_line (claims_of payload.now)) }
@@ -146,6 +149,7 @@ fn put_claims_line(alloc: Global, out: &mut Vec<u8>, payload: &[u8]) -> Result<(
     }
 }
 
+/// The lines of a token.
 fn token_lines(alloc: Global, signed: &Signed<'_>) -> Result<Vec<u8>, AllocError>
     ensures { IfOk result (λ v. v.items ≡ token_lines (token signed.now)) }
 {

@@ -14,7 +14,7 @@ use jwt_access::{AccessRule, Denial};
 use jwt_verify::{Fault, InputFault, Report, Verdict};
 use std::alloc::{AllocError, Global};
 
-// The line of a refusal, with the name of the fault.
+/// The line of a refusal, with the name of the fault.
 fn named_line(
     alloc: Global,
     fault: &Fault<'_>,
@@ -28,7 +28,7 @@ fn named_line(
     Reply::around(alloc, "refused ", name.as_slice(), counts.as_str(), 1)
 }
 
-// The line of a refusal. Where memory was refused there is none.
+/// The line of a refusal. Where memory was refused there is none.
 fn fault_line(
     alloc: Global,
     fault: &Fault<'_>,
@@ -51,7 +51,7 @@ fn fault_line(
     }
 }
 
-// The line of an acceptance.
+/// The line of an acceptance.
 fn accepted_line(
     alloc: Global,
     signature: u32,
@@ -68,7 +68,7 @@ fn accepted_line(
     })
 }
 
-// The line of an acceptance whose claims lack this.
+/// The line of an acceptance whose claims lack this.
 fn denied_line(
     alloc: Global,
     denial: &Denial<'_>,

@@ -1,4 +1,7 @@
+-- ---- For pkcs1.rt
 pub mod Frames
-pub mod Keys
+-- ---- For pss.rt
 pub mod Masks
+-- ---- For several files
+pub mod Keys
 pub mod Salts

@@ -1,4 +1,4 @@
--- What the verifiers of this crate mean.
+-- The meanings of this crate's verifiers.
 use Rattle.std.specs.Prelude.{ℕ, Bool, true, false, ◌||◌, List}
 use Rattle.jwt_mac.specs.declared.algorithm.Alg.{Alg}
 use Rattle.jwt_mac.specs.declared.algorithm.Alg.TheVariants.{RS256, RS384, RS512, PS256, PS384, PS512}

@@ -6,12 +6,12 @@ use std::marker::Model;
 
 // A digest, at most 64 octets. Contracts see it as the list of its octets.
 #[derive(Drop)]
-pub struct Digest {
+pub struct HashDigest {
     octets: [u8; 64],
     len: usize,
 }
 
-impl Model for Digest {
+impl Model for HashDigest {
     ghost Value = { List ℕ };
 
     ghost view = { λ d. take d.len d.octets };
@@ -19,7 +19,7 @@ impl Model for Digest {
     ghost invariant = { λ d. d.len ≤ 64 };
 }
 
-impl Digest {
+impl HashDigest {
     /// The digest's octets, in order.
     pub fn octets(&self) -> &[u8]
         ensures is { result.now ≡ self.now }
@@ -29,13 +29,13 @@ impl Digest {
     }
 
     /// A digest of these octets.
-    pub fn of(octets: &[u8]) -> Digest
+    pub fn of(octets: &[u8]) -> HashDigest
         requires { length octets.now ≤ 64 }
         ensures { result ≡ octets.now }
     {
         let mut room = [0u8; 64];
         room[..octets.len()].copy_from_slice(octets);
-        Digest {
+        HashDigest {
             octets: room,
             len: octets.len(),
         }

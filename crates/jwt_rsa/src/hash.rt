@@ -3,7 +3,7 @@
 ghost use Rattle.std.specs.Prelude.{◌≡◌, ◌≤◌, length};
 ghost use Rattle.jwt_mac.specs.Hmac.{all_octets};
 
-use crate::digest::Digest;
+use crate::digest::HashDigest;
 use jwt_mac::{sha256, sha384, sha512};
 
 /// A hash function of SHA-2 (FIPS 180-4).
@@ -38,14 +38,14 @@ impl Hash {
 
     /// The digest of the octets that the parts make, joined.
     #[tactic(auto, unfolding(crate::specs::Hashing::digest_of))]
-    pub fn digest(self, parts: [&[u8]; 3]) -> Digest
+    pub fn digest(self, parts: [&[u8]; 3]) -> HashDigest
         ensures is { result ≡ digest_of self (all_octets parts.entry) }
         ensures size { length result ≡ digest_size self }
     {
         match self {
-            Hash::Sha256 => Digest::of(&sha256(parts)),
-            Hash::Sha384 => Digest::of(&sha384(parts)),
-            Hash::Sha512 => Digest::of(&sha512(parts)),
+            Hash::Sha256 => HashDigest::of(&sha256(parts)),
+            Hash::Sha384 => HashDigest::of(&sha384(parts)),
+            Hash::Sha512 => HashDigest::of(&sha512(parts)),
         }
     }
 

@@ -3,7 +3,7 @@
 use crate::told::told_by;
 use hex::decode;
 use jwt_ecdsa::{Ecdsa, verifies_es256, verifies_es384, verifies_es512};
-use jwt_mac::{Alg, Answer, Curve, KeyView, Message, Verifier};
+use jwt_mac::{Alg, Answer, EcCurve, KeyView, Message, Verifier};
 use jwt_verify::SigState;
 use std::alloc::{AllocError, Global};
 use std::process::Abort;
@@ -376,7 +376,7 @@ static ES512_SIGNATURES: [Row; 6] = [
     },
 ];
 
-/// What ES256 refuses, part 1. OpenSSL refuses it too, but for lengths, which it isn't told.
+/// What ES256 refuses, part 1. OpenSSL refuses it too; lengths aren't told to it.
 static ES256_OTHERS_1: [Row; 13] = [
     Row {
         shows: "key 1, one bit of the signature changed",
@@ -484,7 +484,7 @@ static ES256_OTHERS_1: [Row; 13] = [
     },
 ];
 
-/// What ES256 refuses, part 2. OpenSSL refuses it too, but for lengths, which it isn't told.
+/// What ES256 refuses, part 2. OpenSSL refuses it too; lengths aren't told to it.
 static ES256_OTHERS_2: [Row; 13] = [
     Row {
         shows: "key 5, one octet more in the message",
@@ -592,7 +592,7 @@ static ES256_OTHERS_2: [Row; 13] = [
     },
 ];
 
-/// What ES256 refuses, part 3. OpenSSL refuses it too, but for lengths, which it isn't told.
+/// What ES256 refuses, part 3. OpenSSL refuses it too; lengths aren't told to it.
 static ES256_OTHERS_3: [Row; 13] = [
     Row {
         shows: "the last sum is infinity",
@@ -700,7 +700,7 @@ static ES256_OTHERS_3: [Row; 13] = [
     },
 ];
 
-/// What ES256 refuses, part 4. OpenSSL refuses it too, but for lengths, which it isn't told.
+/// What ES256 refuses, part 4. OpenSSL refuses it too; lengths aren't told to it.
 static ES256_OTHERS_4: [Row; 11] = [
     Row {
         shows: "ES256, a digest of another hash",
@@ -792,7 +792,7 @@ static ES256_OTHERS_4: [Row; 11] = [
     },
 ];
 
-/// What ES384 refuses, part 1. OpenSSL refuses it too, but for lengths, which it isn't told.
+/// What ES384 refuses, part 1. OpenSSL refuses it too; lengths aren't told to it.
 static ES384_OTHERS_1: [Row; 12] = [
     Row {
         shows: "ES384, r = 0",
@@ -984,7 +984,7 @@ static ES384_OTHERS_2: [Row; 11] = [
     },
 ];
 
-/// What ES512 refuses, part 1. OpenSSL refuses it too, but for lengths, which it isn't told, and coordinates of p or more.
+/// What ES512 refuses, part 1. OpenSSL refuses it too, coordinates of p or more aside; lengths aren't told to it.
 static ES512_OTHERS_1: [Row; 14] = [
     Row {
         shows: "ES512, r = 0",
@@ -1100,7 +1100,7 @@ static ES512_OTHERS_1: [Row; 14] = [
     },
 ];
 
-/// What ES512 refuses, part 2. OpenSSL refuses it too, but for lengths, which it isn't told, and coordinates of p or more.
+/// What ES512 refuses, part 2. OpenSSL refuses it too, coordinates of p or more aside; lengths aren't told to it.
 static ES512_OTHERS_2: [Row; 13] = [
     Row {
         shows: "ES512, a digest of another hash",
@@ -1423,7 +1423,7 @@ fn answer_by(alg: Alg, key: &KeyView, signature: &[u8]) -> Answer {
 }
 
 /// What it answers where that key is said to be of a curve.
-fn answer_on(alloc: Global, alg: Alg, curve: Curve) -> Result<Answer, Fail> {
+fn answer_on(alloc: Global, alg: Alg, curve: EcCurve) -> Result<Answer, Fail> {
     let x = decode(alloc, A3.x.as_bytes())?;
     let y = decode(alloc, A3.y.as_bytes())?;
     let signature = decode(alloc, A3.signature.as_bytes())?;
@@ -1442,10 +1442,10 @@ fn answer_on(alloc: Global, alg: Alg, curve: Curve) -> Result<Answer, Fail> {
 #[test]
 fn it_takes_the_curve_of_the_algorithm(rt: HostRuntime) -> Result<(), Fail> {
     let alloc = rt.alloc();
-    assert!(rt; answer_on(alloc, Alg::ES256, Curve::P256)? == Answer::Valid);
-    assert!(rt; answer_on(alloc, Alg::ES256, Curve::P384)? == Answer::Invalid);
-    assert!(rt; answer_on(alloc, Alg::ES384, Curve::P256)? == Answer::Invalid);
-    assert!(rt; answer_on(alloc, Alg::RS256, Curve::P256)? == Answer::Invalid);
+    assert!(rt; answer_on(alloc, Alg::ES256, EcCurve::P256)? == Answer::Valid);
+    assert!(rt; answer_on(alloc, Alg::ES256, EcCurve::P384)? == Answer::Invalid);
+    assert!(rt; answer_on(alloc, Alg::ES384, EcCurve::P256)? == Answer::Invalid);
+    assert!(rt; answer_on(alloc, Alg::RS256, EcCurve::P256)? == Answer::Invalid);
     Ok(())
 }
 

@@ -1,4 +1,4 @@
-//! What is told of a token that one verifier judges.
+//! One line of words for a token that one verifier judges.
 
 use jwt_keys::KeySet;
 use jwt_mac::{CountDown, Verifier};

@@ -1,4 +1,4 @@
--- What the verifiers of the tests mean.
+-- The meanings of the tests' verifiers.
 use Rattle.std.specs.Prelude.{Bool, false, ◌&&◌, List, ℕ}
 use Rattle.std.specs.Str.{bytes_eq}
 use Rattle.jwt_mac.specs.declared.algorithm.Alg.{Alg}

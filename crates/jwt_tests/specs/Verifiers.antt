@@ -1,4 +1,4 @@
--- What the verifiers of single tests mean.
+-- The meanings of the verifiers of single tests.
 use Rattle.std.specs.Prelude.{Bool, true, false}
 use Rattle.jwt_mac.specs.declared.algorithm.Alg.{Alg}
 use Rattle.jwt_mac.specs.declared.algorithm.Alg.TheVariants.{RS256, PS256}

@@ -1,6 +1,6 @@
 //! Key sets.
 use jwt_keys::{Key, KeySet, KeysFault, Skip, SkipReason};
-use jwt_mac::{Curve, EdCurve, KeyView};
+use jwt_mac::{EcCurve, EdCurve, KeyView};
 use jwt_support::examples::{RSA_THUMBPRINT, key_set};
 use jwt_support::texts::repeated;
 use std::alloc::Global;
@@ -407,7 +407,7 @@ fn view_name(key: &Key) -> &'static str {
         KeyView::Oct { .. } => "oct",
         KeyView::Rsa { n, e } if n.len() == 256 && e.len() == 3 => "RSA",
         KeyView::Ec {
-            curve: Curve::P256,
+            curve: EcCurve::P256,
             x,
             y,
         } if x == y => "P-256",

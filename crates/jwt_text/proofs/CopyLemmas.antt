@@ -11,7 +11,8 @@ use Rattle.jwt_text.specs.declared.store.Store.{Store}
 use Rattle.jwt_text.specs.Flat.{piece, text_of, members_from, node_data, members_data, entry_names, IsText, Each, AreEntries, IsNode, run_of, IsRun}
 use Rattle.jwt_text.specs.Growth.{AddsText, AddsNodes, AddsEntries}
 use Rattle.jwt_text.specs.Reads.{pair}
-use Rattle.jwt_text.specs.Copies.{CopiesNode, CopiesNodes, CopiesPairs, CopiesEntries}
+use Rattle.jwt_text.specs.Copies.{CopiesNode, CopiesNodes, CopiesEntries}
+use Rattle.jwt_text.proofs.CopyInvariants.{CopiesPairs}
 use Rattle.jwt_text.proofs.Levels.{each_same, each_from, text_level}
 use Rattle.jwt_text.proofs.GrowthLemmas.{extends_itself, extends_further, entries_keep, node_keeps, node_stays, text_stays, IsText_stays}
 use Rattle.jwt_text.proofs.ReadTurns.{map_append, each_append, pairs_stay, each_stays}

@@ -16,7 +16,8 @@ use Rattle.jwt_text.specs.declared.node.Span.{Span}
 use Rattle.jwt_text.specs.declared.store.Store.{Store}
 use Rattle.jwt_text.specs.Flat.{text_of, node_data, IsText, Each, IsNode, run_of}
 use Rattle.jwt_text.specs.Growth.{Extends, AddsText, AddsNodes}
-use Rattle.jwt_text.specs.Reads.{ReadsNode, ReadsItems, items_before, ItemsTo, ItemsSoFar, put_all, pair, entries_of, MembersTo, MembersSoFar}
+use Rattle.jwt_text.specs.Reads.{ReadsNode, ReadsItems, pair}
+use Rattle.jwt_text.proofs.ReadInvariants.{items_before, ItemsTo, ItemsSoFar, put_all, entries_of, MembersTo, MembersSoFar}
 use Rattle.jwt_text.proofs.Levels.{each_same, each_from}
 use Rattle.jwt_text.proofs.GrowthLemmas.{extends_itself, extends_further, text_stays, IsText_stays, node_keeps, node_stays}
 

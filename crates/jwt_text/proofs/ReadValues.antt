@@ -19,7 +19,8 @@ use Rattle.jwt_text.specs.declared.store.Store.{Store}
 use Rattle.jwt_text.specs.Kinds.{num_of, node_of}
 use Rattle.jwt_text.specs.Flat.{piece, text_of, members_from, node_data, members_data, entry_names, IsText, AreEntries, IsNode}
 use Rattle.jwt_text.specs.Growth.{Extends, AddsText, AddsEntries}
-use Rattle.jwt_text.specs.Reads.{ReadsNode, ReadsItems, ReadsMembers, pair, MembersSoFar}
+use Rattle.jwt_text.specs.Reads.{ReadsNode, ReadsItems, ReadsMembers, pair}
+use Rattle.jwt_text.proofs.ReadInvariants.{MembersSoFar}
 use Rattle.jwt_text.proofs.Seen.{names-data}
 use Rattle.jwt_text.proofs.GrowthLemmas.{extends_itself, extends_further, entries_keep, node_keeps, node_stays}
 use Rattle.jwt_text.proofs.ReadTurns.{pairs_stay}

@@ -17,7 +17,7 @@ use Rattle.jwt_text.specs.Members.{has, member_names, AreInOrder}
 use Rattle.jwt_text.specs.ObjectText.{entries, members_entries}
 use Rattle.jwt_text.proofs.OrderLemmas.{put_in_order, none_in_order}
 use Rattle.jwt_text.specs.Flat.{members_from, Each}
-use Rattle.jwt_text.specs.Reads.{put_all, entries_of}
+use Rattle.jwt_text.proofs.ReadInvariants.{put_all, entries_of}
 
 abbrev Pair : Type 0
 Pair = List ℕ × Data

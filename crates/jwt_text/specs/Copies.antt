@@ -1,6 +1,6 @@
--- What copying from a store into another does. Only private clauses cite it.
+-- The effect of copying from a store into another.
 use Rattle.std.specs.Prelude.{◌≡◌, ℕ, List, map}
-use Rattle.jwt_text.specs.Flat.{node_data, IsText, Each, AreEntries, IsNode}
+use Rattle.jwt_text.specs.Flat.{node_data, Each, AreEntries, IsNode}
 use Rattle.jwt_text.specs.Growth.{Extends}
 use Rattle.jwt_text.specs.Reads.{pair}
 use Rattle.jwt_text.specs.declared.node.Entry.{Entry}
@@ -15,11 +15,6 @@ pub record CopiesNode (depth : ℕ) (source : Store) (node : Node) (before after
 pub record CopiesNodes (depth : ℕ) (source : Store) (nodes : List Node) (before after : Store) (copies : List Node) : Type 0 where
   pub is : map (node_data depth after) copies ≡ map (node_data depth source) nodes
   pub holds : Each (IsNode depth after) copies
-  pub grows : Extends before after
-
-pub record CopiesPairs (depth : ℕ) (source : Store) (entries : List Entry) (before after : Store) (copies : List Entry) : Type 0 where
-  pub is : map (pair depth after) copies ≡ map (pair depth source) entries
-  pub holds : Each (λ e. IsText after e.name × IsNode depth after e.node) copies
   pub grows : Extends before after
 
 pub record CopiesEntries (depth : ℕ) (source : Store) (entries : List Entry) (before after : Store) (copies : List Entry) : Type 0 where

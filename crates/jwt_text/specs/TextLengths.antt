@@ -1,4 +1,4 @@
--- How long the names and the texts in a value are.
+-- The lengths of the names and the texts in a value.
 use Rattle.std.specs.Prelude.{ℕ, ◌+◌, length}
 use Rattle.serde_json.specs.Data.{Data, null, boolean, number, string, array, object, Items, no_items, item, Members, no_members, member}
 

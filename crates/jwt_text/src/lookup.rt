@@ -1,4 +1,4 @@
-//! What the entries of an object and the nodes of a list hold.
+//! The values in the entries of an object and the nodes of a list.
 ghost use Rattle.std.specs.Prelude.{◌≡◌, map, option_map, IfSome};
 ghost use Rattle.std.specs.List.{list_any};
 ghost use Rattle.serde_json.specs.Find.{get_member};

@@ -1,4 +1,4 @@
-//! What the flat lists hold.
+//! The elements of the flat lists.
 ghost use Rattle.std.specs.Prelude.{◌≡◌};
 ghost use Rattle.jwt_text.specs.Kinds.{as_flag, as_whole, is_numeric, as_text, as_list, as_entries};
 

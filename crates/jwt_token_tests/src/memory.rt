@@ -7,7 +7,7 @@ use jwt_memory::{Memory, judge_told};
 use jwt_policy::{ClaimFault, Policy};
 use jwt_support::examples::{HS256, KEYS_A2, NOW, TOKEN_A2, filled};
 use jwt_text::Scratch;
-use jwt_told::{Answers, Question, read_token};
+use jwt_told::{Answers, OpenPair, read_token};
 use jwt_verify::{Fault, Verdict};
 use std::alloc::Global;
 use std::num::NonZeroUsize;
@@ -189,7 +189,7 @@ fn a_token_that_comes_again_is_judged_by_its_claims(rt: HostRuntime) -> Result<(
     Ok(())
 }
 
-/// What is made of the token of RFC 7515, appendix A.2, by a memory and what was told.
+/// The outcome of the token of RFC 7515, appendix A.2, by a memory and the caller's answers.
 fn word_by(
     alloc: Global,
     memory: &mut Memory,
@@ -224,19 +224,12 @@ fn tell_valid(
     answers: &mut Answers,
 ) -> Result<(), Fail> {
     let signed = read_token(alloc, TOKEN_A2.as_bytes(), policy)?.ok_or("no token")?;
-    let first = Question {
+    let first = OpenPair {
         signature: 0,
         key: 0,
     };
-    let asked = first.about(&signed, keys).ok_or("no question")?;
-    answers.tell(
-        alloc,
-        asked.alg,
-        &asked.key,
-        asked.message,
-        asked.signature,
-        true,
-    )?;
+    let question = first.about(&signed, keys).ok_or("no question")?;
+    answers.tell(alloc, &question, true)?;
     Ok(())
 }
 

@@ -5,7 +5,7 @@ use jwt_mac::{Alg, KeyView};
 use jwt_policy::{Policy, SigFault};
 use jwt_support::examples::{KEYS_A2, NOW, TOKEN_A2};
 use jwt_text::Scratch;
-use jwt_told::{Answers, Asked, Asking, Question, judge_told, read_token};
+use jwt_told::{Answers, Asking, OpenPair, Question, judge_told, read_token};
 use jwt_verify::{Fault, Report, Verdict};
 use std::alloc::Global;
 use std::test::Fail;
@@ -75,8 +75,8 @@ fn word_of(judged: &Result<Report<'_>, Asking>) -> &'static str {
             Verdict::Refused(Fault::Signature(0, SigFault::BadSignature)) => "bad signature",
             Verdict::Refused(_) => "another fault",
         },
-        Err(asking) => match asking.question {
-            Question {
+        Err(asking) => match asking.pair {
+            OpenPair {
                 signature: 0,
                 key: 0,
             } if asking.tries.len() == 1 => "asks",
@@ -86,17 +86,17 @@ fn word_of(judged: &Result<Report<'_>, Asking>) -> &'static str {
 }
 
 /// This key, or another.
-fn key_of<'a>(asked: &Asked<'a>, same: bool) -> KeyView<'a> {
+fn key_of<'a>(question: &Question<'a>, same: bool) -> KeyView<'a> {
     if same {
-        asked.key
+        question.key
     } else {
         KeyView::Rsa { n: &[1], e: &[3] }
     }
 }
 
 /// The octets of this signature, or others.
-fn octets_of<'a>(asked: &Asked<'a>, same: bool) -> &'a [u8] {
-    if same { asked.signature } else { &[] }
+fn octets_of<'a>(question: &Question<'a>, same: bool) -> &'a [u8] {
+    if same { question.signature } else { &[] }
 }
 
 /// Tells what the case has of the first signature of the token and the first key.
@@ -111,14 +111,18 @@ fn tell(
         return Ok(());
     };
     let signed = read_token(alloc, TOKEN_A2.as_bytes(), policy)?.ok_or("no token")?;
-    let first = Question {
+    let first = OpenPair {
         signature: 0,
         key: 0,
     };
-    let asked = first.about(&signed, keys).ok_or("no question")?;
-    let key = key_of(&asked, case.same_key);
-    let octets = octets_of(&asked, case.same_signature);
-    answers.tell(alloc, case.alg, &key, asked.message, octets, valid)?;
+    let question = first.about(&signed, keys).ok_or("no question")?;
+    let of_the_case = Question {
+        alg: case.alg,
+        key: key_of(&question, case.same_key),
+        message: question.message,
+        signature: octets_of(&question, case.same_signature),
+    };
+    answers.tell(alloc, &of_the_case, valid)?;
     Ok(())
 }
 

@@ -63,7 +63,7 @@ fn two_runs(alloc: Global, case: &Case) -> usize {
     weight(judged.as_deref(), case.gives).saturating_add(weight(read.as_deref(), case.gives))
 }
 
-/// Cases in each of which a run allocates in its own way.
+/// Cases in which a run allocates in its own way each.
 static GROWING: [Case; 7] = [
     ACCEPTED,
     TWO_KEYS,
@@ -199,7 +199,7 @@ fn unrefused_at(alloc: Global, keys: &KeySet, policy: &Policy, place: usize) -> 
     None
 }
 
-/// The first octet with a change of which the token isn't refused after at most one try, where there is one.
+/// The first octet whose change leaves the token accepted, or costs more than one try, where there is one.
 fn unrefused(alloc: Global) -> Result<Option<usize>, Fail> {
     let keys = key_set(alloc, r#"{"kty":"oct","k":"<KEY_A>"}"#)?;
     let policy = Policy::read(alloc, HS256.as_bytes())

@@ -17,8 +17,8 @@ use Rattle.jwt_verify.specs.Asks.{AtPair, IsToken}
 use Rattle.jwt_verify.specs.Accepted.{IsVerdict}
 use Rattle.jwt_verify.specs.Reports.{FoundMemory, IsReport}
 use Rattle.jwt_verify.specs.Verdict.{Terms}
-use Rattle.jwt_told.specs.declared.questions.Asked.{Asked}
-use Rattle.jwt_told.specs.declared.told.AskedCopy.{AskedCopy}
+use Rattle.jwt_told.specs.declared.questions.Question.{Question}
+use Rattle.jwt_told.specs.declared.told.OwnedQuestion.{OwnedQuestion}
 use Rattle.jwt_told.specs.Told.{ToldParts, Truth, AreRight, told_meaning, true_meaning, answer_to, key_view}
 
 -- a question about a signature: whether the key made it over the message by the algorithm
@@ -28,11 +28,11 @@ pub record QuestionParts : Type 0 where
   pub message : MessageOctets
   pub signature : List ℕ
 
-abbrev pub question_parts : Asked → QuestionParts
-question_parts asked = record { alg = asked.alg; key = key_octets asked.key; message = message_octets asked.message; signature = asked.signature.now }
+abbrev pub question_parts : Question → QuestionParts
+question_parts question = record { alg = question.alg; key = key_octets question.key; message = message_octets question.message; signature = question.signature.now }
 
 -- that of a copy
-unfoldable pub kept_parts : AskedCopy → QuestionParts
+unfoldable pub kept_parts : OwnedQuestion → QuestionParts
 kept_parts copy = record { alg = copy.alg; key = key_view copy.key; message = record { protected = (arc_value copy.protected).items; payload = (arc_value copy.payload).items }; signature = (arc_value copy.signature).items }
 
 -- the question with an answer
@@ -45,22 +45,6 @@ question_of token signature key = option_map (λ a. record { alg = a; key = key.
 -- the question whether the key made the signature of the token, by their numbers; none where one of them isn't there, or the algorithm isn't known
 unfoldable pub question_at : Token → List KeyParts → ℕ → ℕ → Option QuestionParts
 question_at token keys signature key = at_pair (question_of token) None token keys signature key
-
--- by this algorithm no answer was told to whether the key made the signature over the message; HMAC needs none
-abbrev pub is_untold : List ToldParts → Token → SignatureParts → KeyParts → Alg → Bool
-is_untold answers token signature key algorithm = not (is_hmac_alg algorithm) && is_none (answer_to answers algorithm key.octets (message_of token signature) signature.octets)
-
--- the key and the signature of these numbers raise a question that no answer was told to
-unfoldable pub is_open : List ToldParts → Token → List KeyParts → ℕ → ℕ → Bool
-is_open answers token keys signature key = at_pair (λ s k. option_map_or (is_untold answers token s k) (alg s) false) false token keys signature key
-
--- the question of a try is open
-abbrev pub asks_open : List ToldParts → Token → List KeyParts → Try → Bool
-asks_open answers token keys entry = is_open answers token keys entry.signature entry.key
-
--- the first of these tries whose question is open
-abbrev pub first_open : List ToldParts → Token → List KeyParts → List Try → Option Try
-first_open answers token keys made = find (asks_open answers token keys) made
 
 -- the octets are a token, and whether the key verifies the signature is a question that no answer was told to
 abbrev pub IsOpen : List ToldParts → Settings → List ℕ → List KeyParts → ℕ → ℕ → Type 0
@@ -80,6 +64,8 @@ IsFirstOpen answers policy octets keys made signature key = (before after : List
 abbrev pub AreTries : Terms → List ℕ → ℕ → List Try → Type 0
 AreTries terms octets ceiling made = (report : Report) × IsReport terms octets ceiling report × FoundMemory report.verdict × (report.tries.items ≡ made)
 
+-- ---- Cited by laws alone
+
 -- all that a verdict rests on but the token and the budget's ceiling, where this is the one verifier
 abbrev pub terms_by : Meaning → Settings → List KeyParts → ℤ → Terms
 terms_by verifier policy keys now = record { policy = policy; keys = keys; now = now; verifiers = verifier ∷ [] }
@@ -91,3 +77,21 @@ RightAnswers = (answers : List ToldParts) (truth : Truth) (policy : Settings) (k
     → AreRight truth answers → IsReport (terms_by (told_meaning answers) policy keys now) octets ceiling report → FoundMemory report.verdict
     → NoneOpen answers policy octets keys report.tries.items
     → IsVerdict (terms_by (true_meaning truth) policy keys now) octets ceiling report.verdict
+
+-- ---- Cited by contracts of private functions alone
+
+-- by this algorithm no answer was told to whether the key made the signature over the message; HMAC needs none
+abbrev pub is_untold : List ToldParts → Token → SignatureParts → KeyParts → Alg → Bool
+is_untold answers token signature key algorithm = not (is_hmac_alg algorithm) && is_none (answer_to answers algorithm key.octets (message_of token signature) signature.octets)
+
+-- the key and the signature of these numbers raise a question that no answer was told to
+unfoldable pub is_open : List ToldParts → Token → List KeyParts → ℕ → ℕ → Bool
+is_open answers token keys signature key = at_pair (λ s k. option_map_or (is_untold answers token s k) (alg s) false) false token keys signature key
+
+-- the question of a try is open
+abbrev pub asks_open : List ToldParts → Token → List KeyParts → Try → Bool
+asks_open answers token keys entry = is_open answers token keys entry.signature entry.key
+
+-- the first of these tries whose question is open
+abbrev pub first_open : List ToldParts → Token → List KeyParts → List Try → Option Try
+first_open answers token keys made = find (asks_open answers token keys) made

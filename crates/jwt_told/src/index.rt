@@ -6,19 +6,20 @@ ghost use Rattle.std.specs.Arc.{arc_value};
 ghost use Rattle.std.specs.Vec.{vec_len, vec_capacity};
 ghost use Rattle.jwt_mac.specs.Verifying.{key_octets, message_octets};
 ghost use Rattle.jwt_told.specs.Parts.{told_view, views};
-ghost use Rattle.jwt_told.specs.Ranks.{rank, told_rank, key_kind, key_first, key_second, order_of, octets_cmp, Rises, IsFoundAt, IsGapFor, IsAdded};
+ghost use Rattle.jwt_told.specs.Ranks.{rank, told_rank, key_kind, order_of, octets_cmp, Rises, IsFoundAt, IsGapFor, IsAdded};
 
-use crate::questions::Asked;
-use crate::told::Told;
-use jwt_mac::{Curve, EdCurve, KeyView};
+use crate::members::{first_member, second_member};
+use crate::questions::Question;
+use crate::told::Answered;
+use jwt_mac::{EcCurve, EdCurve, KeyView};
 use std::alloc::{AllocError, Global};
 use std::cmp::Ordering;
 use std::sync::Arc;
 
 /// Answers in the order of their questions. None is to the question of another.
 #[derive(Drop)]
-pub struct Index {
-    pub(crate) answers: Vec<Arc<Told>>,
+pub struct AnswerIndex {
+    pub(crate) answers: Vec<Arc<Answered>>,
     ghost rising: { Rises (views answers.items) },
 }
 
@@ -30,38 +31,14 @@ fn kind(key: &KeyView) -> &'static str
         KeyView::Oct { .. } => "oct",
         KeyView::Rsa { .. } => "RSA",
         KeyView::Ec { curve, .. } => match curve {
-            Curve::P256 => "P-256",
-            Curve::P384 => "P-384",
-            Curve::P521 => "P-521",
+            EcCurve::P256 => "P-256",
+            EcCurve::P384 => "P-384",
+            EcCurve::P521 => "P-521",
         },
         KeyView::Okp { curve, .. } => match curve {
             EdCurve::Ed25519 => "Ed25519",
             EdCurve::Ed448 => "Ed448",
         },
-    }
-}
-
-/// A key's first member.
-fn first<'a>(key: &KeyView<'a>) -> &'a [u8]
-    ensures { result.now ≡ key_first (key_octets key.now) }
-{
-    match key {
-        KeyView::Oct { k } => k,
-        KeyView::Rsa { n, .. } => n,
-        KeyView::Ec { x, .. } => x,
-        KeyView::Okp { x, .. } => x,
-    }
-}
-
-/// A key's second member; of a secret and of an OKP key none.
-fn second<'a>(key: &KeyView<'a>) -> &'a [u8]
-    ensures { result.now ≡ key_second (key_octets key.now) }
-{
-    match key {
-        KeyView::Oct { .. } => &[],
-        KeyView::Rsa { e, .. } => e,
-        KeyView::Ec { y, .. } => y,
-        KeyView::Okp { .. } => &[],
     }
 }
 
@@ -86,14 +63,14 @@ fn next(before: Ordering, a: &[u8], b: &[u8]) -> Ordering
 /// The order of two questions. The front of the signature tells most of them apart, then the key does, whose octets are no
 /// stranger's. All of the signature, and the texts that a token's questions share, are compared only where all else is equal.
 #[tactic(auto, unfolding(crate::specs::Ranks::order_of))]
-fn order(a: &Asked<'_>, b: &Asked<'_>) -> Ordering
+fn order(a: &Question<'_>, b: &Question<'_>) -> Ordering
     ensures { result ≡ order_of
         (rank a.now.alg (key_octets a.now.key) (message_octets a.now.message) a.now.signature.now)
         (rank b.now.alg (key_octets b.now.key) (message_octets b.now.message) b.now.signature.now) }
 {
     let by_front = front(a.signature).cmp(&front(b.signature));
-    let by_first = next(by_front, first(&a.key), first(&b.key));
-    let by_second = next(by_first, second(&a.key), second(&b.key));
+    let by_first = next(by_front, first_member(&a.key), first_member(&b.key));
+    let by_second = next(by_first, second_member(&a.key), second_member(&b.key));
     let by_kind = next(by_second, kind(&a.key).as_bytes(), kind(&b.key).as_bytes());
     let by_alg = next(by_kind, a.alg.text().as_bytes(), b.alg.text().as_bytes());
     let by_signature = next(by_alg, a.signature, b.signature);
@@ -101,39 +78,39 @@ fn order(a: &Asked<'_>, b: &Asked<'_>) -> Ordering
     next(by_header, a.message.payload, b.message.payload)
 }
 
-impl Told {
+impl Answered {
     /// How its question stands to another.
     #[tactic(auto, unfolding(crate::specs::Parts::told_view, crate::specs::Questions::kept_parts))]
-    fn against(&self, asked: &Asked<'_>) -> Ordering
+    fn against(&self, question: &Question<'_>) -> Ordering
         ensures { result ≡ order_of (told_rank (told_view self.now))
-            (rank asked.now.alg (key_octets asked.now.key) (message_octets asked.now.message) asked.now.signature.now) }
+            (rank question.now.alg (key_octets question.now.key) (message_octets question.now.message) question.now.signature.now) }
     {
-        order(&self.asked.asked(), asked)
+        order(&self.question.lent(), question)
     }
 }
 
-impl Index {
+impl AnswerIndex {
     /// No answers. It takes no memory.
-    pub(crate) fn new(alloc: Global) -> Index
+    pub(crate) fn new(alloc: Global) -> AnswerIndex
         ensures { result.answers.items ≡ [] }
     {
-        Index {
+        AnswerIndex {
             answers: Vec::new(alloc),
         }
     }
 
     /// Where the answer to a question stands, or where it would.
-    pub(crate) fn place(&self, asked: &Asked<'_>) -> Result<usize, usize>
+    pub(crate) fn place(&self, question: &Question<'_>) -> Result<usize, usize>
         ensures found { IfOk result (IsFoundAt (views self.now.answers.items)
-            (rank asked.now.alg (key_octets asked.now.key) (message_octets asked.now.message) asked.now.signature.now)) }
+            (rank question.now.alg (key_octets question.now.key) (message_octets question.now.message) question.now.signature.now)) }
         ensures absent { IfErr result (IsGapFor (views self.now.answers.items)
-            (rank asked.now.alg (key_octets asked.now.key) (message_octets asked.now.message) asked.now.signature.now)) }
+            (rank question.now.alg (key_octets question.now.key) (message_octets question.now.message) question.now.signature.now)) }
     {
         self.answers.binary_search_by(
-            |answer: &Arc<Told>| -> Ordering
+            |answer: &Arc<Answered>| -> Ordering
                 ensures { result ≡ order_of (told_rank (told_view (arc_value answer.now)))
-                    (rank asked.entry.now.alg (key_octets asked.entry.now.key) (message_octets asked.entry.now.message) asked.entry.now.signature.now) }
-            { answer.against(asked) },
+                    (rank question.entry.now.alg (key_octets question.entry.now.key) (message_octets question.entry.now.message) question.entry.now.signature.now) }
+            { answer.against(question) },
         )
     }
 
@@ -149,11 +126,11 @@ impl Index {
     }
 
     /// Puts an answer in its place, unless its question is answered already; whether it did. There is room for it.
-    pub(crate) fn add(&mut self, answer: Arc<Told>) -> bool
+    pub(crate) fn add(&mut self, answer: Arc<Answered>) -> bool
         requires room { vec_len self.old.answers < vec_capacity self.old.answers }
         ensures { IsAdded (views self.old.answers.items) (told_view (arc_value answer)) result (views self.new.answers.items) }
     {
-        match self.place(&answer.asked.asked()) {
+        match self.place(&answer.question.lent()) {
             Ok(_) => false,
             Err(at) => self.answers.insert(at, answer).is_ok(),
         }
@@ -163,16 +140,19 @@ impl Index {
     ///
     /// # Errors
     /// Where an allocation was refused.
-    pub(crate) fn copy(&self, alloc: Global) -> Result<Index, AllocError>
+    pub(crate) fn copy(&self, alloc: Global) -> Result<AnswerIndex, AllocError>
         ensures { IfOk result (λ i. views i.answers.items ≡ views self.now.answers.items) }
     {
         let answers = copied(alloc, &self.answers)?;
-        Ok(Index { answers })
+        Ok(AnswerIndex { answers })
     }
 }
 
 /// The same answers, shared.
-pub(crate) fn copied(alloc: Global, answers: &[Arc<Told>]) -> Result<Vec<Arc<Told>>, AllocError>
+pub(crate) fn copied(
+    alloc: Global,
+    answers: &[Arc<Answered>],
+) -> Result<Vec<Arc<Answered>>, AllocError>
     ensures { IfOk result (λ v. views v.items ≡ views answers.now) }
 {
     let mut shared = Vec::new(alloc);

@@ -15,14 +15,14 @@ ghost use Rattle.jwt_told.specs.Questions.{AreTries, IsFirstOpen, IsOpen, NoneOp
 
 use crate::answers::Answers;
 use crate::laws::right_answers;
-use crate::questions::{Asking, Question, first_open};
+use crate::questions::{Asking, OpenPair, first_open};
 use jwt_jws::Signed;
 use jwt_keys::KeySet;
 use jwt_mac::{Budget, CountDown, Verifier};
 use jwt_policy::Policy;
 use jwt_text::Scratch;
 use jwt_verify::laws::tells_tokens;
-use jwt_verify::{Fault, JudgedToken, Report, Try, Verdict, judge_signed};
+use jwt_verify::{Fault, JudgedToken, Report, Terms, Try, Verdict, judge_under};
 use std::alloc::{AllocError, Global};
 
 /// The same answers, shared, in a box.
@@ -63,8 +63,8 @@ fn found_memory(verdict: &Verdict<'_>) -> bool
 /// What is to be asked, where this try is the first of the report's whose question is open.
 fn asking<'a>(first: Try, report: Report<'_>, token: Signed<'a>) -> Asking<'a>
     ensures token { result.token ≡ token.entry }
-    ensures signature { result.question.signature ≡ first.signature }
-    ensures key { result.question.key ≡ first.key }
+    ensures signature { result.pair.signature ≡ first.signature }
+    ensures key { result.pair.key ≡ first.key }
     ensures tries { result.tries.items ≡ report.entry.tries.items }
 {
     let Report {
@@ -74,37 +74,34 @@ fn asking<'a>(first: Try, report: Report<'_>, token: Signed<'a>) -> Asking<'a>
     } = report;
     Asking {
         token,
-        question: Question::of(first),
+        pair: OpenPair::of(first),
         tries,
     }
 }
 
-/// The report on octets in hand by a verifier that means what was told, with the token.
-fn judge_under<'a, 'p>(
+/// The report on octets in hand under terms whose one verifier means what was told, with the token.
+fn judge_with<'a, 'p>(
     alloc: Global,
     octets: &'a [u8],
-    keys: &KeySet,
-    policy: &'p Policy,
-    now: i64,
+    given: &Terms<'_, 'p, '_>,
     answers: &Answers,
-    verifiers: &[Box<dyn Verifier>],
     budget: &mut CountDown,
     scratch: &mut Scratch,
 ) -> JudgedToken<'a, 'p>
-    requires one { map meaning verifiers.now ≡ told_meaning (told answers.now) ∷ [] }
+    requires one { map meaning given.now.verifiers.now ≡ told_meaning (told answers.now) ∷ [] }
     requires no_octets { ⟦<CountDown as Budget>⟧.octets budget.old ≡ 0 }
     requires no_calls { ⟦<CountDown as Budget>⟧.calls budget.old ≡ 0 }
     ensures report { IsReport
-        (terms policy.now keys.now now (told_meaning (told answers.now) ∷ []))
+        (terms given.now.policy.now given.now.keys.now given.now.moment (told_meaning (told answers.now) ∷ []))
         octets.now (⟦<CountDown as Budget>⟧.ceiling budget.old) result.report }
-    ensures token { IsReadAs policy.now octets.now result.report.verdict result.token }
-    ensures within { IsWithin policy.now.max_calls (⟦<CountDown as Budget>⟧.calls budget.new) }
+    ensures token { IsReadAs given.now.policy.now octets.now result.report.verdict result.token }
+    ensures within { IsWithin given.now.policy.now.max_calls (⟦<CountDown as Budget>⟧.calls budget.new) }
     ensures octets { ⟦<CountDown as Budget>⟧.octets budget.new ≡ work result.report.tries.items }
     ensures calls { ⟦<CountDown as Budget>⟧.calls budget.new ≡ length result.report.tries.items }
     ensures ceiling { ⟦<CountDown as Budget>⟧.ceiling budget.new
         ≡ ⟦<CountDown as Budget>⟧.ceiling budget.old }
 {
-    judge_signed(alloc, octets, keys, policy, now, verifiers, budget, scratch)
+    judge_under(alloc, octets, given, budget, scratch)
 }
 
 /// The report on octets in hand, where these answers, shared, are the one verifier, with the token.
@@ -135,9 +132,13 @@ fn judge_by<'a, 'p>(
         return nothing_tried(alloc);
     };
     let verifiers: [Box<dyn Verifier>; 1] = [shared];
-    judge_under(
-        alloc, octets, keys, policy, now, answers, &verifiers, budget, scratch,
-    )
+    let given = Terms {
+        keys,
+        policy,
+        moment: now,
+        verifiers: &verifiers,
+    };
+    judge_with(alloc, octets, &given, answers, budget, scratch)
 }
 
 /// Judges a token in hand by what was told of signatures by public keys, or asks about a pair of which nothing was told.
@@ -199,10 +200,10 @@ pub fn judge_told<'a, 'p>(
         octets.now (⟦<CountDown as Budget>⟧.ceiling budget.old) a.tries.items) }
     ensures first { IfErr result (λ a. IsFirstOpen (told answers.now)
         policy.now octets.now (key_set keys.now).keys a.tries.items
-        a.question.signature a.question.key) }
+        a.pair.signature a.pair.key) }
     ensures question { IfErr result (λ a. IsOpen (told answers.now)
         policy.now octets.now (key_set keys.now).keys
-        a.question.signature a.question.key) }
+        a.pair.signature a.pair.key) }
 
     // It comes with the token.
     ensures token { IfErr result (λ a. token_of policy.now octets.now ≡ Ok (token a.token)) }

@@ -18,9 +18,9 @@ use std::random::RandomSource;
 use std::time::{SystemTime, UNIX_EPOCH};
 use std::{env, io};
 
-// The clock is read once, before anything else, and by `verify --lines` for each line. Standard input is read without a buffer, so
-// that exactly what the contract of `run_read` names is taken, and standard output is written without one, so that an answer is
-// out before the next line is waited for.
+/// The clock is read once, before anything else, and by `verify --lines` for each line. Standard input is read without a buffer, so
+/// that exactly what the contract of `run_read` names is taken, and standard output is written without one, so that an answer is
+/// out before the next line is waited for.
 fn main(rt: HostRuntime) -> ExitCode {
     let clock = moment(&rt);
     let mut r = Reader::new(rt.stdin());
@@ -35,8 +35,8 @@ fn main(rt: HostRuntime) -> ExitCode {
     }
 }
 
-// The moment that the system's clock says, in seconds since 1970-01-01T00:00:00Z; none where it can't be read, or is set before
-// that or later than a command can name.
+/// The moment that the system's clock says, in seconds since 1970-01-01T00:00:00Z; none where it can't be read, or is set before
+/// that or later than a command can name.
 fn moment(rt: &HostRuntime) -> Option<Moment> {
     let since = SystemTime::now(rt).ok()?.duration_since(UNIX_EPOCH).ok()?;
     Moment::new(since.as_secs())
@@ -57,7 +57,7 @@ impl Clock for System<'_> {
     }
 }
 
-// The first octets of a file, in pieces; none where none is named or it can't be read.
+/// The first octets of a file, in pieces; none where none is named or it can't be read.
 fn document(rt: &HostRuntime, name: Option<&str>, limit: u32) -> io::Result<Option<Intake>>
     requires least { 1 ≤ limit }
     requires greatest { limit ≤ GREATEST_LIMIT }
@@ -72,6 +72,7 @@ fn document(rt: &HostRuntime, name: Option<&str>, limit: u32) -> io::Result<Opti
     }
 }
 
+/// The octets of a document, where one was taken in.
 fn octets(document: &Option<Intake>) -> Option<&[u8]> {
     match document {
         Some(document) => Some(document.octets()),
@@ -79,7 +80,7 @@ fn octets(document: &Option<Intake>) -> Option<&[u8]> {
     }
 }
 
-// The files that the words name; wrong words name none.
+/// The files that the words name; wrong words name none.
 fn files_to_read<'a>(request: &Result<Request<'a>, WordsFault>) -> Files<'a> {
     match request {
         Ok(request) => files_in_request(*request),
@@ -87,7 +88,7 @@ fn files_to_read<'a>(request: &Result<Request<'a>, WordsFault>) -> Files<'a> {
     }
 }
 
-// How many octets of the file of a key are read: that of `mac`, or that of public keys of `jwk`.
+/// How many octets of the file of a key are read: that of `mac`, or that of public keys of `jwk`.
 fn key_limit(request: &Result<Request<'_>, WordsFault>) -> u32
     ensures least { 1 ≤ result }
     ensures greatest { result ≤ GREATEST_LIMIT }
@@ -98,8 +99,8 @@ fn key_limit(request: &Result<Request<'_>, WordsFault>) -> u32
     }
 }
 
-// Fills the octets that the words ask for from the system's random source; none where it fails. Nothing is asked of it where they ask
-// for none.
+/// Fills the octets that the words ask for from the system's random source; none where it fails. Nothing is asked of it where they ask
+/// for none.
 fn random<'a>(
     rt: &HostRuntime,
     request: &Result<Request<'_>, WordsFault>,
@@ -117,7 +118,7 @@ fn random<'a>(
     Some(asked)
 }
 
-// Reads the files that the words name, and runs the command with what they hold.
+/// Reads the files that the words name, and runs the command with what they hold.
 fn run_words<R: Source, W: Sink>(
     rt: &HostRuntime,
     clock: Option<Moment>,

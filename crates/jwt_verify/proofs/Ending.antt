@@ -13,18 +13,20 @@ use Rattle.jwt_verify.specs.declared.report.SigState.{SigState}
 use Rattle.jwt_verify.specs.declared.report.SigState.TheVariants.{NotReached, Stopped}
 use Rattle.jwt_verify.specs.declared.tries.RowEnd.TheVariants.{Through, Stop}
 use Rattle.jwt_verify.specs.declared.tries.Tried.TheVariants.{Verified as Valid, Failed, Stop as Halt}
-use Rattle.jwt_verify.specs.declared.settled.Settled.{Settled}
-use Rattle.jwt_verify.specs.declared.settled.Settled.TheVariants.{Verified, Barred, NoKey, BadSignature}
+use Rattle.jwt_verify.specs.declared.signature_outcome.SignatureOutcome.{SignatureOutcome}
+use Rattle.jwt_verify.specs.declared.signature_outcome.SignatureOutcome.TheVariants.{Verified, Barred, NoKey, BadSignature}
 use Rattle.jwt_verify.specs.declared.pair.Pair.{Pair}
-use Rattle.jwt_verify.specs.AskedTable.{Means}
+use Rattle.jwt_verify.specs.TermsTable.{Means}
 use Rattle.jwt_verify.specs.Pairs.{pair_entry, IsNextPair, IsTried}
-use Rattle.jwt_verify.specs.Settled.{is_verified, settled_key, settled_state}
+use Rattle.jwt_verify.specs.SignatureOutcome.{is_verified, outcome_key, outcome_state}
 use Rattle.jwt_verify.specs.declared.tries.End.TheVariants.{Done, WorkExceeded, CallsExceeded, VerifierMemory}
 use Rattle.jwt_verify.specs.Table.{Table, below, reached, entry, work, is_within, outcome, state_at, states_at}
-use Rattle.jwt_verify.specs.Walk.{state_of, IsAt, IsThrough, IsPending, IsEnd, IsRowEnd, IsRecorded, goes_on, IsNextKey, NoneEligible}
+use Rattle.jwt_verify.specs.Walk.{HasComeTo, IsThrough, IsEnd, IsRowEnd, IsRecorded, goes_on, IsNextKey, NoneEligible}
+use Rattle.jwt_verify.proofs.SignedBy.{state_of}
+use Rattle.jwt_verify.proofs.Pending.{IsPending}
 use Rattle.jwt_verify.specs.Paying.{IsFront}
 use Rattle.jwt_verify.proofs.Below.{length-below, map-below, map-agree, map-tail, list_any-gap}
-use Rattle.jwt_verify.specs.Table.{IsRun, paid}
+use Rattle.jwt_verify.specs.Table.{IsWholeRun, paid}
 use Rattle.jwt_verify.specs.Walk.{IsCounted, stopped_at}
 use Rattle.jwt_verify.proofs.Paying.{paid_all, paid_stop, paid_front}
 use Rattle.jwt_verify.proofs.Walking.{at_skip, at_failed, at_end, at_verified, at_pending, at_room, found_at, found_none, seen_at, reached_up_to, unreached_from, reached-next}
@@ -45,7 +47,7 @@ row_verified {t} {i} {j} {es} ceiling calls p b v =
     (at_verified t i j es p.at l p.eligible v, record { state = rw (b, found) refl; key = found })
 
 -- a try was paid: it did not
-pub row_failed : {t : Table} {i j : ℕ} {es : List Try} → IsPending t i j es → t.valid i j ≡ false → IsAt t i (j + 1) (es ++ entry t i j ∷ [])
+pub row_failed : {t : Table} {i j : ℕ} {es : List Try} → IsPending t i j es → t.valid i j ≡ false → HasComeTo t i (j + 1) (es ++ entry t i j ∷ [])
 row_failed {t} {i} {j} {es} p v = at_failed t i j es p.at p.eligible v
 
 -- a try was paid: its verifier found no memory
@@ -55,39 +57,39 @@ row_lacking {t} {i} {j} {es} ceiling calls p l lack =
     (((q.0, q.1 ∙ sym (append_assoc es (entry t i j ∷ []) q.0)), (es, refl), lack), p.at.reached, (j, refl))
 
 -- the next eligible key
-pub pending_next : {t : Table} {i from j : ℕ} {es : List Try} → IsAt t i from es → IsNextKey t i from j → IsPending t i j es
+pub pending_next : {t : Table} {i from j : ℕ} {es : List Try} → HasComeTo t i from es → IsNextKey t i from j → IsPending t i j es
 pending_next {t} {i} {from} {j} {es} a n =
     let after : from ≤ j = n.after in
     let e : from + (j - from) ≡ j = omega arith in
     record {
-      at = subst (λ k. IsAt t i k es) e (at_skip t i from (j - from) es a (λ m l r. n.least m l (omega (arith, e, r))));
+      at = subst (λ k. HasComeTo t i k es) e (at_skip t i from (j - from) es a (λ m l r. n.least m l (omega (arith, e, r))));
       within = n.within;
       eligible = n.eligible;
     }
 
 -- what a signature that nothing bars comes to, where no key verifies it
-abbrev pub unverified : Bool → Settled
+abbrev pub unverified : Bool → SignatureOutcome
 unverified seen = if seen then BadSignature else NoKey
 
 unverified_not : (seen : Bool) → is_verified (unverified seen) ≡ false
 unverified_not true = refl
 unverified_not false = refl
 
-unverified_state : (seen : Bool) → settled_state (unverified seen) ≡ state_of None seen None
+unverified_state : (seen : Bool) → outcome_state (unverified seen) ≡ state_of None seen None
 unverified_state true = refl
 unverified_state false = refl
 
-unverified_key : (seen : Bool) → settled_key (unverified seen) ≡ None
+unverified_key : (seen : Bool) → outcome_key (unverified seen) ≡ None
 unverified_key true = refl
 unverified_key false = refl
 
 -- no eligible key is left
-pub row_end : {t : Table} {i from : ℕ} {es : List Try} {s : Settled} (ceiling : ℕ) (calls : Option ℕ) → IsAt t i from es → from ≤ t.keys → t.bar i ≡ None
+pub row_end : {t : Table} {i from : ℕ} {es : List Try} {s : SignatureOutcome} (ceiling : ℕ) (calls : Option ℕ) → HasComeTo t i from es → from ≤ t.keys → t.bar i ≡ None
     → s ≡ unverified (list_any (t.eligible i) (below from)) → NoneEligible t i from t.keys → IsRowEnd t i ceiling calls es (Through s)
 unfolding outcome
 row_end {t} {i} {from} {es} {s} ceiling calls a l bar settles none =
     let e : from + (t.keys - from) ≡ t.keys = omega arith in
-    let b : IsAt t i t.keys es = subst (λ k. IsAt t i k es) e (at_skip t i from (t.keys - from) es a (λ m lo hi. none m lo (omega (arith, e, hi)))) in
+    let b : HasComeTo t i t.keys es = subst (λ k. HasComeTo t i k es) e (at_skip t i from (t.keys - from) es a (λ m lo hi. none m lo (omega (arith, e, hi)))) in
     let seen = list_any (t.eligible i) (below from) in
     let same : list_any (t.eligible i) (below t.keys) ≡ seen =
     ap (λ n. list_any (t.eligible i) (below n)) (sym e) ∙ list_any-gap (t.eligible i) from (t.keys - from) (λ m lo hi. none m lo (omega (arith, e, hi))) in
@@ -98,11 +100,11 @@ row_end {t} {i} {from} {es} {s} ceiling calls a l bar settles none =
     )
 
 -- no key was looked at
-pub row_barred : {t : Table} {i : ℕ} {es : List Try} {f : SigFault} (ceiling : ℕ) (calls : Option ℕ) → IsAt t i 0 es → t.bar i ≡ Some f → NoneEligible t i 0 t.keys → IsRowEnd t i ceiling calls es (Through (Barred f))
+pub row_barred : {t : Table} {i : ℕ} {es : List Try} {f : SigFault} (ceiling : ℕ) (calls : Option ℕ) → HasComeTo t i 0 es → t.bar i ≡ Some f → NoneEligible t i 0 t.keys → IsRowEnd t i ceiling calls es (Through (Barred f))
 unfolding outcome
 row_barred {t} {i} {es} {f} ceiling calls a bar none =
     let e : 0 + t.keys ≡ t.keys = omega arith in
-    let b : IsAt t i t.keys es = subst (λ k. IsAt t i k es) e (at_skip t i 0 t.keys es a (λ m lo hi. none m lo (omega (arith, e, hi)))) in
+    let b : HasComeTo t i t.keys es = subst (λ k. HasComeTo t i k es) e (at_skip t i 0 t.keys es a (λ m lo hi. none m lo (omega (arith, e, hi)))) in
     (at_end t i es b, record { state = rw bar refl; key = found_none t i es b })
 
 -- ---- by what the try of a pair came to
@@ -115,7 +117,7 @@ pub tried_verified : {V : Type 0} {D : V → Type 0} {means : Means V D} {t : Ta
 tried_verified {means = means} {t = t} {i = i} {from = from} {p = p} ceiling calls q b n h = rw (h.0, entry_is {means = means} {t = t} {i = i} {from = from} {p = p} n) (row_verified ceiling calls q b (n.valid ∙ h.1))
 
 pub tried_failed : {V : Type 0} {D : V → Type 0} {means : Means V D} {t : Table} {i from : ℕ} {es fs : List Try} {p : Pair V D} (ceiling : ℕ) (calls : Option ℕ) → IsPending t i p.key es
-    → IsNextPair means t i from p → IsTried means ceiling calls es p fs Failed → IsAt t i (p.key + 1) fs
+    → IsNextPair means t i from p → IsTried means ceiling calls es p fs Failed → HasComeTo t i (p.key + 1) fs
 tried_failed {means = means} {t = t} {i = i} {from = from} {p = p} ceiling calls q n h = rw (h.0, entry_is {means = means} {t = t} {i = i} {from = from} {p = p} n) (row_failed q (n.valid ∙ h.1))
 
 pub tried_stopped : {V : Type 0} {D : V → Type 0} {means : Means V D} {t : Table} {i from : ℕ} {es : List Try} {p : Pair V D} {w : ℕ} {most : Option ℕ} (ceiling : ℕ) (calls : Option ℕ) (fs : List Try) (r : End) → w ≡ ceiling → most ≡ calls → IsPending t i p.key es → i < t.signatures
@@ -181,7 +183,7 @@ recorded_done t i v es sts a h l s =
       rest = λ m lo hi. state_unreached t m (unreached_from t (i + 1) m (omega (arith, n, lo)) out);
     }
 
-pub recorded_all : (t : Table) (es : List Try) (sts : List SigState) → IsAt t t.signatures 0 es → sts ≡ map (outcome t) (below t.signatures) → IsRecorded t None sts
+pub recorded_all : (t : Table) (es : List Try) (sts : List SigState) → HasComeTo t t.signatures 0 es → sts ≡ map (outcome t) (below t.signatures) → IsRecorded t None sts
 recorded_all t es sts a s =
     let n : length sts ≡ t.signatures = ap length s ∙ length-map (below t.signatures) (outcome t) ∙ length-below t.signatures in
     record {
@@ -210,7 +212,7 @@ end_front t ceiling calls es (VerifierMemory i j) h = h.0
 pub run_front : (t : Table) {fed called ceiling : ℕ} {calls : Option ℕ} {es : List Try} → IsCounted fed called ceiling calls es → IsFront t es → (more : List Try) × (paid t ceiling calls ≡ es ++ more)
 run_front t {fed} {called} {ceiling} {calls} {es} c f = paid_front t ceiling calls es f.0 f.1 c.fits c.within
 
-pub run_exact : (t : Table) (fed called ceiling : ℕ) (calls : Option ℕ) (es : List Try) (sts : List SigState) (r : End) → IsCounted fed called ceiling calls es → IsEnd t ceiling calls es r → sts ≡ states_at t (stopped_at t r) → IsRun t ceiling calls es sts r
+pub run_exact : (t : Table) (fed called ceiling : ℕ) (calls : Option ℕ) (es : List Try) (sts : List SigState) (r : End) → IsCounted fed called ceiling calls es → IsEnd t ceiling calls es r → sts ≡ states_at t (stopped_at t r) → IsWholeRun t ceiling calls es sts r
 run_exact t fed called ceiling calls es sts Done c e s =
     let p = paid_all t ceiling calls es e c.fits c.within in
     (sym p.0, rw p.1 s, rw p.1 refl)

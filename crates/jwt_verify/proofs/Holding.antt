@@ -7,7 +7,7 @@ use Rattle.jwt_verify.specs.declared.report.Verdict.TheVariants.{Accepted, Refus
 use Rattle.jwt_verify.specs.Table.{Table, entry, tries, work, paid, stop, states_at, states}
 use Rattle.jwt_verify.specs.Verdict.{Terms, token_of, table}
 use Rattle.jwt_verify.specs.Asks.{IsToken}
-use Rattle.jwt_verify.specs.Laws.{with_keys, kind_of, without_key, with_valid, verdict_by}
+use Rattle.jwt_verify.specs.Laws.{with_keys, kind_of_state, without_key, with_valid, verdict_by}
 use Rattle.jwt_verify.specs.Verdicts.{PaidIsLongest, CallsSuffice, work_bound, WorkIsBounded, CeilingSuffices, IsUnstopped, MoreKeysAccept, SameKeysAgree, SparesNone, LeastTriesOfToken}
 use Rattle.jwt_verify.proofs.Bounds.{length-tries}
 use Rattle.jwt_verify.proofs.Judged.{unbarred_by, table_none, table_of_token}
@@ -77,11 +77,11 @@ module _ (laws : Laws) where
       let other_none = unstopped_none p x other_w other_unstopped in
       let s = same_keys_unstopped q others x w other_w h k none other_none in (
         λ u v us vs. ap without_key (sym ((tells_in_words laws q x w u).1 us)) ∙ s.0 ∙ ap without_key ((tells_in_words laws p x other_w v).1 vs),
-        λ token t o mine theirs asks other_asks here there. ap (map kind_of) (are_states t None mine here)
-            ∙ ap (λ t. map kind_of (states_at t None)) (asks_token laws q x token t asks).1
-            ∙ sym (ap (λ n. map kind_of (states_at (table q x) n)) none) ∙ s.1 ∙ ap (λ n. map kind_of (states_at (table p x) n)) other_none
-            ∙ sym (ap (λ t. map kind_of (states_at t None)) (asks_token laws p x token o other_asks).1)
-            ∙ sym (ap (map kind_of) (are_states o None theirs there)),
+        λ token t o mine theirs asks other_asks here there. ap (map kind_of_state) (are_states t None mine here)
+            ∙ ap (λ t. map kind_of_state (states_at t None)) (asks_token laws q x token t asks).1
+            ∙ sym (ap (λ n. map kind_of_state (states_at (table q x) n)) none) ∙ s.1 ∙ ap (λ n. map kind_of_state (states_at (table p x) n)) other_none
+            ∙ sym (ap (λ t. map kind_of_state (states_at t None)) (asks_token laws p x token o other_asks).1)
+            ∙ sym (ap (map kind_of_state) (are_states o None theirs there)),
       )
 
   pub least_tries_of_token : LeastTriesOfToken

@@ -28,13 +28,13 @@ use Rattle.jwt_verify.specs.declared.report.Fault.{Fault}
 use Rattle.jwt_verify.specs.declared.report.Fault.TheVariants.{OutOfMemory, Text, Form, WorkExceeded, CallsExceeded, VerifierMemory, Signature, Claim}
 use Rattle.jwt_verify.specs.declared.report.Verdict.{Verdict}
 use Rattle.jwt_verify.specs.declared.report.Verdict.TheVariants.{Accepted, Refused}
-use Rattle.jwt_verify.specs.Table.{Table, entry, pairs, tries, affords, work, paid, stop, states_at, states, ending, is_within, IsRun}
+use Rattle.jwt_verify.specs.Table.{Table, entry, pairs, tries, affords, work, paid, stop, states_at, states, ending, is_within, IsWholeRun}
 use Rattle.jwt_verify.specs.Trying.{at_pair, table_of}
 use Rattle.jwt_verify.specs.Verdict.{Terms, Signing, VerifiedBy, Unverified, checked, claims_verdict, conclusion, unless_stopped, token_verdict, signing_of, formed, token_of, table, decided, verdict_of, without_line_feed}
 use Rattle.jwt_verify.specs.Reports.{FoundMemory}
 use Rattle.jwt_verify.specs.Steps.{IsWhole}
-use Rattle.jwt_verify.specs.declared.settled.Signing.{Signing as Decided}
-use Rattle.jwt_verify.specs.Settled.{signing_view}
+use Rattle.jwt_verify.specs.declared.signature_outcome.Signing.{Signing as Decided}
+use Rattle.jwt_verify.specs.SignatureOutcome.{signing_view}
 use Rattle.jwt_verify.specs.Pairs.{IsSigned}
 use Rattle.jwt_verify.proofs.Below.{below-zero}
 use Rattle.jwt_verify.proofs.Paying.{work-nil}
@@ -80,7 +80,7 @@ done_stop t w calls h = go (stop t w calls) h
     go (Some e) h = absurd (exceeded (is_within calls (length (paid t w calls) + 1)) e h)
 
 pub run_says : (q : Terms) (w : ℕ) (t : Token) (es : List Try) (sts : List SigState) (r : End) (s : Decided) (v : Verdict)
-    → IsRun (table_of q.policy q.verifiers q.keys t) w q.policy.max_calls es sts r → IsSigned (table_of q.policy q.verifiers q.keys t) s r
+    → IsWholeRun (table_of q.policy q.verifiers q.keys t) w q.policy.max_calls es sts r → IsSigned (table_of q.policy q.verifiers q.keys t) s r
     → (v ≢ Refused OutOfMemory → v ≡ unless_stopped r (conclusion q.policy q.now t.payload (signing_view s)))
     → FoundMemory v → v ≡ token_verdict q w t
 unfolding token_verdict
@@ -159,7 +159,7 @@ module _ (t : Table) (w : ℕ) (calls : Option ℕ) (es : List Try) (sts : List 
     | inr n ↦ h n
   ]
 
-  pub run_whole : (r : End) (p : Settings) (now : ℤ) (payload : List ℕ) (s : Signing) (v : Verdict) → IsRun t w calls es sts r
+  pub run_whole : (r : End) (p : Settings) (now : ℤ) (payload : List ℕ) (s : Signing) (v : Verdict) → IsWholeRun t w calls es sts r
       → (v ≢ Refused OutOfMemory → v ≡ unless_stopped r (conclusion p now payload s)) → IsWhole t w calls es sts v
   run_whole end.Done p now payload s v h k = by_memory v (λ n. whole v (λ e. concluded_not p now payload s VerifierMemory (inl refl) (sym (k n) ∙ e)) (h.0, h.1))
   run_whole (end.WorkExceeded i j) p now payload s v h k = by_memory v (λ n. whole v (λ e. (let q : Refused (WorkExceeded i j) ≡ Refused VerifierMemory = sym (k n) ∙ e in cc)) (h.0, h.1))

@@ -17,9 +17,9 @@ use Rattle.jwt_policy.specs.Eligible.{eligible_for}
 use Rattle.jwt_verify.specs.declared.report.SigState.{SigState}
 use Rattle.jwt_verify.specs.declared.report.SigState.TheVariants.{Barred, NoKey, BadSignature, Verified, NotReached}
 use Rattle.jwt_verify.specs.Table.{Table, below, verifies, verified, reached, reached_in, state_at, states_at, outcome}
-use Rattle.jwt_verify.specs.Walk.{state_of}
+use Rattle.jwt_verify.proofs.SignedBy.{state_of}
 use Rattle.jwt_verify.specs.Trying.{valid_by, table_of}
-use Rattle.jwt_verify.specs.Laws.{unplaced, AreAmong, kind_of}
+use Rattle.jwt_verify.specs.Laws.{unplaced, AreAmong, kind_of_state}
 use Rattle.jwt_verify.proofs.Below.{map-agree}
 
 same_bool : (a b : Bool) → (a ≡ true → b ≡ true) → (b ≡ true → a ≡ true) → a ≡ b
@@ -59,7 +59,7 @@ any_more p unseen keys more h t =
     list_any_at p more there.1.0 o there.1.1 (ap p there.1.2 ∙ yes)
 
 -- the kind of a state depends on whether a key was found
-found_kind : (p : ℕ → Bool) (xs : List ℕ) (d : SigState) → kind_of (option_map_or Verified (find p xs) d) ≡ cond (list_any p xs) (Verified 0) (kind_of d)
+found_kind : (p : ℕ → Bool) (xs : List ℕ) (d : SigState) → kind_of_state (option_map_or Verified (find p xs) d) ≡ cond (list_any p xs) (Verified 0) (kind_of_state d)
 found_kind p [] d = refl
 found_kind p (x ∷ xs) d = elim (cases_Bool (p x)) [
   | inl t ↦ rw t refl
@@ -70,17 +70,17 @@ abbrev barred_or : Option SigFault → SigState → SigState
 barred_or (Some f) s = Barred f
 barred_or None s = s
 
-barred_kind : (o : Option SigFault) (seen : Bool) (p : ℕ → Bool) (xs : List ℕ) → kind_of (state_of o seen (find p xs)) ≡ barred_or o (cond (list_any p xs) (Verified 0) (kind_of (cond seen BadSignature NoKey)))
+barred_kind : (o : Option SigFault) (seen : Bool) (p : ℕ → Bool) (xs : List ℕ) → kind_of_state (state_of o seen (find p xs)) ≡ barred_or o (cond (list_any p xs) (Verified 0) (kind_of_state (cond seen BadSignature NoKey)))
 barred_kind (Some f) seen p xs = refl
 barred_kind None seen p xs = found_kind p xs (cond seen BadSignature NoKey)
 
-outcome_kind : (t : Table) (i : ℕ) → kind_of (outcome t i) ≡ barred_or (t.bar i) (cond (verified t i) (Verified 0) (kind_of (cond (list_any (t.eligible i) (below t.keys)) BadSignature NoKey)))
+outcome_kind : (t : Table) (i : ℕ) → kind_of_state (outcome t i) ≡ barred_or (t.bar i) (cond (verified t i) (Verified 0) (kind_of_state (cond (list_any (t.eligible i) (below t.keys)) BadSignature NoKey)))
 unfolding outcome verified
 outcome_kind t i = barred_kind (t.bar i) (list_any (t.eligible i) (below t.keys)) (verifies t i) (below t.keys)
 
-state_kind : (t : Table) (i : ℕ) → kind_of (state_at t None i) ≡ cond (reached t i) (kind_of (outcome t i)) NotReached
+state_kind : (t : Table) (i : ℕ) → kind_of_state (state_at t None i) ≡ cond (reached t i) (kind_of_state (outcome t i)) NotReached
 unfolding state_at
-state_kind t i = elim (reached t i) as (λ b. kind_of (cond (b && true) (outcome t i) NotReached) ≡ cond b (kind_of (outcome t i)) NotReached) [ true ↦ refl | false ↦ refl ]
+state_kind t i = elim (reached t i) as (λ b. kind_of_state (cond (b && true) (outcome t i) NotReached) ≡ cond b (kind_of_state (outcome t i)) NotReached) [ true ↦ refl | false ↦ refl ]
 
 module _ (p : Settings) (v : List Meaning) (t : Token) where
   abbrev of : List KeyParts → Table
@@ -150,13 +150,13 @@ module _ (p : Settings) (v : List Meaning) (t : Token) where
     reached_same AnyOf i = ap not (any_agree (verified (of keys)) (verified (of others)) verified_same (below i))
     reached_same AllOf i = all_agree (verified (of keys)) (verified (of others)) verified_same (below i)
 
-    pub outcome_same : (i : ℕ) → kind_of (outcome (of keys) i) ≡ kind_of (outcome (of others) i)
+    pub outcome_same : (i : ℕ) → kind_of_state (outcome (of keys) i) ≡ kind_of_state (outcome (of others) i)
     outcome_same i = rw (outcome_kind (of keys) i, outcome_kind (of others) i, verified_same i, eligible_same i) refl
 
-    state_same : (i : ℕ) → kind_of (state_at (of keys) None i) ≡ kind_of (state_at (of others) None i)
+    state_same : (i : ℕ) → kind_of_state (state_at (of keys) None i) ≡ kind_of_state (state_at (of others) None i)
     unfolding reached
     state_same i = rw (state_kind (of keys) i, state_kind (of others) i, reached_same p.run.mode i, outcome_same i) refl
 
-    pub states_same : map kind_of (states_at (of keys) None) ≡ map kind_of (states_at (of others) None)
+    pub states_same : map kind_of_state (states_at (of keys) None) ≡ map kind_of_state (states_at (of others) None)
     unfolding states_at
-    states_same = map-map _ _ (below (length t.signatures)) ∙ map-agree (λ i. kind_of (state_at (of keys) None i)) (λ i. kind_of (state_at (of others) None i)) (length t.signatures) (λ i l. state_same i) ∙ sym (map-map _ _ (below (length t.signatures)))
+    states_same = map-map _ _ (below (length t.signatures)) ∙ map-agree (λ i. kind_of_state (state_at (of keys) None i)) (λ i. kind_of_state (state_at (of others) None i)) (length t.signatures) (λ i l. state_same i) ∙ sym (map-map _ _ (below (length t.signatures)))

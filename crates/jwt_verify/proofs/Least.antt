@@ -17,7 +17,9 @@ use Rattle.jwt_verify.specs.declared.report.Try.{Try}
 use Rattle.jwt_verify.specs.declared.report.SigState.{SigState}
 use Rattle.jwt_verify.specs.declared.report.SigState.TheVariants.{Verified, NotReached, Stopped}
 use Rattle.jwt_verify.specs.Table.{Table, below, verifies, verified, tried, entry, tries, stop, reached, state_at, states_at, outcome, work, is_within, paid, affords}
-use Rattle.jwt_verify.specs.Walk.{state_of, IsAt, IsThrough, IsPending, row, rows, goes_on}
+use Rattle.jwt_verify.specs.Walk.{HasComeTo, IsThrough, row, rows, goes_on}
+use Rattle.jwt_verify.proofs.SignedBy.{state_of}
+use Rattle.jwt_verify.proofs.Pending.{IsPending}
 use Rattle.jwt_verify.specs.Laws.{with_valid}
 use Rattle.jwt_verify.proofs.Below.{below-zero, list_any-below, map-agree, grows}
 use Rattle.jwt_verify.proofs.Paying.{paid_is, paid_all, paid_rest, paid_fits, paid_over, slice_get_at, paid_front, within_less, work-append}
@@ -121,17 +123,17 @@ module _ (t : Table) (v : ℕ → ℕ → Bool) where
   other = with_valid t v
 
   -- within a signature
-  along : (i j : ℕ) (es : List Try) → IsAt other i 0 (rows t i) → IsAt t i j es → All Agrees es → IsAt other i j es
+  along : (i j : ℕ) (es : List Try) → HasComeTo other i 0 (rows t i) → HasComeTo t i j es → All Agrees es → HasComeTo other i j es
   along i zero es start a agree = rw (a.listed, row-zero, append-nil) start
   along i (suc j) es start a agree =
       let before = rows t i ++ row t i j in
       let e : suc j ≡ j + 1 = sym (add-one j) in
       let none : (list_any (verifies t i) (below j) || verifies t i j) ≡ false = sym (list_any-below (verifies t i) j) ∙ ap (λ m. list_any (verifies t i) (below m)) (sym e) ∙ a.unverified in
       let parts = or_false (list_any (verifies t i) (below j)) (verifies t i j) none in
-      let at : IsAt t i j before = record { listed = refl; reached = a.reached; unverified = parts.0 } in
+      let at : HasComeTo t i j before = record { listed = refl; reached = a.reached; unverified = parts.0 } in
       let split : es ≡ before ++ cond (tried t i j) (entry t i j ∷ []) [] = a.listed ∙ ap (λ m. rows t i ++ row t i m) e ∙ ap (λ ys. rows t i ++ ys) (row-more t i j) ∙ sym (append_assoc (rows t i) (row t i j) _) in
       let agree' : All Agrees (before ++ cond (tried t i j) (entry t i j ∷ []) []) = subst (All Agrees) split agree in
-      let there : IsAt other i j before = along i j before start at (All-left Agrees before _ agree') in
+      let there : HasComeTo other i j before = along i j before start at (All-left Agrees before _ agree') in
       elim (cases_Bool (t.eligible i j)) [
         | inl y ↦ (let yes : tried t i j ≡ true = tried_here t i j a.reached ∙ rw (y, parts.0) refl in
             let whole : es ≡ before ++ entry t i j ∷ [] = rw yes at split in
@@ -144,36 +146,36 @@ module _ (t : Table) (v : ℕ → ℕ → Bool) where
       ]
 
   -- through a signature
-  through : (i : ℕ) (b : Bool) (es : List Try) → IsAt other i 0 (rows t i) → IsThrough t i b es → All Agrees es → IsThrough other i b es × (find (verifies other i) (below t.keys) ≡ find (verifies t i) (below t.keys))
+  through : (i : ℕ) (b : Bool) (es : List Try) → HasComeTo other i 0 (rows t i) → IsThrough t i b es → All Agrees es → IsThrough other i b es × (find (verifies other i) (below t.keys) ≡ find (verifies t i) (below t.keys))
   unfolding verified
   through i false es start a agree =
-      let at : IsAt t i t.keys es = record { listed = a.listed ∙ rows-more t i; reached = a.reached; unverified = a.verified } in
-      let there : IsAt other i t.keys es = along i t.keys es start at agree in
+      let at : HasComeTo t i t.keys es = record { listed = a.listed ∙ rows-more t i; reached = a.reached; unverified = a.verified } in
+      let there : HasComeTo other i t.keys es = along i t.keys es start at agree in
       (at_end other i es there, found_none other i es there ∙ sym (found_none t i es at))
   through i true es start a agree =
       let l = least_found (verifies t i) t.keys a.verified in
       let j = l.0 in
       let before = rows t i ++ row t i j in
-      let at : IsAt t i j before = record { listed = refl; reached = a.reached; unverified = l.3 } in
+      let at : HasComeTo t i j before = record { listed = refl; reached = a.reached; unverified = l.3 } in
       let eligible : t.eligible i j ≡ true = elim (cases_Bool (t.eligible i j)) [ inl y ↦ y | inr n ↦ absurd (false≢true (sym (verifies_ineligible t i j n) ∙ l.2)) ] in
       let valid : t.valid i j ≡ true = sym (verifies_is t i j eligible) ∙ l.2 in
       let done = at_verified t i j before at l.1 eligible valid in
       let whole : es ≡ before ++ entry t i j ∷ [] = a.listed ∙ sym done.listed in
       let agree' : All Agrees (before ++ entry t i j ∷ []) = subst (All Agrees) whole agree in
-      let there : IsAt other i j before = along i j before start at (All-left Agrees before (entry t i j ∷ []) agree') in
+      let there : HasComeTo other i j before = along i j before start at (All-left Agrees before (entry t i j ∷ []) agree') in
       let valid' : v i j ≡ true = sym (All-at_end Agrees before (entry t i j) agree') ∙ valid in (
         rw whole (at_verified other i j before there l.1 eligible valid'),
         found_at other i j before there l.1 eligible valid' ∙ sym (found_at t i j before at l.1 eligible valid),
       )
 
   -- up to a signature
-  starts : (i : ℕ) → reached t i ≡ true → All Agrees (rows t i) → IsAt other i 0 (rows t i)
+  starts : (i : ℕ) → reached t i ≡ true → All Agrees (rows t i) → HasComeTo other i 0 (rows t i)
   starts zero h agree = rw rows-zero (at_start other)
   starts (suc i) h agree =
       let e : suc i ≡ i + 1 = sym (add-one i) in
       let parts = and_true (reached t i) (goes_on t.mode (verified t i)) (sym (reached-next t i) ∙ ap (reached t) (sym e) ∙ h) in
       let agree' : All Agrees (rows t i ++ row t i t.keys) = subst (All Agrees) (ap (rows t) e ∙ rows-more t i) agree in
-      let start : IsAt other i 0 (rows t i) = starts i parts.0 (All-left Agrees (rows t i) (row t i t.keys) agree') in
+      let start : HasComeTo other i 0 (rows t i) = starts i parts.0 (All-left Agrees (rows t i) (row t i t.keys) agree') in
       let a : IsThrough t i (verified t i) (rows t (i + 1)) = record { listed = refl; reached = parts.0; verified = refl } in
       let there = through i (verified t i) (rows t (i + 1)) start a (subst (All Agrees) (ap (rows t) e) agree) in
       rw e (through_next other i (verified t i) (rows t (i + 1)) there.0 parts.1)
@@ -183,7 +185,7 @@ module _ (t : Table) (v : ℕ → ℕ → Bool) where
   unfolding outcome
   same_outcome i h agree =
       let agree' : All Agrees (rows t i ++ row t i t.keys) = subst (All Agrees) (rows-more t i) agree in
-      let start : IsAt other i 0 (rows t i) = starts i h (All-left Agrees (rows t i) (row t i t.keys) agree') in
+      let start : HasComeTo other i 0 (rows t i) = starts i h (All-left Agrees (rows t i) (row t i t.keys) agree') in
       let a : IsThrough t i (verified t i) (rows t (i + 1)) = record { listed = refl; reached = h; verified = refl } in
       ap (state_of (t.bar i) (list_any (t.eligible i) (below t.keys))) (through i (verified t i) (rows t (i + 1)) start a agree).1
 
@@ -236,7 +238,7 @@ module _ (t : Table) (v : ℕ → ℕ → Bool) (octets : ℕ) (calls : Option �
       let j = loc.1 in
       let pending = loc.3 in
       let agree' : All (Agrees t v) (rows t i) = All-left (Agrees t v) (rows t i) (row t i j) (subst (All (Agrees t v)) pending.at.listed agree) in
-      let there : IsAt twin i j p = along t v i j p (starts t v i pending.at.reached agree') pending.at agree in
+      let there : HasComeTo twin i j p = along t v i j p (starts t v i pending.at.reached agree') pending.at agree in
       let next = at_pending twin i j p there loc.2 pending.within pending.eligible in
       let is : e ≡ entry t i j = loc.4 in
       let whole' : tries twin ≡ p ++ e ∷ next.0 = next.1 ∙ ap (λ x. p ++ x ∷ next.0) (sym is) in
@@ -264,7 +266,7 @@ module _ (t : Table) (v : ℕ → ℕ → Bool) (octets : ℕ) (calls : Option �
     | inl y ↦ (let whole : rows t t.signatures ≡ paid t octets calls = sym (tries_are_rows t) ∙ sym all in
         let agree' : All (Agrees t v) (rows t t.signatures) = subst (All (Agrees t v)) (sym whole) agree in
         let there = starts t v t.signatures y agree' in
-        let at : IsAt t t.signatures 0 (rows t t.signatures) = record { listed = rw row-zero (sym (append-nil (rows t t.signatures))); reached = y; unverified = rw below-zero refl } in
+        let at : HasComeTo t t.signatures 0 (rows t t.signatures) = record { listed = rw row-zero (sym (append-nil (rows t t.signatures))); reached = y; unverified = rw below-zero refl } in
         let fits = paid_fits t octets calls in
         let p = paid_all twin octets calls (paid t octets calls) (sym whole ∙ at_last twin (rows t t.signatures) there) fits.0 fits.1 in
         record {
@@ -417,7 +419,7 @@ changed_states t v octets calls unbarred i j c changed others same =
     let earlier : All (IsEarlier i j) es = subst (All (IsEarlier i j)) (sym pending.at.listed) (row_ordered t i j (rows_ordered t i)).earlier in
     let agree : All (Agrees t v) es = All-weaker (IsEarlier i j) (Agrees t v) (λ e h. sym (others e.signature e.key (λ a b. elim h [ inl x ↦ omega (arith, x, a) | inr x ↦ omega (arith, x.1, b) ]))) es earlier in
     let agree_rows : All (Agrees t v) (rows t i) = All-left (Agrees t v) (rows t i) (row t i j) (subst (All (Agrees t v)) pending.at.listed agree) in
-    let at : IsAt u i j es = along t v i j es (starts t v i pending.at.reached agree_rows) pending.at agree in
+    let at : HasComeTo u i j es = along t v i j es (starts t v i pending.at.reached agree_rows) pending.at agree in
     let pending' : IsPending u i j es = record { at = at; within = pending.within; eligible = pending.eligible } in
     let next = at_pending u i j es at l pending.within pending.eligible in
     let front = es ++ entry t i j ∷ [] in

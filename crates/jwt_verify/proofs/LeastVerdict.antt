@@ -6,7 +6,7 @@ use Rattle.jwt_verify.specs.declared.tries.End.{End}
 use Rattle.jwt_verify.specs.declared.tries.End.TheVariants as end
 use Rattle.jwt_verify.specs.Table.{Table, ending, states, states_at}
 use Rattle.jwt_verify.specs.Verdict.{conclusion, unless_stopped, signing_of}
-use Rattle.jwt_verify.specs.Steps.{signing_by}
+use Rattle.jwt_verify.proofs.SignedBy.{signing_by}
 use Rattle.jwt_verify.specs.Laws.{with_valid, verdict_by, LeastTries}
 use Rattle.jwt_verify.proofs.Least.{changed_states, same_run}
 use Rattle.jwt_verify.proofs.Signing.{signing_is}

@@ -19,7 +19,7 @@ use Rattle.jwt_policy.specs.Laws.{IsEligible}
 use Rattle.jwt_verify.specs.Table.{Table}
 use Rattle.jwt_verify.specs.Trying.{is_tag, accepted_by, lacking_by, valid_under, may_lack_under, valid_by, may_lack_by, cost_under, cost_by, at_pair, table_of}
 use Rattle.jwt_verify.specs.Verdict.{Terms}
-use Rattle.jwt_verify.specs.Asks.{IsAsked, IsValid, IsCost, AtPair, IsTable}
+use Rattle.jwt_verify.specs.Asks.{IsToAsk, IsValid, IsCost, AtPair, IsTableOf}
 
 bool_same : (a b : Bool) → (a ≡ true → b ≡ true) → (b ≡ true → a ≡ true) → a ≡ b
 bool_same true true f g = refl
@@ -36,7 +36,7 @@ option_same (Some a) p f g = sym (f a refl)
 
 -- the verifier that is asked may lack memory
 abbrev MayLack : List Meaning → MessageOctets → SignatureParts → KeyParts → Type 0
-MayLack verifiers message s key = (a : Alg) × (alg s ≡ Some a) × ((v : Meaning) × IsAsked verifiers a v × (v.may_lack a key.octets message s.octets ≡ true))
+MayLack verifiers message s key = (a : Alg) × (alg s ≡ Some a) × ((v : Meaning) × IsToAsk verifiers a v × (v.may_lack a key.octets message s.octets ≡ true))
 
 -- the key is a secret, and the octets are the tag of the signing input under it
 abbrev IsTag : Alg → KeyOctets → MessageOctets → List ℕ → Type 0
@@ -60,20 +60,20 @@ module _ (verifiers : List Meaning) (a : Alg) (key : KeyOctets) (m : MessageOcte
   lacking (Some v) e y = (v, sym e, y)
 
   valid_words : (b : Bool) → b ≡ is_hmac_alg a → (if b then is_tag a key (signing_input m) octets else accepted_by (first_naming verifiers a) a key m octets) ≡ true
-      → IsTag a key m octets ⊎ ((v : Meaning) × IsAsked verifiers a v × (v.accepts a key m octets ≡ true))
+      → IsTag a key m octets ⊎ ((v : Meaning) × IsToAsk verifiers a v × (v.accepts a key m octets ≡ true))
   valid_words true e y = inl (sym e, tagged a key (signing_input m) octets y)
   valid_words false e y = let v = accepted (first_naming verifiers a) refl y in inr (v.0, (sym e, v.1), v.2)
 
-  words_valid : IsTag a key m octets ⊎ ((v : Meaning) × IsAsked verifiers a v × (v.accepts a key m octets ≡ true)) → valid_under verifiers a key m octets ≡ true
+  words_valid : IsTag a key m octets ⊎ ((v : Meaning) × IsToAsk verifiers a v × (v.accepts a key m octets ≡ true)) → valid_under verifiers a key m octets ≡ true
   words_valid (inl (e, (k, is, tag))) = rw (e, is) ((bytes_eq-Decides octets (tag_of a k (signing_input m))).1 tag)
   words_valid (inr (v, asked, y)) = rw (asked.0, asked.1) y
 
   lack_words : (b : Bool) → b ≡ is_hmac_alg a → (if b then false else lacking_by (first_naming verifiers a) a key m octets) ≡ true
-      → (v : Meaning) × IsAsked verifiers a v × (v.may_lack a key m octets ≡ true)
+      → (v : Meaning) × IsToAsk verifiers a v × (v.may_lack a key m octets ≡ true)
   lack_words true e y = absurd (false≢true y)
   lack_words false e y = let v = lacking (first_naming verifiers a) refl y in (v.0, (sym e, v.1), v.2)
 
-  words_lack : (v : Meaning) × IsAsked verifiers a v × (v.may_lack a key m octets ≡ true) → may_lack_under verifiers a key m octets ≡ true
+  words_lack : (v : Meaning) × IsToAsk verifiers a v × (v.may_lack a key m octets ≡ true) → may_lack_under verifiers a key m octets ≡ true
   words_lack (v, asked, y) = rw (asked.0, asked.1) y
 
 valid_is : (verifiers : List Meaning) (m : MessageOctets) (s : SignatureParts) (k : KeyParts) → (valid_by verifiers m s k ≡ true) ↔ IsValid verifiers m s k
@@ -138,7 +138,7 @@ at_true f P h t ks i j = (λ y. go (slice_get t.signatures i) refl (slice_get ks
     go (Some s) e (Some k) l y = (s, k, sym e, sym l, (h s k).0 y)
 
 -- two tables that say the same are one
-tables_same : (q : Terms) (token : Token) (t u : Table) → IsTable q token t → IsTable q token u → t ≡ u
+tables_same : (q : Terms) (token : Token) (t u : Table) → IsTableOf q token t → IsTableOf q token u → t ≡ u
 tables_same q token t u h k =
     let signatures : t.signatures ≡ u.signatures = h.signatures ∙ sym k.signatures in
     let keys : t.keys ≡ u.keys = h.keys ∙ sym k.keys in
@@ -161,7 +161,7 @@ module _ (eligible_words : (p : Settings) (s : SignatureParts) (k : KeyParts) (v
       go None e y = cc
       go (Some s) e y = (s, sym e, (bar_words q.policy s q.verifiers f).0 y)
 
-  pub the_table : (q : Terms) (token : Token) → IsTable q token (table_of q.policy q.verifiers q.keys token)
+  pub the_table : (q : Terms) (token : Token) → IsTableOf q token (table_of q.policy q.verifiers q.keys token)
   the_table q token = record {
     signatures = refl;
     keys = refl;
@@ -173,5 +173,5 @@ module _ (eligible_words : (p : Settings) (s : SignatureParts) (k : KeyParts) (v
     cost = λ i j n l. at_cost (λ s k. cost_by (message_of token s) s k) (λ s k. IsCost (message_of token s) s k n) n l (λ s k. cost_is (message_of token s) s k n l) token q.keys i j;
   }
 
-  pub table_is : (q : Terms) (token : Token) (t : Table) → IsTable q token t → t ≡ table_of q.policy q.verifiers q.keys token
+  pub table_is : (q : Terms) (token : Token) (t : Table) → IsTableOf q token t → t ≡ table_of q.policy q.verifiers q.keys token
   table_is q token t h = tables_same q token t (table_of q.policy q.verifiers q.keys token) h (the_table q token)

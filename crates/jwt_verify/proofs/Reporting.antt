@@ -20,9 +20,9 @@ use Rattle.jwt_verify.specs.Table.{Table, below, tries, work, paid, stop, states
 use Rattle.jwt_verify.specs.Trying.{at_pair, table_of}
 use Rattle.jwt_verify.specs.Verdict.{Terms, token_of, table, verdict_of}
 use Rattle.jwt_verify.specs.Paying.{IsFront, IsWithin, AreAllowed, ArePaid}
-use Rattle.jwt_verify.specs.Asks.{AtPair, IsToken, IsAsking}
+use Rattle.jwt_verify.specs.Asks.{AtPair, IsToken, IsTokenWithTable}
 use Rattle.jwt_verify.specs.Laws.{IsBefore, common_cost, long_key}
-use Rattle.jwt_verify.specs.Reports.{FoundMemory, IsState, IsComplete, IsReport, AreEligible, IsBounded}
+use Rattle.jwt_verify.specs.Reports.{FoundMemory, IsStateAt, IsComplete, IsReport, AreEligible, IsBounded}
 use Rattle.jwt_verify.specs.Steps.{IsSourceFault, IsWhole, IsListed, ReportsInWords, ReportsOnTaken, TakenTokens, TellsReports}
 use Rattle.jwt_verify.proofs.Bounds.{HasCost, rows_ordered, tries_eligible, length-tries, sum_bound, tries_bounded}
 use Rattle.jwt_verify.proofs.Walking.{tries_are_rows}
@@ -67,11 +67,11 @@ module _ (t : Table) (w : ℕ) (calls : Option ℕ) (es more : List Try) (front 
 -- ---- what the run leaves
 
 module _ (t : Table) (w : ℕ) (calls : Option ℕ) (es : List Try) (sts : List SigState) where
-  completed : (es ≡ paid t w calls) × (sts ≡ states t w calls) → ArePaid t w calls es × AllZip (IsState t (slice_get (tries t) (length es))) (below t.signatures) sts
+  completed : (es ≡ paid t w calls) × (sts ≡ states t w calls) → ArePaid t w calls es × AllZip (IsStateAt t (slice_get (tries t) (length es))) (below t.signatures) sts
   unfolding stop
   completed h =
       let same : sts ≡ states_at t (slice_get (tries t) (length es)) = h.1 ∙ ap (λ fs. states_at t (slice_get (tries t) (length fs))) (sym h.0) in
-      (subst (ArePaid t w calls) (sym h.0) (are_paid t w calls), subst (AllZip (IsState t (slice_get (tries t) (length es))) (below t.signatures)) (sym same) (states_are t (slice_get (tries t) (length es))))
+      (subst (ArePaid t w calls) (sym h.0) (are_paid t w calls), subst (AllZip (IsStateAt t (slice_get (tries t) (length es))) (below t.signatures)) (sym same) (states_are t (slice_get (tries t) (length es))))
 
   complete : (v : Verdict) → IsWhole t w calls es sts v → IsComplete t w calls es sts v
   complete (Accepted i j claims) h = completed h
@@ -81,10 +81,10 @@ module _ (t : Table) (w : ℕ) (calls : Option ℕ) (es : List Try) (sts : List 
   complete (Refused (WorkExceeded i j)) h = completed h
   complete (Refused (Signature i f)) h = completed h
   complete (Refused (Claim f)) h = completed h
-  complete (Refused VerifierMemory) (before, e, is, lack, states) = (before, e, is, lack, subst (AllZip (IsState t (Some e)) (below t.signatures)) (sym states) (states_are t (Some e)))
+  complete (Refused VerifierMemory) (before, e, is, lack, states) = (before, e, is, lack, subst (AllZip (IsStateAt t (Some e)) (below t.signatures)) (sym states) (states_are t (Some e)))
   complete (Refused (CallsExceeded i j)) h = completed h
 
-  left : ArePaid t w calls es × AllZip (IsState t (slice_get (tries t) (length es))) (below t.signatures) sts → (es ≡ paid t w calls) × (sts ≡ states t w calls)
+  left : ArePaid t w calls es × AllZip (IsStateAt t (slice_get (tries t) (length es))) (below t.signatures) sts → (es ≡ paid t w calls) × (sts ≡ states t w calls)
   unfolding stop
   left h = let e = paid_only t w calls es h.0 in (e, are_states t (slice_get (tries t) (length es)) sts h.1 ∙ ap (λ fs. states_at t (slice_get (tries t) (length fs))) e)
 
@@ -171,7 +171,7 @@ module _ (laws : Laws) where
           let nil : r.tries.items ≡ [] = nil_from_length r.tries.items (omega (arith, ap length p, length-append r.tries.items h.front.0)) in
           (nil, blank_by (table q x) w q.policy.max_calls r.tries.items r.states.items z nil r.verdict h.whole)
 
-  listed_run : (q : Terms) (x : List ℕ) (w : ℕ) (r : Report) → IsListed q x w r → (token : Token) (t : Table) → IsAsking q x token t
+  listed_run : (q : Terms) (x : List ℕ) (w : ℕ) (r : Report) → IsListed q x w r → (token : Token) (t : Table) → IsTokenWithTable q x token t
       → IsFront t r.tries.items × AreAllowed w q.policy.max_calls r.tries.items × IsComplete t w q.policy.max_calls r.tries.items r.states.items r.verdict
   listed_run q x w r h token t asks =
       let T = table q x in

@@ -19,7 +19,7 @@ use Rattle.jwt_verify.specs.Table.{Table, below, verifies, verified, outcome, st
 use Rattle.jwt_verify.specs.Trying.{table_of}
 use Rattle.jwt_verify.specs.Verdict.{Terms, Signing, VerifiedBy, Unverified, first_in, fault_of, key_at, fault_at, unverified, verified_or, signing_in, signing_of, checked, claims_verdict, conclusion, unless_stopped, token_verdict, token_of, decided, verdict_of, table}
 use Rattle.jwt_verify.specs.Accepted.{IsLeastKey, Counts, IsVerifiedBy}
-use Rattle.jwt_verify.specs.Laws.{AreAmong, with_keys, MoreKeys, SameKeys, kind_of, without_key}
+use Rattle.jwt_verify.specs.Laws.{AreAmong, with_keys, MoreKeys, SameKeys, kind_of_state, without_key}
 use Rattle.jwt_verify.proofs.First.{first_agree}
 use Rattle.jwt_verify.proofs.Bounds.{never_stops}
 use Rattle.jwt_verify.proofs.Least.{least_found}
@@ -137,7 +137,7 @@ key_there t i = go (key_at t i) refl
     go None e = sym (key_none t i (sym e))
     go (Some j) e = sym (verified_key t i j (sym e))
 
-fault_kind : (s : SigState) → fault_of s ≡ fault_of (kind_of s)
+fault_kind : (s : SigState) → fault_of s ≡ fault_of (kind_of_state s)
 fault_kind (Barred f) = refl
 fault_kind NoKey = refl
 fault_kind BadSignature = refl
@@ -145,7 +145,7 @@ fault_kind (Verified j) = refl
 fault_kind NotReached = refl
 fault_kind Stopped = refl
 
-same_signing : (t u : Table) → u.mode ≡ t.mode → u.signatures ≡ t.signatures → ((i : ℕ) → verified t i ≡ verified u i) → ((i : ℕ) → kind_of (outcome t i) ≡ kind_of (outcome u i))
+same_signing : (t u : Table) → u.mode ≡ t.mode → u.signatures ≡ t.signatures → ((i : ℕ) → verified t i ≡ verified u i) → ((i : ℕ) → kind_of_state (outcome t i) ≡ kind_of_state (outcome u i))
     → blind (signing_of t) ≡ blind (signing_of u)
 unfolding signing_of
 same_signing t u mode count same kinds =
@@ -172,15 +172,15 @@ verdict_refused q x w f e = ap (decided q w) e
 pub same_keys_unstopped : (q : Terms) (others : List KeyParts) (x : List ℕ) (w other_w : ℕ) → AreAmong others q.keys → AreAmong q.keys others
     → stop (table q x) w q.policy.max_calls ≡ None → stop (table (with_keys q others) x) other_w q.policy.max_calls ≡ None
     → (without_key (verdict_of q x w) ≡ without_key (verdict_of (with_keys q others) x other_w))
-    × (map kind_of (states_at (table q x) (stop (table q x) w q.policy.max_calls)) ≡ map kind_of (states_at (table (with_keys q others) x) (stop (table (with_keys q others) x) other_w q.policy.max_calls)))
+    × (map kind_of_state (states_at (table q x) (stop (table q x) w q.policy.max_calls)) ≡ map kind_of_state (states_at (table (with_keys q others) x) (stop (table (with_keys q others) x) other_w q.policy.max_calls)))
 same_keys_unstopped q others x w other_w h k none other_none = go (token_of q.policy x) refl
   where
     go : (r : Result Token Fault) → r ≡ token_of q.policy x
         → (without_key (verdict_of q x w) ≡ without_key (verdict_of (with_keys q others) x other_w))
-        × (map kind_of (states_at (table q x) (stop (table q x) w q.policy.max_calls)) ≡ map kind_of (states_at (table (with_keys q others) x) (stop (table (with_keys q others) x) other_w q.policy.max_calls)))
+        × (map kind_of_state (states_at (table q x) (stop (table q x) w q.policy.max_calls)) ≡ map kind_of_state (states_at (table (with_keys q others) x) (stop (table (with_keys q others) x) other_w q.policy.max_calls)))
     go (Err f) e = (
       ap without_key (verdict_refused q x w f (sym e) ∙ sym (verdict_refused (with_keys q others) x other_w f (sym e))),
-      ap (map kind_of) (no_states (table q x) (stop (table q x) w q.policy.max_calls) (table_none q x f (sym e)) ∙ sym (no_states (table (with_keys q others) x) (stop (table (with_keys q others) x) other_w q.policy.max_calls) (table_none (with_keys q others) x f (sym e)))),
+      ap (map kind_of_state) (no_states (table q x) (stop (table q x) w q.policy.max_calls) (table_none q x f (sym e)) ∙ sym (no_states (table (with_keys q others) x) (stop (table (with_keys q others) x) other_w q.policy.max_calls) (table_none (with_keys q others) x f (sym e)))),
     )
     go (Ok t) e =
         let T = table_of q.policy q.verifiers q.keys t in
@@ -189,9 +189,9 @@ same_keys_unstopped q others x w other_w h k none other_none = go (token_of q.po
           ap without_key (verdict_here q x w t (sym e) none) ∙ blind_concluded q.policy q.now t.payload (signing_of T)
               ∙ ap (λ s. without_key (conclusion q.policy q.now t.payload s)) s
               ∙ sym (blind_concluded q.policy q.now t.payload (signing_of U)) ∙ sym (ap without_key (verdict_here (with_keys q others) x other_w t (sym e) other_none)),
-          ap (λ o. map kind_of (states_at (table q x) o)) none ∙ ap (λ t. map kind_of (states_at t None)) (sym (table_of_token q x t (sym e)))
+          ap (λ o. map kind_of_state (states_at (table q x) o)) none ∙ ap (λ t. map kind_of_state (states_at t None)) (sym (table_of_token q x t (sym e)))
               ∙ states_same q.policy q.verifiers t q.keys others h k
-              ∙ ap (λ t. map kind_of (states_at t None)) (table_of_token (with_keys q others) x t (sym e)) ∙ sym (ap (λ o. map kind_of (states_at (table (with_keys q others) x) o)) other_none),
+              ∙ ap (λ t. map kind_of_state (states_at t None)) (table_of_token (with_keys q others) x t (sym e)) ∙ sym (ap (λ o. map kind_of_state (states_at (table (with_keys q others) x) o)) other_none),
         )
 
 pub same_keys_hold : SameKeys

@@ -11,9 +11,9 @@ use Rattle.jwt_policy.specs.declared.mode.Mode.TheVariants.{Any, All}
 use Rattle.jwt_policy.specs.declared.sig_fault.SigFault.{SigFault}
 use Rattle.jwt_verify.specs.declared.report.SigState.{SigState}
 use Rattle.jwt_verify.specs.Table.{Table, below, verifies, verified, reached_in, reached, outcome, state_at, states_at}
-use Rattle.jwt_verify.specs.Walk.{state_of}
+use Rattle.jwt_verify.proofs.SignedBy.{state_of}
 use Rattle.jwt_verify.specs.Verdict.{first_in, fault_of, key_at, fault_at, signing_in, signing_of}
-use Rattle.jwt_verify.specs.Steps.{key_of, key_in, fault_in, signing_by}
+use Rattle.jwt_verify.proofs.SignedBy.{verifying_key, verifying_key_in, fault_in, signing_by}
 use Rattle.jwt_verify.proofs.Below.{below-zero, length-below, list_any-gap, list_all-below}
 use Rattle.jwt_verify.proofs.First.{first_none_at, first_agree}
 use Rattle.jwt_verify.proofs.Walking.{find_none, verifies_ineligible}
@@ -48,17 +48,17 @@ not_found p (x ∷ xs) h = elim (cases_Bool (p x)) [
 
 -- ---- one signature
 
-state_key : (seen : Bool) (found : Option ℕ) → key_of (state_of None seen found) ≡ found
+state_key : (seen : Bool) (found : Option ℕ) → verifying_key (state_of None seen found) ≡ found
 state_key seen (Some j) = refl
 state_key true None = refl
 state_key false None = refl
 
 -- a barred signature has no eligible key, so the state tells the key
-key_is : (t : Table) (i : ℕ) → ((j : ℕ) → t.eligible i j ≡ true → t.bar i ≡ None) → key_of (outcome t i) ≡ key_at t i
+key_is : (t : Table) (i : ℕ) → ((j : ℕ) → t.eligible i j ≡ true → t.bar i ≡ None) → verifying_key (outcome t i) ≡ key_at t i
 unfolding outcome
 key_is t i barred = go (t.bar i) refl
   where
-    go : (o : Option SigFault) → o ≡ t.bar i → key_of (state_of o (list_any (t.eligible i) (below t.keys)) (find (verifies t i) (below t.keys))) ≡ find (verifies t i) (below t.keys)
+    go : (o : Option SigFault) → o ≡ t.bar i → verifying_key (state_of o (list_any (t.eligible i) (below t.keys)) (find (verifies t i) (below t.keys))) ≡ find (verifies t i) (below t.keys)
     go None e = state_key (list_any (t.eligible i) (below t.keys)) (find (verifies t i) (below t.keys))
     go (Some f) e = sym (find_none (verifies t i) (below t.keys) (none_below (verifies t i) t.keys
         (λ j l. elim (cases_Bool (t.eligible i j)) [ inl y ↦ (let q = e ∙ barred j y in cc) | inr n ↦ verifies_ineligible t i j n ])))
@@ -100,7 +100,7 @@ module _ (t : Table) (sts : List SigState) (barred : (i j : ℕ) → t.eligible 
   unfolding states_at
   here i l r = ap (λ xs. slice_get xs i) listed ∙ slice_get-map (state_at t None) (below t.signatures) i ∙ rw (slice_below t.signatures i l) (ap Some (state_reached t i r))
 
-  key_here : (i : ℕ) → i < t.signatures → reached t i ≡ true → key_in sts i ≡ key_at t i
+  key_here : (i : ℕ) → i < t.signatures → reached t i ≡ true → verifying_key_in sts i ≡ key_at t i
   key_here i l r = rw (here i l r) (key_is t i (barred i))
 
   fault_here : (i : ℕ) → i < t.signatures → reached t i ≡ true → fault_in sts i ≡ fault_at t i
@@ -112,8 +112,8 @@ module _ (t : Table) (sts : List SigState) (barred : (i j : ℕ) → t.eligible 
   all_reached : t.mode ≡ All → (n i : ℕ) → i ≤ n → first_in (fault_at t) (below n) ≡ None → reached t i ≡ true
   all_reached m n i l h = reached_all t i m (λ k lk. fault_none t k (first_none_at (fault_at t) n k (omega (arith, lk, l)) h))
 
-  keys_any : t.mode ≡ Any → first_in (key_in sts) (below t.signatures) ≡ first_in (key_at t) (below t.signatures)
-  keys_any m = first_agree (key_at t) (key_in sts) t.signatures (λ i l h. key_here i l (any_reached m i i (omega arith) h))
+  keys_any : t.mode ≡ Any → first_in (verifying_key_in sts) (below t.signatures) ≡ first_in (key_at t) (below t.signatures)
+  keys_any m = first_agree (key_at t) (verifying_key_in sts) t.signatures (λ i l h. key_here i l (any_reached m i i (omega arith) h))
 
   faults_any : t.mode ≡ Any → first_in (key_at t) (below t.signatures) ≡ None → first_in (fault_in sts) (below t.signatures) ≡ first_in (fault_at t) (below t.signatures)
   faults_any m none = first_agree (fault_at t) (fault_in sts) t.signatures (λ i l h. fault_here i l (any_reached m t.signatures i (omega (arith, l)) none))
@@ -121,13 +121,13 @@ module _ (t : Table) (sts : List SigState) (barred : (i j : ℕ) → t.eligible 
   faults_all : t.mode ≡ All → first_in (fault_in sts) (below t.signatures) ≡ first_in (fault_at t) (below t.signatures)
   faults_all m = first_agree (fault_at t) (fault_in sts) t.signatures (λ i l h. fault_here i l (all_reached m i i (omega arith) h))
 
-  keys_all : t.mode ≡ All → first_in (fault_at t) (below t.signatures) ≡ None → first_in (key_in sts) (below t.signatures) ≡ first_in (key_at t) (below t.signatures)
-  keys_all m none = first_agree (key_at t) (key_in sts) t.signatures (λ i l h. key_here i l (all_reached m t.signatures i (omega (arith, l)) none))
+  keys_all : t.mode ≡ All → first_in (fault_at t) (below t.signatures) ≡ None → first_in (verifying_key_in sts) (below t.signatures) ≡ first_in (key_at t) (below t.signatures)
+  keys_all m none = first_agree (key_at t) (verifying_key_in sts) t.signatures (λ i l h. key_here i l (all_reached m t.signatures i (omega (arith, l)) none))
 
-  by_mode : (m : Mode) → t.mode ≡ m → signing_in m (first_in (key_in sts) (below t.signatures)) (first_in (fault_in sts) (below t.signatures))
+  by_mode : (m : Mode) → t.mode ≡ m → signing_in m (first_in (verifying_key_in sts) (below t.signatures)) (first_in (fault_in sts) (below t.signatures))
       ≡ signing_in m (first_in (key_at t) (below t.signatures)) (first_in (fault_at t) (below t.signatures))
-  by_mode Any m = any_same (first_in (key_in sts) (below t.signatures)) (first_in (key_at t) (below t.signatures)) (first_in (fault_in sts) (below t.signatures)) (first_in (fault_at t) (below t.signatures)) (keys_any m) (faults_any m)
-  by_mode All m = all_same (first_in (key_in sts) (below t.signatures)) (first_in (key_at t) (below t.signatures)) (first_in (fault_in sts) (below t.signatures)) (first_in (fault_at t) (below t.signatures)) (faults_all m) (keys_all m)
+  by_mode Any m = any_same (first_in (verifying_key_in sts) (below t.signatures)) (first_in (key_at t) (below t.signatures)) (first_in (fault_in sts) (below t.signatures)) (first_in (fault_at t) (below t.signatures)) (keys_any m) (faults_any m)
+  by_mode All m = all_same (first_in (verifying_key_in sts) (below t.signatures)) (first_in (key_at t) (below t.signatures)) (first_in (fault_in sts) (below t.signatures)) (first_in (fault_at t) (below t.signatures)) (faults_all m) (keys_all m)
 
   length_states : length sts ≡ t.signatures
   unfolding states_at
@@ -135,4 +135,4 @@ module _ (t : Table) (sts : List SigState) (barred : (i j : ℕ) → t.eligible 
 
   pub signing_is : signing_by t.mode sts ≡ signing_of t
   unfolding signing_of
-  signing_is = ap (λ n. signing_in t.mode (first_in (key_in sts) (below n)) (first_in (fault_in sts) (below n))) length_states ∙ by_mode t.mode refl
+  signing_is = ap (λ n. signing_in t.mode (first_in (verifying_key_in sts) (below n)) (first_in (fault_in sts) (below n))) length_states ∙ by_mode t.mode refl

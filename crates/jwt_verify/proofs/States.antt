@@ -8,10 +8,10 @@ use Rattle.jwt_verify.specs.declared.report.Try.{Try}
 use Rattle.jwt_verify.specs.declared.report.SigState.{SigState}
 use Rattle.jwt_verify.specs.declared.report.SigState.TheVariants.{Barred, NoKey, BadSignature, Verified, NotReached, Stopped}
 use Rattle.jwt_verify.specs.Table.{Table, below, verified, verifies, reached, outcome, state_at, states_at}
-use Rattle.jwt_verify.specs.Walk.{state_of}
+use Rattle.jwt_verify.proofs.SignedBy.{state_of}
 use Rattle.jwt_verify.specs.Verdict.{key_at}
 use Rattle.jwt_verify.specs.Accepted.{IsLeastKey}
-use Rattle.jwt_verify.specs.Reports.{GoesThrough, IsState}
+use Rattle.jwt_verify.specs.Reports.{GoesThrough, IsStateAt}
 use Rattle.jwt_verify.proofs.Least.{least_found}
 use Rattle.jwt_verify.proofs.Walking.{verifies_ineligible}
 use Rattle.jwt_verify.proofs.Signing.{none_below, key_none}
@@ -46,10 +46,10 @@ module _ (t : Table) (i : ℕ) where
   outcome_bad : (j : ℕ) → t.bar i ≡ None → verified t i ≡ false → j < t.keys → t.eligible i j ≡ true → outcome t i ≡ BadSignature
   outcome_bad j bar not l y = outcome_by None true None bar (any_true (t.eligible i) t.keys j l y) (not_verified t i not)
 
-  outcome_words : (o : Option Try) → GoesThrough t o i → IsState t o i (outcome t i)
-  outcome_words o g = subst (IsState t o i) (sym outcome_is) (go (t.bar i) refl seen refl (key_at t i) refl)
+  outcome_words : (o : Option Try) → GoesThrough t o i → IsStateAt t o i (outcome t i)
+  outcome_words o g = subst (IsStateAt t o i) (sym outcome_is) (go (t.bar i) refl seen refl (key_at t i) refl)
     where
-      go : (b : Option SigFault) → b ≡ t.bar i → (s : Bool) → s ≡ seen → (k : Option ℕ) → k ≡ key_at t i → IsState t o i (state_of b s k)
+      go : (b : Option SigFault) → b ≡ t.bar i → (s : Bool) → s ≡ seen → (k : Option ℕ) → k ≡ key_at t i → IsStateAt t o i (state_of b s k)
       go (Some f) bar s any k key = (g, sym bar)
       go None bar s any (Some j) key = (g, sym bar, least_find (verifies t i) t.keys j (sym key))
       go None bar true any None key = let l = least_found (t.eligible i) t.keys (sym any) in (g, sym bar, key_none t i (sym key), (l.0, l.1, l.2))
@@ -94,7 +94,7 @@ module _ (t : Table) (i : ℕ) where
   missed (Some e) not other = missed_some e not (other e refl)
 
   -- it has one state in words
-  pub state_is : (o : Option Try) (s : SigState) → IsState t o i s → state_at t o i ≡ s
+  pub state_is : (o : Option Try) (s : SigState) → IsStateAt t o i s → state_at t o i ≡ s
   state_is o Stopped (e, is, same) = ap (λ o. state_at t o i) is ∙ stopped_here e same
   state_is o NotReached (inl (e, is, l)) = ap (λ o. state_at t o i) is ∙ passed_before e l
   state_is o NotReached (inr (not, other)) = missed o not other
@@ -103,46 +103,46 @@ module _ (t : Table) (i : ℕ) where
   state_is o NoKey (g, bar, none) = gone o g ∙ outcome_no_key t i bar none
   state_is o BadSignature (g, bar, not, (j, l, y)) = gone o g ∙ outcome_bad t i j bar not l y
 
-  through : (o : Option Try) → GoesThrough t o i → IsState t o i (state_at t o i)
-  through o g = subst (IsState t o i) (sym (gone o g)) (outcome_words t i o g)
+  through : (o : Option Try) → GoesThrough t o i → IsStateAt t o i (state_at t o i)
+  through o g = subst (IsStateAt t o i) (sym (gone o g)) (outcome_words t i o g)
 
-  unseen : (o : Option Try) → reached t i ≡ false → ((e : Try) → o ≡ Some e → e.signature ≡ i → ⊥) → IsState t o i (state_at t o i)
-  unseen o not other = subst (IsState t o i) (sym (missed o not other)) (inr (not, other))
+  unseen : (o : Option Try) → reached t i ≡ false → ((e : Try) → o ≡ Some e → e.signature ≡ i → ⊥) → IsStateAt t o i (state_at t o i)
+  unseen o not other = subst (IsStateAt t o i) (sym (missed o not other)) (inr (not, other))
 
   -- and it is the one that is computed
-  pub is_state : (o : Option Try) → IsState t o i (state_at t o i)
+  pub is_state : (o : Option Try) → IsStateAt t o i (state_at t o i)
   is_state None = elim (cases_Bool (reached t i)) [
     | inl here ↦ through None (here, λ e is. cc)
     | inr not ↦ unseen None not (λ e is. cc)
   ]
   is_state (Some e) = elim (cases_lt e.signature i) [
-    | inl l ↦ subst (IsState t (Some e) i) (sym (passed_before e l)) (inl (e, refl, l))
+    | inl l ↦ subst (IsStateAt t (Some e) i) (sym (passed_before e l)) (inl (e, refl, l))
     | inr m ↦ elim (cases_lt i e.signature) [
       | inl l ↦ elim (cases_Bool (reached t i)) [
         | inl here ↦ through (Some e) (here, λ f is. omega (arith, l, signature_of e f is))
         | inr not ↦ unseen (Some e) not (λ f is same. omega (arith, l, same, signature_of e f is))
       ]
-      | inr n ↦ (let same : e.signature ≡ i = omega (arith, m, n) in subst (IsState t (Some e) i) (sym (stopped_here e same)) (e, refl, same))
+      | inr n ↦ (let same : e.signature ≡ i = omega (arith, m, n) in subst (IsStateAt t (Some e) i) (sym (stopped_here e same)) (e, refl, same))
     ]
   ]
 
 -- ---- all of them
 
 module _ (t : Table) (o : Option Try) where
-  zip_states : (is : List ℕ) → AllZip (IsState t o) is (map (state_at t o) is)
+  zip_states : (is : List ℕ) → AllZip (IsStateAt t o) is (map (state_at t o) is)
   zip_states [] = tt
   zip_states (i ∷ is) = (is_state t i o, zip_states is)
 
-  states_zip : (is : List ℕ) (sts : List SigState) → AllZip (IsState t o) is sts → sts ≡ map (state_at t o) is
+  states_zip : (is : List ℕ) (sts : List SigState) → AllZip (IsStateAt t o) is sts → sts ≡ map (state_at t o) is
   states_zip [] [] h = refl
   states_zip [] (s ∷ sts) h = absurd h
   states_zip (i ∷ is) [] h = absurd h
   states_zip (i ∷ is) (s ∷ sts) h = ap (λ z. z ∷ sts) (sym (state_is t i o s h.0)) ∙ ap (λ zs. state_at t o i ∷ zs) (states_zip is sts h.1)
 
-  pub states_are : AllZip (IsState t o) (below t.signatures) (states_at t o)
+  pub states_are : AllZip (IsStateAt t o) (below t.signatures) (states_at t o)
   unfolding states_at
   states_are = zip_states (below t.signatures)
 
-  pub are_states : (sts : List SigState) → AllZip (IsState t o) (below t.signatures) sts → sts ≡ states_at t o
+  pub are_states : (sts : List SigState) → AllZip (IsStateAt t o) (below t.signatures) sts → sts ≡ states_at t o
   unfolding states_at
   are_states sts h = states_zip (below t.signatures) sts h

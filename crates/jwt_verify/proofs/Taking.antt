@@ -12,7 +12,7 @@ use Rattle.jwt_verify.specs.declared.report.Verdict.TheVariants.{Refused}
 use Rattle.jwt_verify.specs.declared.report.Try.{Try}
 use Rattle.jwt_verify.specs.declared.report.SigState.{SigState}
 use Rattle.jwt_verify.specs.Reports.{Failed}
-use Rattle.jwt_verify.specs.Steps.{Holds, IsSourceFault}
+use Rattle.jwt_verify.specs.Steps.{IsTakenIn, IsSourceFault}
 use Rattle.jwt_verify.specs.Verdict.{token_of}
 use Rattle.jwt_verify.proofs.Judged.{same_token}
 
@@ -31,7 +31,7 @@ drop_front [] back = refl
 drop_front (c ∷ front) back = drop_front front back
 
 -- what a source gave before it failed, or before memory was refused
-pub source_takes : (fault : Fault) (limit : ℕ) (x : List ℕ) (rest : Option (List ℕ)) → Holds (Err fault) limit x rest → TakesAtMost limit x rest
+pub source_takes : (fault : Fault) (limit : ℕ) (x : List ℕ) (rest : Option (List ℕ)) → IsTakenIn (Err fault) limit x rest → TakesAtMost limit x rest
 source_takes fault limit x rest (front, back, parts, here, few) =
     (length front, few, here ∙ ap Some (sym (ap (drop (length front)) parts ∙ drop_front front back)))
 

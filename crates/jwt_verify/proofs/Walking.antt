@@ -13,7 +13,7 @@ use Rattle.std.specs.Prelude.{None, ◌*◌}
 use Rattle.jwt_policy.specs.declared.mode.Mode.TheVariants.{Any, All}
 use Rattle.jwt_verify.specs.declared.report.Try.{Try}
 use Rattle.jwt_verify.specs.Table.{Table, below, verifies, verified, reached_in, reached, tried, entry, pairs, tries}
-use Rattle.jwt_verify.specs.Walk.{is_tried, row, rows, IsAt, IsThrough, goes_on}
+use Rattle.jwt_verify.specs.Walk.{is_tried, row, rows, HasComeTo, IsThrough, goes_on}
 use Rattle.jwt_verify.specs.Paying.{IsFront}
 use Rattle.jwt_verify.proofs.Below.{below-zero, below_more, length-below, grows, list_any-below, list_all-below, filter-map-below, flat_map-below, filter-flat_map, list_any-gap, filter-gap, flat_map-gap}
 
@@ -101,7 +101,7 @@ pub verifies_is : (t : Table) (i j : ℕ) → t.eligible i j ≡ true → verifi
 unfolding verifies
 verifies_is t i j h = rw h refl
 
-pub at_start : (t : Table) → IsAt t 0 0 []
+pub at_start : (t : Table) → HasComeTo t 0 0 []
 at_start t = record {
   listed = rw (rows-zero, row-zero) refl;
   reached = reached-zero t;
@@ -109,21 +109,21 @@ at_start t = record {
 }
 
 -- keys that are not eligible are passed over
-pub at_skip : (t : Table) (i j d : ℕ) (es : List Try) → IsAt t i j es → ((n : ℕ) → j ≤ n → n < j + d → t.eligible i n ≡ false) → IsAt t i (j + d) es
+pub at_skip : (t : Table) (i j d : ℕ) (es : List Try) → HasComeTo t i j es → ((n : ℕ) → j ≤ n → n < j + d → t.eligible i n ≡ false) → HasComeTo t i (j + d) es
 at_skip t i j d es a h = record {
   listed = a.listed ∙ ap (λ ys. rows t i ++ ys) (sym (row_skips t i j d (λ n l r. ineligible_untried t i n (h n l r))));
   reached = a.reached;
   unverified = list_any-gap (verifies t i) j d (λ n l r. verifies_ineligible t i n (h n l r)) ∙ a.unverified;
 }
 
-pub row-eligible : (t : Table) (i j : ℕ) (es : List Try) → IsAt t i j es → t.eligible i j ≡ true → row t i (j + 1) ≡ row t i j ++ entry t i j ∷ []
+pub row-eligible : (t : Table) (i j : ℕ) (es : List Try) → HasComeTo t i j es → t.eligible i j ≡ true → row t i (j + 1) ≡ row t i j ++ entry t i j ∷ []
 row-eligible t i j es a h = row-more t i j ∙ rw (tried_here t i j a.reached, h, a.unverified) refl
 
-listed-more : (t : Table) (i j : ℕ) (es : List Try) → IsAt t i j es → t.eligible i j ≡ true → es ++ entry t i j ∷ [] ≡ rows t i ++ row t i (j + 1)
+listed-more : (t : Table) (i j : ℕ) (es : List Try) → HasComeTo t i j es → t.eligible i j ≡ true → es ++ entry t i j ∷ [] ≡ rows t i ++ row t i (j + 1)
 listed-more t i j es a h = rw (row-eligible t i j es a h, a.listed) (append_assoc (rows t i) (row t i j) (entry t i j ∷ []))
 
 -- an eligible key that is not valid is tried
-pub at_failed : (t : Table) (i j : ℕ) (es : List Try) → IsAt t i j es → t.eligible i j ≡ true → t.valid i j ≡ false → IsAt t i (j + 1) (es ++ entry t i j ∷ [])
+pub at_failed : (t : Table) (i j : ℕ) (es : List Try) → HasComeTo t i j es → t.eligible i j ≡ true → t.valid i j ≡ false → HasComeTo t i (j + 1) (es ++ entry t i j ∷ [])
 at_failed t i j es a h v = record {
   listed = listed-more t i j es a h;
   reached = a.reached;
@@ -131,7 +131,7 @@ at_failed t i j es a h v = record {
 }
 
 -- after the last key
-pub at_end : (t : Table) (i : ℕ) (es : List Try) → IsAt t i t.keys es → IsThrough t i false es
+pub at_end : (t : Table) (i : ℕ) (es : List Try) → HasComeTo t i t.keys es → IsThrough t i false es
 unfolding verified
 at_end t i es a = record { listed = a.listed ∙ sym (rows-more t i); reached = a.reached; verified = a.unverified }
 
@@ -146,7 +146,7 @@ any_beyond p a (suc d) h =
     ap (λ n. list_any p (below n)) e ∙ list_any-below p (a + d) ∙ ap (λ b. b || p (a + d)) (any_beyond p a d h)
 
 -- an eligible key that is valid is tried, and no key after it
-pub at_verified : (t : Table) (i j : ℕ) (es : List Try) → IsAt t i j es → j < t.keys → t.eligible i j ≡ true → t.valid i j ≡ true → IsThrough t i true (es ++ entry t i j ∷ [])
+pub at_verified : (t : Table) (i j : ℕ) (es : List Try) → HasComeTo t i j es → j < t.keys → t.eligible i j ≡ true → t.valid i j ≡ true → IsThrough t i true (es ++ entry t i j ∷ [])
 unfolding verified
 at_verified t i j es a l h v =
     let here : list_any (verifies t i) (below (j + 1)) ≡ true = list_any-below (verifies t i) j ∙ rw (verifies_is t i j h, v) (or-true (list_any (verifies t i) (below j))) in
@@ -161,7 +161,7 @@ at_verified t i j es a l h v =
     }
 
 -- the next signature
-pub through_next : (t : Table) (i : ℕ) (v : Bool) (es : List Try) → IsThrough t i v es → goes_on t.mode v ≡ true → IsAt t (i + 1) 0 es
+pub through_next : (t : Table) (i : ℕ) (v : Bool) (es : List Try) → IsThrough t i v es → goes_on t.mode v ≡ true → HasComeTo t (i + 1) 0 es
 through_next t i v es a h = record {
   listed = a.listed ∙ rw row-zero (sym (append-nil (rows t (i + 1))));
   reached = reached-next t i ∙ rw (a.reached, a.verified) h;
@@ -181,14 +181,14 @@ through_last t i v es a l h =
     a.listed ∙ sym (rows_skip t (i + 1) (t.signatures - (i + 1)) out) ∙ ap (rows t) e ∙ sym (tries_are_rows t)
 
 -- no signature is left
-pub at_last : (t : Table) (es : List Try) → IsAt t t.signatures 0 es → es ≡ tries t
+pub at_last : (t : Table) (es : List Try) → HasComeTo t t.signatures 0 es → es ≡ tries t
 at_last t es a = a.listed ∙ rw row-zero (append-nil (rows t t.signatures)) ∙ sym (tries_are_rows t)
 
 regroup : {X : Type 0} (before here x y es : List X) (e : X) → es ≡ before ++ here → (before ++ ((here ++ e ∷ []) ++ x)) ++ y ≡ es ++ e ∷ (x ++ y)
 regroup before here x y es e h = rw h (simp append_assoc)
 
 -- an eligible key is the next try
-pub at_pending : (t : Table) (i j : ℕ) (es : List Try) → IsAt t i j es → i < t.signatures → j < t.keys → t.eligible i j ≡ true → (rest : List Try) × (tries t ≡ es ++ entry t i j ∷ rest)
+pub at_pending : (t : Table) (i j : ℕ) (es : List Try) → HasComeTo t i j es → i < t.signatures → j < t.keys → t.eligible i j ≡ true → (rest : List Try) × (tries t ≡ es ++ entry t i j ∷ rest)
 at_pending t i j es a l m h =
     let r = grows (row t i) (λ n. cond (tried t i n) (entry t i n ∷ []) []) (row-more t i) (j + 1) (t.keys - (j + 1)) in
     let q = grows (rows t) (λ n. row t n t.keys) (rows-more t) (i + 1) (t.signatures - (i + 1)) in
@@ -211,7 +211,7 @@ length-rows t (suc i) =
     omega (arith, split, length-rows t i, length-row t i t.keys, suc-mul i t.keys)
 
 -- fewer tries than pairs stand before a pair
-pub at_room : {t : Table} {i j : ℕ} {es : List Try} → IsAt t i j es → i < t.signatures → j < t.keys → length es < t.signatures * t.keys
+pub at_room : {t : Table} {i j : ℕ} {es : List Try} → HasComeTo t i j es → i < t.signatures → j < t.keys → length es < t.signatures * t.keys
 at_room {t} {i} {j} {es} a l m =
     let e : length es ≡ length (rows t i) + length (row t i j) = ap length a.listed ∙ length-append (rows t i) (row t i j) in
     omega (arith, e, length-rows t i, length-row t i j, mul-add-lt i t.keys j t.signatures l m)
@@ -223,7 +223,7 @@ rows_front t i l =
     (q.0, tries_are_rows t ∙ ap (rows t) (sym f) ∙ q.1)
 
 -- the tries before a pair are a prefix of the tries
-pub at_front : {t : Table} {i j : ℕ} {es : List Try} → IsAt t i j es → i < t.signatures → j ≤ t.keys → IsFront t es
+pub at_front : {t : Table} {i j : ℕ} {es : List Try} → HasComeTo t i j es → i < t.signatures → j ≤ t.keys → IsFront t es
 at_front {t} {i} {j} {es} a l m =
     let e : j + (t.keys - j) ≡ t.keys = omega arith in
     let r = grows (row t i) (λ n. cond (tried t i n) (entry t i n ∷ []) []) (row-more t i) j (t.keys - j) in
@@ -244,12 +244,12 @@ find-below p j (suc d) h k =
     let e : (j + 1) + suc d ≡ ((j + 1) + d) + 1 = omega arith in
     ap (λ n. find p (below n)) e ∙ ap (find p) (below_more ((j + 1) + d)) ∙ find-append p (below ((j + 1) + d)) (((j + 1) + d) ∷ []) ∙ rw (find-below p j d h k) refl
 
-pub found_at : (t : Table) (i j : ℕ) (es : List Try) → IsAt t i j es → j < t.keys → t.eligible i j ≡ true → t.valid i j ≡ true → find (verifies t i) (below t.keys) ≡ Some j
+pub found_at : (t : Table) (i j : ℕ) (es : List Try) → HasComeTo t i j es → j < t.keys → t.eligible i j ≡ true → t.valid i j ≡ true → find (verifies t i) (below t.keys) ≡ Some j
 found_at t i j es a l h v =
     let e : (j + 1) + (t.keys - (j + 1)) ≡ t.keys = omega arith in
     ap (λ n. find (verifies t i) (below n)) (sym e) ∙ find-below (verifies t i) j (t.keys - (j + 1)) a.unverified (verifies_is t i j h ∙ v)
 
-pub found_none : (t : Table) (i : ℕ) (es : List Try) → IsAt t i t.keys es → find (verifies t i) (below t.keys) ≡ None
+pub found_none : (t : Table) (i : ℕ) (es : List Try) → HasComeTo t i t.keys es → find (verifies t i) (below t.keys) ≡ None
 found_none t i es a = find_none (verifies t i) (below t.keys) a.unverified
 
 -- a key that is eligible was seen

@@ -28,10 +28,10 @@ use Rattle.jwt_verify.specs.declared.report.Fault.TheVariants.{OutOfMemory, Text
 use Rattle.jwt_verify.specs.declared.report.Try.{Try}
 use Rattle.jwt_verify.specs.declared.report.Verdict.TheVariants.{Accepted, Refused}
 use Rattle.jwt_verify.specs.Table.{Table, below, verified, outcome, tries, stop}
-use Rattle.jwt_verify.specs.Walk.{state_of}
+use Rattle.jwt_verify.proofs.SignedBy.{state_of}
 use Rattle.jwt_verify.specs.Verdict.{Terms, fault_of, fault_at, table, verdict_of}
 use Rattle.jwt_verify.specs.Paying.{AreAllowed}
-use Rattle.jwt_verify.specs.Asks.{IsTable, IsAsking}
+use Rattle.jwt_verify.specs.Asks.{IsTableOf, IsTokenWithTable}
 use Rattle.jwt_verify.specs.Accepted.{IsVerifiedBy, IsAccepted, IsFirstUnverified, IsReason, IsClaimFault, IsFault, HasOneVerdict, AcceptsExactly, RefusesExactly, TellsVerdicts}
 use Rattle.jwt_verify.proofs.Judged.{table_of_token}
 use Rattle.jwt_verify.proofs.Least.{least_found}
@@ -88,13 +88,13 @@ stopped_token q x w e h = let t = stops_token q x w e h in (t.0, token_is q x t.
 
 module _ (laws : Laws) where
   -- the token that is read asks what the computed table says
-  pub token_asks : (q : Terms) (x : List ℕ) (t : Token) → IsReadToken q x t → IsAsking q x t (table q x)
+  pub token_asks : (q : Terms) (x : List ℕ) (t : Token) → IsReadToken q x t → IsTokenWithTable q x t (table q x)
   token_asks q x t h = (
     (h.0, (laws.signed_tokens _ _ t).0 h.1),
-    subst (IsTable q t) (table_of_token q x t (is_token q x t h)) (the_table laws.eligible laws.bar q t),
+    subst (IsTableOf q t) (table_of_token q x t (is_token q x t h)) (the_table laws.eligible laws.bar q t),
   )
 
-  pub asks_token : (q : Terms) (x : List ℕ) (t : Token) (u : Table) → IsAsking q x t u → IsReadToken q x t × (u ≡ table q x)
+  pub asks_token : (q : Terms) (x : List ℕ) (t : Token) (u : Table) → IsTokenWithTable q x t u → IsReadToken q x t × (u ≡ table q x)
   asks_token q x t u h =
       let r : IsReadToken q x t = (h.0.0, (laws.signed_tokens _ _ t).1 h.0.1) in
       (r, table_is laws.eligible laws.bar q t u h.1 ∙ table_of_token q x t (is_token q x t r))

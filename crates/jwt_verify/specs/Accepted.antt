@@ -1,4 +1,4 @@
--- When a token is accepted, and why it is refused, in words.
+-- The acceptance of a token, and each cause to refuse one, in words.
 use Rattle.std.specs.Prelude.{ℕ, ◌+◌, ◌<◌, ◌≤◌, ◌≡◌, ◌⊎◌, ◌↔◌, true, false, List, length, Option, Some, None, Ok, Err, ◌++◌, ◌∷◌, map}
 use Rattle.serde_json.specs.Data.{Members}
 use Rattle.jwt_text.specs.ObjectText.{IsObjectText}
@@ -23,7 +23,7 @@ use Rattle.jwt_verify.specs.declared.report.Verdict.{Verdict}
 use Rattle.jwt_verify.specs.declared.report.Verdict.TheVariants.{Accepted, Refused}
 use Rattle.jwt_verify.specs.Table.{Table, verifies, verified, entry, tries, work}
 use Rattle.jwt_verify.specs.Paying.{IsWithin, AreAllowed}
-use Rattle.jwt_verify.specs.Asks.{IsToken, IsAsking}
+use Rattle.jwt_verify.specs.Asks.{IsToken, IsTokenWithTable}
 use Rattle.jwt_verify.specs.Verdict.{Terms, without_line_feed, token_of, verdict_of}
 
 -- This signature is the one that counts: in mode Any it is the first that is verified; in mode All it is the first of all, and each one
@@ -49,7 +49,7 @@ HasClaims payload claims = IsObjectText payload claims × NoRow (kind_rows claim
 pub record IsAccepted (terms : Terms) (octets : List ℕ) (ceiling signature key : ℕ) (claims : Members) : Type 0 where
   pub token : Token
   pub table : Table
-  pub signed : IsAsking terms octets token table
+  pub signed : IsTokenWithTable terms octets token table
   pub unstopped : AreAllowed ceiling terms.policy.max_calls (tries table)
   pub verified_by : IsVerifiedBy table signature key
   pub read : HasClaims token.payload claims
@@ -81,7 +81,7 @@ IsClaimFault terms payload fault = ((fault ≡ ClaimsShape) × ((claims : Member
 
 -- the octets are a signed token, and this holds of its payload and its table
 abbrev pub OfToken : Terms → List ℕ → (List ℕ → Table → Type 0) → Type 0
-OfToken terms octets P = (token : Token) × (table : Table) × IsAsking terms octets token table × P token.payload table
+OfToken terms octets P = (token : Token) × (table : Table) × IsTokenWithTable terms octets token table × P token.payload table
 
 -- why the octets are no signed token: they are too long, or without the line feed that is dropped they have a fault of form
 abbrev pub IsTokenFault : Settings → List ℕ → Fault → Type 0
@@ -109,6 +109,8 @@ IsFault terms octets ceiling fault = IsTokenFault terms.policy octets fault
 abbrev pub IsVerdict : Terms → List ℕ → ℕ → Verdict → Type 0
 IsVerdict terms octets ceiling (Accepted signature key claims) = IsAccepted terms octets ceiling signature key claims
 IsVerdict terms octets ceiling (Refused fault) = IsFault terms octets ceiling fault
+
+-- ---- Cited by laws alone
 
 -- the octets have exactly one verdict
 abbrev pub HasOneVerdict : Type 0

@@ -1,4 +1,4 @@
--- What a signed token asks of a list of keys, in words.
+-- The pairs of a signed token and a list of keys, in words.
 use Rattle.std.specs.Prelude.{ℕ, ◌≡◌, ◌⊎◌, ◌↔◌, ◌<◌, ◌≤◌, true, false, List, length, slice_get, Some}
 use Rattle.jwt_mac.specs.declared.algorithm.Alg.{Alg}
 use Rattle.jwt_mac.specs.Algorithm.{is_hmac_alg, tag_of, try_cost}
@@ -17,14 +17,14 @@ use Rattle.jwt_verify.specs.Verdict.{Terms, without_line_feed}
 -- ---- one pair
 
 -- for another algorithm the first handed-in verifier that names it is asked
-abbrev pub IsAsked : List Meaning → Alg → Meaning → Type 0
-IsAsked verifiers algorithm verifier = (is_hmac_alg algorithm ≡ false) × (first_naming verifiers algorithm ≡ Some verifier)
+abbrev pub IsToAsk : List Meaning → Alg → Meaning → Type 0
+IsToAsk verifiers algorithm verifier = (is_hmac_alg algorithm ≡ false) × (first_naming verifiers algorithm ≡ Some verifier)
 
 -- The signature is valid by the key (RFC 7515, section 5.2, step 8): by HMAC the key is a secret, and the signature is the tag of the
 -- signing input under it (RFC 2104; RFC 7518, section 3.2); by another algorithm the verifier that is asked accepts it.
 abbrev pub IsValid : List Meaning → MessageOctets → SignatureParts → KeyParts → Type 0
 IsValid verifiers message signature key = (algorithm : Alg) × (alg signature ≡ Some algorithm)
-    × (((is_hmac_alg algorithm ≡ true) × ((secret : List ℕ) × (key.octets ≡ OctKey secret) × (signature.octets ≡ tag_of algorithm secret (signing_input message)))) ⊎ ((verifier : Meaning) × IsAsked verifiers algorithm verifier × (verifier.accepts algorithm key.octets message signature.octets ≡ true)))
+    × (((is_hmac_alg algorithm ≡ true) × ((secret : List ℕ) × (key.octets ≡ OctKey secret) × (signature.octets ≡ tag_of algorithm secret (signing_input message)))) ⊎ ((verifier : Meaning) × IsToAsk verifiers algorithm verifier × (verifier.accepts algorithm key.octets message signature.octets ≡ true)))
 
 -- A try by HMAC, for which the key is a secret, costs the octets that are fed (RFC 2104, section 2); any other costs none.
 abbrev pub IsCost : MessageOctets → SignatureParts → KeyParts → ℕ → Type 0
@@ -39,7 +39,7 @@ AtPair token keys signature key P = (s : SignatureParts) × (k : KeyParts) × (s
 -- The table of the token's signatures and the keys: their numbers and the mode; the bar of each signature, which is the first row
 -- that holds; for each pair whether it is eligible, whether it is valid, whether a verifier may lack memory for it, and its cost,
 -- where it costs anything.
-pub record IsTable (terms : Terms) (token : Token) (table : Table) : Type 0 where
+pub record IsTableOf (terms : Terms) (token : Token) (table : Table) : Type 0 where
   pub signatures : table.signatures ≡ length token.signatures
   pub keys : table.keys ≡ length terms.keys
   pub mode : table.mode ≡ terms.policy.run.mode
@@ -47,7 +47,7 @@ pub record IsTable (terms : Terms) (token : Token) (table : Table) : Type 0 wher
   pub eligible : (i j : ℕ) → (table.eligible i j ≡ true) ↔ AtPair token terms.keys i j (λ s key. IsEligible terms.policy s key terms.verifiers)
   pub valid : (i j : ℕ) → (table.valid i j ≡ true) ↔ AtPair token terms.keys i j (λ s key. IsValid terms.verifiers (message_of token s) s key)
   pub may_lack : (i j : ℕ) → (table.may_lack i j ≡ true) ↔ AtPair token terms.keys i j (λ s key.
-      (a : Alg) × (alg s ≡ Some a) × ((v : Meaning) × IsAsked terms.verifiers a v × (v.may_lack a key.octets (message_of token s) s.octets ≡ true)))
+      (a : Alg) × (alg s ≡ Some a) × ((v : Meaning) × IsToAsk terms.verifiers a v × (v.may_lack a key.octets (message_of token s) s.octets ≡ true)))
   pub cost : (i j n : ℕ) → 0 < n → (table.cost i j ≡ n) ↔ AtPair token terms.keys i j (λ s key. IsCost (message_of token s) s key n)
 
 -- the octets aren't too long and, without one line feed at their end where the policy drops it, are this signed token (RFC 7515, section 7)
@@ -55,5 +55,5 @@ abbrev pub IsToken : Settings → List ℕ → Token → Type 0
 IsToken policy octets token = (length octets ≤ policy.run.limit) × IsSignedToken policy.run.max_signatures (without_line_feed policy.run.line_feed octets) token
 
 -- the octets are this signed token, and this is its table
-abbrev pub IsAsking : Terms → List ℕ → Token → Table → Type 0
-IsAsking terms octets token table = IsToken terms.policy octets token × IsTable terms token table
+abbrev pub IsTokenWithTable : Terms → List ℕ → Token → Table → Type 0
+IsTokenWithTable terms octets token table = IsToken terms.policy octets token × IsTableOf terms token table

@@ -1,4 +1,4 @@
--- What the laws say: how many tries there are and what they cost, that none can be spared, and what other keys change.
+-- The laws of tries: how many there are and what they cost, that none can be spared, and what other keys change.
 use Rattle.serde_json.specs.Data.{Members}
 use Rattle.jwt_keys.specs.Keys.{KeyParts}
 use Rattle.jwt_verify.specs.declared.report.Verdict.{Verdict}
@@ -21,6 +21,28 @@ use Rattle.jwt_verify.specs.Table.{Table, tries, work, is_within, paid, states, 
 -- the one stands before the other in dictionary order
 abbrev pub IsBefore : Try → Try → Type 0
 IsBefore earlier later = (earlier.signature < later.signature) ⊎ ((earlier.signature ≡ later.signature) × (earlier.key < later.key))
+
+-- ---- the bound on the work
+
+-- the greatest of these numbers, 0 where there is none
+abbrev pub greatest : List ℕ → ℕ
+greatest [] = 0
+greatest (number ∷ rest) = max number (greatest rest)
+
+-- what a try costs at most, but for its key: the longest signing input, two blocks and a digest, these the greatest among the
+-- policy's algorithms (RFC 2104, section 2)
+abbrev pub common_cost : Settings → Token → ℕ
+common_cost policy token = greatest (map (λ s. length (signing_input (message_of token s))) token.signatures) + 2 * greatest (map block_size policy.run.algs) + greatest (map digest_size policy.run.algs)
+
+abbrev pub long_secret : Alg → KeyOctets → ℕ
+long_secret algorithm (OctKey secret) = if is_hmac_alg algorithm then key_cost (block_size algorithm) (length secret) else 0
+long_secret algorithm _ = 0
+
+-- what a try costs for its key: the length of a secret that is longer than a block of the signature's algorithm
+abbrev pub long_key : SignatureParts → KeyParts → ℕ
+long_key signature key = option_map_or (λ a. long_secret a key.octets) (alg signature) 0
+
+-- ---- Cited by laws alone
 
 -- what is common to every cost, for each pair, and what each try adds to it
 abbrev pub bound : Table → ℕ → (ℕ → ℕ → ℕ) → ℕ
@@ -85,9 +107,9 @@ MoreKeys = (terms : Terms) (more : List KeyParts) (octets : List ℕ) (ceiling m
     → (another : ℕ) × (another_key : ℕ) × (verdict_of (with_keys terms more) octets more_w ≡ Accepted another another_key claims)
 
 -- a state, a verdict without the key that it names
-abbrev pub kind_of : SigState → SigState
-kind_of (Verified key) = Verified 0
-kind_of state = state
+abbrev pub kind_of_state : SigState → SigState
+kind_of_state (Verified key) = Verified 0
+kind_of_state state = state
 
 abbrev pub without_key : Verdict → Verdict
 without_key (Accepted signature key claims) = Accepted signature 0 claims
@@ -98,24 +120,4 @@ abbrev pub SameKeys : Type 0
 SameKeys = (terms : Terms) (others : List KeyParts) (octets : List ℕ) (ceiling other_w : ℕ) → AreAmong others terms.keys → AreAmong terms.keys others
     → HasRoom (table terms octets) ceiling terms.policy.max_calls → HasRoom (table (with_keys terms others) octets) other_w terms.policy.max_calls
     → (without_key (verdict_of terms octets ceiling) ≡ without_key (verdict_of (with_keys terms others) octets other_w))
-    × (map kind_of (states (table terms octets) ceiling terms.policy.max_calls) ≡ map kind_of (states (table (with_keys terms others) octets) other_w terms.policy.max_calls))
-
--- ---- the bound on the work
-
--- the greatest of these numbers, 0 where there is none
-abbrev pub greatest : List ℕ → ℕ
-greatest [] = 0
-greatest (number ∷ rest) = max number (greatest rest)
-
--- what a try costs at most, but for its key: the longest signing input, two blocks and a digest, these the greatest among the
--- policy's algorithms (RFC 2104, section 2)
-abbrev pub common_cost : Settings → Token → ℕ
-common_cost policy token = greatest (map (λ s. length (signing_input (message_of token s))) token.signatures) + 2 * greatest (map block_size policy.run.algs) + greatest (map digest_size policy.run.algs)
-
-abbrev pub long_secret : Alg → KeyOctets → ℕ
-long_secret algorithm (OctKey secret) = if is_hmac_alg algorithm then key_cost (block_size algorithm) (length secret) else 0
-long_secret algorithm _ = 0
-
--- what a try costs for its key: the length of a secret that is longer than a block of the signature's algorithm
-abbrev pub long_key : SignatureParts → KeyParts → ℕ
-long_key signature key = option_map_or (λ a. long_secret a key.octets) (alg signature) 0
+    × (map kind_of_state (states (table terms octets) ceiling terms.policy.max_calls) ≡ map kind_of_state (states (table (with_keys terms others) octets) other_w terms.policy.max_calls))

@@ -1,4 +1,4 @@
--- Which tries are paid, in words.
+-- The tries that are paid, in words.
 use Rattle.std.specs.Prelude.{ℕ, ◌≡◌, ◌≤◌, List, ◌++◌, ◌∷◌, length, Option, Some}
 use Rattle.jwt_verify.specs.declared.report.Try.{Try}
 use Rattle.jwt_verify.specs.Table.{Table, tries, work}
@@ -6,10 +6,6 @@ use Rattle.jwt_verify.specs.Table.{Table, tries, work}
 -- these are a prefix of the tries
 abbrev pub IsFront : Table → List Try → Type 0
 IsFront table made = (rest : List Try) × (tries table ≡ made ++ rest)
-
--- the entry is the try after these
-abbrev pub IsNext : Table → List Try → Try → Type 0
-IsNext table made entry = (rest : List Try) × (tries table ≡ made ++ entry ∷ rest)
 
 -- so many calls are within the ceiling on calls, where there is one
 abbrev pub IsWithin : Option ℕ → ℕ → Type 0
@@ -24,3 +20,9 @@ pub record ArePaid (table : Table) (octets : ℕ) (calls : Option ℕ) (made : L
   pub front : IsFront table made
   pub allowed : AreAllowed octets calls made
   pub longest : (others : List Try) → IsFront table others → AreAllowed octets calls others → length others ≤ length made
+
+-- ---- Cited by contracts of private functions alone
+
+-- the entry is the try after these
+abbrev pub IsNext : Table → List Try → Try → Type 0
+IsNext table made entry = (rest : List Try) × (tries table ≡ made ++ entry ∷ rest)

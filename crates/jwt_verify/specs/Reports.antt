@@ -1,4 +1,4 @@
--- What a report on a token holds.
+-- The report on a token.
 use Rattle.std.specs.Prelude.{◌≡◌, ◌≢◌, ◌≤◌, ◌<◌, ◌+◌, ◌*◌, ◌⊎◌, ℕ, ℤ, ◌++◌, true, false, List, [], ◌∷◌, length, map, slice_get, Option, Some, None}
 use Rattle.std.specs.List.{All, AllZip, sum_by}
 use Rattle.jwt_mac.specs.Verifying.{Meaning}
@@ -21,7 +21,7 @@ use Rattle.jwt_verify.specs.declared.report.Verdict.{Verdict}
 use Rattle.jwt_verify.specs.declared.report.Verdict.TheVariants.{Refused}
 use Rattle.jwt_verify.specs.Table.{Table, below, verified, reached, tries}
 use Rattle.jwt_verify.specs.Paying.{IsFront, AreAllowed, ArePaid}
-use Rattle.jwt_verify.specs.Asks.{AtPair, IsToken, IsAsking}
+use Rattle.jwt_verify.specs.Asks.{AtPair, IsToken, IsTokenWithTable}
 use Rattle.jwt_verify.specs.Accepted.{IsLeastKey, IsVerdict}
 use Rattle.jwt_verify.specs.Laws.{common_cost, long_key}
 use Rattle.jwt_verify.specs.Trying.{at_pair}
@@ -41,13 +41,13 @@ abbrev pub GoesThrough : Table → Option Try → ℕ → Type 0
 GoesThrough table stop signature = (reached table signature ≡ true) × ((e : Try) → stop ≡ Some e → signature < e.signature)
 
 -- the state of the signature: what becomes of it, by the pair at which the run stops, if it does
-abbrev pub IsState : Table → Option Try → ℕ → SigState → Type 0
-IsState table stop signature Stopped = (e : Try) × (stop ≡ Some e) × (e.signature ≡ signature)
-IsState table stop signature NotReached = ((e : Try) × (stop ≡ Some e) × (e.signature < signature)) ⊎ ((reached table signature ≡ false) × ((e : Try) → stop ≡ Some e → e.signature ≢ signature))
-IsState table stop signature (Barred fault) = GoesThrough table stop signature × (table.bar signature ≡ Some fault)
-IsState table stop signature (Verified key) = GoesThrough table stop signature × (table.bar signature ≡ None) × IsLeastKey table signature key
-IsState table stop signature NoKey = GoesThrough table stop signature × (table.bar signature ≡ None) × ((key : ℕ) → key < table.keys → table.eligible signature key ≡ false)
-IsState table stop signature BadSignature = GoesThrough table stop signature × (table.bar signature ≡ None) × (verified table signature ≡ false) × ((key : ℕ) × (key < table.keys) × (table.eligible signature key ≡ true))
+abbrev pub IsStateAt : Table → Option Try → ℕ → SigState → Type 0
+IsStateAt table stop signature Stopped = (e : Try) × (stop ≡ Some e) × (e.signature ≡ signature)
+IsStateAt table stop signature NotReached = ((e : Try) × (stop ≡ Some e) × (e.signature < signature)) ⊎ ((reached table signature ≡ false) × ((e : Try) → stop ≡ Some e → e.signature ≢ signature))
+IsStateAt table stop signature (Barred fault) = GoesThrough table stop signature × (table.bar signature ≡ Some fault)
+IsStateAt table stop signature (Verified key) = GoesThrough table stop signature × (table.bar signature ≡ None) × IsLeastKey table signature key
+IsStateAt table stop signature NoKey = GoesThrough table stop signature × (table.bar signature ≡ None) × ((key : ℕ) → key < table.keys → table.eligible signature key ≡ false)
+IsStateAt table stop signature BadSignature = GoesThrough table stop signature × (table.bar signature ≡ None) × (verified table signature ≡ false) × ((key : ℕ) × (key < table.keys) × (table.eligible signature key ≡ true))
 
 -- Where memory was there, the tries listed are those that are paid, and each signature has its state where the run stops at the try
 -- after them, if there is one. Where a verifier lacked memory, the last try is the one that it was asked for, and the run stopped
@@ -55,15 +55,15 @@ IsState table stop signature BadSignature = GoesThrough table stop signature × 
 abbrev pub IsComplete : Table → ℕ → Option ℕ → List Try → List SigState → Verdict → Type 0
 IsComplete table ceiling calls made states (Refused OutOfMemory) = Unit {0}
 IsComplete table ceiling calls made states (Refused VerifierMemory) =
-    (before : List Try) × (e : Try) × (made ≡ before ++ e ∷ []) × (table.may_lack e.signature e.key ≡ true) × AllZip (IsState table (Some e)) (below table.signatures) states
-IsComplete table ceiling calls made states _ = ArePaid table ceiling calls made × AllZip (IsState table (slice_get (tries table) (length made))) (below table.signatures) states
+    (before : List Try) × (e : Try) × (made ≡ before ++ e ∷ []) × (table.may_lack e.signature e.key ≡ true) × AllZip (IsStateAt table (Some e)) (below table.signatures) states
+IsComplete table ceiling calls made states _ = ArePaid table ceiling calls made × AllZip (IsStateAt table (slice_get (tries table) (length made))) (below table.signatures) states
 
 -- The report on the octets under the budget's ceiling: its verdict, unless memory was refused, is theirs; of a signed token it lists
 -- a prefix of the tries that both ceilings allow, and what its run comes to; of anything else no try and no state; after
 -- OutOfMemory nothing is said of the states.
 pub record IsReport (terms : Terms) (octets : List ℕ) (ceiling : ℕ) (report : Report) : Type 0 where
   pub verdict : FoundMemory report.verdict → IsVerdict terms octets ceiling report.verdict
-  pub run : (token : Token) (table : Table) → IsAsking terms octets token table → IsFront table report.tries.items × AreAllowed ceiling terms.policy.max_calls report.tries.items
+  pub run : (token : Token) (table : Table) → IsTokenWithTable terms octets token table → IsFront table report.tries.items × AreAllowed ceiling terms.policy.max_calls report.tries.items
       × IsComplete table ceiling terms.policy.max_calls report.tries.items report.states.items report.verdict
   pub blank : ((token : Token) → ¬ IsToken terms.policy octets token)
       → (report.tries.items ≡ []) × ((report.verdict ≡ Refused OutOfMemory) ⊎ (FoundMemory report.verdict × (report.states.items ≡ [])))

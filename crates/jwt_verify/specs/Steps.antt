@@ -1,34 +1,20 @@
--- What the private functions say, by the steps of the definitions: what is held of a source, what a run leaves, and what the
+-- The clauses of private functions, by the steps of the definitions: what is held of a source, what a run leaves, and what the
 -- signatures in given states come to.
-use Rattle.std.specs.Prelude.{◌≡◌, ◌+◌, ◌≤◌, ℕ, ◌++◌, Bool, true, drop, Result, Ok, Err, List, [], ◌∷◌, length, slice_get, Option, Some, None, option_and_then}
+use Rattle.std.specs.Prelude.{◌≡◌, ◌+◌, ◌≤◌, ℕ, ◌++◌, Bool, true, drop, Result, Ok, Err, List, ◌∷◌, length, Option, Some}
 use Rattle.jwt_text.specs.Intake.{Bounded, taken}
 use Rattle.jwt_jws.specs.Token.{Token}
-use Rattle.jwt_policy.specs.declared.mode.Mode.{Mode}
-use Rattle.jwt_policy.specs.declared.sig_fault.SigFault.{SigFault}
 use Rattle.jwt_verify.specs.declared.report.Try.{Try}
 use Rattle.jwt_verify.specs.declared.report.SigState.{SigState}
-use Rattle.jwt_verify.specs.declared.report.SigState.TheVariants.{Verified}
 use Rattle.jwt_verify.specs.declared.report.InputFault.TheVariants.{Read}
 use Rattle.jwt_verify.specs.declared.report.Fault.{Fault}
 use Rattle.jwt_verify.specs.declared.report.Fault.TheVariants.{OutOfMemory, VerifierMemory, Text}
 use Rattle.jwt_verify.specs.declared.report.Report.{Report}
 use Rattle.jwt_verify.specs.declared.report.Verdict.{Verdict}
 use Rattle.jwt_verify.specs.declared.report.Verdict.TheVariants.{Refused}
-use Rattle.jwt_verify.specs.Table.{Table, below, work, paid, states, states_at}
-use Rattle.jwt_verify.specs.Verdict.{Terms, Signing, fault_of, first_in, signing_in, table, verdict_of}
+use Rattle.jwt_verify.specs.Table.{Table, work, paid, states, states_at}
+use Rattle.jwt_verify.specs.Verdict.{Terms, table, verdict_of}
 use Rattle.jwt_verify.specs.Asks.{IsToken}
 use Rattle.jwt_verify.specs.Reports.{FoundMemory, IsReport, AreEligible, IsBounded}
-
--- the octets that are held, and what is still to come; or nothing is held, and at most the limit was taken
-abbrev pub Holds : Result Bounded Fault → ℕ → List ℕ → Option (List ℕ) → Type 0
-Holds (Ok held) limit octets rest = (held.octets ≡ taken octets limit) × (rest ≡ Some (drop (limit + 1) octets))
-Holds (Err _) limit octets rest = (front back : List ℕ) × (octets ≡ front ++ back) × (rest ≡ Some back) × (length front ≤ limit)
-
--- why nothing is held, by whether the source had failed, and whether it has: where memory was refused, it didn't fail now
-abbrev pub IsSourceFault : Bool → Bool → Fault → Type 0
-IsSourceFault before failed OutOfMemory = failed ≡ before
-IsSourceFault before failed (Text Read) = failed ≡ true
-IsSourceFault before failed _ = ⊥
 
 -- ---- what a run leaves
 
@@ -63,19 +49,15 @@ abbrev pub TellsReports : Type 0
 TellsReports = (terms : Terms) (octets : List ℕ) (ceiling : ℕ) (report : Report) → IsReport terms octets ceiling report → FoundMemory report.verdict
     → (report.verdict ≡ verdict_of terms octets ceiling) × (report.tries.items ≡ paid (table terms octets) ceiling terms.policy.max_calls) × (report.states.items ≡ states (table terms octets) ceiling terms.policy.max_calls)
 
--- ---- the states of a run, one by one
+-- ---- Cited by contracts of private functions alone
 
--- the key that verifies a signature in this state
-abbrev pub key_of : SigState → Option ℕ
-key_of (Verified key) = Some key
-key_of _ = None
+-- the octets that are held, and what is still to come; or nothing is held, and at most the limit was taken
+abbrev pub IsTakenIn : Result Bounded Fault → ℕ → List ℕ → Option (List ℕ) → Type 0
+IsTakenIn (Ok held) limit octets rest = (held.octets ≡ taken octets limit) × (rest ≡ Some (drop (limit + 1) octets))
+IsTakenIn (Err _) limit octets rest = (front back : List ℕ) × (octets ≡ front ++ back) × (rest ≡ Some back) × (length front ≤ limit)
 
-abbrev pub key_in : List SigState → ℕ → Option ℕ
-key_in states signature = option_and_then key_of (slice_get states signature)
-
-abbrev pub fault_in : List SigState → ℕ → Option SigFault
-fault_in states signature = option_and_then fault_of (slice_get states signature)
-
--- what the signatures in these states come to
-abbrev pub signing_by : Mode → List SigState → Signing
-signing_by mode states = signing_in mode (first_in (key_in states) (below (length states))) (first_in (fault_in states) (below (length states)))
+-- why nothing is held, by whether the source had failed, and whether it has: where memory was refused, it didn't fail now
+abbrev pub IsSourceFault : Bool → Bool → Fault → Type 0
+IsSourceFault before failed OutOfMemory = failed ≡ before
+IsSourceFault before failed (Text Read) = failed ≡ true
+IsSourceFault before failed _ = ⊥

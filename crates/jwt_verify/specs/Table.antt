@@ -1,4 +1,4 @@
--- Which pairs of signature and key are tried, which of these are paid, and what becomes of each signature.
+-- The pairs of signature and key that are tried, those of them that are paid, and the state of each signature.
 use Rattle.std.specs.Prelude.{ℕ, ◌+◌, ◌≡◌, ◌++◌, ◌∷◌, [], ◌==◌, Bool, true, false, ◌&&◌, not, if◌then◌else◌, nat_le, nat_lt, List, map, length, take, slice_get, Option, Some}
 use Rattle.std.specs.List.{range_with_len, list_any, list_all, filter, flat_map, find, sum_by, prefix_len}
 use Rattle.std.specs.Option.{option_map_or}
@@ -98,7 +98,9 @@ states table octets calls = states_at table (stop table octets calls)
 abbrev pub ending : Table → ℕ → Option ℕ → End
 ending table octets calls = option_map_or (λ e. if is_within calls (length (paid table octets calls) + 1) then WorkExceeded e.signature e.key else CallsExceeded e.signature e.key) (stop table octets calls) Done
 
+-- ---- Cited by contracts of private functions alone
+
 -- what a run that finds memory leaves: the paid tries, the states and the ending; where a verifier found none, the tries end with the pair that was asked
-abbrev pub IsRun : Table → ℕ → Option ℕ → List Try → List SigState → End → Type 0
-IsRun table octets calls made found (VerifierMemory signature key) = ((before : List Try) × (made ≡ before ++ entry table signature key ∷ [])) × (table.may_lack signature key ≡ true) × (found ≡ states_at table (Some (entry table signature key)))
-IsRun table octets calls made found end = (made ≡ paid table octets calls) × (found ≡ states table octets calls) × (end ≡ ending table octets calls)
+abbrev pub IsWholeRun : Table → ℕ → Option ℕ → List Try → List SigState → End → Type 0
+IsWholeRun table octets calls made found (VerifierMemory signature key) = ((before : List Try) × (made ≡ before ++ entry table signature key ∷ [])) × (table.may_lack signature key ≡ true) × (found ≡ states_at table (Some (entry table signature key)))
+IsWholeRun table octets calls made found end = (made ≡ paid table octets calls) × (found ≡ states table octets calls) × (end ≡ ending table octets calls)

@@ -1,4 +1,4 @@
--- What a token asks of a list of keys: the table of its pairs.
+-- The table of a token's pairs of signature and key.
 use Rattle.std.specs.Prelude.{ℕ, Bool, false, List, length, Option, Some, None, option_and_then, slice_get, if◌then◌else◌}
 use Rattle.std.specs.Option.{option_map_or}
 use Rattle.std.specs.Str.{bytes_eq}

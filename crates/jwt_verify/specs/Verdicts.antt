@@ -13,10 +13,10 @@ use Rattle.jwt_verify.specs.Table.{Table, below, entry, tries, work, paid, state
 use Rattle.jwt_verify.specs.Trying.{at_pair}
 use Rattle.jwt_verify.specs.Verdict.{Terms}
 use Rattle.jwt_verify.specs.Paying.{IsWithin, AreAllowed, ArePaid}
-use Rattle.jwt_verify.specs.Asks.{IsToken, IsAsking}
+use Rattle.jwt_verify.specs.Asks.{IsToken, IsTokenWithTable}
 use Rattle.jwt_verify.specs.Accepted.{IsVerdict}
-use Rattle.jwt_verify.specs.Reports.{IsState}
-use Rattle.jwt_verify.specs.Laws.{AreAmong, with_keys, kind_of, without_key, bound, common_cost, long_key, with_valid, verdict_by, AgreeOn, DifferOnlyAt, LeaveTheSame}
+use Rattle.jwt_verify.specs.Reports.{IsStateAt}
+use Rattle.jwt_verify.specs.Laws.{AreAmong, with_keys, kind_of_state, without_key, bound, common_cost, long_key, with_valid, verdict_by, AgreeOn, DifferOnlyAt, LeaveTheSame}
 
 -- what is paid is the longest prefix of the tries that both ceilings allow, and nothing else is
 abbrev pub PaidIsLongest : Type 0
@@ -35,11 +35,11 @@ work_bound terms token table = bound table (common_cost terms.policy token) (at_
 
 -- the work is within the bound
 abbrev pub WorkIsBounded : Type 0
-WorkIsBounded = (terms : Terms) (octets : List ℕ) (token : Token) (table : Table) → IsAsking terms octets token table → work (tries table) ≤ work_bound terms token table
+WorkIsBounded = (terms : Terms) (octets : List ℕ) (token : Token) (table : Table) → IsTokenWithTable terms octets token table → work (tries table) ≤ work_bound terms token table
 
 -- a ceiling of the bound is never exceeded, and how much more it is changes neither the verdict nor the tries nor the states
 abbrev pub CeilingSuffices : Type 0
-CeilingSuffices = (terms : Terms) (octets : List ℕ) (ceiling greater : ℕ) (token : Token) (table : Table) → IsAsking terms octets token table → work_bound terms token table ≤ ceiling → work_bound terms token table ≤ greater
+CeilingSuffices = (terms : Terms) (octets : List ℕ) (ceiling greater : ℕ) (token : Token) (table : Table) → IsTokenWithTable terms octets token table → work_bound terms token table ≤ ceiling → work_bound terms token table ≤ greater
     → ((signature key : ℕ) → ¬ IsVerdict terms octets ceiling (Refused (WorkExceeded signature key)))
     × ((verdict : Verdict) → IsVerdict terms octets ceiling verdict → IsVerdict terms octets greater verdict)
     × (paid table ceiling terms.policy.max_calls ≡ paid table greater terms.policy.max_calls)
@@ -53,12 +53,12 @@ secrets keys = sum_by (λ key. secret_length key.octets) keys
 
 -- the work of all tries is at most signatures times keys times the common cost, and signatures times the lengths of all secrets
 abbrev pub CallersBound : Type 0
-CallersBound = (terms : Terms) (octets : List ℕ) (token : Token) (table : Table) → IsAsking terms octets token table
+CallersBound = (terms : Terms) (octets : List ℕ) (token : Token) (table : Table) → IsTokenWithTable terms octets token table
     → work (tries table) ≤ length token.signatures * length terms.keys * common_cost terms.policy token + length token.signatures * secrets terms.keys
 
 -- its greatest value, for every policy and key set: up to 32 signatures and 1,048,576 octets of a token, 1,024 keys, and secrets of 4,096
 abbrev pub GreatestWork : Type 0
-GreatestWork = (terms : Terms) (octets : List ℕ) (token : Token) (table : Table) → IsAsking terms octets token table
+GreatestWork = (terms : Terms) (octets : List ℕ) (token : Token) (table : Table) → IsTokenWithTable terms octets token table
     → 0 < terms.policy.run.max_signatures → terms.policy.run.max_signatures ≤ 32 → terms.policy.run.limit ≤ 1048576
     → length terms.keys ≤ 1024 → All (λ key. secret_length key.octets ≤ 4096) terms.keys
     → work (tries table) ≤ 34504441856
@@ -66,7 +66,7 @@ GreatestWork = (terms : Terms) (octets : List ℕ) (token : Token) (table : Tabl
 -- ---- other keys, where no ceiling stops a run
 
 abbrev pub IsUnstopped : Terms → List ℕ → ℕ → Type 0
-IsUnstopped terms octets ceiling = (token : Token) (table : Table) → IsAsking terms octets token table → AreAllowed ceiling terms.policy.max_calls (tries table)
+IsUnstopped terms octets ceiling = (token : Token) (table : Table) → IsTokenWithTable terms octets token table → AreAllowed ceiling terms.policy.max_calls (tries table)
 
 -- what is accepted with some keys is accepted with more, with the same claims
 abbrev pub MoreKeysAccept : Type 0
@@ -79,8 +79,8 @@ abbrev pub SameKeysAgree : Type 0
 SameKeysAgree = (terms : Terms) (others : List KeyParts) (octets : List ℕ) (ceiling other_w : ℕ) → AreAmong others terms.keys → AreAmong terms.keys others
     → IsUnstopped terms octets ceiling → IsUnstopped (with_keys terms others) octets other_w
     → ((verdict other_verdict : Verdict) → IsVerdict terms octets ceiling verdict → IsVerdict (with_keys terms others) octets other_w other_verdict → without_key verdict ≡ without_key other_verdict)
-    × ((token : Token) (table other_table : Table) (mine theirs : List SigState) → IsAsking terms octets token table → IsAsking (with_keys terms others) octets token other_table
-    → AllZip (IsState table None) (below table.signatures) mine → AllZip (IsState other_table None) (below other_table.signatures) theirs → map kind_of mine ≡ map kind_of theirs)
+    × ((token : Token) (table other_table : Table) (mine theirs : List SigState) → IsTokenWithTable terms octets token table → IsTokenWithTable (with_keys terms others) octets token other_table
+    → AllZip (IsStateAt table None) (below table.signatures) mine → AllZip (IsStateAt other_table None) (below other_table.signatures) theirs → map kind_of_state mine ≡ map kind_of_state theirs)
 
 -- ---- no try of a token can be spared
 
@@ -95,4 +95,4 @@ SparesNone terms octets ceiling payload table validity =
 
 -- of a token none is spared
 abbrev pub LeastTriesOfToken : Type 0
-LeastTriesOfToken = (terms : Terms) (octets : List ℕ) (ceiling : ℕ) (token : Token) (table : Table) (validity : ℕ → ℕ → Bool) → IsAsking terms octets token table → SparesNone terms octets ceiling token.payload table validity
+LeastTriesOfToken = (terms : Terms) (octets : List ℕ) (ceiling : ℕ) (token : Token) (table : Table) (validity : ℕ → ℕ → Bool) → IsTokenWithTable terms octets token table → SparesNone terms octets ceiling token.payload table validity

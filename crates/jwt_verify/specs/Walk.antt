@@ -1,19 +1,17 @@
--- How far a run has come: what the private functions say of the tries that they have listed.
-use Rattle.std.specs.Prelude.{ℕ, ◌+◌, ◌<◌, ◌≤◌, ◌≡◌, ◌++◌, ◌∷◌, [], Bool, true, false, not, List, map, length, Option, None, Some, if◌then◌else◌}
+-- A run that is under way: the clauses of private functions on the tries so far.
+use Rattle.std.specs.Prelude.{ℕ, ◌+◌, ◌<◌, ◌≤◌, ◌≡◌, ◌++◌, ◌∷◌, Bool, true, false, not, List, map, length, Option, None, Some}
 use Rattle.std.specs.List.{list_any, filter, flat_map, find}
-use Rattle.std.specs.Option.{option_map_or}
 use Rattle.jwt_verify.specs.declared.tries.RowEnd.{RowEnd}
 use Rattle.jwt_verify.specs.declared.tries.RowEnd.TheVariants.{Through, Stop}
-use Rattle.jwt_verify.specs.declared.settled.Settled.{Settled}
+use Rattle.jwt_verify.specs.declared.signature_outcome.SignatureOutcome.{SignatureOutcome}
 use Rattle.jwt_verify.specs.declared.tries.End.{End}
 use Rattle.jwt_verify.specs.declared.tries.End.TheVariants.{Done, WorkExceeded, CallsExceeded, VerifierMemory}
 use Rattle.jwt_verify.specs.declared.report.SigState.{SigState}
-use Rattle.jwt_verify.specs.declared.report.SigState.TheVariants.{Barred, NoKey, BadSignature, Verified, NotReached}
-use Rattle.jwt_policy.specs.declared.sig_fault.SigFault.{SigFault}
+use Rattle.jwt_verify.specs.declared.report.SigState.TheVariants.{NotReached}
 use Rattle.jwt_policy.specs.declared.mode.Mode.{Mode}
 use Rattle.jwt_policy.specs.declared.mode.Mode.TheVariants.{Any, All}
 use Rattle.jwt_verify.specs.declared.report.Try.{Try}
-use Rattle.jwt_verify.specs.Settled.{is_verified, settled_key, settled_state}
+use Rattle.jwt_verify.specs.SignatureOutcome.{is_verified, outcome_key, outcome_state}
 use Rattle.jwt_verify.specs.Table.{Table, below, verifies, verified, reached, tried, entry, tries, work, is_within, outcome, state_at}
 use Rattle.jwt_verify.specs.Paying.{IsFront, IsNext}
 
@@ -29,7 +27,7 @@ unfoldable pub rows : Table → ℕ → List Try
 rows table signature = flat_map (λ n. row table n table.keys) (below signature)
 
 -- the run has come to this signature and this key, and has made the tries before that pair
-pub record IsAt (table : Table) (signature key : ℕ) (made : List Try) : Type 0 where
+pub record HasComeTo (table : Table) (signature key : ℕ) (made : List Try) : Type 0 where
   pub listed : made ≡ rows table signature ++ row table signature key
   pub reached : reached table signature ≡ true
   pub unverified : list_any (verifies table signature) (below key) ≡ false
@@ -63,12 +61,6 @@ pub record IsCounted (fed called ceiling : ℕ) (max_calls : Option ℕ) (made :
   pub fits : work made ≤ ceiling
   pub within : is_within max_calls (length made) ≡ true
 
--- these tries were made, and the run asks for this pair next
-pub record IsPending (table : Table) (signature key : ℕ) (made : List Try) : Type 0 where
-  pub at : IsAt table signature key made
-  pub within : key < table.keys
-  pub eligible : table.eligible signature key ≡ true
-
 -- how a run ended
 abbrev pub IsEnd : Table → ℕ → Option ℕ → List Try → End → Type 0
 IsEnd table ceiling calls made Done = made ≡ tries table
@@ -84,17 +76,13 @@ stopped_at table (CallsExceeded signature key) = Some (entry table signature key
 stopped_at table (VerifierMemory signature key) = Some (entry table signature key)
 
 -- what becomes of the signature, and the key that verifies it
-pub record IsSettled (table : Table) (signature : ℕ) (settled : Settled) : Type 0 where
-  pub state : settled_state settled ≡ outcome table signature
-  pub key : find (verifies table signature) (below table.keys) ≡ settled_key settled
-
--- what becomes of a signature, by its bar, whether a key is eligible, and the key that verifies it
-abbrev pub state_of : Option SigFault → Bool → Option ℕ → SigState
-state_of bar seen found = option_map_or Barred bar (option_map_or Verified found (if seen then BadSignature else NoKey))
+pub record IsOutcome (table : Table) (signature : ℕ) (ended : SignatureOutcome) : Type 0 where
+  pub state : outcome_state ended ≡ outcome table signature
+  pub key : find (verifies table signature) (below table.keys) ≡ outcome_key ended
 
 -- how the tries of one signature ended
 abbrev pub IsRowEnd : Table → ℕ → ℕ → Option ℕ → List Try → RowEnd → Type 0
-IsRowEnd table signature ceiling calls made (Through settled) = IsThrough table signature (is_verified settled) made × IsSettled table signature settled
+IsRowEnd table signature ceiling calls made (Through ended) = IsThrough table signature (is_verified ended) made × IsOutcome table signature ended
 IsRowEnd table signature ceiling calls made (Stop end) = IsEnd table ceiling calls made end × (reached table signature ≡ true) × ((key : ℕ) × (stopped_at table end ≡ Some (entry table signature key)))
 
 -- the states of the first signatures were recorded, and no later signature is reached

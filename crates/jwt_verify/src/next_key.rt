@@ -9,25 +9,25 @@ ghost use Rattle.jwt_keys.specs.Numbers.{IsLeastFrom};
 ghost use Rattle.jwt_keys.specs.KeySets.{key_set};
 ghost use Rattle.jwt_policy.specs.Bars.{alg};
 ghost use Rattle.jwt_policy.specs.Eligible.{fits};
-ghost use Rattle.jwt_verify.specs.AskedTable.{asked_table};
+ghost use Rattle.jwt_verify.specs.TermsTable.{terms_table};
 ghost use Rattle.jwt_verify.specs.Walk.{NoneEligible};
-ghost use Rattle.jwt_verify.specs.Pairs.{IsOpen, IsWay, IsNextPair};
+ghost use Rattle.jwt_verify.specs.Pairs.{IsLive, IsWay, IsNextPair};
 
-use crate::asked::Asked;
+use crate::live_signature::LiveSignature;
 use crate::pair::{Pair, Way};
-use crate::unbarred::Unbarred;
+use crate::terms::Terms;
 use jwt_keys::KeySet;
 use jwt_mac::KeyView;
 use jwt_policy::{Policy, fits};
 
 /// Whether key `j` fits.
-fn fits_at(policy: &Policy, keys: &KeySet, unbarred: &Unbarred<'_, '_, '_>, j: u32) -> bool
-    requires { alg (parts unbarred.now.signature.now) ≡ Some unbarred.now.alg }
-    ensures { result ≡ option_map_or (fits policy.now (parts unbarred.now.signature.now))
+fn fits_at(policy: &Policy, keys: &KeySet, live: &LiveSignature<'_, '_, '_>, j: u32) -> bool
+    requires { alg (parts live.now.signature.now) ≡ Some live.now.alg }
+    ensures { result ≡ option_map_or (fits policy.now (parts live.now.signature.now))
         (slice_get (key_set keys.now).keys j) false }
 {
     match keys.key(j) {
-        Some(key) => fits(policy, unbarred.signature, unbarred.alg, key),
+        Some(key) => fits(policy, live.signature, live.alg, key),
         None => false,
     }
 }
@@ -36,18 +36,18 @@ fn fits_at(policy: &Policy, keys: &KeySet, unbarred: &Unbarred<'_, '_, '_>, j: u
 fn next_named(
     policy: &Policy,
     keys: &KeySet,
-    unbarred: &Unbarred<'_, '_, '_>,
+    live: &LiveSignature<'_, '_, '_>,
     name: &str,
     from: u32,
 ) -> Option<u32>
-    requires algorithm { alg (parts unbarred.now.signature.now) ≡ Some unbarred.now.alg }
-    requires kid { kid (parts unbarred.now.signature.now) ≡ Some name.now }
-    ensures { IsLeastFrom (fits policy.now (parts unbarred.now.signature.now))
+    requires algorithm { alg (parts live.now.signature.now) ≡ Some live.now.alg }
+    requires kid { kid (parts live.now.signature.now) ≡ Some name.now }
+    ensures { IsLeastFrom (fits policy.now (parts live.now.signature.now))
         (key_set keys.now).keys from result }
 {
     let mut start = from;
     'named: while let Some(j) = keys.with_kid(name, policy.thumb_kid(), start) {
-        if fits_at(policy, keys, unbarred, j) {
+        if fits_at(policy, keys, live, j) {
             return Some(j);
         }
         start = j + 1;
@@ -59,15 +59,15 @@ fn next_named(
 fn next_of_all(
     policy: &Policy,
     keys: &KeySet,
-    unbarred: &Unbarred<'_, '_, '_>,
+    live: &LiveSignature<'_, '_, '_>,
     from: u32,
 ) -> Option<u32>
-    requires { alg (parts unbarred.now.signature.now) ≡ Some unbarred.now.alg }
-    ensures { IsLeastFrom (fits policy.now (parts unbarred.now.signature.now))
+    requires { alg (parts live.now.signature.now) ≡ Some live.now.alg }
+    ensures { IsLeastFrom (fits policy.now (parts live.now.signature.now))
         (key_set keys.now).keys from result }
 {
     'keys: for j in from..keys.len() {
-        if fits_at(policy, keys, unbarred, j) {
+        if fits_at(policy, keys, live, j) {
             return Some(j);
         }
     }
@@ -78,26 +78,26 @@ fn next_of_all(
 fn next_fitting(
     policy: &Policy,
     keys: &KeySet,
-    unbarred: &Unbarred<'_, '_, '_>,
+    live: &LiveSignature<'_, '_, '_>,
     from: u32,
 ) -> Option<u32>
-    requires { alg (parts unbarred.now.signature.now) ≡ Some unbarred.now.alg }
-    ensures { IsLeastFrom (fits policy.now (parts unbarred.now.signature.now))
+    requires { alg (parts live.now.signature.now) ≡ Some live.now.alg }
+    ensures { IsLeastFrom (fits policy.now (parts live.now.signature.now))
         (key_set keys.now).keys from result }
 {
-    match unbarred.signature.kid() {
-        Some(name) => next_named(policy, keys, unbarred, name, from),
-        None => next_of_all(policy, keys, unbarred, from),
+    match live.signature.kid() {
+        Some(name) => next_named(policy, keys, live, name, from),
+        None => next_of_all(policy, keys, live, from),
     }
 }
 
 /// How the signature is compared with a key; `None` where the algorithm is HMAC and the key is no secret.
-fn way<'k, 'v>(unbarred: &Unbarred<'_, '_, 'v>, key: KeyView<'k>) -> Option<Way<'k, 'v>>
-    ensures { IsWay meaning (option_map (λ v. meaning v.now) unbarred.now.verifier)
+fn way<'k, 'v>(live: &LiveSignature<'_, '_, 'v>, key: KeyView<'k>) -> Option<Way<'k, 'v>>
+    ensures { IsWay meaning (option_map (λ v. meaning v.now) live.now.verifier)
         (key_octets key.entry) result }
 {
-    match (unbarred.verifier, key) {
-        (Some(verifier), key) => Some(Way::Asked(verifier, key)),
+    match (live.verifier, key) {
+        (Some(verifier), key) => Some(Way::ByVerifier(verifier, key)),
         (None, KeyView::Oct { k }) => Some(Way::Tag(k)),
         (None, _) => None,
     }
@@ -105,31 +105,31 @@ fn way<'k, 'v>(unbarred: &Unbarred<'_, '_, 'v>, key: KeyView<'k>) -> Option<Way<
 
 /// The first eligible key of the signature at or after a number, as it is tried.
 pub(crate) fn next_eligible<'s, 'k, 'v>(
-    asked: &Asked<'k, '_, 'v>,
-    unbarred: &Unbarred<'s, '_, 'v>,
+    terms: &Terms<'k, '_, 'v>,
+    live: &LiveSignature<'s, '_, 'v>,
     from: u32,
 ) -> Option<Pair<'s, 'k, 'v>>
-    requires { IsOpen meaning asked.now unbarred.now }
-    ensures { let t = asked_table meaning asked.now unbarred.now.signed.now in
+    requires { IsLive meaning terms.now live.now }
+    ensures { let t = terms_table meaning terms.now live.now.signed.now in
         MatchOption result
-        (NoneEligible t unbarred.now.number from t.keys)
-        (IsNextPair meaning t unbarred.now.number from) }
+        (NoneEligible t live.now.number from t.keys)
+        (IsNextPair meaning t live.now.number from) }
 {
-    let Some(number) = next_fitting(asked.policy, asked.keys, unbarred, from) else {
+    let Some(number) = next_fitting(terms.policy, terms.keys, live, from) else {
         return None;
     };
-    let Some(key) = asked.keys.key(number) else {
+    let Some(key) = terms.keys.key(number) else {
         return None;
     };
-    let Some(way) = way(unbarred, key.view()) else {
+    let Some(way) = way(live, key.view()) else {
         return None;
     };
     Some(Pair {
-        signature: unbarred.number,
+        signature: live.number,
         key: number,
-        alg: unbarred.alg,
-        message: unbarred.message(),
-        octets: unbarred.signature.octets(),
+        alg: live.alg,
+        message: live.message(),
+        octets: live.signature.octets(),
         way,
     })
 }

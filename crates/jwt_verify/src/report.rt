@@ -1,4 +1,4 @@
-//! What is said of a token.
+//! The report on a token.
 
 ghost use Rattle.std.specs.Prelude.{◌≡◌};
 

@@ -1,4 +1,4 @@
--- What some words ask for.
+-- The requests of some examples of words.
 use Rattle.std.specs.Prelude.{◌≡◌, [], ◌∷◌, None, Some, true, false, codes}
 use Rattle.jwt_mac.specs.declared.algorithm.Alg.TheVariants.{HS384}
 use Rattle.jwt_words.specs.Words.{EachLine, Jwk, Keys, KidNamed, KidThumbprint, Mac, MacFile, NewSecret, NoKid, Once, Show, Verify, Version, no_files, request_of}

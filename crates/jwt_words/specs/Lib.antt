@@ -1,5 +1,14 @@
-pub mod Examples
-pub mod InHand
+-- ---- What contracts of public functions cite, in reading order
+
+-- moments, in whole seconds since 1970-01-01T00:00:00Z
 pub mod Moments
-pub mod Seen
+-- the words of the command `jwt`, over `clap`'s own definitions of what a command takes
 pub mod Words
+-- the files that words name, and the documents of those that were read
+pub mod InHand
+-- the crate's own types as contracts see them
+pub mod Seen
+-- ---- What contracts of private functions alone cite, which nobody has to believe
+
+-- the requests of some examples of words
+pub mod Examples

@@ -1,4 +1,4 @@
--- What a clause sees of the crate's own types.
+-- The crate's own types as contracts see them.
 use Rattle.std.specs.Prelude.{◌≡◌, ℕ, Option, option_map, true}
 use Rattle.jwt_mac.specs.Algorithm.{is_hmac_alg}
 use Rattle.jwt_words.specs.Words.{EachLine, Files, HasLimits, Issue, Jwk, JwkOrder, Keys, KidChoice, KidNamed, KidThumbprint, LinesOrder, Mac, MacFile, NewSecret, NoKid, Once, Order, Request, SecretOrder, Show, Verify, Version}

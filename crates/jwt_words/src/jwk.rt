@@ -129,6 +129,7 @@ fn value<'a>(options: &ArgMatches<'a>, name: &str) -> Option<&'a str>
     options.get_str(name)
 }
 
+/// The `--kid` that is asked for.
 fn chosen_kid<'a>(options: &ArgMatches<'a>) -> Option<KidChoice<'a>>
     ensures { option_map kid_view result ≡ kid_in (rows_of (found_of options.now)) }
 {
@@ -164,6 +165,7 @@ fn public_alg_chosen<'a>(name: Option<&'a str>) -> Option<Option<&'a str>>
     }
 }
 
+/// The algorithm of public keys that is asked for.
 fn chosen_public_alg<'a>(options: &ArgMatches<'a>) -> Option<Option<&'a str>>
     ensures { option_map (λ a. option_map (λ t. t.now) a) result
         ≡ public_alg_chosen (first_of (codes "alg") (rows_of (found_of options.now))) }
@@ -185,6 +187,7 @@ fn key_file_in<'a>(name: Option<&'a str>) -> Files<'a>
     }
 }
 
+/// The file of the keys.
 fn chosen_key_file<'a>(options: &ArgMatches<'a>) -> Files<'a>
     ensures { files_view result ≡ key_file_in (first_of (codes "file") (rows_of (found_of options.now))) }
 {
@@ -220,6 +223,7 @@ fn secret_alg(alg: Alg) -> Option<Alg>
     if alg.is_hmac() { Some(alg) } else { None }
 }
 
+/// The HMAC algorithm that is asked for.
 fn chosen_secret_alg(options: &ArgMatches<'_>) -> Option<Alg>
     ensures alg { result ≡ secret_alg_in (rows_of (found_of options.now)) }
     ensures hmac { IfSome result (λ a. is_hmac_alg a ≡ true) }

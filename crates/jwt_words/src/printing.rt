@@ -1,4 +1,4 @@
-//! How an answer is printed.
+//! The two ways to print an answer: in JSON, or in lines.
 
 /// How an answer is printed.
 #[derive(Clone, Copy)]

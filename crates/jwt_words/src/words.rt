@@ -82,7 +82,7 @@ pub enum Order<'a> {
     Version,
 }
 
-// An option `--name VALUE`, which may be left out.
+/// An option `--name VALUE`, which may be left out.
 pub(crate) fn option<'a>(alloc: Global, name: &'a str, value: &'a str, help: &'a str) -> Arg<'a>
     ensures shape { rule_of result ≡ option name.now }
     ensures local { result.global ≡ false }
@@ -93,7 +93,7 @@ pub(crate) fn option<'a>(alloc: Global, name: &'a str, value: &'a str, help: &'a
         .help(help)
 }
 
-// A flag `--name`.
+/// A flag `--name`.
 pub(crate) fn flag<'a>(alloc: Global, name: &'a str, help: &'a str) -> Arg<'a>
     ensures shape { rule_of result ≡ flag name.now }
     ensures local { result.global ≡ false }
@@ -104,6 +104,7 @@ pub(crate) fn flag<'a>(alloc: Global, name: &'a str, help: &'a str) -> Arg<'a>
         .help(help)
 }
 
+/// The option `--limit`.
 fn limit_option<'a>(alloc: Global) -> Arg<'a>
     ensures shape { rule_of result ≡ limit_rule }
     ensures local { result.global ≡ false }
@@ -113,7 +114,7 @@ fn limit_option<'a>(alloc: Global) -> Arg<'a>
         .default_value("8192")
 }
 
-// `--now` may be left out where there is a clock.
+/// `--now` may be left out where there is a clock.
 fn now_option<'a>(alloc: Global, has_clock: bool) -> Arg<'a>
     ensures shape { rule_of result ≡ now_rule has_clock }
     ensures local { result.global ≡ false }
@@ -128,6 +129,7 @@ fn now_option<'a>(alloc: Global, has_clock: bool) -> Arg<'a>
     .required(!has_clock)
 }
 
+/// The option `--public-keys`.
 fn public_keys_option<'a>(alloc: Global) -> Arg<'a>
     ensures shape { rule_of result ≡ public_keys_rule }
     ensures local { result.global ≡ false }
@@ -139,6 +141,7 @@ fn public_keys_option<'a>(alloc: Global) -> Arg<'a>
     )
 }
 
+/// The option `--json`.
 pub(crate) fn json_option<'a>(alloc: Global) -> Arg<'a>
     ensures shape { rule_of result ≡ json_rule }
     ensures local { result.global ≡ false }
@@ -146,6 +149,7 @@ pub(crate) fn json_option<'a>(alloc: Global) -> Arg<'a>
     flag(alloc, "json", "Prints one JSON object on one line")
 }
 
+/// The option `--keys`.
 fn keys_option<'a>(alloc: Global) -> Arg<'a>
     ensures shape { rule_of result ≡ keys_rule }
     ensures local { result.global ≡ false }
@@ -158,6 +162,7 @@ fn keys_option<'a>(alloc: Global) -> Arg<'a>
     )
 }
 
+/// The option `--alg`.
 fn alg_option<'a>(alloc: Global) -> Arg<'a>
     ensures shape { rule_of result ≡ alg_rule }
     ensures local { result.global ≡ false }
@@ -165,6 +170,7 @@ fn alg_option<'a>(alloc: Global) -> Arg<'a>
     option(alloc, "alg", "A", "The algorithm: HS256, HS384 or HS512").required(true)
 }
 
+/// The option `--form`.
 fn form_option<'a>(alloc: Global) -> Arg<'a>
     ensures shape { rule_of result ≡ form_rule }
     ensures local { result.global ≡ false }
@@ -178,6 +184,7 @@ fn form_option<'a>(alloc: Global) -> Arg<'a>
     .default_value("compact")
 }
 
+/// The subcommand `mac`.
 fn mac_command<'a>(alloc: Global) -> Result<Command<'a>, AllocError>
     ensures shape { IfOk result (λ c. app_of c ≡ mac_app) }
     ensures local { IfOk result (λ c. (fields_of c).has_globals ≡ false) }
@@ -191,6 +198,7 @@ fn mac_command<'a>(alloc: Global) -> Result<Command<'a>, AllocError>
         .arg(limit_option(alloc))
 }
 
+/// The subcommand `keys`.
 fn keys_command<'a>(alloc: Global) -> Result<Command<'a>, AllocError>
     ensures shape { IfOk result (λ c. app_of c ≡ keys_app) }
     ensures local { IfOk result (λ c. (fields_of c).has_globals ≡ false) }
@@ -200,6 +208,7 @@ fn keys_command<'a>(alloc: Global) -> Result<Command<'a>, AllocError>
         .arg(json_option(alloc))
 }
 
+/// The subcommand `show`.
 fn show_command<'a>(alloc: Global) -> Result<Command<'a>, AllocError>
     ensures shape { IfOk result (λ c. app_of c ≡ show_app) }
     ensures local { IfOk result (λ c. (fields_of c).has_globals ≡ false) }
@@ -210,7 +219,7 @@ fn show_command<'a>(alloc: Global) -> Result<Command<'a>, AllocError>
         .arg(json_option(alloc))
 }
 
-// `verify` on standard input alone.
+/// `verify` on standard input alone.
 fn verify_on_input<'a>(alloc: Global, has_clock: bool) -> Result<Command<'a>, AllocError>
     ensures shape { IfOk result (λ c. app_of c ≡ verify_on_input has_clock) }
     ensures local { IfOk result (λ c. (fields_of c).has_globals ≡ false) }
@@ -223,7 +232,7 @@ fn verify_on_input<'a>(alloc: Global, has_clock: bool) -> Result<Command<'a>, Al
         .arg(public_keys_option(alloc))
 }
 
-// With files too.
+/// With files too.
 fn verify_on_files<'a>(alloc: Global, has_clock: bool) -> Result<Command<'a>, AllocError>
     ensures shape { IfOk result (λ c. app_of c ≡ verify_on_files has_clock) }
     ensures local { IfOk result (λ c. (fields_of c).has_globals ≡ false) }
@@ -236,7 +245,7 @@ fn verify_on_files<'a>(alloc: Global, has_clock: bool) -> Result<Command<'a>, Al
         .arg(option(alloc, "token", "FILE", token))
 }
 
-// With an access rule too.
+/// With an access rule too.
 fn verify_with_access<'a>(alloc: Global, has_clock: bool) -> Result<Command<'a>, AllocError>
     ensures shape { IfOk result (λ c. app_of c ≡ verify_with_access has_clock) }
     ensures local { IfOk result (λ c. (fields_of c).has_globals ≡ false) }
@@ -245,6 +254,7 @@ fn verify_with_access<'a>(alloc: Global, has_clock: bool) -> Result<Command<'a>,
     verify_on_files(alloc, has_clock)?.arg(option(alloc, "access", "FILE", access))
 }
 
+/// The subcommand `verify`.
 fn verify_command<'a>(alloc: Global, has_clock: bool) -> Result<Command<'a>, AllocError>
     ensures shape { IfOk result (λ c. app_of c ≡ verify_app has_clock) }
     ensures local { IfOk result (λ c. (fields_of c).has_globals ≡ false) }
@@ -256,6 +266,7 @@ fn verify_command<'a>(alloc: Global, has_clock: bool) -> Result<Command<'a>, All
         .arg(json_option(alloc))
 }
 
+/// The subcommand `issue`.
 fn issue_command<'a>(alloc: Global) -> Result<Command<'a>, AllocError>
     ensures shape { IfOk result (λ c. app_of c ≡ issue_app) }
     ensures local { IfOk result (λ c. (fields_of c).has_globals ≡ false) }
@@ -269,7 +280,7 @@ fn issue_command<'a>(alloc: Global) -> Result<Command<'a>, AllocError>
         .arg(keys_option(alloc))
 }
 
-// The command line without its subcommands.
+/// The command line without its subcommands.
 fn without_subcommands<'a>(alloc: Global) -> Command<'a>
     ensures { app_of result ≡ top_app }
 {
@@ -332,7 +343,7 @@ impl From<AllocError> for WordsFault {
     }
 }
 
-// Whether `--version` stands alone behind the name of the program.
+/// Whether `--version` stands alone behind the name of the program.
 fn asks_version(words: &[&str]) -> bool
     ensures { result ≡ asks_version (map (λ w. w.now) words.now) }
 {
@@ -364,7 +375,7 @@ pub fn read_words<'a>(
     }
 }
 
-// What the words ask for by `clap`.
+/// What the words ask for by `clap`.
 fn read_by_clap<'a>(
     alloc: Global,
     words: &'a [&'a str],
@@ -388,8 +399,8 @@ fn read_by_clap<'a>(
     }
 }
 
-// What is said where `clap` accepts the words and they ask for nothing: of `--alg` and `--form` it takes any text, and of the keys
-// of `mac` both or none.
+/// What is said where `clap` accepts the words and they ask for nothing: of `--alg` and `--form` it takes any text, and of the keys
+/// of `mac` both or none.
 fn unknown_name(alloc: Global, matches: &ArgMatches<'_>) -> Result<String, AllocError> {
     match matches.subcommand() {
         Some(("mac", options)) => wrong_keys(alloc, options),
@@ -400,7 +411,7 @@ fn unknown_name(alloc: Global, matches: &ArgMatches<'_>) -> Result<String, Alloc
     }
 }
 
-// The text of keys of `mac` that are both there or both missing, as `clap` words it.
+/// The text of keys of `mac` that are both there or both missing, as `clap` words it.
 fn wrong_keys(alloc: Global, options: &ArgMatches<'_>) -> Result<String, AllocError> {
     let wrong = if options.get_str("k").is_some() {
         "the argument '--k <TEXT>' cannot be used with '--key-file <FILE>'"
@@ -410,7 +421,7 @@ fn wrong_keys(alloc: Global, options: &ArgMatches<'_>) -> Result<String, AllocEr
     format!(in alloc; "error: {wrong}\n\nFor more information, try '--help'.\n")
 }
 
-// The text of `--lines` beside a file of one token, or without the other two files.
+/// The text of `--lines` beside a file of one token, or without the other two files.
 fn wrong_lines(alloc: Global, options: &ArgMatches<'_>) -> Result<String, AllocError> {
     let wrong = if options.get_str("token").is_some() {
         "the argument '--lines' cannot be used with '--token <FILE>'"
@@ -420,6 +431,7 @@ fn wrong_lines(alloc: Global, options: &ArgMatches<'_>) -> Result<String, AllocE
     format!(in alloc; "error: {wrong}\n\nFor more information, try '--help'.\n")
 }
 
+/// What is said of an option that there isn't.
 fn unknown_option(alloc: Global, options: &ArgMatches<'_>) -> Result<String, AllocError> {
     let alg = options.get_str("alg").unwrap_or("");
     if Alg::from_text(alg).is_none() {
@@ -432,7 +444,7 @@ fn unknown_option(alloc: Global, options: &ArgMatches<'_>) -> Result<String, All
     }
 }
 
-// The text of a value that an option doesn't know, as `clap` words it.
+/// The text of a value that an option doesn't know, as `clap` words it.
 pub(crate) fn unknown_value(
     alloc: Global,
     option: &str,
@@ -450,6 +462,7 @@ pub(crate) fn unknown_value(
     Ok(text)
 }
 
+/// The request that the words make.
 fn chosen<'a>(matches: &ArgMatches<'a>, clock: Option<Moment>) -> Option<Request<'a>>
     ensures limits { IfSome result (λ q. HasRange (requested q)) }
     ensures request { option_map requested result
@@ -460,7 +473,7 @@ fn chosen<'a>(matches: &ArgMatches<'a>, clock: Option<Moment>) -> Option<Request
     chosen_request(name, options, clock)
 }
 
-// What a subcommand asks for.
+/// What a subcommand asks for.
 fn chosen_request<'a>(
     name: &str,
     options: &ArgMatches<'a>,
@@ -482,7 +495,7 @@ fn chosen_request<'a>(
     Some(Request::Once { printing, order })
 }
 
-// What `jwk` asks for: a new secret with `--new`, and else the JWKs of public keys.
+/// What `jwk` asks for: a new secret with `--new`, and else the JWKs of public keys.
 fn chosen_jwk_request<'a>(options: &ArgMatches<'a>) -> Option<Request<'a>>
     ensures limits { IfSome result (λ q. HasRange (requested q)) }
     ensures request { option_map requested result ≡ jwk_request (rows_of (found_of options.now)) }
@@ -495,7 +508,7 @@ fn chosen_jwk_request<'a>(options: &ArgMatches<'a>) -> Option<Request<'a>>
     Some(Request::Jwk(order))
 }
 
-// What a subcommand asks for, where it asks for one answer.
+/// What a subcommand asks for, where it asks for one answer.
 fn chosen_order<'a>(
     name: &str,
     options: &ArgMatches<'a>,
@@ -515,7 +528,7 @@ fn chosen_order<'a>(
     }
 }
 
-// The key by its text, or by its file: one of the two.
+/// The key by its text, or by its file: one of the two.
 fn keyed<'a>(text: Option<&'a str>, name: Option<&'a str>, limit: u64) -> Option<Order<'a>>
     requires least { 1 ≤ limit }
     requires most { limit ≤ 1048576 }
@@ -530,6 +543,7 @@ fn keyed<'a>(text: Option<&'a str>, name: Option<&'a str>, limit: u64) -> Option
     }
 }
 
+/// The request of `mac`.
 fn chosen_mac<'a>(options: &ArgMatches<'a>) -> Option<Order<'a>>
     ensures limits { IfSome result (λ o. HasLimits (seen o)) }
     ensures order { option_map seen result ≡ mac_order (rows_of (found_of options.now)) }
@@ -540,6 +554,7 @@ fn chosen_mac<'a>(options: &ArgMatches<'a>) -> Option<Order<'a>>
     keyed(text, name, limit)
 }
 
+/// The request of `show`.
 fn chosen_show<'a>(options: &ArgMatches<'a>) -> Option<Order<'a>>
     ensures limits { IfSome result (λ o. HasLimits (seen o)) }
     ensures order { option_map seen result ≡ show_order (rows_of (found_of options.now)) }
@@ -548,7 +563,7 @@ fn chosen_show<'a>(options: &ArgMatches<'a>) -> Option<Order<'a>>
     Some(Order::Show { limit })
 }
 
-// Whether a flag is used.
+/// Whether a flag is used.
 pub(crate) fn is_set(options: &ArgMatches<'_>, name: &str) -> bool
     ensures { result ≡ is_set name.now (rows_of (found_of options.now)) }
 {
@@ -558,7 +573,7 @@ pub(crate) fn is_set(options: &ArgMatches<'_>, name: &str) -> bool
     }
 }
 
-// How the answer is to be printed.
+/// How the answer is to be printed.
 pub(crate) fn chosen_printing(options: &ArgMatches<'_>) -> Printing
     ensures { result ≡ printing_in (rows_of (found_of options.now)) }
 {
@@ -569,7 +584,7 @@ pub(crate) fn chosen_printing(options: &ArgMatches<'_>) -> Printing
     }
 }
 
-// The moment of `--now`, where that names one.
+/// The moment of `--now`, where that names one.
 fn chosen_now(options: &ArgMatches<'_>) -> Option<Moment>
     ensures { seconds_of result
         ≡ number_in now_range (one_of (codes "now") (rows_of (found_of options.now))) }
@@ -577,7 +592,7 @@ fn chosen_now(options: &ArgMatches<'_>) -> Option<Moment>
     Moment::new(number(options, "now", 0, LAST)?)
 }
 
-// The moment that `--now` names, if any; none where that is no moment.
+/// The moment that `--now` names, if any; none where that is no moment.
 fn chosen_named_moment(options: &ArgMatches<'_>) -> Option<Option<Moment>>
     ensures { option_map seconds_of result ≡ named_moment (rows_of (found_of options.now)) }
 {
@@ -590,7 +605,7 @@ fn chosen_named_moment(options: &ArgMatches<'_>) -> Option<Option<Moment>>
     }
 }
 
-// Whether an option has a value.
+/// Whether an option has a value.
 pub(crate) fn is_named(options: &ArgMatches<'_>, name: &str) -> bool
     ensures { result ≡ is_named name.now (rows_of (found_of options.now)) }
 {
@@ -600,6 +615,7 @@ pub(crate) fn is_named(options: &ArgMatches<'_>, name: &str) -> bool
     }
 }
 
+/// The request of `verify --lines`.
 fn chosen_lines<'a>(options: &ArgMatches<'a>) -> Option<LinesOrder<'a>>
     ensures { option_map lines_view result ≡ lines_order (rows_of (found_of options.now)) }
 {
@@ -624,7 +640,7 @@ fn chosen_lines<'a>(options: &ArgMatches<'a>) -> Option<LinesOrder<'a>>
     })
 }
 
-// The moment that `--now` names, or else the clock's.
+/// The moment that `--now` names, or else the clock's.
 fn chosen_moment(options: &ArgMatches<'_>, clock: Option<Moment>) -> Option<Moment>
     ensures { seconds_of result ≡ moment_in (seconds_of clock) (rows_of (found_of options.now)) }
 {
@@ -634,7 +650,7 @@ fn chosen_moment(options: &ArgMatches<'_>, clock: Option<Moment>) -> Option<Mome
     }
 }
 
-// The files that are named.
+/// The files that are named.
 fn chosen_files<'a>(options: &ArgMatches<'a>) -> Files<'a>
     ensures { files_view result ≡ files_in (rows_of (found_of options.now)) }
 {
@@ -651,6 +667,7 @@ fn chosen_files<'a>(options: &ArgMatches<'a>) -> Files<'a>
     }
 }
 
+/// The request of `verify`.
 fn chosen_verify<'a>(options: &ArgMatches<'a>, clock: Option<Moment>) -> Option<Order<'a>>
     ensures limits { IfSome result (λ o. HasLimits (seen o)) }
     ensures order { option_map seen result
@@ -666,13 +683,14 @@ fn chosen_verify<'a>(options: &ArgMatches<'a>, clock: Option<Moment>) -> Option<
     })
 }
 
-// The algorithm of a token.
+/// The algorithm of a token.
 fn chosen_alg(options: &ArgMatches<'_>) -> Option<Alg>
     ensures { result ≡ alg_in (rows_of (found_of options.now)) }
 {
     Alg::from_text(options.get_str("alg")?)
 }
 
+/// The form of this name, if any.
 fn form_named(text: &str) -> Option<Form>
     ensures { result ≡ form_named text.now }
 {
@@ -684,14 +702,14 @@ fn form_named(text: &str) -> Option<Form>
     }
 }
 
-// The form of a token.
+/// The form of a token.
 fn chosen_form(options: &ArgMatches<'_>) -> Option<Form>
     ensures { result ≡ form_in (rows_of (found_of options.now)) }
 {
     form_named(options.get_str("form")?)
 }
 
-// The file of the key set alone.
+/// The file of the key set alone.
 fn chosen_keys_file<'a>(options: &ArgMatches<'a>) -> Files<'a>
     ensures { files_view result ≡ keys_file_in (rows_of (found_of options.now)) }
 {
@@ -705,6 +723,7 @@ fn chosen_keys_file<'a>(options: &ArgMatches<'a>) -> Files<'a>
     }
 }
 
+/// The request of `issue`.
 fn chosen_issue<'a>(options: &ArgMatches<'a>) -> Option<Order<'a>>
     ensures limits { IfSome result (λ o. HasLimits (seen o)) }
     ensures order { option_map seen result ≡ issue_order (rows_of (found_of options.now)) }
@@ -721,8 +740,8 @@ fn chosen_issue<'a>(options: &ArgMatches<'a>) -> Option<Order<'a>>
     })
 }
 
-// `clap` has refused a number out of its range; its contract says so of the words and not of the
-// matches, so the range is seen here again.
+/// `clap` has refused a number out of its range; its contract says so of the words and not of the
+/// matches, so the range is seen here again.
 fn number(options: &ArgMatches<'_>, id: &str, low: u64, high: u64) -> Option<u64>
     ensures limits { IfSome result (λ n. (low ≤ n) × (n ≤ high)) }
     ensures number { result
@@ -732,7 +751,7 @@ fn number(options: &ArgMatches<'_>, id: &str, low: u64, high: u64) -> Option<u64
     if low <= n && n <= high { Some(n) } else { None }
 }
 
-// The files that an order names.
+/// The files that an order names.
 pub fn files_in_order<'a>(order: Order<'a>) -> Files<'a>
     ensures { files_view result ≡ files_in_order (seen order.entry) }
 {

@@ -6,11 +6,11 @@ use Rattle.std.proofs.lemmas.Bool.{eqb-true, eq-eqb, and_parts, and_from}
 use Rattle.std.proofs.lemmas.List.{take_at, drop_at, take-append-drop, length-append, length-take, length-drop}
 use Rattle.std.proofs.lemmas.Slice.Eq.{bytes_eq-Decides}
 use Rattle.jwt_mac.specs.Verifying.{KeyOctets, OctKey, RsaKey, EcKey, OkpKey, key_octets}
-use Rattle.jwt_mac.specs.declared.message.KeyView.{KeyView}
-use Rattle.jwt_mac.specs.declared.message.Curve.{Curve}
-use Rattle.jwt_mac.specs.declared.message.Curve.TheVariants.{P256, P384, P521}
-use Rattle.jwt_mac.specs.declared.message.EdCurve.{EdCurve}
-use Rattle.jwt_mac.specs.declared.message.EdCurve.TheVariants.{Ed25519, Ed448}
+use Rattle.jwt_mac.specs.declared.key_view.KeyView.{KeyView}
+use Rattle.jwt_mac.specs.declared.key_view.EcCurve.{EcCurve}
+use Rattle.jwt_mac.specs.declared.key_view.EcCurve.TheVariants.{P256, P384, P521}
+use Rattle.jwt_mac.specs.declared.key_view.EdCurve.{EdCurve}
+use Rattle.jwt_mac.specs.declared.key_view.EdCurve.TheVariants.{Ed25519, Ed448}
 use Rattle.key_der.specs.declared.refusal.Refusal.{Refusal}
 use Rattle.key_der.specs.declared.refusal.Refusal.TheVariants.{Algorithm, Point}
 use Rattle.key_der.specs.declared.kind.Kind.{Kind}
@@ -88,7 +88,7 @@ kind_again (Okp Ed448) = refl
 
 -- ---- points
 
-ec_takes : (curve : Curve) (bits : List ℕ) (p : List ℕ × List ℕ) → ec_of curve bits ≡ Ok p → (bits ≡ 4 ∷ (p.0 ++ p.1)) × ((length p.0 ≡ coordinate_size curve) × (length p.1 ≡ coordinate_size curve))
+ec_takes : (curve : EcCurve) (bits : List ℕ) (p : List ℕ × List ℕ) → ec_of curve bits ≡ Ok p → (bits ≡ 4 ∷ (p.0 ++ p.1)) × ((length p.0 ≡ coordinate_size curve) × (length p.1 ≡ coordinate_size curve))
 unfolding ec_of
 ec_takes curve [] p e = absurd cc
 ec_takes curve (first ∷ rest) p e =
@@ -102,7 +102,7 @@ ec_takes curve (first ∷ rest) p e =
     let y_long : length (drop (coordinate_size curve) rest) ≡ coordinate_size curve = omega (arith, length-drop (coordinate_size curve) rest) in
     subst (λ (y : List ℕ × List ℕ). (first ∷ rest ≡ 4 ∷ (y.0 ++ y.1)) × ((length y.0 ≡ coordinate_size curve) × (length y.1 ≡ coordinate_size curve))) (ok_is (take (coordinate_size curve) rest, drop (coordinate_size curve) rest) p u.1) (whole, (x_long, y_long))
 
-ec_again : (curve : Curve) (x y : List ℕ) → length x ≡ coordinate_size curve → length y ≡ coordinate_size curve → ec_of curve (4 ∷ (x ++ y)) ≡ Ok (x, y)
+ec_again : (curve : EcCurve) (x y : List ℕ) → length x ≡ coordinate_size curve → length y ≡ coordinate_size curve → ec_of curve (4 ∷ (x ++ y)) ≡ Ok (x, y)
 unfolding ec_of
 ec_again curve x y x_long y_long =
     let long : length (x ++ y) ≡ 2 * coordinate_size curve = omega (arith, length-append x y) in
@@ -161,7 +161,7 @@ short_algorithm (Ec P521) = lit< tt
 short_algorithm (Okp Ed25519) = lit< tt
 short_algorithm (Okp Ed448) = lit< tt
 
-few_coordinates : (curve : Curve) → coordinate_size curve < 100
+few_coordinates : (curve : EcCurve) → coordinate_size curve < 100
 few_coordinates P256 = lit< tt
 few_coordinates P384 = lit< tt
 few_coordinates P521 = lit< tt

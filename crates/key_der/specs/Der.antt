@@ -7,10 +7,10 @@ use Rattle.ecdsa.specs.Ecdsa.{is_public_key}
 use Rattle.jwt_rsa.specs.PublicKey.{is_key}
 use Rattle.rsa_number.specs.Octets.{os2ip}
 use Rattle.jwt_mac.specs.Verifying.{KeyOctets, OctKey, RsaKey, EcKey, OkpKey}
-use Rattle.jwt_mac.specs.declared.message.Curve.{Curve}
-use Rattle.jwt_mac.specs.declared.message.Curve.TheVariants.{P256, P384, P521}
-use Rattle.jwt_mac.specs.declared.message.EdCurve.{EdCurve}
-use Rattle.jwt_mac.specs.declared.message.EdCurve.TheVariants.{Ed25519, Ed448}
+use Rattle.jwt_mac.specs.declared.key_view.EcCurve.{EcCurve}
+use Rattle.jwt_mac.specs.declared.key_view.EcCurve.TheVariants.{P256, P384, P521}
+use Rattle.jwt_mac.specs.declared.key_view.EdCurve.{EdCurve}
+use Rattle.jwt_mac.specs.declared.key_view.EdCurve.TheVariants.{Ed25519, Ed448}
 
 -- a length below 65,536 in its shortest form (8.1.3.4, 8.1.3.5, 10.1)
 unfoldable pub length_octets : ℕ → List ℕ
@@ -55,7 +55,7 @@ abbrev pub sequence : List ℕ → List ℕ
 sequence elements = element 48 elements
 
 -- the named curves (RFC 5480, section 2.1.1.1), and the algorithms that name theirs (RFC 8410, section 3)
-abbrev pub curve_identifier : Curve → List ℕ
+abbrev pub curve_identifier : EcCurve → List ℕ
 curve_identifier P256 = identifier 1 2 (840 ∷ 10045 ∷ 3 ∷ 1 ∷ 7 ∷ [])
 curve_identifier P384 = identifier 1 3 (132 ∷ 0 ∷ 34 ∷ [])
 curve_identifier P521 = identifier 1 3 (132 ∷ 0 ∷ 35 ∷ [])
@@ -106,7 +106,7 @@ spki k = sequence (sequence (algorithm k) ++ bit_string (subject_key k))
 -- ---- which keys have one here
 
 -- the octets of a coordinate (RFC 7518, section 6.2.1.2)
-abbrev pub coordinate_size : Curve → ℕ
+abbrev pub coordinate_size : EcCurve → ℕ
 coordinate_size P256 = 32
 coordinate_size P384 = 48
 coordinate_size P521 = 66
@@ -133,7 +133,7 @@ HasParts (EcKey curve x y) = (length x ≡ coordinate_size curve) × (length y �
 HasParts (OkpKey curve x) = length x ≡ point_size curve
 
 -- the point is on its curve (SEC 1, section 3.2.2.1)
-abbrev pub is_on_curve : Curve → List ℕ → List ℕ → Bool
+abbrev pub is_on_curve : EcCurve → List ℕ → List ℕ → Bool
 is_on_curve P256 x y = is_public_key curves.P256 32 x y
 is_on_curve P384 x y = is_public_key curves.P384 48 x y
 is_on_curve P521 x y = is_public_key curves.P521 66 x y

@@ -4,10 +4,10 @@ use Rattle.std.specs.Prelude.{◌≡◌, ℕ, ◌+◌, ◌*◌, List, [], ◌∷
 use Rattle.std.specs.List.{starts_with}
 use Rattle.std.specs.Str.{bytes_eq}
 use Rattle.jwt_mac.specs.Verifying.{KeyOctets, OctKey, RsaKey, EcKey, OkpKey}
-use Rattle.jwt_mac.specs.declared.message.Curve.{Curve}
-use Rattle.jwt_mac.specs.declared.message.Curve.TheVariants.{P256, P384, P521}
-use Rattle.jwt_mac.specs.declared.message.EdCurve.{EdCurve}
-use Rattle.jwt_mac.specs.declared.message.EdCurve.TheVariants.{Ed25519, Ed448}
+use Rattle.jwt_mac.specs.declared.key_view.EcCurve.{EcCurve}
+use Rattle.jwt_mac.specs.declared.key_view.EcCurve.TheVariants.{P256, P384, P521}
+use Rattle.jwt_mac.specs.declared.key_view.EdCurve.{EdCurve}
+use Rattle.jwt_mac.specs.declared.key_view.EdCurve.TheVariants.{Ed25519, Ed448}
 use Rattle.key_der.specs.Der.{algorithm, begins_explicit, begins_pss, coordinate_size, is_fit, point_size}
 use Rattle.key_der.specs.declared.refusal.Refusal.{Refusal}
 use Rattle.key_der.specs.declared.refusal.Refusal.TheVariants.{Element, Trailing, Bits, Algorithm, RsaPss, ExplicitCurve, Number, Point, Compressed, OffCurve, KeySize}
@@ -107,7 +107,7 @@ abbrev pub point_fault : ℕ → Refusal
 point_fault first = if first == 2 || first == 3 then Compressed else Point
 
 -- the coordinates of an uncompressed point
-unfoldable pub ec_of : Curve → List ℕ → Result (List ℕ × List ℕ) Refusal
+unfoldable pub ec_of : EcCurve → List ℕ → Result (List ℕ × List ℕ) Refusal
 ec_of curve [] = Err Point
 ec_of curve (first ∷ rest) =
     if first == 4 && length rest == 2 * coordinate_size curve

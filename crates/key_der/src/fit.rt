@@ -1,4 +1,4 @@
-//! Which keys a verifier takes.
+//! The keys that a verifier takes.
 
 ghost use Rattle.std.specs.Prelude.{◌≡◌, ◌^◌, ◌%◌, ◌==◌, ◌&&◌, nat_le, nat_lt};
 ghost use Rattle.jwt_mac.specs.Verifying.{key_octets};
@@ -9,7 +9,7 @@ ghost use Rattle.rsa_number.specs.Octets.{os2ip};
 
 use crate::refusal::Refusal;
 use ecdsa::{is_p256_key, is_p384_key, is_p521_key};
-use jwt_mac::{Curve, KeyView};
+use jwt_mac::{EcCurve, KeyView};
 use rsa_number::{Modulus, number};
 
 /// Whether an RSA key has the sizes that the verifiers take.
@@ -26,13 +26,13 @@ fn is_rsa_fit(n: &[u8], e: &[u8]) -> bool
 }
 
 /// Whether a point is on its curve.
-fn is_on_curve(curve: Curve, x: &[u8], y: &[u8]) -> bool
+fn is_on_curve(curve: EcCurve, x: &[u8], y: &[u8]) -> bool
     ensures { result ≡ is_on_curve curve x.now y.now }
 {
     match curve {
-        Curve::P256 => is_p256_key(x, y),
-        Curve::P384 => is_p384_key(x, y),
-        Curve::P521 => is_p521_key(x, y),
+        EcCurve::P256 => is_p256_key(x, y),
+        EcCurve::P384 => is_p384_key(x, y),
+        EcCurve::P521 => is_p521_key(x, y),
     }
 }
 

@@ -6,13 +6,13 @@ ghost use Rattle.std.specs.Str.{bytes_eq};
 ghost use Rattle.key_der.specs.Reading.{Gives, algorithm_fault, kind_of};
 
 use crate::refusal::Refusal;
-use jwt_mac::{Curve, EdCurve};
+use jwt_mac::{EcCurve, EdCurve};
 
 /// A kind of key.
 #[derive(Clone, Copy, Debug, PartialEq, Eq)]
 pub enum Kind {
     Rsa,
-    Ec(Curve),
+    Ec(EcCurve),
     Okp(EdCurve),
 }
 
@@ -58,17 +58,17 @@ pub fn kind_of(algorithm: &[u8]) -> Result<Kind, Refusal>
         algorithm,
         b"\x06\x07\x2a\x86\x48\xce\x3d\x02\x01\x06\x08\x2a\x86\x48\xce\x3d\x03\x01\x07",
     ) {
-        Ok(Kind::Ec(Curve::P256))
+        Ok(Kind::Ec(EcCurve::P256))
     } else if is(
         algorithm,
         b"\x06\x07\x2a\x86\x48\xce\x3d\x02\x01\x06\x05\x2b\x81\x04\x00\x22",
     ) {
-        Ok(Kind::Ec(Curve::P384))
+        Ok(Kind::Ec(EcCurve::P384))
     } else if is(
         algorithm,
         b"\x06\x07\x2a\x86\x48\xce\x3d\x02\x01\x06\x05\x2b\x81\x04\x00\x23",
     ) {
-        Ok(Kind::Ec(Curve::P521))
+        Ok(Kind::Ec(EcCurve::P521))
     } else if is(algorithm, b"\x06\x03\x2b\x65\x70") {
         Ok(Kind::Okp(EdCurve::Ed25519))
     } else if is(algorithm, b"\x06\x03\x2b\x65\x71") {

@@ -5,16 +5,16 @@ ghost use Rattle.key_der.specs.Der.{coordinate_size, point_size};
 ghost use Rattle.key_der.specs.Reading.{Gives, ec_of, okp_of, point_fault};
 
 use crate::refusal::Refusal;
-use jwt_mac::{Curve, EdCurve};
+use jwt_mac::{EcCurve, EdCurve};
 
 /// The octets of a coordinate.
-fn coordinate_size(curve: Curve) -> usize
+fn coordinate_size(curve: EcCurve) -> usize
     ensures { result ≡ coordinate_size curve }
 {
     match curve {
-        Curve::P256 => 32,
-        Curve::P384 => 48,
-        Curve::P521 => 66,
+        EcCurve::P256 => 32,
+        EcCurve::P384 => 48,
+        EcCurve::P521 => 66,
     }
 }
 
@@ -41,7 +41,7 @@ fn point_fault(first: u8) -> Refusal
 
 /// The coordinates of an uncompressed point.
 #[tactic(auto, unfolding(crate::specs::Reading::ec_of))]
-pub fn ec_of(curve: Curve, octets: &[u8]) -> Result<(&[u8], &[u8]), Refusal>
+pub fn ec_of(curve: EcCurve, octets: &[u8]) -> Result<(&[u8], &[u8]), Refusal>
     ensures { Gives (λ x. (x.0.now, x.1.now)) result (ec_of curve octets.now) }
 {
     match octets {

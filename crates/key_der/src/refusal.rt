@@ -1,4 +1,4 @@
-//! Why octets are no public key.
+//! The causes why octets are no public key.
 
 /// The first fault from left to right.
 #[derive(Clone, Copy, Debug, PartialEq, Eq)]

@@ -30,7 +30,7 @@ impl Model for Ahead {
         × (0 < length s.octets.items) };
 }
 
-// The place of the first line feed.
+/// The place of the first line feed.
 fn first_line_feed(octets: &[u8]) -> Option<usize>
     ensures { MatchOption result
         ((has_line_feed octets.now ≡ false) × (first_line octets.now ≡ octets.now) × (after_line octets.now ≡ []))
@@ -41,7 +41,7 @@ fn first_line_feed(octets: &[u8]) -> Option<usize>
     memchr(b'\n', octets)
 }
 
-// Puts octets at the end of a line, of which up to `most` are held.
+/// Puts octets at the end of a line, of which up to `most` are held.
 fn hold(line: &mut Vec<u8>, most: usize, octets: &[u8]) -> Result<(), AllocError>
     requires { length line.old.items ≤ most }
     ensures { IfOk result (λ _. line.new.items ≡ take most (line.old.items ++ octets.now)) }
@@ -89,7 +89,7 @@ impl Ahead {
         }
     }
 
-    // The octets that were pulled and aren't taken yet.
+    /// The octets that were pulled and aren't taken yet.
     fn octets(&self) -> &[u8]
         ensures { result.now ≡ self.now }
     {

@@ -11,12 +11,12 @@ use Rattle.jwt_advice.proofs.costs.cost_by_name.Goals as goal
 
 pub named-preserved : goal.named-preserved
 named-preserved g c =
-    let keys = (key_set c.args.keys.now).keys in
-    let verifiers = map (λ b. (goal.Verifier-dyn g (b.vtable, b.value)).meaning b.value) c.args.verifiers.now in
-    let cost = key_cost c.args.cost c.args.policy.now verifiers (Some c.args.name.now) c.args.alg in
+    let keys = (key_set c.args.counted.now.keys.now).keys in
+    let verifiers = map (λ b. (goal.Verifier-dyn g (b.vtable, b.value)).meaning b.value) c.args.counted.now.verifiers.now in
+    let cost = key_cost c.args.counted.now.cost c.args.counted.now.policy.now verifiers (Some c.args.name.now) c.args.alg in
     let named = rw c.thumb_kid.ensures at c.in-Some.ensures in
-    let within : c.in-Some.j < length keys = passes_within (has_name c.args.name.now c.args.policy.now.header.thumb_kid) keys c.in-Some.j named.1 in
-    let skip = skipped (has_name c.args.name.now c.args.policy.now.header.thumb_kid) cost keys (unnamed c.args.cost c.args.policy.now verifiers c.args.name.now c.args.alg)
+    let within : c.in-Some.j < length keys = passes_within (has_name c.args.name.now c.args.counted.now.policy.now.header.thumb_kid) keys c.in-Some.j named.1 in
+    let skip = skipped (has_name c.args.name.now c.args.counted.now.policy.now.header.thumb_kid) cost keys (unnamed c.args.counted.now.cost c.args.counted.now.policy.now verifiers c.args.name.now c.args.alg)
     (c.in-Some.j - c.named.start) c.named.start c.in-Some.j (omega (arith, named.0)) within named.2 in
     let more = sum_more cost keys c.in-Some.j within in
     record {
@@ -27,9 +27,9 @@ named-preserved g c =
 
 pub returns-clause-value : goal.returns-clause-value
 returns-clause-value g c =
-    let keys = (key_set c.args.keys.now).keys in
-    let verifiers = map (λ b. (goal.Verifier-dyn g (b.vtable, b.value)).meaning b.value) c.args.verifiers.now in
-    let cost = key_cost c.args.cost c.args.policy.now verifiers (Some c.args.name.now) c.args.alg in
+    let keys = (key_set c.args.counted.now.keys.now).keys in
+    let verifiers = map (λ b. (goal.Verifier-dyn g (b.vtable, b.value)).meaning b.value) c.args.counted.now.verifiers.now in
+    let cost = key_cost c.args.counted.now.cost c.args.counted.now.policy.now verifiers (Some c.args.name.now) c.args.alg in
     let named = rw (c.thumb_kid.ensures, c.in_default.is) at c.with_kid.ensures in
-    let rest = none_left (has_name c.args.name.now c.args.policy.now.header.thumb_kid) cost keys (unnamed c.args.cost c.args.policy.now verifiers c.args.name.now c.args.alg) c.named.start named in
+    let rest = none_left (has_name c.args.name.now c.args.counted.now.policy.now.header.thumb_kid) cost keys (unnamed c.args.counted.now.cost c.args.counted.now.policy.now verifiers c.args.name.now c.args.alg) c.named.start named in
     omega (arith, rest, c.named.invariant.added)

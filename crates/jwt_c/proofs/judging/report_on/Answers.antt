@@ -52,13 +52,13 @@ returns-in-Ok-asking-clause-asks c _ =
     let first : IsFirstOpen ts lent.policy x keys es said.signature said.key =
     subst (λ fs. IsFirstOpen ts lent.policy x keys fs said.signature said.key) (sym is.tries)
     (subst (λ i. IsFirstOpen ts lent.policy x keys q.tries.items i said.key) (sym is.signature)
-    (subst (λ j. IsFirstOpen ts lent.policy x keys q.tries.items q.question.signature j) (sym is.key) at.1)) in
+    (subst (λ j. IsFirstOpen ts lent.policy x keys q.tries.items q.pair.signature j) (sym is.key) at.1)) in
     let here : IsOpen ts lent.policy x keys said.signature said.key =
     subst (λ i. IsOpen ts lent.policy x keys i said.key) (sym is.signature)
-    (subst (λ j. IsOpen ts lent.policy x keys q.question.signature j) (sym is.key) at.2) in
+    (subst (λ j. IsOpen ts lent.policy x keys q.pair.signature j) (sym is.key) at.2) in
     let asked : option_map kept_parts last.asked ≡ asked_at read keys said.signature said.key =
-    is.asked ∙ sym (ap (λ r. asked_at r keys q.question.signature q.question.key) at.3)
-    ∙ ap (λ i. asked_at read keys i q.question.key) (sym is.signature) ∙ ap (asked_at read keys said.signature) (sym is.key) in
+    is.asked ∙ sym (ap (λ r. asked_at r keys q.pair.signature q.pair.key) at.3)
+    ∙ ap (λ i. asked_at read keys i q.pair.key) (sym is.signature) ∙ ap (asked_at read keys said.signature) (sym is.key) in
     subst (λ it. AreTries (terms it.policy it.keys c.args.now by) x it.policy.run.work es × IsFirstOpen ts it.policy x (key_set it.keys).keys es said.signature said.key
     × IsOpen ts it.policy x (key_set it.keys).keys said.signature said.key × (said.tries ≡ length es)
     × (option_map kept_parts last.asked ≡ asked_at (token_of it.policy x) (key_set it.keys).keys said.signature said.key) × (last.remembered ≡ false)) c.documents-documents.ensures

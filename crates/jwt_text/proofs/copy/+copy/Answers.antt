@@ -4,7 +4,8 @@ use Rattle.jwt_text.specs.declared.node.Node.TheVariants as Node
 use Rattle.jwt_text.specs.declared.number.Number.TheVariants as Number
 use Rattle.jwt_text.specs.Flat.{piece, AreEntries, Each, IsNode, run_of}
 use Rattle.jwt_text.specs.Growth.{AddsEntries}
-use Rattle.jwt_text.specs.Copies.{CopiesNode, CopiesNodes, CopiesPairs, CopiesEntries}
+use Rattle.jwt_text.specs.Copies.{CopiesNode, CopiesNodes, CopiesEntries}
+use Rattle.jwt_text.proofs.CopyInvariants.{CopiesPairs}
 use Rattle.jwt_text.proofs.Seen.{each_at}
 use Rattle.jwt_text.proofs.ReadValues.{null_seen, null_holds, flag_seen, flag_holds, number_seen, number_holds}
 use Rattle.jwt_text.proofs.CopyLemmas.{text_inside_node, list_below, object_below, text_copied, leaf_copied, list_copied, object_copied, nodes_begin, nodes_at, nodes_end, pairs_begin, pairs_at, pairs_end}

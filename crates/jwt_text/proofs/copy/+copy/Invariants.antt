@@ -1,5 +1,6 @@
 use Rattle.std.proofs.Common.{◌+◌, ◌*◌, take}
-use Rattle.jwt_text.specs.Copies.{CopiesNodes, CopiesPairs}
+use Rattle.jwt_text.specs.Copies.{CopiesNodes}
+use Rattle.jwt_text.proofs.CopyInvariants.{CopiesPairs}
 use Rattle.jwt_text.proofs.copy.+copy.Given as goal
 
 abbrev pub decreases-copy_entries : goal.decreases-copy_entries

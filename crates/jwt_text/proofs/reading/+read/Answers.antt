@@ -3,7 +3,8 @@ use Rattle.std.specs.List.Sorted.{IsPermutation}
 use Rattle.std.proofs.lemmas.List.Sorted.{length_permutation}
 use Rattle.json.specs.Json.{after_end_array, read_key}
 use Rattle.json.specs.Reads.{token_of}
-use Rattle.jwt_text.specs.Reads.{ReadsNode, ReadsMembers, ItemsSoFar, MembersSoFar}
+use Rattle.jwt_text.specs.Reads.{ReadsNode, ReadsMembers}
+use Rattle.jwt_text.proofs.ReadInvariants.{ItemsSoFar, MembersSoFar}
 use Rattle.jwt_text.specs.declared.node.Entry.{Entry}
 use Rattle.jwt_text.specs.Growth.{AddsNodes, AddsEntries}
 use Rattle.jwt_text.proofs.ReadValues.{text_read, null_read, flag_read, number_read, list_read, object_read, members_are_read}

@@ -1,5 +1,5 @@
 use Rattle.std.proofs.Common.{◌+◌, ◌*◌, length}
-use Rattle.jwt_text.specs.Reads.{ItemsSoFar, MembersSoFar}
+use Rattle.jwt_text.proofs.ReadInvariants.{ItemsSoFar, MembersSoFar}
 use Rattle.jwt_text.proofs.reading.+read.Given as goal
 
 abbrev pub decreases-read : goal.decreases-read

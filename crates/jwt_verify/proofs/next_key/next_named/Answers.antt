@@ -12,7 +12,7 @@ returns-then-fits_at g c =
     let n = rw c.thumb_kid.ensures at c.in-Some.ensures in (
       omega (arith, c.named.invariant.start, n.0),
       sym c.fits_at.ensures ∙ c.if-fits_at.true,
-      none_before c.args.policy.now (parts c.args.unbarred.now.signature.now) c.args.name.now (key_set c.args.keys.now).keys c.args.from c.named.start c.in-Some.j c.requires.kid c.named.invariant.none n.2,
+      none_before c.args.policy.now (parts c.args.live.now.signature.now) c.args.name.now (key_set c.args.keys.now).keys c.args.from c.named.start c.in-Some.j c.requires.kid c.named.invariant.none n.2,
     )
 
 pub overflow_add-start : goal.overflow_add-start
@@ -25,12 +25,12 @@ pub named-preserved : goal.named-preserved
 named-preserved g c =
     let n = rw c.thumb_kid.ensures at c.in-Some.ensures in record {
       start = omega (arith, c.named.invariant.start, n.0);
-      none = none_after c.args.policy.now (parts c.args.unbarred.now.signature.now) (key_set c.args.keys.now).keys c.args.from c.in-Some.j
-          (none_before c.args.policy.now (parts c.args.unbarred.now.signature.now) c.args.name.now (key_set c.args.keys.now).keys c.args.from c.named.start c.in-Some.j c.requires.kid c.named.invariant.none n.2)
+      none = none_after c.args.policy.now (parts c.args.live.now.signature.now) (key_set c.args.keys.now).keys c.args.from c.in-Some.j
+          (none_before c.args.policy.now (parts c.args.live.now.signature.now) c.args.name.now (key_set c.args.keys.now).keys c.args.from c.named.start c.in-Some.j c.requires.kid c.named.invariant.none n.2)
           (sym c.fits_at.ensures ∙ c.if-fits_at.false);
     }
 
 pub returns : goal.returns
 returns g c =
     let n = rw (c.thumb_kid.ensures, c.in_default.is) at c.with_kid.ensures in
-    none_left c.args.policy.now (parts c.args.unbarred.now.signature.now) c.args.name.now (key_set c.args.keys.now).keys c.args.from c.named.start c.requires.kid c.named.invariant.none n
+    none_left c.args.policy.now (parts c.args.live.now.signature.now) c.args.name.now (key_set c.args.keys.now).keys c.args.from c.named.start c.requires.kid c.named.invariant.none n

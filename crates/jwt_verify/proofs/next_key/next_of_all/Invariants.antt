@@ -6,4 +6,4 @@ use Rattle.jwt_policy.specs.Eligible.{fits}
 use Rattle.jwt_verify.proofs.next_key.next_of_all.Given as goal
 
 abbrev pub invariant-keys : goal.invariant-keys
-invariant-keys g l = (i : ℕ) → l.from ≤ i → i < l.j → PassesAt (fits l.policy (parts l.unbarred.signature.now)) (key_set l.keys).keys i → ⊥
+invariant-keys g l = (i : ℕ) → l.from ≤ i → i < l.j → PassesAt (fits l.policy (parts l.live.signature.now)) (key_set l.keys).keys i → ⊥

@@ -7,6 +7,6 @@ use Rattle.jwt_told.proofs.table.Table.is_told_valid.Goals as goal
 
 pub returns : goal.returns
 returns c =
-    let asked = c.args.asked.now in let table = c.args.self.now in
-    c.is_ok.ensures.value ∙ found_is (views table.valid.answers.items) table.valid.rising asked.alg (key_octets asked.key) (message_octets asked.message) asked.signature.now c.place.result c.place.ensures.found c.place.ensures.absent
-    ∙ sym (table.holds asked.alg (key_octets asked.key) (message_octets asked.message) asked.signature.now)
+    let question = c.args.question.now in let table = c.args.self.now in
+    c.is_ok.ensures.value ∙ found_is (views table.valid.answers.items) table.valid.rising question.alg (key_octets question.key) (message_octets question.message) question.signature.now c.place.result c.place.ensures.found c.place.ensures.absent
+    ∙ sym (table.holds question.alg (key_octets question.key) (message_octets question.message) question.signature.now)

@@ -1,14 +1,14 @@
-//! What a signature comes to, and what all signatures of a token do.
+//! The outcome of one signature, and of all signatures of a token.
 
 ghost use Rattle.std.specs.Prelude.{◌≡◌, IsTrue, ◌↔◌};
-ghost use Rattle.jwt_verify.specs.Settled.{settled_state, settled_signing, is_verified};
+ghost use Rattle.jwt_verify.specs.SignatureOutcome.{outcome_state, outcome_signing, is_verified};
 
 use crate::report::SigState;
 use jwt_policy::SigFault;
 
 /// What becomes of a signature whose keys were gone through.
 #[derive(Clone, Copy)]
-pub(crate) enum Settled {
+pub(crate) enum SignatureOutcome {
     /// The key of this number verifies it.
     Verified(u32),
     /// No key was tried on it, for this reason.
@@ -19,38 +19,38 @@ pub(crate) enum Settled {
     BadSignature,
 }
 
-impl Settled {
+impl SignatureOutcome {
     /// Whether a key verifies it.
     pub(crate) fn is_verified(self) -> bool
         ensures { result ≡ is_verified self }
     {
         match self {
-            Settled::Verified(_) => true,
+            SignatureOutcome::Verified(_) => true,
             _ => false,
         }
     }
 
     /// Its state in the report.
     pub(crate) fn state(self) -> SigState
-        ensures { result ≡ settled_state self }
+        ensures { result ≡ outcome_state self }
     {
         match self {
-            Settled::Verified(key) => SigState::Verified(key),
-            Settled::Barred(fault) => SigState::Barred(fault),
-            Settled::NoKey => SigState::NoKey,
-            Settled::BadSignature => SigState::BadSignature,
+            SignatureOutcome::Verified(key) => SigState::Verified(key),
+            SignatureOutcome::Barred(fault) => SigState::Barred(fault),
+            SignatureOutcome::NoKey => SigState::NoKey,
+            SignatureOutcome::BadSignature => SigState::BadSignature,
         }
     }
 
     /// What the signatures come to where this one, of this number, decides.
     pub(crate) fn decides(self, number: u32) -> Signing
-        ensures { result ≡ settled_signing number self }
+        ensures { result ≡ outcome_signing number self }
     {
         match self {
-            Settled::Verified(key) => Signing::VerifiedBy(number, key),
-            Settled::Barred(fault) => Signing::Unverified(number, fault),
-            Settled::NoKey => Signing::Unverified(number, SigFault::NoKey),
-            Settled::BadSignature => Signing::Unverified(number, SigFault::BadSignature),
+            SignatureOutcome::Verified(key) => Signing::VerifiedBy(number, key),
+            SignatureOutcome::Barred(fault) => Signing::Unverified(number, fault),
+            SignatureOutcome::NoKey => Signing::Unverified(number, SigFault::NoKey),
+            SignatureOutcome::BadSignature => Signing::Unverified(number, SigFault::BadSignature),
         }
     }
 }

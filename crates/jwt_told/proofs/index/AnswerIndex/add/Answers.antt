@@ -1,27 +1,27 @@
 use Rattle.std.proofs.Common.{◌≡◌, Bool, true, if◌then◌else◌, insert, is_ok, refl, sym, subst, ap, ◌∙◌, Global, arith}
 use Rattle.std.specs.Arc.{arc_value}
 use Rattle.std.specs.declared.sync.Arc.{Arc}
-use Rattle.jwt_told.specs.declared.told.Told.{Told}
+use Rattle.jwt_told.specs.declared.told.Answered.{Answered}
 use Rattle.jwt_told.specs.Parts.{ToldParts, told_view, views}
 use Rattle.jwt_told.specs.Questions.{QuestionParts, kept_parts}
 use Rattle.jwt_told.specs.Ranks.{Rank, rank, told_rank, Rises, IsFoundAt, IsGapFor, IsAdded}
 use Rattle.jwt_told.proofs.Telling.{insert_mapped, surely, rises_with}
-use Rattle.jwt_told.proofs.index.Index.add.Goals as goal
+use Rattle.jwt_told.proofs.index.AnswerIndex.add.Goals as goal
 
 abbrev rank_of : QuestionParts → Rank
 rank_of q = rank q.alg q.key q.message q.signature
 
-abbrev view : Arc Told Global → ToldParts
+abbrev view : Arc Answered Global → ToldParts
 view a = told_view (arc_value a)
 
-kept_rank : (t : Told) → rank_of (kept_parts t.asked) ≡ told_rank (told_view t)
+kept_rank : (t : Answered) → rank_of (kept_parts t.question) ≡ told_rank (told_view t)
 unfolding told_view kept_parts
 kept_rank t = refl
 
 pub invariant_of-self : goal.invariant_of-self
 invariant_of-self c =
     let xs = c.args.self.now.answers.items in let a = c.args.answer in
-    let same = ap rank_of c.asked.ensures ∙ kept_rank c.deref.result.now ∙ ap (λ (t : Told). told_rank (told_view t)) c.deref.ensures in
+    let same = ap rank_of c.lent.ensures ∙ kept_rank c.deref.result.now ∙ ap (λ (t : Answered). told_rank (told_view t)) c.deref.ensures in
     let gap : IsGapFor (views xs) (told_rank (view a)) c.in-Err.at = subst (λ q. IsGapFor (views xs) q c.in-Err.at) same c.in-Err.ensures.absent in
     let room : is_ok c.insert.result ≡ true = c.insert.ensures.succeeds (omega (arith, c.requires.room)) in
     let put : views c.insert.new.self.items ≡ insert (views xs) c.in-Err.at (view a) =
@@ -31,13 +31,13 @@ invariant_of-self c =
 pub returns-in-Ok : goal.returns-in-Ok
 returns-in-Ok c =
     let us = views c.args.self.now.answers.items in
-    let same = ap rank_of c.asked.ensures ∙ kept_rank c.deref.result.now ∙ ap (λ (t : Told). told_rank (told_view t)) c.deref.ensures in
+    let same = ap rank_of c.lent.ensures ∙ kept_rank c.deref.result.now ∙ ap (λ (t : Answered). told_rank (told_view t)) c.deref.ensures in
     (c.in-Ok.field-0, subst (λ q. IsFoundAt us q c.in-Ok.field-0) same c.in-Ok.ensures.found, refl)
 
 pub returns-in-Err : goal.returns-in-Err
 returns-in-Err c =
     let xs = c.args.self.now.answers.items in let a = c.args.answer in
-    let same = ap rank_of c.asked.ensures ∙ kept_rank c.deref.result.now ∙ ap (λ (t : Told). told_rank (told_view t)) c.deref.ensures in
+    let same = ap rank_of c.lent.ensures ∙ kept_rank c.deref.result.now ∙ ap (λ (t : Answered). told_rank (told_view t)) c.deref.ensures in
     let gap : IsGapFor (views xs) (told_rank (view a)) c.in-Err.at = subst (λ q. IsGapFor (views xs) q c.in-Err.at) same c.in-Err.ensures.absent in
     let room : is_ok c.insert.result ≡ true = c.insert.ensures.succeeds (omega (arith, c.requires.room)) in
     let put : views c.insert.new.self.items ≡ insert (views xs) c.in-Err.at (view a) =
