@@ -140,7 +140,7 @@ static void check_public(void)
         bool is_public;
     } rows[] = {
         { "\"RS256\"", "", true },
-        { "\"RS256\",\"PS512\",\"ES256\",\"EdDSA\"", RSA_KEY, true },
+        { "\"RS256\",\"PS512\",\"ES256\"", RSA_KEY, true },
         { "\"RS256\"", RSA_KEY "," RSA_KEY, true },
         { "\"HS256\"", "", false },
         { "\"HS256\"", RSA_KEY, false },
