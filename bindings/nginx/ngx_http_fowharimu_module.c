@@ -35,6 +35,57 @@ typedef struct {
 } ngx_http_fowharimu_validator_t;
 
 
+/* by what it is seen that a file has changed */
+typedef struct {
+    time_t                           mtime;
+    long                             nsec;
+    off_t                            size;
+    ngx_file_uniq_t                  uniq;
+} ngx_http_fowharimu_stamp_t;
+
+
+/* a file of keys that is looked at again */
+typedef struct {
+    ngx_str_t                        name;
+    ngx_msec_t                       interval;
+    ngx_http_fowharimu_stamp_t       stamp;
+} ngx_http_fowharimu_file_t;
+
+
+/* a policy and a key set, and the validator on them */
+typedef struct {
+    ngx_str_t                        policy;    /* the document's octets */
+    ngx_str_t                        keys;
+    ngx_http_fowharimu_file_t       *file;      /* that is looked at again */
+    ngx_http_fowharimu_validator_t  *validator;
+} ngx_http_fowharimu_grounds_t;
+
+
+/* what a worker looks at again, and what it then opens */
+typedef struct {
+    ngx_event_t                      event;
+    ngx_http_fowharimu_file_t        file;
+    ngx_str_t                        policy;
+    ngx_int_t                        tokens;    /* that are remembered */
+    size_t                           octets;
+    ngx_http_fowharimu_validator_t  *validator;
+    unsigned                         missing:1; /* and the log has it */
+} ngx_http_fowharimu_watch_t;
+
+
+typedef struct {
+    ngx_str_t                        name;
+    ngx_http_fowharimu_grounds_t     grounds;
+} ngx_http_fowharimu_issuer_t;
+
+
+/* those of "jwt_issuer", and the one whose policy says what is a token */
+typedef struct {
+    ngx_array_t                      all;       /* ngx_http_fowharimu_issuer_t */
+    ngx_http_fowharimu_validator_t  *reader;
+} ngx_http_fowharimu_issuers_t;
+
+
 /* an access rule: the document of a file, or what a "jwt_require" asks for */
 typedef struct {
     fow_access                       handle;
@@ -46,6 +97,7 @@ typedef struct {
 typedef struct {
     ngx_array_t                      claims;    /* ngx_str_t: named by variables */
     ngx_array_t                      indexes;   /* ngx_uint_t: of variables */
+    ngx_array_t                      watches;   /* by pointers */
     unsigned                         named:1;   /* some document is */
     unsigned                         enabled:1;
     unsigned                         payload:1; /* a variable names it */
@@ -58,21 +110,21 @@ typedef struct {
     ngx_uint_t                       answer;    /* the status of "jwt_answer" */
     u_char                          *file;      /* where it was enabled */
     ngx_uint_t                       line;
-    ngx_str_t                        policy;    /* the document's octets */
-    ngx_str_t                        keys;
+    ngx_http_fowharimu_grounds_t     grounds;   /* of "jwt_policy", "jwt_keys" */
+    ngx_http_fowharimu_issuers_t    *issuers;
     ngx_int_t                        token;
     ngx_str_t                        argument;  /* that the token is */
     ngx_http_fowharimu_rule_t       *rule;      /* of "jwt_access" */
     ngx_array_t                     *demands;   /* such rules, by pointers */
     ngx_int_t                        tokens;    /* that are remembered */
     size_t                           octets;    /* of the longest of them */
-    ngx_http_fowharimu_validator_t  *validator;
 } ngx_http_fowharimu_loc_conf_t;
 
 
 /* what is kept of the last judging of a request; an empty text is absent */
 typedef struct {
     ngx_http_request_t              *request;
+    ngx_http_fowharimu_validator_t  *validator; /* that judges it */
     ngx_str_t                        verdict;
     ngx_str_t                        fault;
     ngx_str_t                        payload;   /* in base64url */
@@ -114,8 +166,13 @@ static ngx_int_t ngx_http_fowharimu_permit(ngx_http_request_t *r,
     ngx_http_fowharimu_loc_conf_t *lcf, ngx_http_fowharimu_ctx_t *ctx,
     ngx_http_fowharimu_rule_t *rule);
 static void ngx_http_fowharimu_log_denial(ngx_http_request_t *r,
-    ngx_http_fowharimu_loc_conf_t *lcf, ngx_http_fowharimu_rule_t *rule,
+    ngx_http_fowharimu_ctx_t *ctx, ngx_http_fowharimu_rule_t *rule,
     uint32_t denial);
+static ngx_int_t ngx_http_fowharimu_choose(ngx_http_request_t *r,
+    ngx_http_fowharimu_loc_conf_t *lcf, ngx_http_fowharimu_ctx_t *ctx,
+    ngx_str_t *token);
+static ngx_http_fowharimu_validator_t *ngx_http_fowharimu_validator_of(
+    ngx_http_fowharimu_issuers_t *issuers, ngx_str_t *name);
 static ngx_int_t ngx_http_fowharimu_claim(
     ngx_http_fowharimu_validator_t *validator, ngx_str_t *name,
     ngx_str_t *claim);
@@ -156,8 +213,33 @@ static char *ngx_http_fowharimu_merge_loc_conf(ngx_conf_t *cf, void *parent,
 static ngx_uint_t ngx_http_fowharimu_is_open(ngx_conf_t *cf);
 static ngx_uint_t ngx_http_fowharimu_is_answered(void *conf);
 static size_t ngx_http_fowharimu_code_size(u_char *p, size_t rest);
+static ngx_int_t ngx_http_fowharimu_init_process(ngx_cycle_t *cycle);
+static char *ngx_http_fowharimu_merge_grounds(ngx_conf_t *cf,
+    ngx_http_fowharimu_loc_conf_t *prev, ngx_http_fowharimu_loc_conf_t *conf);
+static ngx_http_fowharimu_issuers_t *ngx_http_fowharimu_copy_issuers(
+    ngx_conf_t *cf, ngx_http_fowharimu_issuers_t *issuers);
 static ngx_int_t ngx_http_fowharimu_open(ngx_conf_t *cf,
     ngx_http_fowharimu_loc_conf_t *lcf);
+static ngx_int_t ngx_http_fowharimu_open_issuers(ngx_conf_t *cf,
+    ngx_http_fowharimu_loc_conf_t *lcf);
+static ngx_int_t ngx_http_fowharimu_names(ngx_conf_t *cf,
+    ngx_http_fowharimu_issuer_t *issuer);
+static ngx_int_t ngx_http_fowharimu_open_grounds(ngx_conf_t *cf,
+    ngx_http_fowharimu_loc_conf_t *lcf, ngx_http_fowharimu_grounds_t *grounds);
+static ngx_int_t ngx_http_fowharimu_watch(ngx_conf_t *cf,
+    ngx_http_fowharimu_loc_conf_t *lcf, ngx_http_fowharimu_grounds_t *grounds);
+static ngx_int_t ngx_http_fowharimu_is_readable(ngx_conf_t *cf,
+    ngx_str_t *name);
+static void ngx_http_fowharimu_unwatch(void *data);
+static void ngx_http_fowharimu_look(ngx_event_t *event);
+static void ngx_http_fowharimu_look_again(ngx_http_fowharimu_watch_t *watch,
+    ngx_log_t *log);
+static ngx_int_t ngx_http_fowharimu_read_fd(ngx_fd_t fd, size_t size,
+    ngx_str_t *document);
+static void ngx_http_fowharimu_exchange(ngx_http_fowharimu_watch_t *watch,
+    ngx_str_t *keys, ngx_log_t *log);
+static void ngx_http_fowharimu_set_stamp(ngx_http_fowharimu_stamp_t *stamp,
+    ngx_file_info_t *fi);
 static void ngx_http_fowharimu_close(void *data);
 static char *ngx_http_fowharimu_enable(ngx_conf_t *cf, ngx_command_t *cmd,
     void *conf);
@@ -165,8 +247,14 @@ static char *ngx_http_fowharimu_policy(ngx_conf_t *cf, ngx_command_t *cmd,
     void *conf);
 static char *ngx_http_fowharimu_keys(ngx_conf_t *cf, ngx_command_t *cmd,
     void *conf);
+static char *ngx_http_fowharimu_issuer(ngx_conf_t *cf, ngx_command_t *cmd,
+    void *conf);
+static char *ngx_http_fowharimu_read_policy(ngx_conf_t *cf, ngx_str_t *name,
+    ngx_http_fowharimu_grounds_t *grounds);
+static char *ngx_http_fowharimu_read_keys(ngx_conf_t *cf, ngx_str_t *name,
+    ngx_str_t *recheck, ngx_http_fowharimu_grounds_t *grounds);
 static ngx_int_t ngx_http_fowharimu_read_file(ngx_conf_t *cf, ngx_str_t *name,
-    size_t max, ngx_str_t *document);
+    size_t max, ngx_str_t *document, ngx_http_fowharimu_stamp_t *stamp);
 static char *ngx_http_fowharimu_check(ngx_conf_t *cf, ngx_str_t *name,
     ngx_str_t *policy, ngx_str_t *keys);
 static char *ngx_http_fowharimu_refuse_member(ngx_conf_t *cf, ngx_str_t *name,
@@ -218,8 +306,15 @@ static ngx_command_t  ngx_http_fowharimu_commands[] = {
       NULL },
 
     { ngx_string("jwt_keys"),
-      NGX_HTTP_FOWHARIMU_CONF|NGX_CONF_TAKE1,
+      NGX_HTTP_FOWHARIMU_CONF|NGX_CONF_TAKE12,
       ngx_http_fowharimu_keys,
+      NGX_HTTP_LOC_CONF_OFFSET,
+      0,
+      NULL },
+
+    { ngx_string("jwt_issuer"),
+      NGX_HTTP_FOWHARIMU_CONF|NGX_CONF_TAKE3|NGX_CONF_TAKE4,
+      ngx_http_fowharimu_issuer,
       NGX_HTTP_LOC_CONF_OFFSET,
       0,
       NULL },
@@ -292,7 +387,7 @@ ngx_module_t  ngx_http_fowharimu_module = {
     NGX_HTTP_MODULE,                       /* module type */
     NULL,                                  /* init master */
     ngx_http_fowharimu_init_module,        /* init module */
-    NULL,                                  /* init process */
+    ngx_http_fowharimu_init_process,       /* init process */
     NULL,                                  /* init thread */
     NULL,                                  /* exit thread */
     NULL,                                  /* exit process */
@@ -677,10 +772,22 @@ ngx_http_fowharimu_judge(ngx_http_request_t *r,
     ngx_http_fowharimu_loc_conf_t *lcf, ngx_http_fowharimu_ctx_t *ctx,
     ngx_str_t *token)
 {
+    ngx_int_t                        rc;
     fow_report                       report;
     ngx_http_fowharimu_validator_t  *validator;
 
-    validator = lcf->validator;
+    rc = ngx_http_fowharimu_choose(r, lcf, ctx, token);
+
+    if (rc == NGX_DECLINED) {
+        return ngx_http_fowharimu_refuse_token(r, ctx,
+                                            fow_fault_name(FOW_CLAIM_ISSUER));
+    }
+
+    if (rc != NGX_OK) {
+        return ngx_http_fowharimu_fail(r, ctx, "OutOfMemory");
+    }
+
+    validator = ctx->validator;
     ngx_memzero(&report, sizeof(fow_report));
 
     (void) fow_openssl_judge(&validator->crypto, &validator->handle,
@@ -711,6 +818,77 @@ ngx_http_fowharimu_judge(ngx_http_request_t *r,
     default:
         return ngx_http_fowharimu_fail(r, ctx, "NotOpen");
     }
+}
+
+
+/*
+ * The validator that judges the token.  With "jwt_issuer" it is that of the
+ * issuer which the token names, and nobody has verified: its policy allows that
+ * issuer alone.  What is no token is judged by the reader, which says why.
+ * NGX_DECLINED: there is none of that issuer.
+ */
+
+static ngx_int_t
+ngx_http_fowharimu_choose(ngx_http_request_t *r,
+    ngx_http_fowharimu_loc_conf_t *lcf, ngx_http_fowharimu_ctx_t *ctx,
+    ngx_str_t *token)
+{
+    uint32_t                       status;
+    ngx_str_t                      name;
+    ngx_http_fowharimu_issuers_t  *issuers;
+
+    issuers = lcf->issuers;
+
+    if (issuers == NULL) {
+        ctx->validator = lcf->grounds.validator;
+        return NGX_OK;
+    }
+
+    /* an issuer's text is no longer than the token that it is in */
+
+    name.len = 0;
+    name.data = ngx_pnalloc(r->pool, token->len + 1);
+    if (name.data == NULL) {
+        return NGX_ERROR;
+    }
+
+    status = fow_unverified_issuer(&issuers->reader->handle, token->data,
+                                   token->len, name.data, token->len + 1,
+                                   &name.len);
+
+    ctx->validator = status == FOW_ABSENT ? issuers->reader
+                     : status == FOW_OK
+                     ? ngx_http_fowharimu_validator_of(issuers, &name) : NULL;
+
+    (void) ngx_pfree(r->pool, name.data);
+
+    if (ctx->validator) {
+        return NGX_OK;
+    }
+
+    return status == FOW_OK || status == FOW_UNNAMED ? NGX_DECLINED : NGX_ERROR;
+}
+
+
+static ngx_http_fowharimu_validator_t *
+ngx_http_fowharimu_validator_of(ngx_http_fowharimu_issuers_t *issuers,
+    ngx_str_t *name)
+{
+    ngx_uint_t                    i;
+    ngx_http_fowharimu_issuer_t  *issuer;
+
+    issuer = issuers->all.elts;
+
+    for (i = 0; i < issuers->all.nelts; i++) {
+
+        if (issuer[i].name.len == name->len
+            && ngx_memcmp(issuer[i].name.data, name->data, name->len) == 0)
+        {
+            return issuer[i].grounds.validator;
+        }
+    }
+
+    return NULL;
 }
 
 
@@ -790,7 +968,7 @@ ngx_http_fowharimu_permit(ngx_http_request_t *r,
 
     denial = FOW_NO_FAULT;
 
-    switch (fow_denied(&lcf->validator->handle, &rule->handle, &denial)) {
+    switch (fow_denied(&ctx->validator->handle, &rule->handle, &denial)) {
 
     case FOW_OK:
         return NGX_OK;
@@ -808,7 +986,7 @@ ngx_http_fowharimu_permit(ngx_http_request_t *r,
         ngx_http_fowharimu_set_text(&ctx->fault, fow_fault_name(denial));
     }
 
-    ngx_http_fowharimu_log_denial(r, lcf, rule, denial);
+    ngx_http_fowharimu_log_denial(r, ctx, rule, denial);
 
     /* RFC 6750, section 3.1 */
 
@@ -821,7 +999,7 @@ ngx_http_fowharimu_permit(ngx_http_request_t *r,
 
 static void
 ngx_http_fowharimu_log_denial(ngx_http_request_t *r,
-    ngx_http_fowharimu_loc_conf_t *lcf, ngx_http_fowharimu_rule_t *rule,
+    ngx_http_fowharimu_ctx_t *ctx, ngx_http_fowharimu_rule_t *rule,
     uint32_t denial)
 {
     size_t     len;
@@ -839,7 +1017,7 @@ ngx_http_fowharimu_log_denial(ngx_http_request_t *r,
 
     /* (a longer name is left out) */
 
-    if (fow_denied_name(&lcf->validator->handle, &rule->handle, room,
+    if (fow_denied_name(&ctx->validator->handle, &rule->handle, room,
                         sizeof(room), &len)
         != FOW_OK)
     {
@@ -885,7 +1063,7 @@ ngx_http_fowharimu_keep_claims(ngx_http_request_t *r,
 
     for (i = 0; i < mcf->claims.nelts; i++) {
         claim = *room;
-        rc = ngx_http_fowharimu_claim(lcf->validator, &name[i], &claim);
+        rc = ngx_http_fowharimu_claim(ctx->validator, &name[i], &claim);
 
         if (rc == NGX_OK) {
             rc = ngx_http_fowharimu_keep_claim(r, &claim, &ctx->claims[i]);
@@ -950,7 +1128,7 @@ ngx_http_fowharimu_keep_payload(ngx_http_request_t *r,
         return NGX_OK;
     }
 
-    if (fow_payload(&lcf->validator->handle, token->data, token->len,
+    if (fow_payload(&ctx->validator->handle, token->data, token->len,
                     room->data, room->len, &len)
         != FOW_OK)
     {
@@ -1451,6 +1629,9 @@ ngx_http_fowharimu_create_main_conf(ngx_conf_t *cf)
 
     if (ngx_array_init(&mcf->claims, cf->pool, 4, sizeof(ngx_str_t)) != NGX_OK
         || ngx_array_init(&mcf->indexes, cf->pool, 4, sizeof(ngx_uint_t))
+           != NGX_OK
+        || ngx_array_init(&mcf->watches, cf->pool, 4,
+                          sizeof(ngx_http_fowharimu_watch_t *))
            != NGX_OK)
     {
         return NULL;
@@ -1477,10 +1658,9 @@ ngx_http_fowharimu_create_loc_conf(ngx_conf_t *cf)
      *     lcf->answer = 0;
      *     lcf->file = NULL;
      *     lcf->line = 0;
-     *     lcf->policy = { 0, NULL };
-     *     lcf->keys = { 0, NULL };
+     *     lcf->grounds = { { 0, NULL }, { 0, NULL }, NULL, NULL };
+     *     lcf->issuers = NULL;
      *     lcf->argument = { 0, NULL };
-     *     lcf->validator = NULL;
      */
 
     lcf->enable = NGX_CONF_UNSET;
@@ -1526,32 +1706,7 @@ ngx_http_fowharimu_merge_loc_conf(ngx_conf_t *cf, void *parent, void *child)
         }
     }
 
-    /* the documents of a level are opened once for all that inherit them */
-
-    if (ngx_http_fowharimu_open(cf, prev) != NGX_OK) {
-        return NGX_CONF_ERROR;
-    }
-
-    if (conf->policy.data == NULL && conf->keys.data == NULL
-        && conf->tokens == NGX_CONF_UNSET)
-    {
-        conf->validator = prev->validator;
-    }
-
-    ngx_conf_merge_value(conf->tokens, prev->tokens,
-                         NGX_HTTP_FOWHARIMU_TOKENS);
-    ngx_conf_merge_size_value(conf->octets, prev->octets,
-                              NGX_HTTP_FOWHARIMU_OCTETS);
-
-    if (conf->policy.data == NULL) {
-        conf->policy = prev->policy;
-    }
-
-    if (conf->keys.data == NULL) {
-        conf->keys = prev->keys;
-    }
-
-    if (ngx_http_fowharimu_open(cf, conf) != NGX_OK) {
+    if (ngx_http_fowharimu_merge_grounds(cf, prev, conf) != NGX_CONF_OK) {
         return NGX_CONF_ERROR;
     }
 
@@ -1573,11 +1728,11 @@ ngx_http_fowharimu_merge_loc_conf(ngx_conf_t *cf, void *parent, void *child)
         return NGX_CONF_OK;
     }
 
-    if (conf->validator == NULL) {
+    if (conf->grounds.validator == NULL && conf->issuers == NULL) {
         ngx_log_error(NGX_LOG_EMERG, cf->log, 0,
                       "no \"%s\" is defined for the \"jwt\" directive "
                       "in %s:%ui",
-                      conf->policy.data ? "jwt_keys" : "jwt_policy",
+                      conf->grounds.policy.data ? "jwt_keys" : "jwt_policy",
                       conf->file, conf->line);
         return NGX_CONF_ERROR;
     }
@@ -1594,6 +1749,103 @@ ngx_http_fowharimu_merge_loc_conf(ngx_conf_t *cf, void *parent, void *child)
     mcf->enabled = 1;
 
     return NGX_CONF_OK;
+}
+
+
+/*
+ * The documents of a level are opened once for all that inherit them.  A level
+ * with issuers of its own has no other policy and keys, and the other way round.
+ */
+
+static char *
+ngx_http_fowharimu_merge_grounds(ngx_conf_t *cf,
+    ngx_http_fowharimu_loc_conf_t *prev, ngx_http_fowharimu_loc_conf_t *conf)
+{
+    ngx_uint_t                     own;
+    ngx_http_fowharimu_grounds_t  *grounds;
+
+    grounds = &conf->grounds;
+    own = grounds->policy.data || grounds->keys.data;
+
+    if (conf->issuers && own) {
+        ngx_log_error(NGX_LOG_EMERG, cf->log, 0,
+                      "\"jwt_issuer\" stands beside \"jwt_policy\" or "
+                      "\"jwt_keys\"");
+        return NGX_CONF_ERROR;
+    }
+
+    if (ngx_http_fowharimu_open(cf, prev) != NGX_OK) {
+        return NGX_CONF_ERROR;
+    }
+
+    if (conf->issuers == NULL && !own && prev->issuers) {
+        conf->issuers = conf->tokens == NGX_CONF_UNSET
+                        ? prev->issuers
+                        : ngx_http_fowharimu_copy_issuers(cf, prev->issuers);
+        if (conf->issuers == NULL) {
+            return NGX_CONF_ERROR;
+        }
+    }
+
+    if (conf->issuers == NULL) {
+
+        if (!own && conf->tokens == NGX_CONF_UNSET) {
+            grounds->validator = prev->grounds.validator;
+        }
+
+        if (grounds->policy.data == NULL) {
+            grounds->policy = prev->grounds.policy;
+        }
+
+        if (grounds->keys.data == NULL) {
+            grounds->keys = prev->grounds.keys;
+            grounds->file = prev->grounds.file;
+        }
+    }
+
+    ngx_conf_merge_value(conf->tokens, prev->tokens,
+                         NGX_HTTP_FOWHARIMU_TOKENS);
+    ngx_conf_merge_size_value(conf->octets, prev->octets,
+                              NGX_HTTP_FOWHARIMU_OCTETS);
+
+    return ngx_http_fowharimu_open(cf, conf) == NGX_OK ? NGX_CONF_OK
+                                                       : NGX_CONF_ERROR;
+}
+
+
+/* the same issuers, which aren't open yet */
+
+static ngx_http_fowharimu_issuers_t *
+ngx_http_fowharimu_copy_issuers(ngx_conf_t *cf,
+    ngx_http_fowharimu_issuers_t *issuers)
+{
+    ngx_uint_t                     i;
+    ngx_http_fowharimu_issuer_t   *from, *to;
+    ngx_http_fowharimu_issuers_t  *copy;
+
+    copy = ngx_pcalloc(cf->pool, sizeof(ngx_http_fowharimu_issuers_t));
+
+    if (copy == NULL
+        || ngx_array_init(&copy->all, cf->pool, issuers->all.nelts,
+                          sizeof(ngx_http_fowharimu_issuer_t))
+           != NGX_OK)
+    {
+        return NULL;
+    }
+
+    from = issuers->all.elts;
+
+    for (i = 0; i < issuers->all.nelts; i++) {
+        to = ngx_array_push(&copy->all);
+        if (to == NULL) {
+            return NULL;
+        }
+
+        *to = from[i];
+        to->grounds.validator = NULL;
+    }
+
+    return copy;
 }
 
 
@@ -1756,24 +2008,118 @@ ngx_http_fowharimu_code_size(u_char *p, size_t rest)
 }
 
 
-/* opens a validator where there are both documents and it isn't open yet */
+/* opens the validators of a level that aren't open yet */
 
 static ngx_int_t
 ngx_http_fowharimu_open(ngx_conf_t *cf, ngx_http_fowharimu_loc_conf_t *lcf)
 {
-    uint32_t                         fault, most;
-    ngx_pool_cleanup_t              *cln;
-    ngx_http_fowharimu_validator_t  *validator;
-
-    if (lcf->validator || lcf->policy.data == NULL || lcf->keys.data == NULL) {
-        return NGX_OK;
-    }
-
     /* (nothing is merged into the outermost level) */
 
     if (lcf->tokens == NGX_CONF_UNSET) {
         lcf->tokens = NGX_HTTP_FOWHARIMU_TOKENS;
         lcf->octets = NGX_HTTP_FOWHARIMU_OCTETS;
+    }
+
+    return lcf->issuers
+           ? ngx_http_fowharimu_open_issuers(cf, lcf)
+           : ngx_http_fowharimu_open_grounds(cf, lcf, &lcf->grounds);
+}
+
+
+/*
+ * The policy of each allows exactly the issuer under which it stands.  That
+ * with the least limit says what is a token; of those with the same limit it is
+ * the policy of the first issuer, in the order of their octets.
+ */
+
+static ngx_int_t
+ngx_http_fowharimu_open_issuers(ngx_conf_t *cf,
+    ngx_http_fowharimu_loc_conf_t *lcf)
+{
+    uint32_t                      limit, least;
+    ngx_str_t                    *first;
+    ngx_uint_t                    i;
+    ngx_http_fowharimu_issuer_t  *issuer;
+
+    if (lcf->issuers->reader) {
+        return NGX_OK;
+    }
+
+    issuer = lcf->issuers->all.elts;
+    first = NULL;
+    least = 0;
+
+    for (i = 0; i < lcf->issuers->all.nelts; i++) {
+
+        if (ngx_http_fowharimu_open_grounds(cf, lcf, &issuer[i].grounds)
+            != NGX_OK
+            || ngx_http_fowharimu_names(cf, &issuer[i]) != NGX_OK
+            || fow_token_limit(&issuer[i].grounds.validator->handle, &limit)
+               != FOW_OK)
+        {
+            return NGX_ERROR;
+        }
+
+        if (first == NULL || limit < least
+            || (limit == least
+                && ngx_memn2cmp(issuer[i].name.data, first->data,
+                                issuer[i].name.len, first->len)
+                   < 0))
+        {
+            first = &issuer[i].name;
+            least = limit;
+            lcf->issuers->reader = issuer[i].grounds.validator;
+        }
+    }
+
+    return NGX_OK;
+}
+
+
+/* whether the policy allows exactly that issuer */
+
+static ngx_int_t
+ngx_http_fowharimu_names(ngx_conf_t *cf, ngx_http_fowharimu_issuer_t *issuer)
+{
+    ngx_str_t  name;
+
+    name.len = 0;
+    name.data = ngx_pnalloc(cf->temp_pool, NGX_HTTP_FOWHARIMU_MAX_POLICY);
+    if (name.data == NULL) {
+        return NGX_ERROR;
+    }
+
+    if (fow_sole_issuer(&issuer->grounds.validator->handle, name.data,
+                        NGX_HTTP_FOWHARIMU_MAX_POLICY, &name.len)
+        == FOW_OK
+        && name.len == issuer->name.len
+        && ngx_memcmp(name.data, issuer->name.data, name.len) == 0)
+    {
+        return NGX_OK;
+    }
+
+    ngx_log_error(NGX_LOG_EMERG, cf->log, 0,
+                  "the policy of \"jwt_issuer %V\" has to name that issuer in "
+                  "\"issuers\", and no other", &issuer->name);
+
+    return NGX_ERROR;
+}
+
+
+/* opens a validator where there are both documents and it isn't open yet */
+
+static ngx_int_t
+ngx_http_fowharimu_open_grounds(ngx_conf_t *cf,
+    ngx_http_fowharimu_loc_conf_t *lcf, ngx_http_fowharimu_grounds_t *grounds)
+{
+    uint32_t                         fault, most;
+    ngx_pool_cleanup_t              *cln;
+    ngx_http_fowharimu_validator_t  *validator;
+
+    if (grounds->validator || grounds->policy.data == NULL
+        || grounds->keys.data == NULL)
+    {
+        return NGX_OK;
     }
 
     if (ngx_http_fowharimu_compare(cf) != NGX_OK) {
@@ -1790,8 +2136,8 @@ ngx_http_fowharimu_open(ngx_conf_t *cf, ngx_http_fowharimu_loc_conf_t *lcf)
     ngx_memzero(validator, sizeof(ngx_http_fowharimu_validator_t));
     cln->handler = ngx_http_fowharimu_close;
 
-    if (fow_open(&validator->handle, lcf->policy.data, lcf->policy.len,
-                 lcf->keys.data, lcf->keys.len, &fault)
+    if (fow_open(&validator->handle, grounds->policy.data, grounds->policy.len,
+                 grounds->keys.data, grounds->keys.len, &fault)
         != FOW_OK)
     {
         /* each document was taken alone, so it is memory that is wanting */
@@ -1807,7 +2153,7 @@ ngx_http_fowharimu_open(ngx_conf_t *cf, ngx_http_fowharimu_loc_conf_t *lcf)
         return NGX_ERROR;
     }
 
-    lcf->validator = validator;
+    grounds->validator = validator;
 
     if (fow_most_questions(&validator->handle, &most) == FOW_OK
         && most > FOW_MOST_QUESTIONS)
@@ -1818,7 +2164,342 @@ ngx_http_fowharimu_open(ngx_conf_t *cf, ngx_http_fowharimu_loc_conf_t *lcf)
                            most);
     }
 
+    return grounds->file ? ngx_http_fowharimu_watch(cf, lcf, grounds) : NGX_OK;
+}
+
+
+/*
+ * Has each worker look at the file of the keys again.  The workers' user has to
+ * be able to read it, so that no secret may stand in it.
+ */
+
+static ngx_int_t
+ngx_http_fowharimu_watch(ngx_conf_t *cf, ngx_http_fowharimu_loc_conf_t *lcf,
+    ngx_http_fowharimu_grounds_t *grounds)
+{
+    ngx_pool_cleanup_t               *cln;
+    ngx_http_fowharimu_watch_t       *watch, **place;
+    ngx_http_fowharimu_main_conf_t   *mcf;
+
+    if (!fow_documents_are_public(&grounds->validator->handle)) {
+        ngx_log_error(NGX_LOG_EMERG, cf->log, 0,
+                      "\"%V\" is looked at again, and is no file of public "
+                      "keys: \"algs\" in the policy has an HMAC algorithm, or "
+                      "the set a key of kty oct", &grounds->file->name);
+        return NGX_ERROR;
+    }
+
+    mcf = ngx_http_conf_get_module_main_conf(cf, ngx_http_fowharimu_module);
+
+    place = ngx_array_push(&mcf->watches);
+    cln = ngx_pool_cleanup_add(cf->pool, sizeof(ngx_http_fowharimu_watch_t));
+
+    if (place == NULL || cln == NULL) {
+        return NGX_ERROR;
+    }
+
+    watch = cln->data;
+    ngx_memzero(watch, sizeof(ngx_http_fowharimu_watch_t));
+    cln->handler = ngx_http_fowharimu_unwatch;
+    *place = watch;
+
+    watch->file = *grounds->file;
+    watch->tokens = lcf->tokens;
+    watch->octets = lcf->octets;
+    watch->validator = grounds->validator;
+
+    watch->policy.len = grounds->policy.len;
+    watch->policy.data = ngx_pstrdup(cf->pool, &grounds->policy);
+
+    return watch->policy.data ? NGX_OK : NGX_ERROR;
+}
+
+
+/*
+ * Whether the workers' user can read the file: it is opened as that user, with
+ * its groups, where this is root.
+ */
+
+static ngx_int_t
+ngx_http_fowharimu_is_readable(ngx_conf_t *cf, ngx_str_t *name)
+{
+    int               count;
+    gid_t            *groups, group;
+    uid_t             user;
+    char             *username;
+    ngx_fd_t          fd;
+    ngx_err_t         err;
+    struct passwd    *pwd;
+    ngx_core_conf_t  *ccf;
+
+    if (geteuid() != 0) {
+        return NGX_OK;
+    }
+
+    ccf = (ngx_core_conf_t *) ngx_get_conf(cf->cycle->conf_ctx,
+                                           ngx_core_module);
+    username = ccf->username;
+    user = ccf->user;
+    group = ccf->group;
+
+    if (ccf->user == (ngx_uid_t) NGX_CONF_UNSET_UINT) {
+        /* (the default, which nginx takes where no "user" stands) */
+        pwd = getpwnam(NGX_USER);
+        if (pwd == NULL) {
+            return NGX_ERROR;
+        }
+
+        username = NGX_USER;
+        user = pwd->pw_uid;
+        group = pwd->pw_gid;
+    }
+
+    count = getgroups(0, NULL);
+    if (count == -1) {
+        return NGX_ERROR;
+    }
+
+    groups = ngx_palloc(cf->temp_pool, (count + 1) * sizeof(gid_t));
+
+    if (groups == NULL || getgroups(count, groups) != count
+        || initgroups(username, group) == -1 || setegid(group) == -1)
+    {
+        return NGX_ERROR;
+    }
+
+    err = 0;
+
+    if (seteuid(user) == 0) {
+        fd = ngx_open_file(name->data, NGX_FILE_RDONLY|NGX_FILE_NONBLOCK,
+                           NGX_FILE_OPEN, 0);
+        err = fd == NGX_INVALID_FILE ? ngx_errno : 0;
+
+        if (fd != NGX_INVALID_FILE) {
+            (void) ngx_close_file(fd);
+        }
+    }
+
+    if (seteuid(0) == -1 || setegid(getgid()) == -1
+        || setgroups(count, groups) == -1)
+    {
+        return NGX_ERROR;
+    }
+
+    if (err) {
+        ngx_conf_log_error(NGX_LOG_EMERG, cf, err,
+                           "\"%V\" is looked at again, and the workers' user "
+                           "\"%s\" can't read it", name, username);
+        return NGX_ERROR;
+    }
+
     return NGX_OK;
+}
+
+
+static void
+ngx_http_fowharimu_unwatch(void *data)
+{
+    ngx_http_fowharimu_watch_t  *watch = data;
+
+    if (watch->event.timer_set) {
+        ngx_del_timer(&watch->event);
+    }
+}
+
+
+/* each worker looks at the files by itself */
+
+static ngx_int_t
+ngx_http_fowharimu_init_process(ngx_cycle_t *cycle)
+{
+    ngx_uint_t                        i;
+    ngx_http_fowharimu_watch_t      **watch;
+    ngx_http_fowharimu_main_conf_t   *mcf;
+
+    mcf = ngx_http_cycle_get_module_main_conf(cycle, ngx_http_fowharimu_module);
+
+    if (mcf == NULL
+        || (ngx_process != NGX_PROCESS_WORKER
+            && ngx_process != NGX_PROCESS_SINGLE))
+    {
+        return NGX_OK;
+    }
+
+    watch = mcf->watches.elts;
+
+    for (i = 0; i < mcf->watches.nelts; i++) {
+        watch[i]->event.handler = ngx_http_fowharimu_look;
+        watch[i]->event.data = watch[i];
+        watch[i]->event.log = cycle->log;
+
+        /* (a worker that is to go doesn't wait for it) */
+        watch[i]->event.cancelable = 1;
+
+        ngx_add_timer(&watch[i]->event, watch[i]->file.interval);
+    }
+
+    return NGX_OK;
+}
+
+
+static void
+ngx_http_fowharimu_look(ngx_event_t *event)
+{
+    ngx_http_fowharimu_watch_t  *watch = event->data;
+
+    ngx_http_fowharimu_look_again(watch, event->log);
+
+    ngx_add_timer(event, watch->file.interval);
+}
+
+
+/* what hasn't changed since the last look isn't read, and isn't told again */
+
+static void
+ngx_http_fowharimu_look_again(ngx_http_fowharimu_watch_t *watch, ngx_log_t *log)
+{
+    size_t                       size;
+    ngx_fd_t                     fd;
+    ngx_str_t                    keys;
+    ngx_file_info_t              fi;
+    ngx_http_fowharimu_stamp_t   stamp;
+
+    fd = ngx_open_file(watch->file.name.data,
+                       NGX_FILE_RDONLY|NGX_FILE_NONBLOCK, NGX_FILE_OPEN, 0);
+
+    if (fd == NGX_INVALID_FILE) {
+
+        if (!watch->missing) {
+            watch->missing = 1;
+            ngx_log_error(NGX_LOG_ERR, log, ngx_errno,
+                          "jwt: the keys stay as they were: " ngx_open_file_n
+                          " \"%V\" failed", &watch->file.name);
+        }
+
+        return;
+    }
+
+    keys.data = NULL;
+    ngx_memzero(&stamp, sizeof(ngx_http_fowharimu_stamp_t));
+
+    if (ngx_fd_info(fd, &fi) == NGX_FILE_ERROR || !ngx_is_file(&fi)) {
+        goto done;
+    }
+
+    ngx_http_fowharimu_set_stamp(&stamp, &fi);
+
+    if (!watch->missing
+        && ngx_memcmp(&stamp, &watch->file.stamp,
+                      sizeof(ngx_http_fowharimu_stamp_t)) == 0)
+    {
+        goto done;
+    }
+
+    watch->missing = 0;
+    watch->file.stamp = stamp;
+
+    size = ngx_min((size_t) ngx_file_size(&fi), NGX_HTTP_FOWHARIMU_MAX_KEYS + 1);
+    keys.data = ngx_alloc(size + 1, log);
+
+    if (keys.data == NULL
+        || ngx_http_fowharimu_read_fd(fd, size, &keys) != NGX_OK)
+    {
+        ngx_log_error(NGX_LOG_ERR, log, ngx_errno,
+                      "jwt: the keys stay as they were: " ngx_read_fd_n
+                      " \"%V\" failed", &watch->file.name);
+        goto done;
+    }
+
+    ngx_http_fowharimu_exchange(watch, &keys, log);
+
+done:
+
+    if (keys.data) {
+        ngx_free(keys.data);
+    }
+
+    if (ngx_close_file(fd) == NGX_FILE_ERROR) {
+        ngx_log_error(NGX_LOG_ALERT, log, ngx_errno,
+                      ngx_close_file_n " \"%V\" failed", &watch->file.name);
+    }
+}
+
+
+static ngx_int_t
+ngx_http_fowharimu_read_fd(ngx_fd_t fd, size_t size, ngx_str_t *document)
+{
+    ssize_t  n;
+
+    for (document->len = 0; document->len < size; document->len += n) {
+        n = ngx_read_fd(fd, document->data + document->len,
+                        size - document->len);
+
+        if (n == NGX_FILE_ERROR) {
+            return NGX_ERROR;
+        }
+
+        if (n == 0) {
+            break;
+        }
+    }
+
+    return NGX_OK;
+}
+
+
+/*
+ * Takes new keys in place of the old ones, where they aren't refused.  No call
+ * on the validator is under way: a worker does one thing at a time.
+ */
+
+static void
+ngx_http_fowharimu_exchange(ngx_http_fowharimu_watch_t *watch,
+    ngx_str_t *keys, ngx_log_t *log)
+{
+    uint32_t        fault, status;
+    const char     *why;
+    fow_validator   newer = FOW_VALIDATOR_INIT;
+
+    fault = FOW_NO_FAULT;
+    status = fow_open(&newer, watch->policy.data, watch->policy.len, keys->data,
+                      keys->len, &fault);
+
+    why = status == FOW_REFUSED ? fow_fault_name(fault)
+          : status != FOW_OK
+            || fow_remember(&newer, watch->tokens, watch->octets) != FOW_OK
+          ? "OutOfMemory"
+          : !fow_documents_are_public(&newer) ? "a key of kty oct" : NULL;
+
+    if (why) {
+        fow_close(&newer);
+        ngx_log_error(NGX_LOG_ERR, log, 0,
+                      "jwt: the keys stay as they were: \"%V\" is refused: %s",
+                      &watch->file.name, why);
+        return;
+    }
+
+    fow_openssl_clear(&watch->validator->crypto);
+    fow_close(&watch->validator->handle);
+    watch->validator->handle = newer;
+
+    ngx_log_error(NGX_LOG_NOTICE, log, 0, "jwt: new keys of \"%V\" are taken",
+                  &watch->file.name);
+}
+
+
+static void
+ngx_http_fowharimu_set_stamp(ngx_http_fowharimu_stamp_t *stamp,
+    ngx_file_info_t *fi)
+{
+    /* (with what stands between its members, since it is compared whole) */
+    ngx_memzero(stamp, sizeof(ngx_http_fowharimu_stamp_t));
+
+    stamp->mtime = ngx_file_mtime(fi);
+    stamp->size = ngx_file_size(fi);
+    stamp->uniq = ngx_file_uniq(fi);
+#if (NGX_LINUX)
+    stamp->nsec = fi->st_mtim.tv_nsec;
+#endif
 }
 
 
@@ -1869,22 +2550,13 @@ ngx_http_fowharimu_policy(ngx_conf_t *cf, ngx_command_t *cmd, void *conf)
 
     ngx_str_t  *value;
 
-    if (lcf->policy.data) {
+    if (lcf->grounds.policy.data) {
         return "is duplicate";
     }
 
     value = cf->args->elts;
 
-    if (ngx_http_fowharimu_read_file(cf, &value[1],
-                                     NGX_HTTP_FOWHARIMU_MAX_POLICY,
-                                     &lcf->policy)
-        != NGX_OK)
-    {
-        return NGX_CONF_ERROR;
-    }
-
-    return ngx_http_fowharimu_check(cf, &value[1], &lcf->policy,
-                                    &ngx_http_fowharimu_no_keys);
+    return ngx_http_fowharimu_read_policy(cf, &value[1], &lcf->grounds);
 }
 
 
@@ -1895,22 +2567,144 @@ ngx_http_fowharimu_keys(ngx_conf_t *cf, ngx_command_t *cmd, void *conf)
 
     ngx_str_t  *value;
 
-    if (lcf->keys.data) {
+    if (lcf->grounds.keys.data) {
         return "is duplicate";
     }
 
     value = cf->args->elts;
 
-    if (ngx_http_fowharimu_read_file(cf, &value[1],
-                                     NGX_HTTP_FOWHARIMU_MAX_KEYS, &lcf->keys)
+    return ngx_http_fowharimu_read_keys(cf, &value[1],
+                                        cf->args->nelts > 2 ? &value[2] : NULL,
+                                        &lcf->grounds);
+}
+
+
+static char *
+ngx_http_fowharimu_issuer(ngx_conf_t *cf, ngx_command_t *cmd, void *conf)
+{
+    ngx_http_fowharimu_loc_conf_t *lcf = conf;
+
+    char                         *rv;
+    ngx_str_t                    *value;
+    ngx_uint_t                    i;
+    ngx_http_fowharimu_issuer_t  *issuer;
+
+    value = cf->args->elts;
+
+    if (lcf->issuers == NULL) {
+        lcf->issuers = ngx_pcalloc(cf->pool,
+                                   sizeof(ngx_http_fowharimu_issuers_t));
+
+        if (lcf->issuers == NULL
+            || ngx_array_init(&lcf->issuers->all, cf->pool, 2,
+                              sizeof(ngx_http_fowharimu_issuer_t))
+               != NGX_OK)
+        {
+            return NGX_CONF_ERROR;
+        }
+    }
+
+    issuer = lcf->issuers->all.elts;
+
+    for (i = 0; i < lcf->issuers->all.nelts; i++) {
+
+        if (issuer[i].name.len == value[1].len
+            && ngx_memcmp(issuer[i].name.data, value[1].data, value[1].len) == 0)
+        {
+            return "is duplicate";
+        }
+    }
+
+    issuer = ngx_array_push(&lcf->issuers->all);
+    if (issuer == NULL) {
+        return NGX_CONF_ERROR;
+    }
+
+    ngx_memzero(issuer, sizeof(ngx_http_fowharimu_issuer_t));
+    issuer->name = value[1];
+
+    rv = ngx_http_fowharimu_read_policy(cf, &value[2], &issuer->grounds);
+
+    if (rv != NGX_CONF_OK) {
+        return rv;
+    }
+
+    return ngx_http_fowharimu_read_keys(cf, &value[3],
+                                        cf->args->nelts > 4 ? &value[4] : NULL,
+                                        &issuer->grounds);
+}
+
+
+static char *
+ngx_http_fowharimu_read_policy(ngx_conf_t *cf, ngx_str_t *name,
+    ngx_http_fowharimu_grounds_t *grounds)
+{
+    if (ngx_http_fowharimu_read_file(cf, name, NGX_HTTP_FOWHARIMU_MAX_POLICY,
+                                     &grounds->policy, NULL)
         != NGX_OK)
     {
         return NGX_CONF_ERROR;
     }
 
-    return ngx_http_fowharimu_check(cf, &value[1],
-                                    &ngx_http_fowharimu_some_policy,
-                                    &lcf->keys);
+    return ngx_http_fowharimu_check(cf, name, &grounds->policy,
+                                    &ngx_http_fowharimu_no_keys);
+}
+
+
+/* "recheck=30s": each worker looks at the file again, each so many seconds */
+
+static char *
+ngx_http_fowharimu_read_keys(ngx_conf_t *cf, ngx_str_t *name,
+    ngx_str_t *recheck, ngx_http_fowharimu_grounds_t *grounds)
+{
+    ngx_int_t                    interval;
+    ngx_str_t                    text;
+    ngx_http_fowharimu_stamp_t   stamp;
+
+    interval = 0;
+
+    if (recheck) {
+        if (recheck->len < sizeof("recheck=") - 1
+            || ngx_strncmp(recheck->data, "recheck=", sizeof("recheck=") - 1)
+               != 0)
+        {
+            return "has an invalid parameter: it takes \"recheck=\" and a time";
+        }
+
+        text.len = recheck->len - (sizeof("recheck=") - 1);
+        text.data = recheck->data + sizeof("recheck=") - 1;
+        interval = ngx_parse_time(&text, 0);
+
+        if (interval == NGX_ERROR || interval < 1000) {
+            return "has an invalid \"recheck\": it is a second at least";
+        }
+    }
+
+    if (ngx_http_fowharimu_read_file(cf, name, NGX_HTTP_FOWHARIMU_MAX_KEYS,
+                                     &grounds->keys, &stamp)
+        != NGX_OK)
+    {
+        return NGX_CONF_ERROR;
+    }
+
+    if (interval) {
+        grounds->file = ngx_pcalloc(cf->pool,
+                                    sizeof(ngx_http_fowharimu_file_t));
+        if (grounds->file == NULL) {
+            return NGX_CONF_ERROR;
+        }
+
+        grounds->file->name = *name;
+        grounds->file->interval = interval;
+        grounds->file->stamp = stamp;
+
+        if (ngx_http_fowharimu_is_readable(cf, name) != NGX_OK) {
+            return NGX_CONF_ERROR;
+        }
+    }
+
+    return ngx_http_fowharimu_check(cf, name, &ngx_http_fowharimu_some_policy,
+                                    &grounds->keys);
 }
 
 
@@ -1921,10 +2715,9 @@ ngx_http_fowharimu_keys(ngx_conf_t *cf, ngx_command_t *cmd, void *conf)
 
 static ngx_int_t
 ngx_http_fowharimu_read_file(ngx_conf_t *cf, ngx_str_t *name, size_t max,
-    ngx_str_t *document)
+    ngx_str_t *document, ngx_http_fowharimu_stamp_t *stamp)
 {
     size_t           size;
-    ssize_t          n;
     ngx_fd_t         fd;
     ngx_int_t        rc;
     ngx_file_info_t  fi;
@@ -1956,32 +2749,23 @@ ngx_http_fowharimu_read_file(ngx_conf_t *cf, ngx_str_t *name, size_t max,
         goto done;
     }
 
+    if (stamp) {
+        ngx_http_fowharimu_set_stamp(stamp, &fi);
+    }
+
     size = ngx_min((size_t) ngx_file_size(&fi), max + 1);
 
-    document->len = 0;
     document->data = ngx_palloc(cf->temp_pool, size + 1);
     if (document->data == NULL) {
         goto done;
     }
 
-    while (document->len < size) {
-        n = ngx_read_fd(fd, document->data + document->len,
-                        size - document->len);
+    rc = ngx_http_fowharimu_read_fd(fd, size, document);
 
-        if (n == NGX_FILE_ERROR) {
-            ngx_conf_log_error(NGX_LOG_EMERG, cf, ngx_errno,
-                               ngx_read_fd_n " \"%V\" failed", name);
-            goto done;
-        }
-
-        if (n == 0) {
-            break;
-        }
-
-        document->len += n;
+    if (rc != NGX_OK) {
+        ngx_conf_log_error(NGX_LOG_EMERG, cf, ngx_errno,
+                           ngx_read_fd_n " \"%V\" failed", name);
     }
-
-    rc = NGX_OK;
 
 done:
 
@@ -2117,7 +2901,7 @@ ngx_http_fowharimu_access(ngx_conf_t *cf, ngx_command_t *cmd, void *conf)
     value = cf->args->elts;
 
     if (ngx_http_fowharimu_read_file(cf, &value[1],
-                                     NGX_HTTP_FOWHARIMU_MAX_ACCESS, &document)
+                                     NGX_HTTP_FOWHARIMU_MAX_ACCESS, &document, NULL)
         != NGX_OK)
     {
         return NGX_CONF_ERROR;
