@@ -19,7 +19,7 @@ abbrev pub IsTrulyTold : Truth → Settings → KeySet → ℤ → List ℕ → 
 IsTrulyTold truth policy keys now octets ceiling report =
     (answers : List ToldParts) × AreRight truth answers × IsReport (terms policy keys now (told_meaning answers ∷ [])) octets ceiling report
 
--- the report is that by what is told, and where that is true the verdict is the true one
+-- the report is that by the answers, and where these are true the verdict is the true one
 abbrev pub IsToldNow : List ToldParts → Settings → KeySet → ℤ → List ℕ → ℕ → Report → Type 0
 IsToldNow answers policy keys now octets ceiling report = IsReport (terms policy keys now (told_meaning answers ∷ [])) octets ceiling report
     × (FoundMemory report.verdict → (truth : Truth) → AreRight truth answers → IsVerdict (terms policy keys now (true_meaning truth ∷ [])) octets ceiling report.verdict)

@@ -29,7 +29,7 @@ use std::alloc::Global;
 /// were accepted under this budget's ceiling, nothing is tried and nothing is asked: the claims are held against the policy at the moment
 /// `now`.
 ///
-/// The verdict is the true one where each answer is true that is told now, and that was told when a token was kept. A wrong answer stays
+/// The verdict is the true one where each answer now is true, and each at the time when a token was kept. A wrong answer stays
 /// wrong for as long as the token is remembered, also where the answers were cleared.
 ///
 /// The condition: the budget is new.
@@ -54,7 +54,7 @@ pub fn judge_told<'a, 'p>(
     requires no_octets { ⟦<CountDown as Budget>⟧.octets budget.old ≡ 0 }
     requires no_calls { ⟦<CountDown as Budget>⟧.calls budget.old ≡ 0 }
 
-    // Where what is told now is true, and what was told of the tokens that the memory holds: the verdict is the true one, unless
+    // Where the answers now are true, and those on the tokens that the memory holds: the verdict is the true one, unless
     // memory was refused, and the report is that of a run by such answers; and the memory still holds such tokens alone.
     ensures right { IfOk result (λ o. (truth : Truth) → AreRight truth (told answers.now)
         → AreTrulyKept truth policy.now keys.now memory.old → FoundMemory (report_in o).verdict
@@ -69,11 +69,11 @@ pub fn judge_told<'a, 'p>(
         → AreTrulyKept truth policy.now keys.now memory.new }
     ensures room { HasRoomOf memory.new memory.old }
 
-    // What is judged anew rests on what is told now, whatever the memory holds, as jwt_told::judge_told says it.
+    // A new judging rests on the answers now, whatever the memory holds, as jwt_told::judge_told says it.
     ensures anew { IfOk result (λ o. is_remembered o ≡ false → IsToldNow (told answers.now)
         policy.now keys.now now octets.now (⟦<CountDown as Budget>⟧.ceiling budget.old) (report_in o)) }
 
-    // What is remembered rests on what was told when it was accepted, whatever is told now; and the memory held these octets, accepted
+    // A remembered verdict rests on the answers when it was accepted, whatever they are now; and the memory held these octets, accepted
     // under this ceiling.
     ensures remembered { IfOk result (λ o. is_remembered o ≡ true → (truth : Truth)
         → AreTrulyKept truth policy.now keys.now memory.old → IsTrulyRemembered truth
@@ -81,7 +81,7 @@ pub fn judge_told<'a, 'p>(
     ensures found { IfOk result (λ o. IsFound (is_remembered o) memory.old
         octets.now (⟦<CountDown as Budget>⟧.ceiling budget.old)) }
 
-    // What is asked is the first try of a run by what was told of which nothing was told. It comes with the token.
+    // It asks about the first try of a run by the answers that has none. It comes with the token.
     ensures tries { IfErr result (λ a. AreTries
         (terms policy.now keys.now now (told_meaning (told answers.now) ∷ []))
         octets.now (⟦<CountDown as Budget>⟧.ceiling budget.old) a.tries.items) }

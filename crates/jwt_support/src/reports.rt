@@ -8,7 +8,7 @@ use jwt_keys::KeySet;
 use jwt_mac::{Budget, CountDown, CountUp, Verifier};
 use jwt_policy::{ClaimFault, Policy};
 use jwt_text::{Reader, Source};
-use jwt_verify::{Fault, Report, Verdict, judge, validate};
+use jwt_verify::{Fault, Report, Terms, Verdict, judge, validate};
 use std::alloc::{AllocError, Global};
 
 /// More than any of these runs costs, and what a policy allows that says nothing of it.
@@ -126,16 +126,21 @@ fn told(alloc: Global, report: &Report<'_>, octets: u64, calls: u32) -> Result<S
 fn judged_by<B: Budget>(
     alloc: Global,
     token: &[u8],
-    keys: &KeySet,
-    policy: &Policy,
-    now: i64,
-    verifiers: &[Box<dyn Verifier>],
+    terms: &Terms<'_, '_, '_>,
     b: &mut B,
 ) -> Option<String>
     requires octets { B.octets b.old ≡ 0 }
     requires calls { B.calls b.old ≡ 0 }
 {
-    let report = judge(alloc, token, keys, policy, now, verifiers, b);
+    let report = judge(
+        alloc,
+        token,
+        terms.keys,
+        terms.policy,
+        terms.moment,
+        terms.verifiers,
+        b,
+    );
     told(alloc, &report, b.octets(), b.calls()).ok()
 }
 
@@ -143,21 +148,18 @@ fn judged_by<B: Budget>(
 pub fn judged(
     alloc: Global,
     token: &[u8],
-    keys: &KeySet,
-    policy: &Policy,
-    now: i64,
-    verifiers: &[Box<dyn Verifier>],
+    terms: &Terms<'_, '_, '_>,
     ceiling: u64,
     counts: Counts,
 ) -> Option<String> {
     match counts {
         Counts::Up => {
             let mut b = CountUp::new(ceiling);
-            judged_by(alloc, token, keys, policy, now, verifiers, &mut b)
+            judged_by(alloc, token, terms, &mut b)
         }
         Counts::Down => {
             let mut b = CountDown::new(ceiling);
-            judged_by(alloc, token, keys, policy, now, verifiers, &mut b)
+            judged_by(alloc, token, terms, &mut b)
         }
     }
 }
@@ -166,16 +168,21 @@ pub fn judged(
 fn validated_by<R: Source, B: Budget>(
     alloc: Global,
     r: &mut R,
-    keys: &KeySet,
-    policy: &Policy,
-    now: i64,
-    verifiers: &[Box<dyn Verifier>],
+    terms: &Terms<'_, '_, '_>,
     b: &mut B,
 ) -> Option<String>
     requires octets { B.octets b.old ≡ 0 }
     requires calls { B.calls b.old ≡ 0 }
 {
-    let report = validate(alloc, r, keys, policy, now, verifiers, b);
+    let report = validate(
+        alloc,
+        r,
+        terms.keys,
+        terms.policy,
+        terms.moment,
+        terms.verifiers,
+        b,
+    );
     told(alloc, &report, b.octets(), b.calls()).ok()
 }
 
@@ -183,38 +190,35 @@ fn validated_by<R: Source, B: Budget>(
 pub fn validated<R: Source>(
     alloc: Global,
     r: &mut R,
-    keys: &KeySet,
-    policy: &Policy,
-    now: i64,
-    verifiers: &[Box<dyn Verifier>],
+    terms: &Terms<'_, '_, '_>,
     ceiling: u64,
     counts: Counts,
 ) -> Option<String> {
     match counts {
         Counts::Up => {
             let mut b = CountUp::new(ceiling);
-            validated_by(alloc, r, keys, policy, now, verifiers, &mut b)
+            validated_by(alloc, r, terms, &mut b)
         }
         Counts::Down => {
             let mut b = CountDown::new(ceiling);
-            validated_by(alloc, r, keys, policy, now, verifiers, &mut b)
+            validated_by(alloc, r, terms, &mut b)
         }
     }
 }
 
 /// The policy and the keys of a case.
 #[derive(Drop)]
-struct Terms {
+struct Documents {
     policy: Policy,
     keys: KeySet,
 }
 
 /// The policy and the keys of the case, where they are read.
-fn terms_of(alloc: Global, case: &Case) -> Option<Terms> {
+fn documents_of(alloc: Global, case: &Case) -> Option<Documents> {
     let document = filled(alloc, case.keys).ok()?;
     let keys = KeySet::read(alloc, document.as_bytes()).ok()?;
     let policy = Policy::read(alloc, case.policy.as_bytes()).ok()?;
-    Some(Terms { policy, keys })
+    Some(Documents { policy, keys })
 }
 
 /// What `validate` says over this source and not of the case's token, with these verifiers and not the case's own.
@@ -225,17 +229,14 @@ pub fn validated_case<R: Source>(
     verifiers: &[Box<dyn Verifier>],
     counts: Counts,
 ) -> Option<String> {
-    let terms = terms_of(alloc, case)?;
-    validated(
-        alloc,
-        r,
-        &terms.keys,
-        &terms.policy,
-        case.now,
+    let documents = documents_of(alloc, case)?;
+    let terms = Terms {
+        keys: &documents.keys,
+        policy: &documents.policy,
+        moment: case.now,
         verifiers,
-        case.ceiling,
-        counts,
-    )
+    };
+    validated(alloc, r, &terms, case.ceiling, counts)
 }
 
 /// What `judge` says of this token and not the case's, with these verifiers and not the case's own.
@@ -246,17 +247,14 @@ pub fn judged_case(
     verifiers: &[Box<dyn Verifier>],
     counts: Counts,
 ) -> Option<String> {
-    let terms = terms_of(alloc, case)?;
-    judged(
-        alloc,
-        token,
-        &terms.keys,
-        &terms.policy,
-        case.now,
+    let documents = documents_of(alloc, case)?;
+    let terms = Terms {
+        keys: &documents.keys,
+        policy: &documents.policy,
+        moment: case.now,
         verifiers,
-        case.ceiling,
-        counts,
-    )
+    };
+    judged(alloc, token, &terms, case.ceiling, counts)
 }
 
 /// What is said of the case with these verifiers, and not the case's own.

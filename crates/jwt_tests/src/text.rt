@@ -293,15 +293,13 @@ static READS: [(u32, usize, Result<(), TextFault>, usize); 3] = [
     (9000, 8500, Err(TextFault::Read), 8500),
 ];
 
-/// Whether an intake answers so, holds so many octets, and left the others.
+/// Whether an intake answers as the row says, holds so many octets, and left the others.
 fn reads_on(
     alloc: Global,
     all: &[u8; 9000],
-    limit: u32,
-    pulls: usize,
-    want: Result<(), TextFault>,
-    held: usize,
+    row: &(u32, usize, Result<(), TextFault>, usize),
 ) -> bool {
+    let &(limit, pulls, want, held) = row;
     if limit < 1 || 4_194_304 < limit {
         return false;
     }
@@ -320,11 +318,9 @@ fn a_refused_growth_loses_no_octets(rt: HostRuntime) -> Result<(), Fail> {
         *octet = (place % 251) as u8;
     }
     assert!(rt; feeds_again(rt.alloc(), &all));
-    for &(limit, pulls, want, held) in &READS {
-        assert!(rt;
-            reads_on(rt.alloc(), &all, limit, pulls, want, held),
-            "with {limit}"
-        );
+    for row in &READS {
+        let limit = row.0;
+        assert!(rt; reads_on(rt.alloc(), &all, row), "with {limit}");
     }
     Ok(())
 }

@@ -13,6 +13,7 @@ use jwt_support::reports::{
 };
 use jwt_support::streams::{Drip, Endless};
 use jwt_support::texts::repeated;
+use jwt_verify::Terms;
 use std::alloc::{AllocError, Global};
 use std::cell::Cell;
 use std::test::Fail;
@@ -174,6 +175,16 @@ fn is_refusal(said: Option<&str>) -> bool {
     }
 }
 
+/// The terms of these documents at the tests' moment, with no verifier.
+fn by_hmac<'k, 'p>(keys: &'k KeySet, policy: &'p Policy) -> Terms<'k, 'p, 'k> {
+    Terms {
+        keys,
+        policy,
+        moment: NOW,
+        verifiers: &[],
+    }
+}
+
 /// What is said of the token with one octet changed.
 fn said_of_changed(
     alloc: Global,
@@ -185,7 +196,7 @@ fn said_of_changed(
     let mut token = Vec::from_slice(alloc, TOKEN_A.as_bytes()).ok()?;
     let octet = token.get_mut(place)?;
     *octet ^= change;
-    judged(alloc, &token, keys, policy, NOW, &[], AMPLE, Counts::Up)
+    judged(alloc, &token, &by_hmac(keys, policy), AMPLE, Counts::Up)
 }
 
 /// The first change of the octet at this place with which the token isn't refused after at most one try, where there is one.
@@ -245,7 +256,7 @@ fn judged_with(
 ) -> Option<String> {
     let keys = KeySet::read(alloc, document.as_bytes()).ok()?;
     let policy = Policy::read(alloc, policy.as_bytes()).ok()?;
-    judged(alloc, token, &keys, &policy, NOW, &[], ceiling, counts)
+    judged(alloc, token, &by_hmac(&keys, &policy), ceiling, counts)
 }
 
 /// What `judge` says of such a token with 1,024 keys of 32 zero octets.

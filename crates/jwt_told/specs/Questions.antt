@@ -1,4 +1,4 @@
--- The questions about a token that no answer was told to.
+-- The questions about a token that have no answer.
 use Rattle.std.specs.Prelude.{◌≡◌, ℕ, ℤ, Bool, false, not, ◌&&◌, List, [], ◌∷◌, ◌++◌, Option, None, Some, option_map}
 use Rattle.std.specs.List.{find, All}
 use Rattle.std.specs.Option.{option_map_or, is_none}
@@ -46,7 +46,7 @@ question_of token signature key = option_map (λ a. record { alg = a; key = key.
 unfoldable pub question_at : Token → List KeyParts → ℕ → ℕ → Option QuestionParts
 question_at token keys signature key = at_pair (question_of token) None token keys signature key
 
--- the octets are a token, and whether the key verifies the signature is a question that no answer was told to
+-- the octets are a token, and whether the key verifies the signature is a question that has no answer
 abbrev pub IsOpen : List ToldParts → Settings → List ℕ → List KeyParts → ℕ → ℕ → Type 0
 IsOpen answers policy octets keys signature key = (token : Token) × IsToken policy octets token
     × AtPair token keys signature key (λ s k. (algorithm : Alg) × (alg s ≡ Some algorithm) × (is_hmac_alg algorithm ≡ false) × (answer_to answers algorithm k.octets (message_of token s) s.octets ≡ None))
@@ -80,11 +80,11 @@ RightAnswers = (answers : List ToldParts) (truth : Truth) (policy : Settings) (k
 
 -- ---- Cited by contracts of private functions alone
 
--- by this algorithm no answer was told to whether the key made the signature over the message; HMAC needs none
+-- whether the key made the signature over the message by this algorithm has no answer; HMAC needs none
 abbrev pub is_untold : List ToldParts → Token → SignatureParts → KeyParts → Alg → Bool
 is_untold answers token signature key algorithm = not (is_hmac_alg algorithm) && is_none (answer_to answers algorithm key.octets (message_of token signature) signature.octets)
 
--- the key and the signature of these numbers raise a question that no answer was told to
+-- the key and the signature of these numbers raise a question that has no answer
 unfoldable pub is_open : List ToldParts → Token → List KeyParts → ℕ → ℕ → Bool
 is_open answers token keys signature key = at_pair (λ s k. option_map_or (is_untold answers token s k) (alg s) false) false token keys signature key
 

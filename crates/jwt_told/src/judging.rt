@@ -79,7 +79,7 @@ fn asking<'a>(first: Try, report: Report<'_>, token: Signed<'a>) -> Asking<'a>
     }
 }
 
-/// The report on octets in hand under terms whose one verifier means what was told, with the token.
+/// The report on octets in hand under terms whose one verifier is the answers, with the token.
 fn judge_with<'a, 'p>(
     alloc: Global,
     octets: &'a [u8],
@@ -141,7 +141,7 @@ fn judge_by<'a, 'p>(
     judge_with(alloc, octets, &given, answers, budget, scratch)
 }
 
-/// Judges a token in hand by what was told of signatures by public keys, or asks about a pair of which nothing was told.
+/// Judges a token in hand by answers on signatures by public keys, or asks about a pair that has no answer.
 ///
 /// It tries what [`judge`] tries, in the same order: a signature by HMAC is verified, and one by another algorithm is looked up
 /// among the answers. `now` is in seconds since 1970-01-01T00:00:00Z. The caller answers questions by [`Answers::tell`], and calls
@@ -151,8 +151,7 @@ fn judge_by<'a, 'p>(
 /// from the question on, until an answer is that the signature is valid, and only then call again: at most one call more than there are
 /// signatures. The tries by HMAC among them cost octets, and need no answer.
 ///
-/// Where each answer that was told is true, the verdict is the one that a verifier who knows the truth would have led to, be it an
-/// acceptance or a refusal.
+/// Where each answer is true, the verdict is that of a verifier who knows the truth, be it an acceptance or a refusal.
 ///
 /// A caller with many tokens keeps the scratch from one to the next: it is what reading needs beside its result, and nothing
 /// depends on what it holds.
@@ -163,8 +162,8 @@ fn judge_by<'a, 'p>(
 /// As [`judge`] refuses.
 ///
 /// # Errors
-/// The token, the tries of the run, and the first of them of which nothing was told. Where memory was refused, that is the report, and nothing
-/// is asked.
+/// The token, the tries of the run, and the first of them without an answer. Where memory was refused, that is the report, and nothing is
+/// asked.
 pub fn judge_told<'a, 'p>(
     alloc: Global,
     octets: &'a [u8],
@@ -178,23 +177,23 @@ pub fn judge_told<'a, 'p>(
     requires no_octets { ⟦<CountDown as Budget>⟧.octets budget.old ≡ 0 }
     requires no_calls { ⟦<CountDown as Budget>⟧.calls budget.old ≡ 0 }
 
-    // The report is that of a run by what was told.
+    // The report is that of a run by the answers.
     ensures report { IfOk result (IsReport
         (terms policy.now keys.now now (told_meaning (told answers.now) ∷ []))
         octets.now (⟦<CountDown as Budget>⟧.ceiling budget.old)) }
 
-    // Where what was told is true, the verdict is the true one, unless memory was refused.
+    // Where the answers are true, the verdict is the true one, unless memory was refused.
     ensures right { IfOk result (λ r. FoundMemory r.verdict
         → (truth : Truth) → AreRight truth (told answers.now)
         → IsVerdict
         (terms policy.now keys.now now (true_meaning truth ∷ []))
         octets.now (⟦<CountDown as Budget>⟧.ceiling budget.old) r.verdict) }
 
-    // Of each of its tries it was told whether it is valid, unless memory was refused.
+    // Each of its tries has an answer, unless memory was refused.
     ensures told { IfOk result (λ r. FoundMemory r.verdict → NoneOpen (told answers.now)
         policy.now octets.now (key_set keys.now).keys r.tries.items) }
 
-    // What is asked is the first try of that run of which nothing was told.
+    // It asks about the first try of that run that has no answer.
     ensures tries { IfErr result (λ a. AreTries
         (terms policy.now keys.now now (told_meaning (told answers.now) ∷ []))
         octets.now (⟦<CountDown as Budget>⟧.ceiling budget.old) a.tries.items) }
