@@ -14,8 +14,8 @@ import java.util.regex.Matcher;
 import java.util.regex.Pattern;
 import org.example.fowharimu.Access;
 import org.example.fowharimu.Denied;
+import org.example.fowharimu.Judging;
 import org.example.fowharimu.Refused;
-import org.example.fowharimu.Validator;
 
 /**
  * Lets HTTP requests through where their token is accepted (RFC 6750). Their claims, a JSON text, are the request's attribute {@link #CLAIMS}.
@@ -40,7 +40,7 @@ public class Guard implements Filter {
     private static final Pattern CREDENTIALS = Pattern.compile("bearer(?: +(.*))?", Pattern.CASE_INSENSITIVE | Pattern.DOTALL);
     private static final Pattern QUOTABLE = Pattern.compile("[ !#-\\[\\]-~]*");
 
-    private final Validator validator;
+    private final Judging validator;
     private final Access access;
     private final String realm;
     private final boolean hidesToken;
@@ -48,32 +48,32 @@ public class Guard implements Filter {
     /**
      * A filter that asks for an accepted token.
      *
-     * @param validator the validator, which the filter doesn't close
+     * @param validator what judges the tokens, which the filter doesn't close
      */
-    public Guard(Validator validator) {
+    public Guard(Judging validator) {
         this(validator, null);
     }
 
     /**
      * A filter that asks for an accepted token whose claims meet an access rule.
      *
-     * @param validator the validator, which the filter doesn't close
+     * @param validator what judges the tokens, which the filter doesn't close
      * @param access the access rule; null where there is none
      */
-    public Guard(Validator validator, Access access) {
+    public Guard(Judging validator, Access access) {
         this(validator, access, "jwt", false);
     }
 
     /**
      * A filter that asks for an accepted token whose claims meet an access rule.
      *
-     * @param validator the validator, which the filter doesn't close
+     * @param validator what judges the tokens, which the filter doesn't close
      * @param access the access rule; null where there is none
      * @param realm the realm that a request without a token is told
      * @param hidesToken whether what is behind isn't shown {@code Authorization}
      * @throws IllegalArgumentException for a realm that a quoted string can't have
      */
-    public Guard(Validator validator, Access access, String realm, boolean hidesToken) {
+    public Guard(Judging validator, Access access, String realm, boolean hidesToken) {
         if (!QUOTABLE.matcher(realm).matches()) {
             throw new IllegalArgumentException("a realm has printable characters of ASCII, and neither quotation marks nor backslashes");
         }
@@ -122,7 +122,12 @@ public class Guard implements Filter {
             return true;
         } catch (Refused refusal) {
             refused(request, refusal);
-            refuse(answer, HttpServletResponse.SC_UNAUTHORIZED, INVALID_TOKEN);
+            if (refusal.kind() == Refused.Kind.KEYS_TOO_OLD) {
+                // (it says nothing of the token)
+                answer.setStatus(HttpServletResponse.SC_SERVICE_UNAVAILABLE);
+            } else {
+                refuse(answer, HttpServletResponse.SC_UNAUTHORIZED, INVALID_TOKEN);
+            }
         } catch (Denied denial) {
             refused(request, denial);
             String scope = denial.scope().isEmpty() ? "" : ", scope=\"" + String.join(" ", denial.scopes()) + "\"";
