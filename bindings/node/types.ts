@@ -1,5 +1,7 @@
 // What a caller in TypeScript writes; it is compiled, and not run.
-import { Access, AccessRefused, AnotherLibrary, ClaimsRefused, Denied, FormRefused, KeysRefused, PolicyRefused, Report, TokenRefused, Validator } from '.';
+import { Access, AccessRefused, AnotherLibrary, ClaimsRefused, Denied, FormRefused, KeysRefused, PolicyRefused, Report, TokenRefused, Validator, textMember } from '.';
+import { Issuers } from './issuers';
+import { RemoteKeys } from './remote';
 
 const validator: Validator = new Validator({ algs: ['HS256'] }, '{"keys":[]}', { mostQuestions: 8, remember: { tokens: 1000, octets: 4096 } });
 const claims: unknown = validator.validate('a.b.c').iss;
@@ -20,7 +22,14 @@ access.close();
 const token: string = validator.issue({ iss: 'joe' }, { alg: 'HS384', form: 'flattened', key: 0, typ: 'at+jwt' });
 const kid: unknown = validator.unverifiedHeader(token, 0)?.kid;
 for (const it of [PolicyRefused, KeysRefused, AnotherLibrary]) console.log(it.name, claims, text, kid, remembered);
+const issuer: string | undefined = validator.issuer ?? textMember('{}', 'issuer');
+const named: string | null | undefined = validator.unverifiedIssuer('a.b.c');
+const issuers: Issuers = new Issuers(new Map([['a', validator]]));
+void issuers.validate('a.b.c', { access }).then((it: unknown) => console.log(it, issuer, named, validator.limit + 1, !validator.isPublic));
+void RemoteKeys.open({ algs: ['RS256'] }, 'https://issuer.example/keys').then((keys) => new Issuers({ a: keys, b: validator }).judge('a.b.c', 7));
 validator.close();
+// @ts-expect-error: neither a validator nor keys by URL
+new Issuers({ a: 7 });
 // @ts-expect-error: a token is a text or octets
 validator.validate(7);
 // @ts-expect-error: HMAC alone is issued

@@ -8,6 +8,7 @@ import java.nio.file.Path;
 import java.time.Instant;
 import java.util.ArrayList;
 import java.util.List;
+import java.util.Map;
 import java.util.Optional;
 import java.util.concurrent.Callable;
 import java.util.concurrent.ExecutorService;
@@ -18,7 +19,9 @@ import java.util.stream.Stream;
 
 import org.example.fowharimu.Access;
 import org.example.fowharimu.Denied;
+import org.example.fowharimu.Issuers;
 import org.example.fowharimu.Issuing;
+import org.example.fowharimu.Judging;
 import org.example.fowharimu.Refused;
 import org.example.fowharimu.Remember;
 import org.example.fowharimu.SignatureState;
@@ -62,10 +65,63 @@ final class Tests {
             this::eachToken, this::ed448, this::clock, this::verdict, this::remembering, this::refusals, this::surrogates, this::documents, this::questions,
             this::mistakes, this::closing, this::issuing, this::freeing, this::threads, this::closingMeanwhile, this::ruleMet, this::denials,
             this::denialIsNoRefusal, this::rulesRefused, this::rulesOfTheDocuments, this::ruleMistakes, this::ruleClosing, this::ruleFreeing,
-            this::ruleThreads, this::ruleClosingMeanwhile
+            this::ruleThreads, this::ruleClosingMeanwhile, this::terms, this::issuers
         }) {
             it.run();
             passed++;
+        }
+    }
+
+    private static final String SECRET = "{\"keys\":[{\"kty\":\"oct\",\"k\":\"AAAAAAAAAAAAAAAAAAAAAAAAAAAAAAAAAAAAAAAAAAA\"}]}";
+
+    /** What a validator tells of its policy and its keys. */
+    private void terms() throws Exception {
+        String none = "{\"keys\":[]}";
+        String longest = "a".repeat(60_000);
+        Object[][] rows = {
+            {"{\"algs\":[\"RS256\"]}", none, Optional.empty(), 8192, true},
+            {"{\"algs\":[\"RS256\"],\"issuers\":[\"a\",\"b\"],\"limit\":7}", none, Optional.empty(), 7, true},
+            {"{\"algs\":[\"RS256\"],\"issuers\":[\"" + longest + "\"]}", none, Optional.of(longest), 8192, true},
+            {"{\"algs\":[\"RS256\"],\"issuers\":[\"\"]}", SECRET, Optional.of(""), 8192, false},
+            {"{\"algs\":[\"RS256\",\"HS512\"]}", none, Optional.empty(), 8192, false},
+        };
+        for (Object[] row : rows) {
+            try (Validator it = new Validator(octets((String) row[0]), octets((String) row[1]))) {
+                equal(List.of(it.issuer(), it.limit(), it.isPublic()), List.of(row[2], row[3], row[4]));
+            }
+        }
+    }
+
+    /** Several issuers: bindings/issuers has the table of what is answered. */
+    private void issuers() throws Exception {
+        String policy = "{\"algs\":[\"HS256\"],\"issuers\":[\"%s\"],\"limit\":%d}";
+        Validator one = new Validator(octets(String.format(policy, "a", 400)), octets(SECRET));
+        Validator other = new Validator(octets(String.format(policy, "b", 300)), octets(SECRET));
+        Issuers both = new Issuers(Map.of("a", one, "b", other));
+        equal(both.limit(), 300);
+        try (Access access = new Access("{\"scopes\":[\"read\"]}")) {
+            for (String claims : List.of("{\"iss\":\"a\"}", "{\"iss\":\"b\"}")) {
+                String token = one.issue(claims, new Issuing());
+                equal(both.validate(token), claims);
+                equal(both.judge(token).claims(), Optional.of(claims));
+                thrown(Denied.class, () -> both.validate(token, access));
+            }
+        }
+        String unknown = one.issue("{\"iss\":\"c\"}", new Issuing());
+        for (Map.Entry<String, String> it : Map.of(unknown, "Issuer", "x", "Segments", "x".repeat(301), "TooLong").entrySet()) {
+            equal(refused(() -> both.validate(it.getKey())).fault(), it.getValue());
+            equal(both.judge(it.getKey()).refusal().get().fault(), it.getValue());
+        }
+        for (Map<String, Judging> it : List.of(Map.<String, Judging>of(), Map.<String, Judging>of("a", other), Map.<String, Judging>of("a", both))) {
+            thrown(IllegalArgumentException.class, () -> new Issuers(it));
+        }
+        equal(one.unverifiedIssuer(octets(unknown)), Optional.of("c"));
+        equal(one.unverifiedIssuer(octets("e30.e30.AA")), Optional.empty());
+        equal(refused(() -> one.unverifiedIssuer(octets("x"))).kind(), Refused.Kind.FORM);
+        for (int i = 0; i < 2; i++) {
+            both.close();
+            thrown(IllegalStateException.class, () -> both.validate(unknown));
+            thrown(IllegalStateException.class, () -> other.unverifiedIssuer(octets(unknown)));
         }
     }
 

@@ -49,6 +49,50 @@ function testEd448() {
   assert.throws(() => validatorOf(name).validate(tokenOf(name), NOW), { name: 'SignatureRefused', fault: 'BadSignature' });
 }
 
+const SECRET = '{"keys":[{"kty":"oct","k":"AAAAAAAAAAAAAAAAAAAAAAAAAAAAAAAAAAAAAAAAAAA"}]}';
+
+function testTerms() {
+  const none = '{"keys":[]}', long = 'é'.repeat(20_000);
+  for (const [policy, keys, ...told] of [
+    [{ algs: ['RS256'] }, none, undefined, 8192, true],
+    [{ algs: ['RS256'], issuers: ['a', 'b'], limit: 7 }, none, undefined, 7, true],
+    [{ algs: ['RS256'], issuers: [long] }, none, long, 8192, true],
+    [{ algs: ['RS256'], issuers: [''] }, SECRET, '', 8192, false],
+    [{ algs: ['RS256', 'HS512'] }, none, undefined, 8192, false],
+  ]) {
+    const { issuer, limit, isPublic } = new fow.Validator(policy, keys);
+    assert.deepStrictEqual([issuer, limit, isPublic], told);
+  }
+  assert.strictEqual(fow.textMember('{"a":"\\u00e9"}', 'a'), 'é');
+  for (const document of ['{}', '{"a":5}', '{"a":"x","a":"x"}', '']) assert.strictEqual(fow.textMember(document, 'a'), undefined);
+  assert.throws(() => fow.textMember(5, 'a'), TypeError);
+}
+
+async function testIssuers() {
+  const { Issuers } = require('../issuers.js');
+  const open = (issuer, limit) => new fow.Validator({ algs: ['HS256'], issuers: [issuer], limit }, SECRET);
+  const one = open('a', 400), other = open('b', 300), issuers = new Issuers({ a: one, b: other });
+  for (const iss of ['a', 'b']) {
+    const token = one.issue({ iss });
+    assert.deepStrictEqual(await issuers.validate(token), { iss });
+    assert.ok((await issuers.judge(Buffer.from(token), NOW)).accepted);
+    await assert.rejects(issuers.validate(token, { access: new fow.Access({ scopes: ['read'] }) }), fow.Denied);
+  }
+  for (const [token, fault] of [[one.issue({ iss: 'c' }), 'Issuer'], ['x', 'Segments'], ['x'.repeat(301), 'TooLong']]) {
+    await assert.rejects(issuers.validate(token), { fault });
+    assert.strictEqual((await issuers.judge(token)).refusal.fault, fault);
+  }
+  for (const it of [{}, { a: other }, { a: one, c: other }, { a: { issuer: 'a', limit: 1 } }]) assert.throws(() => new Issuers(it), TypeError);
+  assert.deepStrictEqual([one.issue({ iss: 'é' }), one.issue({}), 'x'].map((it) => one.unverifiedIssuer(it)), ['é', null, undefined]);
+  await new Issuers(new Map([['a', one]])).validate(one.issue({ iss: 'a' }));
+  const token = one.issue({ iss: 'b' });
+  for (let n = 0; n < 2; n++) {
+    issuers.close();
+    await assert.rejects(issuers.validate(token), fow.Closed);
+    assert.throws(() => other.unverifiedIssuer(token), fow.Closed);
+  }
+}
+
 function testReport() {
   const report = validatorOf(HMAC).judge(tokenOf(HMAC), NOW);
   assert.ok(report.accepted);
@@ -379,6 +423,8 @@ if (!isMainThread) {
   test('mistakes are told', testMistakes);
   test('a closed validator refuses', testClosing);
   test('what is issued is accepted', testIssuing);
+  test('what a validator tells of its policy and keys', testTerms);
+  test('several issuers', testIssuers);
   test('shared and detached buffers', testSharedBuffers);
   test('what is not closed is freed', testFreeing);
   test('access rules that are not closed are freed', testFreeingRules);

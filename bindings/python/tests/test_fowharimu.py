@@ -39,6 +39,7 @@ from fowharimu import (
     _library,
     _object,
 )
+from fowharimu.issuers import Issuers
 
 TOP = pathlib.Path(__file__).resolve().parents[3]
 NAMES = sorted(it.with_suffix("") for folder in ("examples", "bindings/tokens") for it in (TOP / folder).glob("*.jwt"))
@@ -456,6 +457,65 @@ def signed(header: str, payload: str) -> str:
 def base64url(text: str) -> str:
     """The text in base64url without padding."""
     return base64.urlsafe_b64encode(text.encode()).decode().rstrip("=")
+
+
+class Several(unittest.TestCase):
+    """Several issuers, whose tokens the same secret signs. bindings/issuers has the table of what is answered."""
+
+    KEYS = {"keys": [{"kty": "oct", "k": "A" * 43}]}
+
+    def setUp(self) -> None:
+        self.one, self.other = (Validator({"algs": ["HS256"], "issuers": [it], "limit": limit}, self.KEYS) for it, limit in (("a", 400), ("b", 300)))
+        self.issuers = Issuers({"a": self.one, "b": self.other})
+
+    def test_what_a_validator_tells_of_its_policy_and_keys(self) -> None:
+        self.assertEqual((self.one.issuer, self.one.limit, self.one.is_public), ("a", 400, False))
+        for policy, keys, told in (
+            ({"algs": ["RS256"]}, {"keys": []}, (None, 8192, True)),
+            ({"algs": ["RS256"], "issuers": ["a", "b"]}, {"keys": []}, (None, 8192, True)),
+            ({"algs": ["RS256"], "issuers": ["\u00e9" * 20_000]}, {"keys": []}, ("\u00e9" * 20_000, 8192, True)),
+            ({"algs": ["RS256"]}, self.KEYS, (None, 8192, False)),
+            ({"algs": ["RS256", "HS512"]}, {"keys": []}, (None, 8192, False)),
+        ):
+            with Validator(policy if "\u00e9" not in str(policy) else json.dumps(policy, ensure_ascii=False), keys) as it:
+                self.assertEqual((it.issuer, it.limit, it.is_public), told)
+
+    def test_the_issuer_that_a_token_names(self) -> None:
+        token = self.one.issue({"iss": "\u00e9\U00010000"})
+        for it in (token, token.encode(), token.rpartition(".")[0] + ".AA"):
+            self.assertEqual(self.one.unverified_issuer(it), "\u00e9\U00010000")
+        for it in (self.one.issue({}), "", "x", self.one.issue({"iss": "a" * 300})):
+            self.assertIsNone(self.one.unverified_issuer(it))
+        with self.assertRaises(TypeError):
+            self.one.unverified_issuer(7)  # type: ignore[arg-type]
+
+    def test_each_judges_its_own(self) -> None:
+        for it, validator in (("a", self.one), ("b", self.other)):
+            token = validator.issue({"iss": it})
+            self.assertEqual(self.issuers.validate(token), {"iss": it})
+            self.assertTrue(self.issuers.judge(token.encode(), NOW).accepted)
+            with self.assertRaises(Denied):
+                self.issuers.validate(token, NOW, Access({"scopes": ["read"]}))
+
+    def test_what_is_no_ones_is_refused(self) -> None:
+        for token, kind, fault in ((self.one.issue({"iss": "c"}), ClaimsRefused, "Issuer"), ("x", FormRefused, "Segments"), ("x" * 301, TooLong, "TooLong")):
+            with self.assertRaises(kind) as caught:
+                self.issuers.validate(token, NOW)
+            report = self.issuers.judge(token, NOW)
+            self.assertEqual((caught.exception.fault, str(report.refusal)), (fault, str(caught.exception)))  # type: ignore[attr-defined]
+        with self.assertRaises(ValueError):
+            Issuers({"a": self.other})
+        with self.assertRaises(ValueError):
+            Issuers({})
+
+    def test_they_are_closed_together(self) -> None:
+        token = self.one.issue({"iss": "a"})
+        with self.issuers as issuers:
+            self.assertEqual(issuers.validate(token)["iss"], "a")
+        for it in (self.issuers.validate, self.one.validate, self.other.unverified_issuer):
+            with self.assertRaises(Closed):
+                it(token)
+        self.issuers.close()
 
 
 class Issuing(unittest.TestCase):
