@@ -12,6 +12,7 @@ ghost use Rattle.jwt_c.specs.Asking.{alg_number, kind_number, question_octets, P
 
 use crate::desk::{Desk, Last};
 use crate::report::FowQuestion;
+use crate::status::{FOW_ABSENT, FOW_OK, FOW_OUT_OF_MEMORY, FOW_TOO_SHORT};
 use jwt_ecdsa::Ecdsa;
 use jwt_ed25519::Ed25519;
 use jwt_mac::{Alg, Answer, EcCurve, EdCurve, KeyView, Verifier};
@@ -87,7 +88,8 @@ fn spell(alloc: Global, asked: &Question<'_>) -> Result<Spelled, AllocError>
     Ok(Spelled { all, input })
 }
 
-/// Writes a question at the front of `out`. 0; 3: memory was refused; 5: `out` is too short.
+/// Writes a question at the front of `out`. `FOW_OK`; `FOW_OUT_OF_MEMORY`: memory was refused; `FOW_TOO_SHORT`:
+/// `out` is too short.
 fn write_question(
     alloc: Global,
     asked: &Question<'_>,
@@ -97,10 +99,10 @@ fn write_question(
     ensures { PutsQuestion (Some (question_parts asked.now)) result into.new out.old out.new }
 {
     let Ok(Spelled { all, input }) = spell(alloc, asked) else {
-        return 3;
+        return FOW_OUT_OF_MEMORY;
     };
     if all.len() > out.len() {
-        return 5;
+        return FOW_TOO_SHORT;
     }
     out[..all.len()].copy_from_slice(&all);
     *into = FowQuestion {
@@ -111,7 +113,7 @@ fn write_question(
         first: first_member(&asked.key).len(),
         second: second_member(&asked.key).len(),
     };
-    0
+    FOW_OK
 }
 
 /// Whether a key is a shared secret.
@@ -124,19 +126,19 @@ pub(crate) fn is_secret(key: &KeyView) -> bool
     }
 }
 
-/// Writes a question at the front of `out`, unless it is about HMAC or a secret. 0; 3: memory was refused; 5: `out` is too short; 6: it
-/// isn't written.
+/// Writes a question at the front of `out`, unless it is about HMAC or a secret. `FOW_OK`; `FOW_OUT_OF_MEMORY`: memory was refused;
+/// `FOW_TOO_SHORT`: `out` is too short; `FOW_ABSENT`: it isn't written.
 fn write_public(alloc: Global, asked: &Question<'_>, out: &mut [u8], into: &mut FowQuestion) -> u32
     ensures { PutsQuestion (public_asked (Some (question_parts asked.now))) result into.new out.old out.new }
 {
     if asked.alg.is_hmac() || is_secret(&asked.key) {
-        return 6;
+        return FOW_ABSENT;
     }
     write_question(alloc, asked, out, into)
 }
 
-/// Writes the question about a pair at the front of `out`. 0; 3: memory was refused; 5: `out` is too short; 6: there is none, or its
-/// algorithm is HMAC, or its key is a secret.
+/// Writes the question about a pair at the front of `out`. `FOW_OK`; `FOW_OUT_OF_MEMORY`: memory was refused; `FOW_TOO_SHORT`: `out`
+/// is too short; `FOW_ABSENT`: there is none, or its algorithm is HMAC, or its key is a secret.
 pub(crate) fn ask_about(
     alloc: Global,
     desk: &Desk,
@@ -157,24 +159,26 @@ pub(crate) fn ask_about(
             &desk.grounds.documents().keys,
         ) {
             Some(asked) => write_public(alloc, &asked, out, into),
-            None => 6,
+            None => FOW_ABSENT,
         },
-        Ok(None) => 6,
-        Err(_) => 3,
+        Ok(None) => FOW_ABSENT,
+        Err(_) => FOW_OUT_OF_MEMORY,
     }
 }
 
-/// Writes the question of the last judging at the front of `out`. 0; 3: memory was refused; 5: `out` is too short; 6: there is none.
+/// Writes the question of the last judging at the front of `out`. `FOW_OK`; `FOW_OUT_OF_MEMORY`: memory was refused;
+/// `FOW_TOO_SHORT`: `out` is too short; `FOW_ABSENT`: there is none.
 pub(crate) fn ask_last(alloc: Global, last: &Last, out: &mut [u8], into: &mut FowQuestion) -> u32
     ensures { PutsQuestion (option_map kept_parts last.now.asked) result into.new out.old out.new }
 {
     match &last.asked {
         Some(copy) => write_question(alloc, &copy.lent(), out, into),
-        None => 6,
+        None => FOW_ABSENT,
     }
 }
 
-/// Tells the answer to the question of the last judging, which asks it no more. 0; 3: memory was refused; 6: there is none.
+/// Tells the answer to the question of the last judging, which asks it no more. `FOW_OK`; `FOW_OUT_OF_MEMORY`: memory was
+/// refused; `FOW_ABSENT`: there is none.
 pub(crate) fn tell_last(alloc: Global, desk: &mut Desk, valid: bool) -> u32
     ensures told { TellsDesk (option_map kept_parts desk.old.last.asked) valid result
         desk.old desk.new }
@@ -183,25 +187,26 @@ pub(crate) fn tell_last(alloc: Global, desk: &mut Desk, valid: bool) -> u32
 {
     match replace(&mut desk.last.asked, None) {
         Some(asked) => match desk.answers.tell_copy(alloc, asked, valid) {
-            Ok(()) => 0,
-            Err(_) => 3,
+            Ok(()) => FOW_OK,
+            Err(_) => FOW_OUT_OF_MEMORY,
         },
-        None => 6,
+        None => FOW_ABSENT,
     }
 }
 
-/// Tells the answer to a question. 0; 3: memory was refused.
+/// Tells the answer to a question. `FOW_OK`; `FOW_OUT_OF_MEMORY`: memory was refused.
 fn tell_of(alloc: Global, answers: &mut Answers, asked: &Question<'_>, valid: bool) -> u32
     ensures { TellsOne (question_parts asked.now) valid result (told answers.old)
         (told answers.new) }
 {
     match answers.tell(alloc, asked, valid) {
-        Ok(()) => 0,
-        Err(_) => 3,
+        Ok(()) => FOW_OK,
+        Err(_) => FOW_OUT_OF_MEMORY,
     }
 }
 
-/// Tells whether a key made a signature. 0; 3: memory was refused; 6: there is no such pair.
+/// Tells whether a key made a signature. `FOW_OK`; `FOW_OUT_OF_MEMORY`: memory was refused; `FOW_ABSENT`: there
+/// is no such pair.
 pub(crate) fn tell(
     alloc: Global,
     desk: &mut Desk,
@@ -220,10 +225,10 @@ pub(crate) fn tell(
             &desk.grounds.documents().keys,
         ) {
             Some(asked) => tell_of(alloc, &mut desk.answers, &asked, valid),
-            None => 6,
+            None => FOW_ABSENT,
         },
-        Ok(None) => 6,
-        Err(_) => 3,
+        Ok(None) => FOW_ABSENT,
+        Err(_) => FOW_OUT_OF_MEMORY,
     }
 }
 
@@ -339,8 +344,8 @@ fn proved_answer(by: Proved, asked: &Question<'_>) -> Option<bool>
     }
 }
 
-/// Tells what a proved verifier says of a signature. 0; 3: memory was refused; 6: there is no such pair, or it is about an algorithm or a
-/// curve of others.
+/// Tells what a proved verifier says of a signature. `FOW_OK`; `FOW_OUT_OF_MEMORY`: memory was refused; `FOW_ABSENT`: there is no such
+/// pair, or it is about an algorithm or a curve of others.
 pub(crate) fn tell_by(
     alloc: Global,
     desk: &mut Desk,
@@ -361,11 +366,11 @@ pub(crate) fn tell_by(
         Ok(Some(signed)) => match (OpenPair { signature, key }).about(&signed, &documents.keys) {
             Some(asked) => match proved_answer(by, &asked) {
                 Some(accepts) => tell_of(alloc, &mut desk.answers, &asked, accepts),
-                None => 6,
+                None => FOW_ABSENT,
             },
-            None => 6,
+            None => FOW_ABSENT,
         },
-        Ok(None) => 6,
-        Err(_) => 3,
+        Ok(None) => FOW_ABSENT,
+        Err(_) => FOW_OUT_OF_MEMORY,
     }
 }

@@ -1,5 +1,6 @@
 //! Judges a token by what was told.
 
+ghost use Rattle.jwt_c.specs.declared.status.TheConstants.{FOW_ASKS, FOW_OK, FOW_REFUSED};
 ghost use Rattle.std.specs.Prelude.{◌≡◌, ◌≢◌, None, ◌≤◌, [], true, false, IfOk, IfErr, length, option_map};
 ghost use Rattle.std.specs.Arc.{arc_value};
 ghost use Rattle.jwt_jws.specs.Views.{token};
@@ -20,6 +21,7 @@ ghost use Rattle.jwt_c.specs.Reports.{IsNew, IsAsked, IsAsking, IsJudged, Says, 
 use crate::desk::{Desk, Evidence, Last};
 use crate::grounds::Documents;
 use crate::report::FowReport;
+use crate::status::{FOW_ASKS, FOW_OUT_OF_MEMORY};
 use jwt_jws::Signed;
 use jwt_keys::KeySet;
 use jwt_mac::{Budget, CountDown};
@@ -151,7 +153,7 @@ fn copied(
 
 /// The judging that asks, of which the tries and the question are kept.
 fn asking(alloc: Global, asks: Asking<'_>, keys: &KeySet) -> Result<Judging, AllocError>
-    ensures verdict { IfOk result (λ j. j.said.verdict ≡ 2) }
+    ensures verdict { IfOk result (λ j. j.said.verdict ≡ FOW_ASKS) }
     ensures signature { IfOk result (λ j. j.said.signature ≡ asks.entry.pair.signature) }
     ensures key { IfOk result (λ j. j.said.key ≡ asks.entry.pair.key) }
     ensures count { IfOk result (λ j. j.said.tries ≡ length asks.entry.tries.items) }
@@ -164,7 +166,7 @@ fn asking(alloc: Global, asks: Asking<'_>, keys: &KeySet) -> Result<Judging, All
 {
     let Asking { token, pair, tries } = asks;
     let asked = copied(alloc, pair, &token, keys)?;
-    let mut said = FowReport::bare(2);
+    let mut said = FowReport::bare(FOW_ASKS);
     said.signature = pair.signature;
     said.key = pair.key;
     said.tries = tries.len() as u64;
@@ -340,11 +342,11 @@ fn outcome_of<'a, 'p>(
 /// The judging of a desk on a token. It changes nothing of the desk but its memory of tokens, and the scratch, of which nothing depends on
 /// what it holds.
 fn report_on(alloc: Global, desk: &mut Desk, octets: &[u8], now: i64) -> Judging
-    ensures judged { result.said.verdict ≤ 1
+    ensures judged { result.said.verdict ≤ FOW_REFUSED
         → IsJudged desk.old now octets.now result.said result.last }
-    ensures asks { result.said.verdict ≡ 2
+    ensures asks { result.said.verdict ≡ FOW_ASKS
         → IsAsked desk.old now octets.now result.said result.last }
-    ensures claims { result.said.verdict ≢ 0 → claims_kept result.last ≡ None }
+    ensures claims { result.said.verdict ≢ FOW_OK → claims_kept result.last ≡ None }
     ensures grounds { desk.new.grounds ≡ desk.old.grounds }
     ensures told { told desk.new.answers ≡ told desk.old.answers }
     ensures stays { StaysTrue (told desk.old.answers) (documents desk.old)
@@ -365,21 +367,21 @@ fn report_on(alloc: Global, desk: &mut Desk, octets: &[u8], now: i64) -> Judging
     ) {
         Ok(outcome) => match judging_of(alloc, outcome, budget.octets()) {
             Ok(judging) => judging,
-            Err(_) => bare(alloc, 3),
+            Err(_) => bare(alloc, FOW_OUT_OF_MEMORY),
         },
         Err(asks) => match asking(alloc, asks, &documents.keys) {
             Ok(judging) => judging,
-            Err(_) => bare(alloc, 3),
+            Err(_) => bare(alloc, FOW_OUT_OF_MEMORY),
         },
     }
 }
 
 /// Judges a token, and keeps the report.
 pub(crate) fn judge_desk(alloc: Global, desk: &mut Desk, octets: &[u8], now: i64) -> FowReport
-    ensures judged { result.verdict ≤ 1
+    ensures judged { result.verdict ≤ FOW_REFUSED
         → IsJudged desk.old now octets.now result desk.new.last }
-    ensures asks { result.verdict ≡ 2 → IsAsked desk.old now octets.now result desk.new.last }
-    ensures claims { result.verdict ≢ 0 → claims_kept desk.new.last ≡ None }
+    ensures asks { result.verdict ≡ FOW_ASKS → IsAsked desk.old now octets.now result desk.new.last }
+    ensures claims { result.verdict ≢ FOW_OK → claims_kept desk.new.last ≡ None }
     ensures grounds { desk.new.grounds ≡ desk.old.grounds }
     ensures told { told desk.new.answers ≡ told desk.old.answers }
     ensures stays { StaysTrue (told desk.old.answers) (documents desk.old)

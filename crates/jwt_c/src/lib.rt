@@ -24,4 +24,5 @@ pub mod report;
 pub mod rule_desk;
 pub mod rule_exports;
 pub mod rule_handle;
+mod status;
 mod writing;
