@@ -6,7 +6,7 @@ use Rattle.jwt_memory.specs.declared.memory.MemoryEntry.{MemoryEntry}
 use Rattle.jwt_memory.specs.declared.memory.Memory.{Memory}
 use Rattle.jwt_memory.specs.Entries.{Holds}
 use Rattle.jwt_memory.specs.ToldKept.{AreTrulyKept, IsToldNow, IsTrulyRemembered}
-use Rattle.jwt_c.specs.declared.desk.Desk.{Desk}
+use Rattle.jwt_c.specs.declared.state.State.{State}
 use Rattle.jwt_c.specs.declared.grounds.Documents.{Documents}
 use Rattle.jwt_c.specs.Documents.{documents}
 use Rattle.jwt_c.specs.ProvedKept.{HasSameRoom}
@@ -33,7 +33,7 @@ abbrev pub IsHeldIn : Bool → Option Memory → List ℕ → ℕ → Type 0
 IsHeldIn false memory octets ceiling = Unit {0}
 IsHeldIn true memory octets ceiling = Knows memory octets ceiling
 
--- ---- what becomes of the memories of a desk
+-- ---- what becomes of the memories of a state
 
 -- what was told of the tokens that the memory keeps is true
 abbrev pub IsTrulyKept : Truth → Documents → Option Memory → Type 0
@@ -45,17 +45,17 @@ abbrev pub StaysTrue : List ToldParts → Documents → Option Memory → Option
 StaysTrue answers grounds before after = (truth : Truth) → AreRight truth answers → IsTrulyKept truth grounds before → IsTrulyKept truth grounds after
 
 -- what a judging by what is told does to them
-abbrev pub RemembersTold : Desk → Option Desk → Type 0
+abbrev pub RemembersTold : State → Option State → Type 0
 RemembersTold before None = ⊥
 RemembersTold before (Some after) = StaysTrue (told before.answers) (documents before) before.memory after.memory × HasSameRoom after.memory before.memory × (after.grounds ≡ before.grounds)
 
 -- what a judging by the proved verifiers does to them
-abbrev pub RemembersProved : Desk → Option Desk → Type 0
+abbrev pub RemembersProved : State → Option State → Type 0
 RemembersProved before None = ⊥
 RemembersProved before (Some after) = HasSameRoom after.grounds.1 before.grounds.1 × (after.memory ≡ before.memory)
 
 -- they stay as they are
-abbrev pub RemembersAlike : Desk → Option Desk → Type 0
+abbrev pub RemembersAlike : State → Option State → Type 0
 RemembersAlike before None = ⊥
 RemembersAlike before (Some after) = (after.memory ≡ before.memory) × (after.grounds ≡ before.grounds)
 
@@ -65,10 +65,10 @@ IsMemoryFor tokens octets None = tokens ≡ 0
 IsMemoryFor tokens octets (Some memory) = (memory.table.cap ≡ tokens) × (memory.longest ≡ octets) × (memory.table.entries ≡ [])
 
 -- from now on so many tokens of so many octets are remembered of each way of judging, and nothing else has changed
-abbrev pub IsRemembering : ℕ → ℕ → Desk → Desk → Type 0
+abbrev pub IsRemembering : ℕ → ℕ → State → State → Type 0
 IsRemembering tokens octets before after = IsMemoryFor tokens octets after.memory × IsMemoryFor tokens octets after.grounds.1
     × (documents after ≡ documents before) × (after.answers ≡ before.answers) × (after.last ≡ before.last)
 
-abbrev pub Remembers : ℕ → ℕ → Desk → Option Desk → Type 0
+abbrev pub Remembers : ℕ → ℕ → State → Option State → Type 0
 Remembers tokens octets before None = ⊥
 Remembers tokens octets before (Some after) = IsRemembering tokens octets before after

@@ -5,7 +5,7 @@ ghost use Rattle.jwt_access.specs.Document.{rule_of};
 ghost use Rattle.jwt_c.specs.Access.{access_number, denial_number, IsRuleRefused, IsHeldAgainst, PutsDenied, refused_in};
 ghost use Rattle.jwt_c.specs.Written.{PutsSome};
 
-use crate::rule_desk::RuleDesk;
+use crate::rule_state::RuleState;
 use crate::status::{FOW_ABSENT, FOW_DENIED, FOW_OK, FOW_OUT_OF_MEMORY, FOW_REFUSED, NotHeld};
 use crate::writing::put;
 use jwt_access::{AccessFault, AccessRule, Denial};
@@ -40,7 +40,7 @@ fn denial_number(denial: &Denial<'_>) -> u32
 }
 
 /// The rule of a document, or the status and the number of the fault for which it is refused.
-pub(crate) fn rule_of(alloc: Global, document: &[u8]) -> Result<Box<RuleDesk>, NotHeld>
+pub(crate) fn rule_of(alloc: Global, document: &[u8]) -> Result<Box<RuleState>, NotHeld>
     ensures read { IfOk result (λ b. rule_of document.now ≡ Ok b.value.rule) }
     ensures refused { IfErr result (λ e. IsRuleRefused document.now e.status e.fault) }
 {
@@ -55,8 +55,8 @@ pub(crate) fn rule_of(alloc: Global, document: &[u8]) -> Result<Box<RuleDesk>, N
             fault: access_number(&fault),
         }),
     };
-    match Box::new(alloc, RuleDesk { rule }) {
-        Ok(desk) => Ok(desk),
+    match Box::new(alloc, RuleState { rule }) {
+        Ok(state) => Ok(state),
         Err(_) => Err(NotHeld {
             status: FOW_OUT_OF_MEMORY,
             fault: 0,

@@ -8,10 +8,10 @@ ghost use Rattle.jwt_told.specs.Questions.{kept_parts, question_parts};
 ghost use Rattle.jwt_told.specs.Told.{told};
 ghost use Rattle.jwt_c.specs.Documents.{documents};
 ghost use Rattle.jwt_c.specs.Reports.{asked_at};
-ghost use Rattle.jwt_c.specs.Asking.{alg_number, kind_number, question_octets, PutsQuestion, TellsOne, TellsDesk, is_ed25519, is_secret, public_asked, rsa_asked, rsa_says, ecdsa_asked, ecdsa_says, ed25519_asked, ed25519_says, proved_asked, proved_says, asked_of, said_by};
+ghost use Rattle.jwt_c.specs.Asking.{alg_number, kind_number, question_octets, PutsQuestion, TellsOne, TellsState, is_ed25519, is_secret, public_asked, rsa_asked, rsa_says, ecdsa_asked, ecdsa_says, ed25519_asked, ed25519_says, proved_asked, proved_says, asked_of, said_by};
 
-use crate::desk::{Desk, Last};
 use crate::report::FowQuestion;
+use crate::state::{Last, State};
 use crate::status::{FOW_ABSENT, FOW_OK, FOW_OUT_OF_MEMORY, FOW_TOO_SHORT};
 use jwt_ecdsa::Ecdsa;
 use jwt_ed25519::Ed25519;
@@ -141,7 +141,7 @@ fn write_public(alloc: Global, asked: &Question<'_>, out: &mut [u8], into: &mut 
 /// is too short; `FOW_ABSENT`: there is none, or its algorithm is HMAC, or its key is a secret.
 pub(crate) fn ask_about(
     alloc: Global,
-    desk: &Desk,
+    state: &State,
     token: &[u8],
     signature: u32,
     key: u32,
@@ -149,14 +149,14 @@ pub(crate) fn ask_about(
     into: &mut FowQuestion,
 ) -> u32
     ensures { PutsQuestion
-        (public_asked (asked_at (token_of (documents desk.now).policy token.now)
-        (key_set (documents desk.now).keys).keys signature key))
+        (public_asked (asked_at (token_of (documents state.now).policy token.now)
+        (key_set (documents state.now).keys).keys signature key))
         result into.new out.old out.new }
 {
-    match read_token(alloc, token, &desk.grounds.documents().policy) {
+    match read_token(alloc, token, &state.grounds.documents().policy) {
         Ok(Some(signed)) => match (OpenPair { signature, key }).about(
             &signed,
-            &desk.grounds.documents().keys,
+            &state.grounds.documents().keys,
         ) {
             Some(asked) => write_public(alloc, &asked, out, into),
             None => FOW_ABSENT,
@@ -179,14 +179,14 @@ pub(crate) fn ask_last(alloc: Global, last: &Last, out: &mut [u8], into: &mut Fo
 
 /// Tells the answer to the question of the last judging, which asks it no more. `FOW_OK`; `FOW_OUT_OF_MEMORY`: memory was
 /// refused; `FOW_ABSENT`: there is none.
-pub(crate) fn tell_last(alloc: Global, desk: &mut Desk, valid: bool) -> u32
-    ensures told { TellsDesk (option_map kept_parts desk.old.last.asked) valid result
-        desk.old desk.new }
-    ensures none { desk.new.last.asked ≡ None }
-    ensures memories { (desk.new.memory ≡ desk.old.memory) × (desk.new.grounds ≡ desk.old.grounds) }
+pub(crate) fn tell_last(alloc: Global, state: &mut State, valid: bool) -> u32
+    ensures told { TellsState (option_map kept_parts state.old.last.asked) valid result
+        state.old state.new }
+    ensures none { state.new.last.asked ≡ None }
+    ensures memories { (state.new.memory ≡ state.old.memory) × (state.new.grounds ≡ state.old.grounds) }
 {
-    match replace(&mut desk.last.asked, None) {
-        Some(asked) => match desk.answers.tell_copy(alloc, asked, valid) {
+    match replace(&mut state.last.asked, None) {
+        Some(asked) => match state.answers.tell_copy(alloc, asked, valid) {
             Ok(()) => FOW_OK,
             Err(_) => FOW_OUT_OF_MEMORY,
         },
@@ -209,22 +209,22 @@ fn tell_of(alloc: Global, answers: &mut Answers, asked: &Question<'_>, valid: bo
 /// is no such pair.
 pub(crate) fn tell(
     alloc: Global,
-    desk: &mut Desk,
+    state: &mut State,
     token: &[u8],
     signature: u32,
     key: u32,
     valid: bool,
 ) -> u32
-    ensures told { TellsDesk (asked_at (token_of (documents desk.old).policy token.now)
-        (key_set (documents desk.old).keys).keys signature key) valid result desk.old desk.new }
-    ensures memories { (desk.new.memory ≡ desk.old.memory) × (desk.new.grounds ≡ desk.old.grounds) }
+    ensures told { TellsState (asked_at (token_of (documents state.old).policy token.now)
+        (key_set (documents state.old).keys).keys signature key) valid result state.old state.new }
+    ensures memories { (state.new.memory ≡ state.old.memory) × (state.new.grounds ≡ state.old.grounds) }
 {
-    match read_token(alloc, token, &desk.grounds.documents().policy) {
+    match read_token(alloc, token, &state.grounds.documents().policy) {
         Ok(Some(signed)) => match (OpenPair { signature, key }).about(
             &signed,
-            &desk.grounds.documents().keys,
+            &state.grounds.documents().keys,
         ) {
-            Some(asked) => tell_of(alloc, &mut desk.answers, &asked, valid),
+            Some(asked) => tell_of(alloc, &mut state.answers, &asked, valid),
             None => FOW_ABSENT,
         },
         Ok(None) => FOW_ABSENT,
@@ -348,24 +348,24 @@ fn proved_answer(by: Proved, asked: &Question<'_>) -> Option<bool>
 /// pair, or it is about an algorithm or a curve of others.
 pub(crate) fn tell_by(
     alloc: Global,
-    desk: &mut Desk,
+    state: &mut State,
     token: &[u8],
     signature: u32,
     key: u32,
     by: Proved,
 ) -> u32
-    ensures told { TellsDesk
-        (asked_of by (asked_at (token_of (documents desk.old).policy token.now)
-        (key_set (documents desk.old).keys).keys signature key))
-        (said_by by (asked_at (token_of (documents desk.old).policy token.now)
-        (key_set (documents desk.old).keys).keys signature key)) result desk.old desk.new }
-    ensures memories { (desk.new.memory ≡ desk.old.memory) × (desk.new.grounds ≡ desk.old.grounds) }
+    ensures told { TellsState
+        (asked_of by (asked_at (token_of (documents state.old).policy token.now)
+        (key_set (documents state.old).keys).keys signature key))
+        (said_by by (asked_at (token_of (documents state.old).policy token.now)
+        (key_set (documents state.old).keys).keys signature key)) result state.old state.new }
+    ensures memories { (state.new.memory ≡ state.old.memory) × (state.new.grounds ≡ state.old.grounds) }
 {
-    let documents = desk.grounds.documents();
+    let documents = state.grounds.documents();
     match read_token(alloc, token, &documents.policy) {
         Ok(Some(signed)) => match (OpenPair { signature, key }).about(&signed, &documents.keys) {
             Some(asked) => match proved_answer(by, &asked) {
-                Some(accepts) => tell_of(alloc, &mut desk.answers, &asked, accepts),
+                Some(accepts) => tell_of(alloc, &mut state.answers, &asked, accepts),
                 None => FOW_ABSENT,
             },
             None => FOW_ABSENT,

@@ -20,16 +20,16 @@ ghost use Rattle.jwt_c.specs.Issuing.{hmac_at, form_at, typ_of, PutsIssued};
 ghost use Rattle.jwt_issue.specs.ClaimSets.{claim_set_of};
 
 use crate::asking::{Proved, ask_about, ask_last, tell, tell_by, tell_last};
-use crate::desk::{Desk, Last};
 use crate::faults::{keys_number, policy_number};
 use crate::grounds::{Documents, Grounds};
 use crate::handle::{Handle, take};
 use crate::issuing::put_numbered;
-use crate::judging::judge_desk;
+use crate::judging::judge_state;
 use crate::most_questions::most_of;
-use crate::proving::prove_desk;
-use crate::remembering::remember_desk;
+use crate::proving::prove_state;
+use crate::remembering::remember_state;
 use crate::report::{FowQuestion, FowReport, FowState, FowTry};
+use crate::state::{Last, State};
 use crate::status::{FOW_ABSENT, FOW_NOT_OPEN, FOW_OK, FOW_OUT_OF_MEMORY, FOW_REFUSED, NotHeld};
 use crate::writing::{number_at, payload_of, put, put_claim, put_header};
 use jwt_keys::{KeySet, KeysFault};
@@ -78,20 +78,20 @@ fn documents_of(alloc: Global, policy: &[u8], keys: &[u8]) -> Result<Arc<Documen
 
 /// A handle on these documents, to which nothing was told. `Err`: memory was refused.
 fn handle_on(alloc: Global, shared: Arc<Documents>) -> Result<Handle, AllocError>
-    ensures { IfOk result (λ h. IsFresh (arc_value shared) h.desk) }
+    ensures { IfOk result (λ h. IsFresh (arc_value shared) h.state) }
 {
     let Ok(scratch) = Box::new(alloc, Scratch::new(alloc)) else {
         return Err(AllocError);
     };
-    let desk = Desk {
+    let state = State {
         grounds: Grounds::new(shared),
         answers: Answers::new(alloc),
         memory: None,
         last: Last::new(alloc),
         scratch,
     };
-    match Box::new(alloc, desk) {
-        Ok(desk) => Ok(Handle::of(desk)),
+    match Box::new(alloc, state) {
+        Ok(state) => Ok(Handle::of(state)),
         Err(_) => Err(AllocError),
     }
 }
@@ -106,9 +106,9 @@ pub extern "C" fn fow_open(
     keys: &[u8],
     fault: &mut u32,
 ) -> u32
-    ensures opened { result ≡ FOW_OK → IsOpened policy.now keys.now validator.new.desk }
+    ensures opened { result ≡ FOW_OK → IsOpened policy.now keys.now validator.new.state }
     ensures refused { result ≢ FOW_OK → IsRefused policy.now keys.now result fault.new }
-    ensures same { result ≢ FOW_OK → validator.new.desk ≡ validator.old.desk }
+    ensures same { result ≢ FOW_OK → validator.new.state ≡ validator.old.state }
 {
     *fault = 0;
     match documents_of(alloc, policy, keys) {
@@ -135,17 +135,17 @@ pub extern "C" fn fow_open_beside(
     alloc: Global,
     another: &mut Handle,
 ) -> u32
-    ensures another { another.new.desk ≡ another.old.desk }
-    ensures none { another.old.desk ≡ None → result ≡ FOW_NOT_OPEN }
-    ensures opened { result ≡ FOW_OK → IsBeside another.old.desk validator.new.desk }
-    ensures refused { another.old.desk ≢ None → result ≢ FOW_OK → result ≡ FOW_OUT_OF_MEMORY }
-    ensures same { result ≢ FOW_OK → validator.new.desk ≡ validator.old.desk }
+    ensures another { another.new.state ≡ another.old.state }
+    ensures none { another.old.state ≡ None → result ≡ FOW_NOT_OPEN }
+    ensures opened { result ≡ FOW_OK → IsBeside another.old.state validator.new.state }
+    ensures refused { another.old.state ≢ None → result ≢ FOW_OK → result ≡ FOW_OUT_OF_MEMORY }
+    ensures same { result ≢ FOW_OK → validator.new.state ≡ validator.old.state }
 {
-    let Some(desk) = take(another, alloc) else {
+    let Some(state) = take(another, alloc) else {
         return FOW_NOT_OPEN;
     };
-    let shared = desk.grounds.share();
-    *another = Handle::of(desk);
+    let shared = state.grounds.share();
+    *another = Handle::of(state);
     let Some(shared) = shared else {
         return FOW_OUT_OF_MEMORY;
     };
@@ -161,16 +161,16 @@ pub extern "C" fn fow_open_beside(
 /// The most questions that one token can raise. `FOW_OK`; `FOW_NOT_OPEN`: nothing is held.
 #[unsafe(no_mangle)]
 pub extern "C" fn fow_most_questions(validator: &mut Handle, alloc: Global, most: &mut u32) -> u32
-    ensures same { validator.new.desk ≡ validator.old.desk }
-    ensures none { validator.old.desk ≡ None → result ≡ FOW_NOT_OPEN }
-    ensures most { IfSome validator.old.desk (λ d. (result ≡ FOW_OK)
+    ensures same { validator.new.state ≡ validator.old.state }
+    ensures none { validator.old.state ≡ None → result ≡ FOW_NOT_OPEN }
+    ensures most { IfSome validator.old.state (λ d. (result ≡ FOW_OK)
         × (most.new ≡ most_questions (documents d).policy (key_set (documents d).keys).keys)) }
 {
-    let Some(desk) = take(validator, alloc) else {
+    let Some(state) = take(validator, alloc) else {
         return FOW_NOT_OPEN;
     };
-    *most = most_of(&desk);
-    *validator = Handle::of(desk);
+    *most = most_of(&state);
+    *validator = Handle::of(state);
     FOW_OK
 }
 
@@ -197,7 +197,7 @@ pub extern "C" fn fow_refused_member(
 /// Frees what is held, if anything is.
 #[unsafe(no_mangle)]
 pub extern "C" fn fow_close(validator: &mut Handle, alloc: Global)
-    ensures { validator.new.desk ≡ None }
+    ensures { validator.new.state ≡ None }
 {
     *validator = Handle::empty(alloc);
 }
@@ -212,30 +212,30 @@ pub extern "C" fn fow_judge(
     report: &mut FowReport,
 ) -> u32
     ensures verdict { result ≡ report.new.verdict }
-    ensures none { validator.old.desk ≡ None → report_numbers report.new ≡ bare FOW_NOT_OPEN }
-    ensures alike { IsAlike validator.old.desk validator.new.desk }
+    ensures none { validator.old.state ≡ None → report_numbers report.new ≡ bare FOW_NOT_OPEN }
+    ensures alike { IsAlike validator.old.state validator.new.state }
 
     // What is accepted or refused is judged by validate's contract, and what is kept of it is its report.
-    ensures judged { IfSome validator.old.desk (λ d. result ≤ FOW_REFUSED
-        → IsJudgedBy d now token.now report.new validator.new.desk) }
+    ensures judged { IfSome validator.old.state (λ d. result ≤ FOW_REFUSED
+        → IsJudgedBy d now token.now report.new validator.new.state) }
 
     // Claims are kept of an acceptance alone.
-    ensures claims { IfSome validator.new.desk (λ e. result ≢ FOW_OK → claims_kept e.last ≡ None) }
+    ensures claims { IfSome validator.new.state (λ e. result ≢ FOW_OK → claims_kept e.last ≡ None) }
 
     // Where what is told is true, so is what was told of the tokens that are remembered, if it was before.
-    ensures remembers { IfSome validator.old.desk (λ d. RemembersTold d validator.new.desk) }
+    ensures remembers { IfSome validator.old.state (λ d. RemembersTold d validator.new.state) }
 
     // The pair that is asked about is the first of the tries, which are kept, of which nothing was told.
-    ensures asks { IfSome validator.old.desk (λ d. result ≡ FOW_ASKS
-        → IsAskedBy d now token.now report.new validator.new.desk) }
+    ensures asks { IfSome validator.old.state (λ d. result ≡ FOW_ASKS
+        → IsAskedBy d now token.now report.new validator.new.state) }
 {
-    let Some(mut desk) = take(validator, alloc) else {
+    let Some(mut state) = take(validator, alloc) else {
         *report = FowReport::bare(FOW_NOT_OPEN);
         return FOW_NOT_OPEN;
     };
-    let said = judge_desk(alloc, &mut desk, token, now);
+    let said = judge_state(alloc, &mut state, token, now);
     *report = said;
-    *validator = Handle::of(desk);
+    *validator = Handle::of(state);
     said.verdict
 }
 
@@ -250,26 +250,26 @@ pub extern "C" fn fow_proved_judge(
     report: &mut FowReport,
 ) -> u32
     ensures verdict { result ≡ report.new.verdict }
-    ensures none { validator.old.desk ≡ None → report_numbers report.new ≡ bare FOW_NOT_OPEN }
-    ensures alike { IsAlike validator.old.desk validator.new.desk }
+    ensures none { validator.old.state ≡ None → report_numbers report.new ≡ bare FOW_NOT_OPEN }
+    ensures alike { IsAlike validator.old.state validator.new.state }
 
     // What is accepted or refused is judged by validate's contract, and what is kept of it is its report.
-    ensures judged { IfSome validator.old.desk (λ d. result ≤ FOW_REFUSED
-        → IsProvedBy d now token.now report.new validator.new.desk) }
+    ensures judged { IfSome validator.old.state (λ d. result ≤ FOW_REFUSED
+        → IsProvedBy d now token.now report.new validator.new.state) }
     ensures never_asks { result ≢ FOW_ASKS }
 
     // Claims are kept of an acceptance alone.
-    ensures claims { IfSome validator.new.desk (λ e. result ≢ FOW_OK → claims_kept e.last ≡ None) }
+    ensures claims { IfSome validator.new.state (λ e. result ≢ FOW_OK → claims_kept e.last ≡ None) }
 
-    ensures remembers { IfSome validator.old.desk (λ d. RemembersProved d validator.new.desk) }
+    ensures remembers { IfSome validator.old.state (λ d. RemembersProved d validator.new.state) }
 {
-    let Some(mut desk) = take(validator, alloc) else {
+    let Some(mut state) = take(validator, alloc) else {
         *report = FowReport::bare(FOW_NOT_OPEN);
         return FOW_NOT_OPEN;
     };
-    let said = prove_desk(alloc, &mut desk, token, now);
+    let said = prove_state(alloc, &mut state, token, now);
     *report = said;
-    *validator = Handle::of(desk);
+    *validator = Handle::of(state);
     said.verdict
 }
 
@@ -280,24 +280,24 @@ pub extern "C" fn fow_state_of(
     validator: &mut Handle,
     alloc: Global,
     signature: u32,
-    state: &mut FowState,
+    written: &mut FowState,
 ) -> u32
-    ensures same { validator.new.desk ≡ validator.old.desk }
-    ensures none { validator.old.desk ≡ None → result ≡ FOW_NOT_OPEN }
-    ensures state { IfSome validator.old.desk (λ d.
-        IsState (slice_get (states_kept d.last) signature) result state.new) }
+    ensures same { validator.new.state ≡ validator.old.state }
+    ensures none { validator.old.state ≡ None → result ≡ FOW_NOT_OPEN }
+    ensures state { IfSome validator.old.state (λ d.
+        IsState (slice_get (states_kept d.last) signature) result written.new) }
 {
-    let Some(desk) = take(validator, alloc) else {
+    let Some(state) = take(validator, alloc) else {
         return FOW_NOT_OPEN;
     };
-    let status = match desk.last.states().get(signature as usize) {
+    let status = match state.last.states().get(signature as usize) {
         Some(found) => {
-            *state = FowState::of(*found);
+            *written = FowState::of(*found);
             FOW_OK
         }
         None => FOW_ABSENT,
     };
-    *validator = Handle::of(desk);
+    *validator = Handle::of(state);
     status
 }
 
@@ -310,22 +310,22 @@ pub extern "C" fn fow_try_of(
     n: u64,
     tried: &mut FowTry,
 ) -> u32
-    ensures same { validator.new.desk ≡ validator.old.desk }
-    ensures none { validator.old.desk ≡ None → result ≡ FOW_NOT_OPEN }
-    ensures tried { IfSome validator.old.desk (λ d.
+    ensures same { validator.new.state ≡ validator.old.state }
+    ensures none { validator.old.state ≡ None → result ≡ FOW_NOT_OPEN }
+    ensures tried { IfSome validator.old.state (λ d.
         IsTry (slice_get (tries_kept d.last) n) result tried.new) }
 {
-    let Some(desk) = take(validator, alloc) else {
+    let Some(state) = take(validator, alloc) else {
         return FOW_NOT_OPEN;
     };
-    let status = match desk.last.tries().get(n as usize) {
+    let status = match state.last.tries().get(n as usize) {
         Some(found) => {
             *tried = FowTry::of(*found);
             FOW_OK
         }
         None => FOW_ABSENT,
     };
-    *validator = Handle::of(desk);
+    *validator = Handle::of(state);
     status
 }
 
@@ -341,18 +341,18 @@ pub extern "C" fn fow_ask(
     out: &mut [u8],
     asked: &mut FowQuestion,
 ) -> u32
-    ensures same { validator.new.desk ≡ validator.old.desk }
-    ensures none { validator.old.desk ≡ None → result ≡ FOW_NOT_OPEN }
-    ensures question { IfSome validator.old.desk (λ d. PutsQuestion
+    ensures same { validator.new.state ≡ validator.old.state }
+    ensures none { validator.old.state ≡ None → result ≡ FOW_NOT_OPEN }
+    ensures question { IfSome validator.old.state (λ d. PutsQuestion
         (public_asked (asked_at (token_of (documents d).policy token.now)
         (key_set (documents d).keys).keys signature key))
         result asked.new out.old out.new) }
 {
-    let Some(desk) = take(validator, alloc) else {
+    let Some(state) = take(validator, alloc) else {
         return FOW_NOT_OPEN;
     };
-    let status = ask_about(alloc, &desk, token, signature, key, out, asked);
-    *validator = Handle::of(desk);
+    let status = ask_about(alloc, &state, token, signature, key, out, asked);
+    *validator = Handle::of(state);
     status
 }
 
@@ -366,16 +366,16 @@ pub extern "C" fn fow_asked(
     out: &mut [u8],
     asked: &mut FowQuestion,
 ) -> u32
-    ensures same { validator.new.desk ≡ validator.old.desk }
-    ensures none { validator.old.desk ≡ None → result ≡ FOW_NOT_OPEN }
-    ensures question { IfSome validator.old.desk (λ d. PutsQuestion
+    ensures same { validator.new.state ≡ validator.old.state }
+    ensures none { validator.old.state ≡ None → result ≡ FOW_NOT_OPEN }
+    ensures question { IfSome validator.old.state (λ d. PutsQuestion
         (option_map kept_parts d.last.asked) result asked.new out.old out.new) }
 {
-    let Some(desk) = take(validator, alloc) else {
+    let Some(state) = take(validator, alloc) else {
         return FOW_NOT_OPEN;
     };
-    let status = ask_last(alloc, &desk.last, out, asked);
-    *validator = Handle::of(desk);
+    let status = ask_last(alloc, &state.last, out, asked);
+    *validator = Handle::of(state);
     status
 }
 
@@ -384,17 +384,17 @@ pub extern "C" fn fow_asked(
 /// answered.
 #[unsafe(no_mangle)]
 pub extern "C" fn fow_answer_asked(validator: &mut Handle, alloc: Global, valid: bool) -> u32
-    ensures none { validator.old.desk ≡ None → (result ≡ FOW_NOT_OPEN) × (validator.new.desk ≡ None) }
-    ensures told { IfSome validator.old.desk (λ d. IsTold
-        (option_map kept_parts d.last.asked) valid result d validator.new.desk) }
-    ensures answered { IfSome validator.new.desk (λ e. e.last.asked ≡ None) }
-    ensures remembers { IfSome validator.old.desk (λ d. RemembersAlike d validator.new.desk) }
+    ensures none { validator.old.state ≡ None → (result ≡ FOW_NOT_OPEN) × (validator.new.state ≡ None) }
+    ensures told { IfSome validator.old.state (λ d. IsTold
+        (option_map kept_parts d.last.asked) valid result d validator.new.state) }
+    ensures answered { IfSome validator.new.state (λ e. e.last.asked ≡ None) }
+    ensures remembers { IfSome validator.old.state (λ d. RemembersAlike d validator.new.state) }
 {
-    let Some(mut desk) = take(validator, alloc) else {
+    let Some(mut state) = take(validator, alloc) else {
         return FOW_NOT_OPEN;
     };
-    let status = tell_last(alloc, &mut desk, valid);
-    *validator = Handle::of(desk);
+    let status = tell_last(alloc, &mut state, valid);
+    *validator = Handle::of(state);
     status
 }
 
@@ -409,30 +409,30 @@ pub extern "C" fn fow_answer(
     key: u32,
     valid: bool,
 ) -> u32
-    ensures none { validator.old.desk ≡ None → (result ≡ FOW_NOT_OPEN) × (validator.new.desk ≡ None) }
-    ensures told { IfSome validator.old.desk (λ d. IsTold
+    ensures none { validator.old.state ≡ None → (result ≡ FOW_NOT_OPEN) × (validator.new.state ≡ None) }
+    ensures told { IfSome validator.old.state (λ d. IsTold
         (asked_at (token_of (documents d).policy token.now)
         (key_set (documents d).keys).keys signature key)
-        valid result d validator.new.desk) }
-    ensures remembers { IfSome validator.old.desk (λ d. RemembersAlike d validator.new.desk) }
+        valid result d validator.new.state) }
+    ensures remembers { IfSome validator.old.state (λ d. RemembersAlike d validator.new.state) }
 {
-    let Some(mut desk) = take(validator, alloc) else {
+    let Some(mut state) = take(validator, alloc) else {
         return FOW_NOT_OPEN;
     };
-    let status = tell(alloc, &mut desk, token, signature, key, valid);
-    *validator = Handle::of(desk);
+    let status = tell(alloc, &mut state, token, signature, key, valid);
+    *validator = Handle::of(state);
     status
 }
 
 /// Forgets what was told. What is remembered stays.
 #[unsafe(no_mangle)]
 pub extern "C" fn fow_forget(validator: &mut Handle, alloc: Global)
-    ensures forgotten { IsForgotten validator.old.desk validator.new.desk }
-    ensures remembers { IfSome validator.old.desk (λ d. RemembersAlike d validator.new.desk) }
+    ensures forgotten { IsForgotten validator.old.state validator.new.state }
+    ensures remembers { IfSome validator.old.state (λ d. RemembersAlike d validator.new.state) }
 {
-    if let Some(mut desk) = take(validator, alloc) {
-        desk.answers.clear();
-        *validator = Handle::of(desk);
+    if let Some(mut state) = take(validator, alloc) {
+        state.answers.clear();
+        *validator = Handle::of(state);
     }
 }
 
@@ -446,32 +446,32 @@ pub extern "C" fn fow_remember(
     tokens: usize,
     octets: usize,
 ) -> u32
-    ensures none { validator.old.desk ≡ None → (result ≡ FOW_NOT_OPEN) × (validator.new.desk ≡ None) }
-    ensures remembers { IfSome validator.old.desk (λ d. result ≡ FOW_OK
-        → Remembers tokens octets d validator.new.desk) }
-    ensures refused { validator.old.desk ≢ None → result ≢ FOW_OK → result ≡ FOW_OUT_OF_MEMORY }
-    ensures same { result ≢ FOW_OK → validator.new.desk ≡ validator.old.desk }
+    ensures none { validator.old.state ≡ None → (result ≡ FOW_NOT_OPEN) × (validator.new.state ≡ None) }
+    ensures remembers { IfSome validator.old.state (λ d. result ≡ FOW_OK
+        → Remembers tokens octets d validator.new.state) }
+    ensures refused { validator.old.state ≢ None → result ≢ FOW_OK → result ≡ FOW_OUT_OF_MEMORY }
+    ensures same { result ≢ FOW_OK → validator.new.state ≡ validator.old.state }
 {
-    let Some(mut desk) = take(validator, alloc) else {
+    let Some(mut state) = take(validator, alloc) else {
         return FOW_NOT_OPEN;
     };
-    let status = remember_desk(alloc, &mut desk, tokens, octets);
-    *validator = Handle::of(desk);
+    let status = remember_state(alloc, &mut state, tokens, octets);
+    *validator = Handle::of(state);
     status
 }
 
 /// Whether the last verdict came out of a memory: then nothing was tried for it, and nothing paid.
 #[unsafe(no_mangle)]
 pub extern "C" fn fow_remembered(validator: &mut Handle, alloc: Global) -> bool
-    ensures same { validator.new.desk ≡ validator.old.desk }
-    ensures none { validator.old.desk ≡ None → result ≡ false }
-    ensures remembered { IfSome validator.old.desk (λ d. result ≡ d.last.remembered) }
+    ensures same { validator.new.state ≡ validator.old.state }
+    ensures none { validator.old.state ≡ None → result ≡ false }
+    ensures remembered { IfSome validator.old.state (λ d. result ≡ d.last.remembered) }
 {
-    let Some(desk) = take(validator, alloc) else {
+    let Some(state) = take(validator, alloc) else {
         return false;
     };
-    let remembered = desk.last.remembered;
-    *validator = Handle::of(desk);
+    let remembered = state.last.remembered;
+    *validator = Handle::of(state);
     remembered
 }
 
@@ -485,16 +485,16 @@ pub extern "C" fn fow_payload(
     out: &mut [u8],
     written: &mut usize,
 ) -> u32
-    ensures same { validator.new.desk ≡ validator.old.desk }
-    ensures none { validator.old.desk ≡ None → result ≡ FOW_NOT_OPEN }
-    ensures payload { IfSome validator.old.desk (λ d. PutsPayload
+    ensures same { validator.new.state ≡ validator.old.state }
+    ensures none { validator.old.state ≡ None → result ≡ FOW_NOT_OPEN }
+    ensures payload { IfSome validator.old.state (λ d. PutsPayload
         (token_of (documents d).policy token.now) result written.new out.old out.new) }
 {
-    let Some(desk) = take(validator, alloc) else {
+    let Some(state) = take(validator, alloc) else {
         return FOW_NOT_OPEN;
     };
-    let status = payload_of(alloc, &desk, token, out, written);
-    *validator = Handle::of(desk);
+    let status = payload_of(alloc, &state, token, out, written);
+    *validator = Handle::of(state);
     status
 }
 
@@ -510,16 +510,16 @@ pub extern "C" fn fow_unverified_header(
     out: &mut [u8],
     written: &mut usize,
 ) -> u32
-    ensures same { validator.new.desk ≡ validator.old.desk }
-    ensures none { validator.old.desk ≡ None → result ≡ FOW_NOT_OPEN }
-    ensures header { IfSome validator.old.desk (λ d. PutsSome
+    ensures same { validator.new.state ≡ validator.old.state }
+    ensures none { validator.old.state ≡ None → result ≡ FOW_NOT_OPEN }
+    ensures header { IfSome validator.old.state (λ d. PutsSome
         (header_at (token_of (documents d).policy token.now) signature) result written.new out.old out.new) }
 {
-    let Some(desk) = take(validator, alloc) else {
+    let Some(state) = take(validator, alloc) else {
         return FOW_NOT_OPEN;
     };
-    let status = put_header(alloc, &desk, token, signature, out, written);
-    *validator = Handle::of(desk);
+    let status = put_header(alloc, &state, token, signature, out, written);
+    *validator = Handle::of(state);
     status
 }
 
@@ -532,20 +532,20 @@ pub extern "C" fn fow_refused_claim(
     out: &mut [u8],
     written: &mut usize,
 ) -> u32
-    ensures same { validator.new.desk ≡ validator.old.desk }
-    ensures none { validator.old.desk ≡ None → result ≡ FOW_NOT_OPEN }
-    ensures name { IfSome validator.old.desk (λ d. PutsName
+    ensures same { validator.new.state ≡ validator.old.state }
+    ensures none { validator.old.state ≡ None → result ≡ FOW_NOT_OPEN }
+    ensures name { IfSome validator.old.state (λ d. PutsName
         d.last.missing.items result written.new out.old out.new) }
 {
-    let Some(desk) = take(validator, alloc) else {
+    let Some(state) = take(validator, alloc) else {
         return FOW_NOT_OPEN;
     };
-    let status = if desk.last.missing.is_empty() {
+    let status = if state.last.missing.is_empty() {
         FOW_ABSENT
     } else {
-        put(&desk.last.missing, out, written)
+        put(&state.last.missing, out, written)
     };
-    *validator = Handle::of(desk);
+    *validator = Handle::of(state);
     status
 }
 
@@ -559,20 +559,20 @@ pub extern "C" fn fow_answer_rsa(
     signature: u32,
     key: u32,
 ) -> u32
-    ensures none { validator.old.desk ≡ None → (result ≡ FOW_NOT_OPEN) × (validator.new.desk ≡ None) }
-    ensures told { IfSome validator.old.desk (λ d. IsTold
+    ensures none { validator.old.state ≡ None → (result ≡ FOW_NOT_OPEN) × (validator.new.state ≡ None) }
+    ensures told { IfSome validator.old.state (λ d. IsTold
         (rsa_asked (asked_at (token_of (documents d).policy token.now)
         (key_set (documents d).keys).keys signature key))
         (rsa_says (asked_at (token_of (documents d).policy token.now)
         (key_set (documents d).keys).keys signature key))
-        result d validator.new.desk) }
-    ensures remembers { IfSome validator.old.desk (λ d. RemembersAlike d validator.new.desk) }
+        result d validator.new.state) }
+    ensures remembers { IfSome validator.old.state (λ d. RemembersAlike d validator.new.state) }
 {
-    let Some(mut desk) = take(validator, alloc) else {
+    let Some(mut state) = take(validator, alloc) else {
         return FOW_NOT_OPEN;
     };
-    let status = tell_by(alloc, &mut desk, token, signature, key, Proved::Rsa);
-    *validator = Handle::of(desk);
+    let status = tell_by(alloc, &mut state, token, signature, key, Proved::Rsa);
+    *validator = Handle::of(state);
     status
 }
 
@@ -587,20 +587,20 @@ pub extern "C" fn fow_answer_ed25519(
     signature: u32,
     key: u32,
 ) -> u32
-    ensures none { validator.old.desk ≡ None → (result ≡ FOW_NOT_OPEN) × (validator.new.desk ≡ None) }
-    ensures told { IfSome validator.old.desk (λ d. IsTold
+    ensures none { validator.old.state ≡ None → (result ≡ FOW_NOT_OPEN) × (validator.new.state ≡ None) }
+    ensures told { IfSome validator.old.state (λ d. IsTold
         (ed25519_asked (asked_at (token_of (documents d).policy token.now)
         (key_set (documents d).keys).keys signature key))
         (ed25519_says (asked_at (token_of (documents d).policy token.now)
         (key_set (documents d).keys).keys signature key))
-        result d validator.new.desk) }
-    ensures remembers { IfSome validator.old.desk (λ d. RemembersAlike d validator.new.desk) }
+        result d validator.new.state) }
+    ensures remembers { IfSome validator.old.state (λ d. RemembersAlike d validator.new.state) }
 {
-    let Some(mut desk) = take(validator, alloc) else {
+    let Some(mut state) = take(validator, alloc) else {
         return FOW_NOT_OPEN;
     };
-    let status = tell_by(alloc, &mut desk, token, signature, key, Proved::Ed25519);
-    *validator = Handle::of(desk);
+    let status = tell_by(alloc, &mut state, token, signature, key, Proved::Ed25519);
+    *validator = Handle::of(state);
     status
 }
 
@@ -615,20 +615,20 @@ pub extern "C" fn fow_answer_proved(
     signature: u32,
     key: u32,
 ) -> u32
-    ensures none { validator.old.desk ≡ None → (result ≡ FOW_NOT_OPEN) × (validator.new.desk ≡ None) }
-    ensures told { IfSome validator.old.desk (λ d. IsTold
+    ensures none { validator.old.state ≡ None → (result ≡ FOW_NOT_OPEN) × (validator.new.state ≡ None) }
+    ensures told { IfSome validator.old.state (λ d. IsTold
         (proved_asked (asked_at (token_of (documents d).policy token.now)
         (key_set (documents d).keys).keys signature key))
         (proved_says (asked_at (token_of (documents d).policy token.now)
         (key_set (documents d).keys).keys signature key))
-        result d validator.new.desk) }
-    ensures remembers { IfSome validator.old.desk (λ d. RemembersAlike d validator.new.desk) }
+        result d validator.new.state) }
+    ensures remembers { IfSome validator.old.state (λ d. RemembersAlike d validator.new.state) }
 {
-    let Some(mut desk) = take(validator, alloc) else {
+    let Some(mut state) = take(validator, alloc) else {
         return FOW_NOT_OPEN;
     };
-    let status = tell_by(alloc, &mut desk, token, signature, key, Proved::Any);
-    *validator = Handle::of(desk);
+    let status = tell_by(alloc, &mut state, token, signature, key, Proved::Any);
+    *validator = Handle::of(state);
     status
 }
 
@@ -649,18 +649,18 @@ pub extern "C" fn fow_issue(
     written: &mut usize,
     report: &mut FowReport,
 ) -> u32
-    ensures same { validator.new.desk ≡ validator.old.desk }
-    ensures none { validator.old.desk ≡ None → result ≡ FOW_NOT_OPEN }
-    ensures alg { IfSome validator.old.desk (λ d. hmac_at alg ≡ None → result ≡ FOW_ABSENT) }
-    ensures form { IfSome validator.old.desk (λ d. form_at form ≡ None → result ≡ FOW_ABSENT) }
-    ensures typ { IfSome validator.old.desk (λ d. ¬ IsUtf8 typ.now → result ≡ FOW_ABSENT) }
-    ensures token { IfSome validator.old.desk (λ d. IfSome (hmac_at alg) (λ a.
+    ensures same { validator.new.state ≡ validator.old.state }
+    ensures none { validator.old.state ≡ None → result ≡ FOW_NOT_OPEN }
+    ensures alg { IfSome validator.old.state (λ d. hmac_at alg ≡ None → result ≡ FOW_ABSENT) }
+    ensures form { IfSome validator.old.state (λ d. form_at form ≡ None → result ≡ FOW_ABSENT) }
+    ensures typ { IfSome validator.old.state (λ d. ¬ IsUtf8 typ.now → result ≡ FOW_ABSENT) }
+    ensures token { IfSome validator.old.state (λ d. IfSome (hmac_at alg) (λ a.
         IfSome (form_at form) (λ f. IsUtf8 typ.now
         → PutsIssued (record { alg = a; typ = typ_of typ.now; form = f; key = key })
         (key_set (documents d).keys).keys (claim_set_of claims.now)
         result report.new written.new out.old out.new))) }
 {
-    let Some(desk) = take(validator, alloc) else {
+    let Some(state) = take(validator, alloc) else {
         return FOW_NOT_OPEN;
     };
     let status = match from_utf8(typ) {
@@ -670,7 +670,7 @@ pub extern "C" fn fow_issue(
             form,
             key,
             typ,
-            &desk.grounds.documents().keys,
+            &state.grounds.documents().keys,
             claims,
             out,
             written,
@@ -678,7 +678,7 @@ pub extern "C" fn fow_issue(
         ),
         Err(_) => FOW_ABSENT,
     };
-    *validator = Handle::of(desk);
+    *validator = Handle::of(state);
     status
 }
 
@@ -693,17 +693,17 @@ pub extern "C" fn fow_claim(
     out: &mut [u8],
     written: &mut usize,
 ) -> u32
-    ensures same { validator.new.desk ≡ validator.old.desk }
-    ensures none { validator.old.desk ≡ None → result ≡ FOW_NOT_OPEN }
-    ensures claim { IfSome validator.old.desk (λ d. IsUtf8 name.now
+    ensures same { validator.new.state ≡ validator.old.state }
+    ensures none { validator.old.state ≡ None → result ≡ FOW_NOT_OPEN }
+    ensures claim { IfSome validator.old.state (λ d. IsUtf8 name.now
         → PutsSome (claim_at (claims_kept d.last) name.now) result written.new out.old out.new) }
-    ensures other { IfSome validator.old.desk (λ d. ¬ IsUtf8 name.now → result ≡ FOW_ABSENT) }
+    ensures other { IfSome validator.old.state (λ d. ¬ IsUtf8 name.now → result ≡ FOW_ABSENT) }
 {
-    let Some(desk) = take(validator, alloc) else {
+    let Some(state) = take(validator, alloc) else {
         return FOW_NOT_OPEN;
     };
-    let status = put_claim(alloc, desk.last.claims(), name, out, written);
-    *validator = Handle::of(desk);
+    let status = put_claim(alloc, state.last.claims(), name, out, written);
+    *validator = Handle::of(state);
     status
 }
 
@@ -716,22 +716,22 @@ pub extern "C" fn fow_number(
     name: &[u8],
     number: &mut i64,
 ) -> u32
-    ensures same { validator.new.desk ≡ validator.old.desk }
-    ensures none { validator.old.desk ≡ None → result ≡ FOW_NOT_OPEN }
-    ensures claim { IfSome validator.old.desk (λ d. IsUtf8 name.now
+    ensures same { validator.new.state ≡ validator.old.state }
+    ensures none { validator.old.state ≡ None → result ≡ FOW_NOT_OPEN }
+    ensures claim { IfSome validator.old.state (λ d. IsUtf8 name.now
         → PutsNumber (number_at (claims_kept d.last) name.now) result number.new) }
-    ensures other { IfSome validator.old.desk (λ d. ¬ IsUtf8 name.now → result ≡ FOW_ABSENT) }
+    ensures other { IfSome validator.old.state (λ d. ¬ IsUtf8 name.now → result ≡ FOW_ABSENT) }
 {
-    let Some(desk) = take(validator, alloc) else {
+    let Some(state) = take(validator, alloc) else {
         return FOW_NOT_OPEN;
     };
-    let status = match number_at(desk.last.claims(), name) {
+    let status = match number_at(state.last.claims(), name) {
         Some(found) => {
             *number = found;
             FOW_OK
         }
         None => FOW_ABSENT,
     };
-    *validator = Handle::of(desk);
+    *validator = Handle::of(state);
     status
 }

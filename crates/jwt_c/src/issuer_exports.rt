@@ -17,32 +17,32 @@ use std::alloc::Global;
 /// Whether no algorithm of the policy is HMAC, and no key of the set a shared secret. False where nothing is held.
 #[unsafe(no_mangle)]
 pub extern "C" fn fow_documents_are_public(validator: &mut Handle, alloc: Global) -> bool
-    ensures same { validator.new.desk ≡ validator.old.desk }
-    ensures none { validator.old.desk ≡ None → result ≡ false }
-    ensures public { IfSome validator.old.desk (λ d. result
+    ensures same { validator.new.state ≡ validator.old.state }
+    ensures none { validator.old.state ≡ None → result ≡ false }
+    ensures public { IfSome validator.old.state (λ d. result
         ≡ are_public (documents d).policy (key_set (documents d).keys).keys) }
 {
-    let Some(desk) = take(validator, alloc) else {
+    let Some(state) = take(validator, alloc) else {
         return false;
     };
-    let public = are_public(&desk);
-    *validator = Handle::of(desk);
+    let public = are_public(&state);
+    *validator = Handle::of(state);
     public
 }
 
 /// The greatest number of octets of a token that the policy takes. `FOW_OK`; `FOW_NOT_OPEN`: nothing is held.
 #[unsafe(no_mangle)]
 pub extern "C" fn fow_token_limit(validator: &mut Handle, alloc: Global, limit: &mut u32) -> u32
-    ensures same { validator.new.desk ≡ validator.old.desk }
-    ensures none { validator.old.desk ≡ None → result ≡ FOW_NOT_OPEN }
-    ensures limit { IfSome validator.old.desk (λ d. (result ≡ FOW_OK)
+    ensures same { validator.new.state ≡ validator.old.state }
+    ensures none { validator.old.state ≡ None → result ≡ FOW_NOT_OPEN }
+    ensures limit { IfSome validator.old.state (λ d. (result ≡ FOW_OK)
         × (limit.new ≡ (documents d).policy.run.limit)) }
 {
-    let Some(desk) = take(validator, alloc) else {
+    let Some(state) = take(validator, alloc) else {
         return FOW_NOT_OPEN;
     };
-    *limit = desk.grounds.documents().policy.limit();
-    *validator = Handle::of(desk);
+    *limit = state.grounds.documents().policy.limit();
+    *validator = Handle::of(state);
     FOW_OK
 }
 
@@ -55,16 +55,16 @@ pub extern "C" fn fow_sole_issuer(
     out: &mut [u8],
     written: &mut usize,
 ) -> u32
-    ensures same { validator.new.desk ≡ validator.old.desk }
-    ensures none { validator.old.desk ≡ None → result ≡ FOW_NOT_OPEN }
-    ensures issuer { IfSome validator.old.desk (λ d. PutsHeld
+    ensures same { validator.new.state ≡ validator.old.state }
+    ensures none { validator.old.state ≡ None → result ≡ FOW_NOT_OPEN }
+    ensures issuer { IfSome validator.old.state (λ d. PutsHeld
         (sole (documents d).policy.claims.issuers) result written.new out.old out.new) }
 {
-    let Some(desk) = take(validator, alloc) else {
+    let Some(state) = take(validator, alloc) else {
         return FOW_NOT_OPEN;
     };
-    let status = put_sole_issuer(&desk, out, written);
-    *validator = Handle::of(desk);
+    let status = put_sole_issuer(&state, out, written);
+    *validator = Handle::of(state);
     status
 }
 
@@ -79,16 +79,16 @@ pub extern "C" fn fow_unverified_issuer(
     out: &mut [u8],
     written: &mut usize,
 ) -> u32
-    ensures same { validator.new.desk ≡ validator.old.desk }
-    ensures none { validator.old.desk ≡ None → result ≡ FOW_NOT_OPEN }
-    ensures issuer { IfSome validator.old.desk (λ d. PutsIssuer
+    ensures same { validator.new.state ≡ validator.old.state }
+    ensures none { validator.old.state ≡ None → result ≡ FOW_NOT_OPEN }
+    ensures issuer { IfSome validator.old.state (λ d. PutsIssuer
         (token_of (documents d).policy token.now) result written.new out.old out.new) }
 {
-    let Some(desk) = take(validator, alloc) else {
+    let Some(state) = take(validator, alloc) else {
         return FOW_NOT_OPEN;
     };
-    let status = put_issuer(alloc, &desk, token, out, written);
-    *validator = Handle::of(desk);
+    let status = put_issuer(alloc, &state, token, out, written);
+    *validator = Handle::of(state);
     status
 }
 

@@ -13,7 +13,7 @@ ghost use Rattle.jwt_c.specs.Issuers.{PutsHeld, PutsIssuer, PutsNamed, are_publi
 ghost use Rattle.jwt_c.specs.Written.{PutsSome};
 
 use crate::asking::is_secret;
-use crate::desk::Desk;
+use crate::state::State;
 use crate::status::{FOW_ABSENT, FOW_OUT_OF_MEMORY, FOW_UNNAMED};
 use crate::writing::put;
 use jwt_keys::KeySet;
@@ -61,11 +61,11 @@ fn some_is_secret(keys: &KeySet) -> bool
 }
 
 /// Whether no algorithm of the policy is HMAC, and no key a shared secret. It takes no memory.
-pub(crate) fn are_public(desk: &Desk) -> bool
+pub(crate) fn are_public(state: &State) -> bool
     ensures { result
-        ≡ are_public (documents desk.now).policy (key_set (documents desk.now).keys).keys }
+        ≡ are_public (documents state.now).policy (key_set (documents state.now).keys).keys }
 {
-    let documents = desk.grounds.documents();
+    let documents = state.grounds.documents();
     !some_is_hmac(documents.policy.algs()) && !some_is_secret(&documents.keys)
 }
 
@@ -83,11 +83,11 @@ fn sole_issuer(policy: &Policy) -> Option<&str>
 
 /// Puts the issuer that the policy allows at the front of `out`, where it is one alone. `FOW_OK`; `FOW_TOO_SHORT`: `out` is too short;
 /// `FOW_ABSENT`: it isn't one alone.
-pub(crate) fn put_sole_issuer(desk: &Desk, out: &mut [u8], written: &mut usize) -> u32
-    ensures { PutsHeld (sole (documents desk.now).policy.claims.issuers)
+pub(crate) fn put_sole_issuer(state: &State, out: &mut [u8], written: &mut usize) -> u32
+    ensures { PutsHeld (sole (documents state.now).policy.claims.issuers)
         result written.new out.old out.new }
 {
-    match sole_issuer(&desk.grounds.documents().policy) {
+    match sole_issuer(&state.grounds.documents().policy) {
         Some(issuer) => put(issuer.as_bytes(), out, written),
         None => FOW_ABSENT,
     }
@@ -112,15 +112,15 @@ fn put_named(alloc: Global, payload: &[u8], out: &mut [u8], written: &mut usize)
 /// short; `FOW_ABSENT`: the octets are no token; `FOW_UNNAMED`: it names none.
 pub(crate) fn put_issuer(
     alloc: Global,
-    desk: &Desk,
+    state: &State,
     token: &[u8],
     out: &mut [u8],
     written: &mut usize,
 ) -> u32
-    ensures { PutsIssuer (token_of (documents desk.now).policy token.now)
+    ensures { PutsIssuer (token_of (documents state.now).policy token.now)
         result written.new out.old out.new }
 {
-    match read_token(alloc, token, &desk.grounds.documents().policy) {
+    match read_token(alloc, token, &state.grounds.documents().policy) {
         Ok(Some(signed)) => put_named(alloc, signed.payload(), out, written),
         Ok(None) => FOW_ABSENT,
         Err(_) => FOW_OUT_OF_MEMORY,

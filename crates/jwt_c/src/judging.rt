@@ -11,16 +11,16 @@ ghost use Rattle.jwt_told.specs.Questions.{kept_parts, question_at};
 ghost use Rattle.jwt_told.specs.Told.{told};
 ghost use Rattle.jwt_memory.specs.Outcomes.{report_in, report_of, paid_in, is_remembered};
 ghost use Rattle.jwt_c.specs.Documents.{documents};
-ghost use Rattle.jwt_c.specs.declared.desk.Evidence.TheVariants.{Shared};
+ghost use Rattle.jwt_c.specs.declared.state.Evidence.TheVariants.{Shared};
 ghost use Rattle.jwt_c.specs.Evidence.{states_of, tries_of, claims_of, states_kept, tries_kept, claims_kept};
 ghost use Rattle.jwt_c.specs.Faults.{missing_in, missing_name, bare, verdict_numbers};
 ghost use Rattle.jwt_c.specs.ProvedKept.{HasSameRoom};
 ghost use Rattle.jwt_c.specs.Remembering.{RestsOn, IsHeldIn, StaysTrue};
 ghost use Rattle.jwt_c.specs.Reports.{IsNew, IsAsked, IsAsking, IsJudged, Says, claims_in, report_numbers};
 
-use crate::desk::{Desk, Evidence, Last};
 use crate::grounds::Documents;
 use crate::report::FowReport;
+use crate::state::{Evidence, Last, State};
 use crate::status::{FOW_ASKS, FOW_OUT_OF_MEMORY};
 use jwt_jws::Signed;
 use jwt_keys::KeySet;
@@ -339,31 +339,31 @@ fn outcome_of<'a, 'p>(
     }
 }
 
-/// The judging of a desk on a token. It changes nothing of the desk but its memory of tokens, and the scratch, of which nothing depends on
+/// The judging of a state on a token. It changes nothing of the state but its memory of tokens, and the scratch, of which nothing depends on
 /// what it holds.
-fn report_on(alloc: Global, desk: &mut Desk, octets: &[u8], now: i64) -> Judging
+fn report_on(alloc: Global, state: &mut State, octets: &[u8], now: i64) -> Judging
     ensures judged { result.said.verdict ≤ FOW_REFUSED
-        → IsJudged desk.old now octets.now result.said result.last }
+        → IsJudged state.old now octets.now result.said result.last }
     ensures asks { result.said.verdict ≡ FOW_ASKS
-        → IsAsked desk.old now octets.now result.said result.last }
+        → IsAsked state.old now octets.now result.said result.last }
     ensures claims { result.said.verdict ≢ FOW_OK → claims_kept result.last ≡ None }
-    ensures grounds { desk.new.grounds ≡ desk.old.grounds }
-    ensures told { told desk.new.answers ≡ told desk.old.answers }
-    ensures stays { StaysTrue (told desk.old.answers) (documents desk.old)
-        desk.old.memory desk.new.memory }
-    ensures room { HasSameRoom desk.new.memory desk.old.memory }
+    ensures grounds { state.new.grounds ≡ state.old.grounds }
+    ensures told { told state.new.answers ≡ told state.old.answers }
+    ensures stays { StaysTrue (told state.old.answers) (documents state.old)
+        state.old.memory state.new.memory }
+    ensures room { HasSameRoom state.new.memory state.old.memory }
 {
-    let documents = desk.grounds.documents();
+    let documents = state.grounds.documents();
     let mut budget = documents.policy.budget();
     match outcome_of(
         alloc,
-        &mut desk.memory,
+        &mut state.memory,
         octets,
         documents,
         now,
-        &desk.answers,
+        &state.answers,
         &mut budget,
-        &mut *desk.scratch,
+        &mut *state.scratch,
     ) {
         Ok(outcome) => match judging_of(alloc, outcome, budget.octets()) {
             Ok(judging) => judging,
@@ -377,18 +377,18 @@ fn report_on(alloc: Global, desk: &mut Desk, octets: &[u8], now: i64) -> Judging
 }
 
 /// Judges a token, and keeps the report.
-pub(crate) fn judge_desk(alloc: Global, desk: &mut Desk, octets: &[u8], now: i64) -> FowReport
+pub(crate) fn judge_state(alloc: Global, state: &mut State, octets: &[u8], now: i64) -> FowReport
     ensures judged { result.verdict ≤ FOW_REFUSED
-        → IsJudged desk.old now octets.now result desk.new.last }
-    ensures asks { result.verdict ≡ FOW_ASKS → IsAsked desk.old now octets.now result desk.new.last }
-    ensures claims { result.verdict ≢ FOW_OK → claims_kept desk.new.last ≡ None }
-    ensures grounds { desk.new.grounds ≡ desk.old.grounds }
-    ensures told { told desk.new.answers ≡ told desk.old.answers }
-    ensures stays { StaysTrue (told desk.old.answers) (documents desk.old)
-        desk.old.memory desk.new.memory }
-    ensures room { HasSameRoom desk.new.memory desk.old.memory }
+        → IsJudged state.old now octets.now result state.new.last }
+    ensures asks { result.verdict ≡ FOW_ASKS → IsAsked state.old now octets.now result state.new.last }
+    ensures claims { result.verdict ≢ FOW_OK → claims_kept state.new.last ≡ None }
+    ensures grounds { state.new.grounds ≡ state.old.grounds }
+    ensures told { told state.new.answers ≡ told state.old.answers }
+    ensures stays { StaysTrue (told state.old.answers) (documents state.old)
+        state.old.memory state.new.memory }
+    ensures room { HasSameRoom state.new.memory state.old.memory }
 {
-    let Judging { said, last } = report_on(alloc, desk, octets, now);
-    desk.last = last;
+    let Judging { said, last } = report_on(alloc, state, octets, now);
+    state.last = last;
     said
 }

@@ -12,10 +12,10 @@ ghost use Rattle.jwt_c.specs.ProvedKept.{AreProvedKept, HasSameRoom, proved_mean
 ghost use Rattle.jwt_c.specs.Proving.{IsProved};
 ghost use Rattle.jwt_c.specs.Remembering.{IsHeldIn};
 
-use crate::desk::Desk;
 use crate::grounds::Documents;
 use crate::judging::{Judging, bare, judging_of};
 use crate::report::FowReport;
+use crate::state::State;
 use crate::status::FOW_OUT_OF_MEMORY;
 use jwt_ecdsa::Ecdsa;
 use jwt_ed25519::Ed25519;
@@ -132,17 +132,17 @@ pub(crate) fn judging_by_proof(
 }
 
 /// Judges a token by the proved verifiers, and keeps the report.
-pub(crate) fn prove_desk(alloc: Global, desk: &mut Desk, octets: &[u8], now: i64) -> FowReport
+pub(crate) fn prove_state(alloc: Global, state: &mut State, octets: &[u8], now: i64) -> FowReport
     ensures judged { result.verdict ≤ FOW_REFUSED
-        → IsProved desk.old.grounds now octets.now result desk.new.last }
+        → IsProved state.old.grounds now octets.now result state.new.last }
     ensures never_asks { result.verdict ≢ FOW_ASKS }
-    ensures claims { result.verdict ≢ FOW_OK → claims_kept desk.new.last ≡ None }
-    ensures documents { documents desk.new ≡ documents desk.old }
-    ensures told { told desk.new.answers ≡ told desk.old.answers }
-    ensures memory { desk.new.memory ≡ desk.old.memory }
-    ensures room { HasSameRoom desk.new.grounds.1 desk.old.grounds.1 }
+    ensures claims { result.verdict ≢ FOW_OK → claims_kept state.new.last ≡ None }
+    ensures documents { documents state.new ≡ documents state.old }
+    ensures told { told state.new.answers ≡ told state.old.answers }
+    ensures memory { state.new.memory ≡ state.old.memory }
+    ensures room { HasSameRoom state.new.grounds.1 state.old.grounds.1 }
 {
-    let Judging { said, last } = desk.grounds.judge(alloc, octets, now, &mut *desk.scratch);
-    desk.last = last;
+    let Judging { said, last } = state.grounds.judge(alloc, octets, now, &mut *state.scratch);
+    state.last = last;
     said
 }

@@ -4,7 +4,7 @@ ghost use Rattle.jwt_c.specs.declared.status.TheConstants.{FOW_OK, FOW_OUT_OF_ME
 ghost use Rattle.std.specs.Prelude.{◌≡◌, ◌≢◌, IfOk};
 ghost use Rattle.jwt_c.specs.Remembering.{IsMemoryFor, IsRemembering};
 
-use crate::desk::Desk;
+use crate::state::State;
 use crate::status::{FOW_OK, FOW_OUT_OF_MEMORY};
 use jwt_memory::Memory;
 use std::alloc::{AllocError, Global};
@@ -22,10 +22,10 @@ fn memory_for(alloc: Global, tokens: usize, octets: usize) -> Result<Option<Memo
 
 /// Remembers from now on so many tokens of so many octets of each way of judging. `FOW_OK`; `FOW_OUT_OF_MEMORY`: memory was refused,
 /// and nothing has changed.
-pub(crate) fn remember_desk(alloc: Global, desk: &mut Desk, tokens: usize, octets: usize) -> u32
-    ensures remembers { result ≡ FOW_OK → IsRemembering tokens octets desk.old desk.new }
+pub(crate) fn remember_state(alloc: Global, state: &mut State, tokens: usize, octets: usize) -> u32
+    ensures remembers { result ≡ FOW_OK → IsRemembering tokens octets state.old state.new }
     ensures refused { result ≢ FOW_OK → result ≡ FOW_OUT_OF_MEMORY }
-    ensures same { result ≢ FOW_OK → desk.new ≡ desk.old }
+    ensures same { result ≢ FOW_OK → state.new ≡ state.old }
 {
     let Ok(told) = memory_for(alloc, tokens, octets) else {
         return FOW_OUT_OF_MEMORY;
@@ -33,7 +33,7 @@ pub(crate) fn remember_desk(alloc: Global, desk: &mut Desk, tokens: usize, octet
     let Ok(proved) = memory_for(alloc, tokens, octets) else {
         return FOW_OUT_OF_MEMORY;
     };
-    desk.memory = told;
-    desk.grounds.remember(proved);
+    state.memory = told;
+    state.grounds.remember(proved);
     FOW_OK
 }

@@ -22,14 +22,14 @@ pub extern "C" fn fow_access_open(
     rule: &[u8],
     fault: &mut u32,
 ) -> u32
-    ensures opened { result ≡ FOW_OK → HoldsRule rule.now access.new.desk }
+    ensures opened { result ≡ FOW_OK → HoldsRule rule.now access.new.state }
     ensures refused { result ≢ FOW_OK → IsRuleRefused rule.now result fault.new }
-    ensures same { result ≢ FOW_OK → access.new.desk ≡ access.old.desk }
+    ensures same { result ≢ FOW_OK → access.new.state ≡ access.old.state }
 {
     *fault = 0;
     match rule_of(alloc, rule) {
-        Ok(desk) => {
-            *access = RuleHandle::of(desk);
+        Ok(state) => {
+            *access = RuleHandle::of(state);
             FOW_OK
         }
         Err(why) => {
@@ -56,7 +56,7 @@ pub extern "C" fn fow_access_refused(
 /// Frees what is held, if anything is.
 #[unsafe(no_mangle)]
 pub extern "C" fn fow_access_close(access: &mut RuleHandle, alloc: Global)
-    ensures { access.new.desk ≡ None }
+    ensures { access.new.state ≡ None }
 {
     *access = RuleHandle::empty(alloc);
 }
@@ -71,16 +71,16 @@ pub extern "C" fn fow_access_scope(
     out: &mut [u8],
     written: &mut usize,
 ) -> u32
-    ensures same { access.new.desk ≡ access.old.desk }
-    ensures none { access.old.desk ≡ None → result ≡ FOW_NOT_OPEN }
-    ensures scope { IfSome access.old.desk (λ a. PutsSome
+    ensures same { access.new.state ≡ access.old.state }
+    ensures none { access.old.state ≡ None → result ≡ FOW_NOT_OPEN }
+    ensures scope { IfSome access.old.state (λ a. PutsSome
         (slice_get a.rule.scopes number) result written.new out.old out.new) }
 {
-    let Some(desk) = take_rule(access, alloc) else {
+    let Some(state) = take_rule(access, alloc) else {
         return FOW_NOT_OPEN;
     };
-    let status = put_scope(&desk.rule, number, out, written);
-    *access = RuleHandle::of(desk);
+    let status = put_scope(&state.rule, number, out, written);
+    *access = RuleHandle::of(state);
     status
 }
 
@@ -93,25 +93,25 @@ pub extern "C" fn fow_denied(
     access: &mut RuleHandle,
     denial: &mut u32,
 ) -> u32
-    ensures same { validator.new.desk ≡ validator.old.desk }
-    ensures same_rule { access.new.desk ≡ access.old.desk }
-    ensures none { validator.old.desk ≡ None → result ≡ FOW_NOT_OPEN }
-    ensures no_rule { access.old.desk ≡ None → result ≡ FOW_NOT_OPEN }
-    ensures denied { IfSome validator.old.desk (λ d. IfSome access.old.desk (λ a.
+    ensures same { validator.new.state ≡ validator.old.state }
+    ensures same_rule { access.new.state ≡ access.old.state }
+    ensures none { validator.old.state ≡ None → result ≡ FOW_NOT_OPEN }
+    ensures no_rule { access.old.state ≡ None → result ≡ FOW_NOT_OPEN }
+    ensures denied { IfSome validator.old.state (λ d. IfSome access.old.state (λ a.
         IsHeldAgainst a.rule (claims_kept d.last) result denial.new)) }
 {
     *denial = 0;
-    let Some(desk) = take(validator, alloc) else {
+    let Some(state) = take(validator, alloc) else {
         return FOW_NOT_OPEN;
     };
     let Some(held) = take_rule(access, alloc) else {
-        *validator = Handle::of(desk);
+        *validator = Handle::of(state);
         return FOW_NOT_OPEN;
     };
-    let (status, number) = hold(&held.rule, desk.last.claims());
+    let (status, number) = hold(&held.rule, state.last.claims());
     *denial = number;
     *access = RuleHandle::of(held);
-    *validator = Handle::of(desk);
+    *validator = Handle::of(state);
     status
 }
 
@@ -126,22 +126,22 @@ pub extern "C" fn fow_denied_name(
     out: &mut [u8],
     written: &mut usize,
 ) -> u32
-    ensures same { validator.new.desk ≡ validator.old.desk }
-    ensures same_rule { access.new.desk ≡ access.old.desk }
-    ensures none { validator.old.desk ≡ None → result ≡ FOW_NOT_OPEN }
-    ensures no_rule { access.old.desk ≡ None → result ≡ FOW_NOT_OPEN }
-    ensures name { IfSome validator.old.desk (λ d. IfSome access.old.desk (λ a.
+    ensures same { validator.new.state ≡ validator.old.state }
+    ensures same_rule { access.new.state ≡ access.old.state }
+    ensures none { validator.old.state ≡ None → result ≡ FOW_NOT_OPEN }
+    ensures no_rule { access.old.state ≡ None → result ≡ FOW_NOT_OPEN }
+    ensures name { IfSome validator.old.state (λ d. IfSome access.old.state (λ a.
         PutsDenied a.rule (claims_kept d.last) result written.new out.old out.new)) }
 {
-    let Some(desk) = take(validator, alloc) else {
+    let Some(state) = take(validator, alloc) else {
         return FOW_NOT_OPEN;
     };
     let Some(held) = take_rule(access, alloc) else {
-        *validator = Handle::of(desk);
+        *validator = Handle::of(state);
         return FOW_NOT_OPEN;
     };
-    let status = put_denied(&held.rule, desk.last.claims(), out, written);
+    let status = put_denied(&held.rule, state.last.claims(), out, written);
     *access = RuleHandle::of(held);
-    *validator = Handle::of(desk);
+    *validator = Handle::of(state);
     status
 }

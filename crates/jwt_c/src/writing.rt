@@ -7,7 +7,7 @@ ghost use Rattle.jwt_verify.specs.Verdict.{token_of};
 ghost use Rattle.jwt_c.specs.Documents.{documents};
 ghost use Rattle.jwt_c.specs.Written.{Puts, PutsPayload, PutsSome, claim_at, header_at, number_at};
 
-use crate::desk::Desk;
+use crate::state::State;
 use crate::status::{FOW_ABSENT, FOW_OK, FOW_OUT_OF_MEMORY, FOW_TOO_SHORT};
 use jwt_policy::Claims;
 use jwt_text::{TextFault, decode};
@@ -31,15 +31,15 @@ pub(crate) fn put(octets: &[u8], out: &mut [u8], written: &mut usize) -> u32
 /// too short; `FOW_ABSENT`: the octets are no token.
 pub(crate) fn payload_of(
     alloc: Global,
-    desk: &Desk,
+    state: &State,
     token: &[u8],
     out: &mut [u8],
     written: &mut usize,
 ) -> u32
-    ensures { PutsPayload (token_of (documents desk.now).policy token.now)
+    ensures { PutsPayload (token_of (documents state.now).policy token.now)
         result written.new out.old out.new }
 {
-    match read_token(alloc, token, &desk.grounds.documents().policy) {
+    match read_token(alloc, token, &state.grounds.documents().policy) {
         Ok(Some(signed)) => put(signed.payload(), out, written),
         Ok(None) => FOW_ABSENT,
         Err(_) => FOW_OUT_OF_MEMORY,
@@ -50,16 +50,16 @@ pub(crate) fn payload_of(
 /// `FOW_TOO_SHORT`: `out` is too short; `FOW_ABSENT`: the octets are no token, or it has no such signature.
 pub(crate) fn put_header(
     alloc: Global,
-    desk: &Desk,
+    state: &State,
     token: &[u8],
     signature: u32,
     out: &mut [u8],
     written: &mut usize,
 ) -> u32
-    ensures { PutsSome (header_at (token_of (documents desk.now).policy token.now) signature)
+    ensures { PutsSome (header_at (token_of (documents state.now).policy token.now) signature)
         result written.new out.old out.new }
 {
-    match read_token(alloc, token, &desk.grounds.documents().policy) {
+    match read_token(alloc, token, &state.grounds.documents().policy) {
         Ok(Some(signed)) => match signed.signature(signature) {
             Some(signature) => put_decoded(alloc, signature.protected_text(), out, written),
             None => FOW_ABSENT,

@@ -1,4 +1,4 @@
--- `of_loose` moves the fields, and what they own goes with them. Assumes `Logic`.
+-- `of_raw_box` moves the fields, and what they own goes with them. Assumes `Logic`.
 use Rattle.std.proofs.Common.{◌≡◌, List, [], ◌∷◌, ◌++◌, refl, sym, subst}
 use mathlib.Core.Bool.{true}
 use mir.Syntax.{Fn}
@@ -24,27 +24,27 @@ use Rattle.std_heap.specs.contracts.GlobalAllocator.TheImpl.{ghosts}
 use Rattle.std_heap.proofs.Global.TheLaws as heap_laws
 use Rattle.std.proofs.raw_atomic.Walks.{proved_at, leaves}
 use Rattle.jwt_c.proofs.Handles.{three, three_good, handle_in}
-use Rattle.jwt_c.proofs.Values.{both, Loose, loose_good, loose_out}
-use Rattle.jwt_c.specs.contracts.desk.Desk as desk
+use Rattle.jwt_c.proofs.Values.{both, RawBox, raw_box_good, raw_box_out}
+use Rattle.jwt_c.specs.contracts.state.State as state
 use Rattle.jwt_c.specs.contracts.handle.Handle as handle
-use Rattle.jwt_c.specs.contracts.handle.Handle.of_loose.{ended, clauses}
-use Rattle.jwt_c.specs.contracts.handle.Handle.of_loose.Key.{name as #self}
-use Rattle.jwt_c.proofs.handle.Handle.of_loose.Statement.{statement}
-use Rattle.jwt_c.proofs.handle.Handle.of_loose.Code as code
+use Rattle.jwt_c.specs.contracts.handle.Handle.of_raw_box.{ended, clauses}
+use Rattle.jwt_c.specs.contracts.handle.Handle.of_raw_box.Key.{name as #self}
+use Rattle.jwt_c.proofs.handle.Handle.of_raw_box.Statement.{statement}
+use Rattle.jwt_c.proofs.handle.Handle.of_raw_box.Code as code
 
-pub of_loose_spec : {M : Type 1} → statement M
-of_loose_spec 𝓤 𝓛 𝓜 𝓡 wired =
+pub of_raw_box_spec : {M : Type 1} → statement M
+of_raw_box_spec 𝓤 𝓛 𝓜 𝓡 wired =
     let H = 𝓛.H in let 𝓣 = tables 𝓤 H 𝓜 𝓡 𝓡.env in let En = ended in let c = clauses 𝓛 𝓜.mem 𝓡.returns in let fn : Fn = code.function in
-    let D : RattleType = desk.the_row in let Z : RattleType = heap.the_row in let LZ = heap_laws.the_row_laws in let Lr : RattleType = Loose D Z LZ ghosts in
+    let D : RattleType = state.the_row in let Z : RattleType = heap.the_row in let LZ = heap_laws.the_row_laws in let Lr : RattleType = RawBox D Z LZ ghosts in
     let hs : Stays En.signature.params En.kept = (stay_dropped (plain (λ _. Lr)) En.kept.0, tt) in
     proved_at 𝓛 En hs c 𝓜 𝓡 (Goes-blank 𝓛 0 (plain (λ _. Lr)) En.kept.0 (λ κs x f. tt), tt) #self fn (code.unfolded 𝓤 H 𝓜 𝓡 wired) (λ z are.
     let Post : Val → SProp 𝓤 = (walk_of 𝓛 En hs c).post z in let Run : List Val → SProp 𝓤 = λ ws. WpFn 𝓤 H 𝓣.C 𝓣.Λ fn ws Post in let v = z.0.3.0 in
     qed 𝓛 ((raw (alive 𝓛 En.signature z.0.0 z.0.1) ⊛ ‵ (owns (types_at En.signature.params z.0.0) z.0.3 z.0.4)) ∷ raw ((c z.0.0 z.0.3).requires z.1) ∷ []) ∵ split ! $ move ! (1 ∷ []) $ fsplit ! $
-    loose_out D Z LZ ghosts ! v z.0.4.0 (λ b o h e ws fits. let w : Val = both (vptr b o) h in
-    let d : handle.the_row.Denot = record { at = block_ptr b o; held = true; alloc = v.alloc; desk = Some v.value } in handle_in ! h d $
+    raw_box_out D Z LZ ghosts ! v z.0.4.0 (λ b o h e ws fits. let w : Val = both (vptr b o) h in
+    let d : handle.the_row.Denot = record { at = block_ptr b o; held = true; alloc = v.alloc; state = Some v.value } in handle_in ! h d $
     suffices ! (Run (w ∷ [])) (subst (λ (us : List Val). ent 𝓤 (Run (w ∷ [])) (Run us)) (sym (λ i. ws i ++ [])) (id⊢ 𝓤 (Run (w ∷ [])))) $
-    enter ! 𝓣.C 𝓣.Λ fn (w ∷ []) Post $ alloc_all ! (λ l. pass_all ! refl (loose_good D Z LZ ghosts b o h fits, tt) $
+    enter ! 𝓣.C 𝓣.Λ fn (w ∷ []) Post $ alloc_all ! (λ l. pass_all ! refl (raw_box_good D Z LZ ghosts b o h fits, tt) $
     sets ! (of_opd ! (get_in ! (fld ! refl (stop !)) (sub ! 0 refl (whole !)))) refl (tt, tt) $ sets ! (of_opd ! (get_in ! (fld ! refl (stop !)) (sub ! 1 refl (whole !)))) refl fits $ sets ! (of_opd ! (get ! refl)) refl (tt, tt) $
     sets ! (agg ! (and_then ! (get ! refl) (and_then ! (true_lit !) (and_then ! (get ! refl) (no_more !))))) refl (three_good (block_ptr b o) true h fits) $
-    use0 𝓛 (raw (fact 𝓤 (d.desk ≡ Some v.value))) (fact_i 𝓤 (d.desk ≡ Some v.value) (emp 𝓤) refl) $ nothing ! $ nothing ! $ fjoin ! $
+    use0 𝓛 (raw (fact 𝓤 (d.state ≡ Some v.value))) (fact_i 𝓤 (d.state ≡ Some v.value) (emp 𝓤) refl) $ nothing ! $ nothing ! $ fjoin ! $
     returns ! (look_at ! 0 refl) $ free_all ! refl $ keep ! (4 ∷ 0 ∷ 2 ∷ 1 ∷ []) $ by ! (leaves 𝓛 En hs c z (three (vptr b o) (vbool true) h) d (tt, tt) (tt, tt)))))

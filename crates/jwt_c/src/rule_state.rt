@@ -4,6 +4,6 @@ use jwt_access::AccessRule;
 
 /// An access rule that was read.
 #[derive(Drop)]
-pub struct RuleDesk {
+pub struct RuleState {
     pub(crate) rule: AccessRule,
 }

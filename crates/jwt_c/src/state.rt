@@ -11,7 +11,7 @@ use std::sync::Arc;
 /// What a report has beside its numbers.
 #[derive(Drop)]
 pub enum Evidence {
-    /// It is the desk's own, with the claims of an acceptance.
+    /// It is the state's own, with the claims of an acceptance.
     Own {
         states: Vec<SigState>,
         tries: Vec<Try>,
@@ -38,9 +38,9 @@ pub struct Last {
 /// What a validator holds: documents, which those beside it hold too, with what the proved verifiers accepted by them, where that is to be
 /// remembered; what was told; what was accepted by what was told, where that is to be remembered; what is kept of the last judging; and the
 /// memory that reading a token needs beside its result, of which nothing else depends on what it holds. That is large, and so in a box of its
-/// own: a desk is moved over the stack.
+/// own: a state is moved over the stack.
 #[derive(Drop)]
-pub struct Desk {
+pub struct State {
     pub(crate) grounds: Grounds,
     pub(crate) answers: Answers,
     pub(crate) memory: Option<Memory>,
