@@ -80,11 +80,11 @@ PutsQuestion None status written old out = IsAbsent status
 PutsQuestion (Some question) status written old out = (status ≡ 0 → IsSized question written × ((more : List ℕ) × (out ≡ question_octets question ++ more)))
     × (status ≢ 0 → status ≢ 3 → (status ≡ 5) × (length old < length (question_octets question)))
 
--- the same policy and key set, where this is told besides
+-- the same policy and key set, with these answers added
 abbrev TellsOf : List ToldParts → State → State → Type 0
 TellsOf answers before after = (documents after ≡ documents before) × (told after.answers ≡ told before.answers ++ answers)
 
--- exactly this answer is told besides, unless memory was refused; where there is no question, nothing is
+-- exactly this answer is added, unless memory was refused; where there is no question, none is
 abbrev pub TellsState : Option QuestionParts → Bool → ℕ → State → State → Type 0
 TellsState None valid status before after = IsAbsent status × (status ≢ 0) × (documents after ≡ documents before) × (told after.answers ≡ told before.answers)
 TellsState (Some question) valid status before after = (status ≡ 0 → TellsOf (told_of question valid ∷ []) before after)
@@ -138,7 +138,7 @@ proved_says (Some question) = if rsa_meaning.named question.alg then rsa_says (S
 
 -- ---- Cited by contracts of private functions alone
 
--- exactly this answer is told besides, unless memory was refused
+-- exactly this answer is added, unless memory was refused
 abbrev pub TellsOne : QuestionParts → Bool → ℕ → List ToldParts → List ToldParts → Type 0
 TellsOne question valid status old new = (status ≡ 0 → new ≡ old ++ told_of question valid ∷ []) × (status ≢ 0 → (status ≡ 3) × (new ≡ old))
 

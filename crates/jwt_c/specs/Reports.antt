@@ -76,16 +76,16 @@ IsNew last = (states_kept last ≡ []) × (tries_kept last ≡ []) × (claims_ke
 abbrev pub IsRead : List ℕ → List ℕ → Documents → Type 0
 IsRead policy keys grounds = (policy_of policy ≡ Ok grounds.policy) × (key_set_of keys ≡ Ok (key_set grounds.keys))
 
--- nothing is told, nothing is kept of a judging, and no token is to be remembered
+-- there are no answers, nothing is kept of a judging, and no token is to be remembered
 abbrev pub IsBlank : State → Type 0
 IsBlank state = (told state.answers ≡ []) × IsNew state.last × (state.memory ≡ None) × (state.grounds.1 ≡ None)
 
--- what was read from these documents is held, and nothing is told or remembered
+-- what was read from these documents is held, and nothing is answered or remembered
 abbrev pub IsOpened : List ℕ → List ℕ → Option State → Type 0
 IsOpened policy keys None = ⊥
 IsOpened policy keys (Some state) = IsRead policy keys (documents state) × IsBlank state
 
--- these documents are held, and nothing is told or remembered
+-- these documents are held, and nothing is answered or remembered
 abbrev pub IsFresh : Documents → Option State → Type 0
 IsFresh grounds None = ⊥
 IsFresh grounds (Some state) = (documents state ≡ grounds) × IsBlank state
@@ -103,21 +103,21 @@ RefusesEither (Ok settings) keys fault = RefusesKeys keys fault
 abbrev pub IsRefused : List ℕ → List ℕ → ℕ → ℕ → Type 0
 IsRefused policy keys status fault = (status ≢ 0) × (status ≢ 3 → (status ≡ 1) × RefusesEither (policy_of policy) (key_set_of keys) fault)
 
--- the same policy and key set are held, and the same is told
+-- the same policy, key set and answers are held
 abbrev pub IsAlike : Option State → Option State → Type 0
 IsAlike None None = Unit {0}
 IsAlike None (Some after) = ⊥
 IsAlike (Some before) None = ⊥
 IsAlike (Some before) (Some after) = (documents after ≡ documents before) × (told after.answers ≡ told before.answers)
 
--- the same policy and key set are held, and nothing is told
+-- the same policy and key set are held, and no answers
 abbrev pub IsForgotten : Option State → Option State → Type 0
 IsForgotten None None = Unit {0}
 IsForgotten None (Some after) = ⊥
 IsForgotten (Some before) None = ⊥
 IsForgotten (Some before) (Some after) = (documents after ≡ documents before) × (told after.answers ≡ [])
 
--- the policy and key set of the first are held by the second, to which nothing is told, and which remembers nothing
+-- the second holds the policy and key set of the first, with no answers and no memory
 abbrev pub IsBeside : Option State → Option State → Type 0
 IsBeside None second = ⊥
 IsBeside (Some first) second = IsFresh (documents first) second
@@ -136,8 +136,8 @@ Keeps report last = (states_kept last ≡ report.states.items) × (tries_kept la
 abbrev pub Says : Report → FowReport → Last → Type 0
 Says report said last = (report_numbers said ≡ verdict_numbers report.verdict) × (said.tries ≡ length report.tries.items) × (said.work ≡ work report.tries.items) × Keeps report last
 
--- The verdict and the numbers are those of validate's contract on these octets, where the one verifier is what was told; and where what was told
--- is true, the verdict is the one under what is true. A verdict that is remembered rests on what was told when the token was accepted.
+-- The verdict and the numbers are those of validate's contract on these octets, where the one verifier is the answers; and where these are true,
+-- the verdict is the one under what is true. A remembered verdict rests on the answers when the token was accepted.
 abbrev pub IsJudged : State → ℤ → List ℕ → FowReport → Last → Type 0
 IsJudged state now octets said last = (report : Report)
     × RestsOn last.remembered (told state.answers) state.memory (documents state) now octets report
@@ -154,8 +154,8 @@ abbrev pub asked_at : Result Token Fault → List KeyParts → ℕ → ℕ → O
 asked_at (Ok signed) keys signature key = question_at signed keys signature key
 asked_at (Err fault) keys signature key = None
 
--- The tries that are kept are those of a run that finds memory, where what wasn't told counts as invalid. The pair that is named is the
--- first of them of which nothing was told, and the question about it is kept.
+-- The tries that are kept are those of a run that finds memory, where a pair without an answer counts as invalid. The pair that is named is
+-- the first of them that has none, and the question about it is kept.
 abbrev pub IsAsked : State → ℤ → List ℕ → FowReport → Last → Type 0
 IsAsked state now octets said last = AreTries (terms (documents state).policy (documents state).keys now (told_meaning (told state.answers) ∷ [])) octets (documents state).policy.run.work (tries_kept last)
     × IsFirstOpen (told state.answers) (documents state).policy octets (key_set (documents state).keys).keys (tries_kept last) said.signature said.key
@@ -171,7 +171,7 @@ IsAskedBy state now octets said (Some after) = IsAsked state now octets said aft
 
 -- ---- Cited by contracts of private functions alone
 
--- what is asked of the token is the first try of a run by what was told of which nothing was told, and comes with the token
+-- the question is about the first try of a run by the answers that has none, and comes with the token
 abbrev pub IsAsking : List ToldParts → Documents → ℤ → List ℕ → Asking → Type 0
 IsAsking answers grounds now octets asks = AreTries (terms grounds.policy grounds.keys now (told_meaning answers ∷ [])) octets grounds.policy.run.work asks.tries.items
     × IsFirstOpen answers grounds.policy octets (key_set grounds.keys).keys asks.tries.items asks.pair.signature asks.pair.key

@@ -76,7 +76,7 @@ fn documents_of(alloc: Global, policy: &[u8], keys: &[u8]) -> Result<Arc<Documen
     }
 }
 
-/// A handle on these documents, to which nothing was told. `Err`: memory was refused.
+/// A handle on these documents, with no answers. `Err`: memory was refused.
 fn handle_on(alloc: Global, shared: Arc<Documents>) -> Result<Handle, AllocError>
     ensures { IfOk result (λ h. IsFresh (arc_value shared) h.state) }
 {
@@ -222,10 +222,10 @@ pub extern "C" fn fow_judge(
     // Claims are kept of an acceptance alone.
     ensures claims { IfSome validator.new.state (λ e. result ≢ FOW_OK → claims_kept e.last ≡ None) }
 
-    // Where what is told is true, so is what was told of the tokens that are remembered, if it was before.
+    // Where the answers are true, those on the remembered tokens are, if they were before.
     ensures remembers { IfSome validator.old.state (λ d. RemembersTold d validator.new.state) }
 
-    // The pair that is asked about is the first of the tries, which are kept, of which nothing was told.
+    // The pair that is asked about is the first of the tries that has no answer. The tries are kept.
     ensures asks { IfSome validator.old.state (λ d. result ≡ FOW_ASKS
         → IsAskedBy d now token.now report.new validator.new.state) }
 {
@@ -240,7 +240,7 @@ pub extern "C" fn fow_judge(
 }
 
 /// Judges a token at a moment, in seconds since 1970-01-01T00:00:00Z, by the proved verifiers of RSA, ECDSA and Ed25519, and answers the
-/// verdict, which the report has too. It asks nothing, and what was told counts for nothing.
+/// verdict, which the report has too. It asks nothing, and the answers count for nothing.
 #[unsafe(no_mangle)]
 pub extern "C" fn fow_proved_judge(
     validator: &mut Handle,
@@ -424,7 +424,7 @@ pub extern "C" fn fow_answer(
     status
 }
 
-/// Forgets what was told. What is remembered stays.
+/// Forgets all answers. What is remembered stays.
 #[unsafe(no_mangle)]
 pub extern "C" fn fow_forget(validator: &mut Handle, alloc: Global)
     ensures forgotten { IsForgotten validator.old.state validator.new.state }

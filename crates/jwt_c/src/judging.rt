@@ -1,4 +1,4 @@
-//! Judges a token by what was told.
+//! The judging of a token by answers.
 
 ghost use Rattle.jwt_c.specs.declared.status.TheConstants.{FOW_ASKS, FOW_OK, FOW_REFUSED};
 ghost use Rattle.std.specs.Prelude.{◌≡◌, ◌≢◌, None, ◌≤◌, [], true, false, IfOk, IfErr, length, option_map};
@@ -123,7 +123,7 @@ fn missing(alloc: Global, verdict: &Verdict<'_>) -> Result<Vec<u8>, AllocError>
     }
 }
 
-/// A verdict that speaks of nothing more, of which nothing is kept.
+/// A verdict that names nothing more. Nothing is kept of it.
 pub(crate) fn bare(alloc: Global, verdict: u32) -> Judging
     ensures numbers { report_numbers result.said ≡ bare verdict }
     ensures claims { claims_kept result.last ≡ None }
@@ -151,7 +151,7 @@ fn copied(
     }
 }
 
-/// The judging that asks, of which the tries and the question are kept.
+/// The judging that asks. Its tries and its question are kept.
 fn asking(alloc: Global, asks: Asking<'_>, keys: &KeySet) -> Result<Judging, AllocError>
     ensures verdict { IfOk result (λ j. j.said.verdict ≡ FOW_ASKS) }
     ensures signature { IfOk result (λ j. j.said.signature ≡ asks.entry.pair.signature) }
@@ -225,7 +225,7 @@ fn kept(report: Report<'_>, cost: u64, missing: Vec<u8>) -> Judging
     }
 }
 
-/// The judging whose evidence a memory shares, with its numbers but for those of the tries.
+/// The judging whose evidence a memory shares, with its numbers, those of the tries aside.
 fn shared(
     numbers: FowReport,
     basis: Arc<Basis>,
@@ -280,7 +280,7 @@ fn recalled(
     }
 }
 
-/// The judging that an outcome is, of which so many octets were paid.
+/// The judging that an outcome is. So many octets were paid for it.
 pub(crate) fn judging_of(
     alloc: Global,
     outcome: Outcome<'_>,
@@ -303,7 +303,7 @@ pub(crate) fn judging_of(
     }
 }
 
-/// The outcome of judging by what was told, or a question, over a memory where there is one.
+/// The outcome of judging by answers, or a question, over a memory where there is one.
 #[tactic(auto, unfolding(jwt_verify::specs::Table::work))]
 fn outcome_of<'a, 'p>(
     alloc: Global,
@@ -339,8 +339,7 @@ fn outcome_of<'a, 'p>(
     }
 }
 
-/// The judging of a state on a token. It changes nothing of the state but its memory of tokens, and the scratch, of which nothing depends on
-/// what it holds.
+/// The judging of a state on a token. It changes the state's memory of tokens and its scratch, whose contents affect nothing.
 fn report_on(alloc: Global, state: &mut State, octets: &[u8], now: i64) -> Judging
     ensures judged { result.said.verdict ≤ FOW_REFUSED
         → IsJudged state.old now octets.now result.said result.last }

@@ -35,10 +35,9 @@ pub struct Last {
     pub(crate) remembered: bool,
 }
 
-/// What a validator holds: documents, which those beside it hold too, with what the proved verifiers accepted by them, where that is to be
-/// remembered; what was told; what was accepted by what was told, where that is to be remembered; what is kept of the last judging; and the
-/// memory that reading a token needs beside its result, of which nothing else depends on what it holds. That is large, and so in a box of its
-/// own: a state is moved over the stack.
+/// What a validator holds: documents, which those beside it hold too, with the memory of tokens that the proved verifiers accepted; the
+/// answers; the memory of tokens that were accepted by answers; what is kept of the last judging; and scratch memory for reading, whose
+/// contents affect nothing. The scratch is large, and so in a box of its own: a state is moved over the stack.
 #[derive(Drop)]
 pub struct State {
     pub(crate) grounds: Grounds,
