@@ -137,32 +137,31 @@ fn write_public(alloc: Global, asked: &Question<'_>, out: &mut [u8], into: &mut 
     write_question(alloc, asked, out, into)
 }
 
-/// Writes the question about a pair at the front of `out`. `FOW_OK`; `FOW_OUT_OF_MEMORY`: memory was refused; `FOW_TOO_SHORT`: `out`
-/// is too short; `FOW_ABSENT`: there is none, or its algorithm is HMAC, or its key is a secret.
-pub(crate) fn ask_about(
-    alloc: Global,
-    state: &State,
-    token: &[u8],
-    signature: u32,
-    key: u32,
-    out: &mut [u8],
-    into: &mut FowQuestion,
-) -> u32
-    ensures { PutsQuestion
-        (public_asked (asked_at (token_of (documents state.now).policy token.now)
-        (key_set (documents state.now).keys).keys signature key))
-        result into.new out.old out.new }
-{
-    match read_token(alloc, token, &state.grounds.documents().policy) {
-        Ok(Some(signed)) => match (OpenPair { signature, key }).about(
-            &signed,
-            &state.grounds.documents().keys,
-        ) {
-            Some(asked) => write_public(alloc, &asked, out, into),
-            None => FOW_ABSENT,
-        },
-        Ok(None) => FOW_ABSENT,
-        Err(_) => FOW_OUT_OF_MEMORY,
+impl State {
+    /// Writes the question about a pair at the front of `out`. `FOW_OK`; `FOW_OUT_OF_MEMORY`: memory was refused; `FOW_TOO_SHORT`: `out`
+    /// is too short; `FOW_ABSENT`: there is none, or its algorithm is HMAC, or its key is a secret.
+    pub(crate) fn ask_about(
+        &self,
+        alloc: Global,
+        token: &[u8],
+        pair: OpenPair,
+        out: &mut [u8],
+        into: &mut FowQuestion,
+    ) -> u32
+        ensures { PutsQuestion
+            (public_asked (asked_at (token_of (documents self.now).policy token.now)
+            (key_set (documents self.now).keys).keys pair.signature pair.key))
+            result into.new out.old out.new }
+    {
+        let documents = self.grounds.documents();
+        match read_token(alloc, token, &documents.policy) {
+            Ok(Some(signed)) => match pair.about(&signed, &documents.keys) {
+                Some(asked) => write_public(alloc, &asked, out, into),
+                None => FOW_ABSENT,
+            },
+            Ok(None) => FOW_ABSENT,
+            Err(_) => FOW_OUT_OF_MEMORY,
+        }
     }
 }
 
@@ -211,19 +210,15 @@ pub(crate) fn tell(
     alloc: Global,
     state: &mut State,
     token: &[u8],
-    signature: u32,
-    key: u32,
+    pair: OpenPair,
     valid: bool,
 ) -> u32
     ensures told { TellsState (asked_at (token_of (documents state.old).policy token.now)
-        (key_set (documents state.old).keys).keys signature key) valid result state.old state.new }
+        (key_set (documents state.old).keys).keys pair.signature pair.key) valid result state.old state.new }
     ensures memories { (state.new.memory ≡ state.old.memory) × (state.new.grounds ≡ state.old.grounds) }
 {
     match read_token(alloc, token, &state.grounds.documents().policy) {
-        Ok(Some(signed)) => match (OpenPair { signature, key }).about(
-            &signed,
-            &state.grounds.documents().keys,
-        ) {
+        Ok(Some(signed)) => match pair.about(&signed, &state.grounds.documents().keys) {
             Some(asked) => tell_of(alloc, &mut state.answers, &asked, valid),
             None => FOW_ABSENT,
         },
@@ -350,20 +345,19 @@ pub(crate) fn tell_by(
     alloc: Global,
     state: &mut State,
     token: &[u8],
-    signature: u32,
-    key: u32,
+    pair: OpenPair,
     by: Proved,
 ) -> u32
     ensures told { TellsState
         (asked_of by (asked_at (token_of (documents state.old).policy token.now)
-        (key_set (documents state.old).keys).keys signature key))
+        (key_set (documents state.old).keys).keys pair.signature pair.key))
         (said_by by (asked_at (token_of (documents state.old).policy token.now)
-        (key_set (documents state.old).keys).keys signature key)) result state.old state.new }
+        (key_set (documents state.old).keys).keys pair.signature pair.key)) result state.old state.new }
     ensures memories { (state.new.memory ≡ state.old.memory) × (state.new.grounds ≡ state.old.grounds) }
 {
     let documents = state.grounds.documents();
     match read_token(alloc, token, &documents.policy) {
-        Ok(Some(signed)) => match (OpenPair { signature, key }).about(&signed, &documents.keys) {
+        Ok(Some(signed)) => match pair.about(&signed, &documents.keys) {
             Some(asked) => match proved_answer(by, &asked) {
                 Some(accepts) => tell_of(alloc, &mut state.answers, &asked, accepts),
                 None => FOW_ABSENT,

@@ -19,7 +19,7 @@ ghost use Rattle.jwt_c.specs.Proving.{IsProvedBy};
 ghost use Rattle.jwt_c.specs.Issuing.{hmac_at, form_at, typ_of, PutsIssued};
 ghost use Rattle.jwt_issue.specs.ClaimSets.{claim_set_of};
 
-use crate::asking::{Proved, ask_about, ask_last, tell, tell_by, tell_last};
+use crate::asking::{Proved, ask_last, tell, tell_by, tell_last};
 use crate::faults::{keys_number, policy_number};
 use crate::grounds::{Documents, Grounds};
 use crate::handle::{Handle, take};
@@ -31,11 +31,11 @@ use crate::remembering::remember_state;
 use crate::report::{FowQuestion, FowReport, FowState, FowTry};
 use crate::state::{Last, State};
 use crate::status::{FOW_ABSENT, FOW_NOT_OPEN, FOW_OK, FOW_OUT_OF_MEMORY, FOW_REFUSED, NotHeld};
-use crate::writing::{number_at, payload_of, put, put_claim, put_header};
+use crate::writing::{number_at, payload_of, put, put_claim};
 use jwt_keys::{KeySet, KeysFault};
 use jwt_policy::{Policy, PolicyFault};
 use jwt_text::Scratch;
-use jwt_told::Answers;
+use jwt_told::{Answers, OpenPair};
 use std::alloc::{AllocError, Global};
 use std::str::from_utf8;
 use std::sync::Arc;
@@ -351,7 +351,7 @@ pub extern "C" fn fow_ask(
     let Some(state) = take(validator, alloc) else {
         return FOW_NOT_OPEN;
     };
-    let status = ask_about(alloc, &state, token, signature, key, out, asked);
+    let status = state.ask_about(alloc, token, OpenPair { signature, key }, out, asked);
     *validator = Handle::of(state);
     status
 }
@@ -419,7 +419,7 @@ pub extern "C" fn fow_answer(
     let Some(mut state) = take(validator, alloc) else {
         return FOW_NOT_OPEN;
     };
-    let status = tell(alloc, &mut state, token, signature, key, valid);
+    let status = tell(alloc, &mut state, token, OpenPair { signature, key }, valid);
     *validator = Handle::of(state);
     status
 }
@@ -518,7 +518,7 @@ pub extern "C" fn fow_unverified_header(
     let Some(state) = take(validator, alloc) else {
         return FOW_NOT_OPEN;
     };
-    let status = put_header(alloc, &state, token, signature, out, written);
+    let status = state.put_header(alloc, token, signature, out, written);
     *validator = Handle::of(state);
     status
 }
@@ -571,7 +571,13 @@ pub extern "C" fn fow_answer_rsa(
     let Some(mut state) = take(validator, alloc) else {
         return FOW_NOT_OPEN;
     };
-    let status = tell_by(alloc, &mut state, token, signature, key, Proved::Rsa);
+    let status = tell_by(
+        alloc,
+        &mut state,
+        token,
+        OpenPair { signature, key },
+        Proved::Rsa,
+    );
     *validator = Handle::of(state);
     status
 }
@@ -599,7 +605,13 @@ pub extern "C" fn fow_answer_ed25519(
     let Some(mut state) = take(validator, alloc) else {
         return FOW_NOT_OPEN;
     };
-    let status = tell_by(alloc, &mut state, token, signature, key, Proved::Ed25519);
+    let status = tell_by(
+        alloc,
+        &mut state,
+        token,
+        OpenPair { signature, key },
+        Proved::Ed25519,
+    );
     *validator = Handle::of(state);
     status
 }
@@ -627,7 +639,13 @@ pub extern "C" fn fow_answer_proved(
     let Some(mut state) = take(validator, alloc) else {
         return FOW_NOT_OPEN;
     };
-    let status = tell_by(alloc, &mut state, token, signature, key, Proved::Any);
+    let status = tell_by(
+        alloc,
+        &mut state,
+        token,
+        OpenPair { signature, key },
+        Proved::Any,
+    );
     *validator = Handle::of(state);
     status
 }

@@ -46,26 +46,28 @@ pub(crate) fn payload_of(
     }
 }
 
-/// Puts the octets of a signature's protected header at the front of `out`. `FOW_OK`; `FOW_OUT_OF_MEMORY`: memory was refused;
-/// `FOW_TOO_SHORT`: `out` is too short; `FOW_ABSENT`: the octets are no token, or it has no such signature.
-pub(crate) fn put_header(
-    alloc: Global,
-    state: &State,
-    token: &[u8],
-    signature: u32,
-    out: &mut [u8],
-    written: &mut usize,
-) -> u32
-    ensures { PutsSome (header_at (token_of (documents state.now).policy token.now) signature)
-        result written.new out.old out.new }
-{
-    match read_token(alloc, token, &state.grounds.documents().policy) {
-        Ok(Some(signed)) => match signed.signature(signature) {
-            Some(signature) => put_decoded(alloc, signature.protected_text(), out, written),
-            None => FOW_ABSENT,
-        },
-        Ok(None) => FOW_ABSENT,
-        Err(_) => FOW_OUT_OF_MEMORY,
+impl State {
+    /// Puts the octets of a signature's protected header at the front of `out`. `FOW_OK`; `FOW_OUT_OF_MEMORY`: memory was refused;
+    /// `FOW_TOO_SHORT`: `out` is too short; `FOW_ABSENT`: the octets are no token, or it has no such signature.
+    pub(crate) fn put_header(
+        &self,
+        alloc: Global,
+        token: &[u8],
+        signature: u32,
+        out: &mut [u8],
+        written: &mut usize,
+    ) -> u32
+        ensures { PutsSome (header_at (token_of (documents self.now).policy token.now) signature)
+            result written.new out.old out.new }
+    {
+        match read_token(alloc, token, &self.grounds.documents().policy) {
+            Ok(Some(signed)) => match signed.signature(signature) {
+                Some(signature) => put_decoded(alloc, signature.protected_text(), out, written),
+                None => FOW_ABSENT,
+            },
+            Ok(None) => FOW_ABSENT,
+            Err(_) => FOW_OUT_OF_MEMORY,
+        }
     }
 }
 
