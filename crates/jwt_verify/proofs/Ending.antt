@@ -16,7 +16,7 @@ use Rattle.jwt_verify.specs.declared.tries.Tried.TheVariants.{Verified as Valid,
 use Rattle.jwt_verify.specs.declared.signature_outcome.SignatureOutcome.{SignatureOutcome}
 use Rattle.jwt_verify.specs.declared.signature_outcome.SignatureOutcome.TheVariants.{Verified, Barred, NoKey, BadSignature}
 use Rattle.jwt_verify.specs.declared.pair.Pair.{Pair}
-use Rattle.jwt_verify.specs.AskedTable.{Means}
+use Rattle.jwt_verify.specs.TermsTable.{Means}
 use Rattle.jwt_verify.specs.Pairs.{pair_entry, IsNextPair, IsTried}
 use Rattle.jwt_verify.specs.SignatureOutcome.{is_verified, outcome_key, outcome_state}
 use Rattle.jwt_verify.specs.declared.tries.End.TheVariants.{Done, WorkExceeded, CallsExceeded, VerifierMemory}

@@ -22,13 +22,13 @@ use Rattle.jwt_policy.specs.Settings.{Settings}
 use Rattle.jwt_policy.specs.Bars.{alg, can_verify, bar_of, bar_rows}
 use Rattle.jwt_policy.specs.Eligible.{suits, is_for, fits, eligible_for}
 use Rattle.jwt_policy.specs.Texts.{some_passes}
-use Rattle.jwt_verify.specs.declared.asked.Asked.{Asked}
+use Rattle.jwt_verify.specs.declared.terms.Terms.{Terms as CodeTerms}
 use Rattle.jwt_verify.specs.declared.live_signature.Numbered.{Numbered}
 use Rattle.jwt_verify.specs.declared.live_signature.LiveSignature.{LiveSignature}
 use Rattle.jwt_verify.specs.declared.pair.Way.{Way}
 use Rattle.jwt_verify.specs.declared.pair.Way.TheVariants as way
 use Rattle.jwt_verify.specs.declared.pair.Pair.{Pair}
-use Rattle.jwt_verify.specs.AskedTable.{Means, asked_table}
+use Rattle.jwt_verify.specs.TermsTable.{Means, terms_table}
 use Rattle.jwt_verify.specs.Pairs.{IsVerifier, IsLive, IsFor, IsWay, IsLiveOf, way_accepts, way_may_lack, way_cost, IsNextPair}
 use Rattle.jwt_verify.specs.Trying.{at_pair, table_of, valid_under, may_lack_under, cost_under, valid_by, may_lack_by, cost_by}
 use Rattle.jwt_verify.specs.Table.{Table}
@@ -87,32 +87,32 @@ pub verifier_first : (v : List Meaning) (a : Alg) (o : Option Meaning) → is_hm
 verifier_first v a None h c e = let q = rw (h, sym e) at c in cc
 verifier_first v a (Some m) h c e = (h, sym e)
 
-pub open_bar : {V : Type 0} {D : V → Type 0} (means : Means V D) (a : Asked V D) (u : LiveSignature V D) → IsLive means a u → (asked_table means a u.signed.now).bar u.number ≡ None
-unfolding asked_table
+pub open_bar : {V : Type 0} {D : V → Type 0} (means : Means V D) (a : CodeTerms V D) (u : LiveSignature V D) → IsLive means a u → (terms_table means a u.signed.now).bar u.number ≡ None
+unfolding terms_table
 open_bar means a u o = rw o.signature o.unbarred
 
-pub open_within : {V : Type 0} {D : V → Type 0} (means : Means V D) (a : Asked V D) (u : LiveSignature V D) → IsLive means a u → u.number < (asked_table means a u.signed.now).signatures
-unfolding asked_table
+pub open_within : {V : Type 0} {D : V → Type 0} (means : Means V D) (a : CodeTerms V D) (u : LiveSignature V D) → IsLive means a u → u.number < (terms_table means a u.signed.now).signatures
+unfolding terms_table
 open_within means a u o = slice_get_within (token u.signed.now).signatures u.number (parts u.signature.now) o.signature
 
-pub asked_bar : {V : Type 0} {D : V → Type 0} (means : Means V D) (a : Asked V D) (signed : Signed) (i : ℕ) (s : SignatureParts) (r : Option SigFault) → slice_get (token signed).signatures i ≡ Some s
-    → r ≡ bar_of a.policy.now s (map means a.verifiers.now) → (asked_table means a signed).bar i ≡ r
-unfolding asked_table
-asked_bar means a signed i s r e b = rw e (sym b)
+pub terms_bar : {V : Type 0} {D : V → Type 0} (means : Means V D) (a : CodeTerms V D) (signed : Signed) (i : ℕ) (s : SignatureParts) (r : Option SigFault) → slice_get (token signed).signatures i ≡ Some s
+    → r ≡ bar_of a.policy.now s (map means a.verifiers.now) → (terms_table means a signed).bar i ≡ r
+unfolding terms_table
+terms_bar means a signed i s r e b = rw e (sym b)
 
-pub asked_signatures : {V : Type 0} {D : V → Type 0} (means : Means V D) (a : Asked V D) (signed : Signed) → (asked_table means a signed).signatures ≡ length (token signed).signatures
-unfolding asked_table
-asked_signatures means a signed = refl
+pub terms_signatures : {V : Type 0} {D : V → Type 0} (means : Means V D) (a : CodeTerms V D) (signed : Signed) → (terms_table means a signed).signatures ≡ length (token signed).signatures
+unfolding terms_table
+terms_signatures means a signed = refl
 
-pub asked_mode : {V : Type 0} {D : V → Type 0} (means : Means V D) (a : Asked V D) (signed : Signed) (verified goes : Bool) → goes_on a.policy.now.run.mode verified ≡ goes
-    → goes_on (asked_table means a signed).mode verified ≡ goes
-unfolding asked_table
-asked_mode means a signed verified goes h = h
+pub terms_mode : {V : Type 0} {D : V → Type 0} (means : Means V D) (a : CodeTerms V D) (signed : Signed) (verified goes : Bool) → goes_on a.policy.now.run.mode verified ≡ goes
+    → goes_on (terms_table means a signed).mode verified ≡ goes
+unfolding terms_table
+terms_mode means a signed verified goes h = h
 
 -- no key is eligible for a signature that is barred
-pub barred_none : {V : Type 0} {D : V → Type 0} (means : Means V D) (a : Asked V D) (signed : Signed) (i : ℕ) (f : SigFault) → (asked_table means a signed).bar i ≡ Some f
-    → NoneEligible (asked_table means a signed) i 0 (asked_table means a signed).keys
-unfolding asked_table
+pub barred_none : {V : Type 0} {D : V → Type 0} (means : Means V D) (a : CodeTerms V D) (signed : Signed) (i : ℕ) (f : SigFault) → (terms_table means a signed).bar i ≡ Some f
+    → NoneEligible (terms_table means a signed) i 0 (terms_table means a signed).keys
+unfolding terms_table
 barred_none means a signed i f e n lo hi =
     not_true _ (λ h. (let q = sym (unbarred_by a.policy.now (map means a.verifiers.now) (key_set a.keys.now).keys (token signed) i n h) ∙ e in cc))
 
@@ -141,26 +141,26 @@ module _ {V : Type 0} {D : V → Type 0} (means : Means V D) (v : List Meaning) 
   way_is_for : (o : Option Meaning) (w : Way V D) → IsVerifier v a o → IsWay means o k (Some w) → IsFor a w
   way_is_for None (way.Tag s) h i = h
   way_is_for (Some n) (way.Tag s) h i = let q = i.0 in cc
-  way_is_for None (way.Asked b view) h i = let q = i.0 in cc
-  way_is_for (Some n) (way.Asked b view) h i = h.0
+  way_is_for None (way.ByVerifier b view) h i = let q = i.0 in cc
+  way_is_for (Some n) (way.ByVerifier b view) h i = h.0
 
   way_valid : (o : Option Meaning) (w : Way V D) → IsVerifier v a o → IsWay means o k (Some w) → valid_under v a k m x ≡ way_accepts means a m x w
   way_valid None (way.Tag s) h i = rw (h, i.1) refl
   way_valid (Some n) (way.Tag s) h i = let q = i.0 in cc
-  way_valid None (way.Asked b view) h i = let q = i.0 in cc
-  way_valid (Some n) (way.Asked b view) h i = rw (h.0, h.1 ∙ i.0, i.1) refl
+  way_valid None (way.ByVerifier b view) h i = let q = i.0 in cc
+  way_valid (Some n) (way.ByVerifier b view) h i = rw (h.0, h.1 ∙ i.0, i.1) refl
 
   way_lacks : (o : Option Meaning) (w : Way V D) → IsVerifier v a o → IsWay means o k (Some w) → may_lack_under v a k m x ≡ way_may_lack means a m x w
   way_lacks None (way.Tag s) h i = rw h refl
   way_lacks (Some n) (way.Tag s) h i = let q = i.0 in cc
-  way_lacks None (way.Asked b view) h i = let q = i.0 in cc
-  way_lacks (Some n) (way.Asked b view) h i = rw (h.0, h.1 ∙ i.0, i.1) refl
+  way_lacks None (way.ByVerifier b view) h i = let q = i.0 in cc
+  way_lacks (Some n) (way.ByVerifier b view) h i = rw (h.0, h.1 ∙ i.0, i.1) refl
 
   way_costs : (o : Option Meaning) (w : Way V D) → suits a k ≡ true → IsVerifier v a o → IsWay means o k (Some w) → cost_under a k m ≡ way_cost a m w
   way_costs None (way.Tag s) f h i = rw i.1 refl
   way_costs (Some n) (way.Tag s) f h i = let q = i.0 in cc
-  way_costs None (way.Asked b view) f h i = let q = i.0 in cc
-  way_costs (Some n) (way.Asked b view) f h i = cost_none a k m f h.0
+  way_costs None (way.ByVerifier b view) f h i = let q = i.0 in cc
+  way_costs (Some n) (way.ByVerifier b view) f h i = cost_none a k m f h.0
 
 valid_named : (v : List Meaning) (m : MessageOctets) (s : SignatureParts) (k : KeyParts) (a : Alg) → alg s ≡ Some a → valid_by v m s k ≡ valid_under v a k.octets m s.octets
 unfolding valid_by
@@ -176,10 +176,10 @@ cost_named m s k a e = rw e refl
 
 -- ---- the next pair
 
-pub none_next : {V : Type 0} {D : V → Type 0} (means : Means V D) (a : Asked V D) (u : LiveSignature V D) (from : ℕ) → IsLive means a u
+pub none_next : {V : Type 0} {D : V → Type 0} (means : Means V D) (a : CodeTerms V D) (u : LiveSignature V D) (from : ℕ) → IsLive means a u
     → IsLeastFrom (fits a.policy.now (parts u.signature.now)) (key_set a.keys.now).keys from None
-    → NoneEligible (asked_table means a u.signed.now) u.number from (asked_table means a u.signed.now).keys
-unfolding asked_table
+    → NoneEligible (terms_table means a u.signed.now) u.number from (terms_table means a u.signed.now).keys
+unfolding terms_table
 none_next means a u from o h = next_is a.policy.now (map means a.verifiers.now) (key_set a.keys.now).keys (token u.signed.now) u.number from (parts u.signature.now) None o.signature o.unbarred h
 
 key_fits : (f : KeyParts → Bool) (ks : List KeyParts) (j : ℕ) (k : KeyParts) → option_map_or f (slice_get ks j) false ≡ true → slice_get ks j ≡ Some k → f k ≡ true
@@ -188,13 +188,13 @@ key_fits f ks j k h e = rw e at h
 key_suits : (p : Settings) (s : SignatureParts) (ks : List KeyParts) (from j : ℕ) (k : KeyParts) (a : Alg) → alg s ≡ Some a → IsLeastFrom (fits p s) ks from (Some j) → slice_get ks j ≡ Some k → suits a k.octets ≡ true
 key_suits p s ks from j k a n h e = fits_suits p s k a n (key_fits (fits p s) ks j k h.1 e)
 
-pub some_next : {V : Type 0} {D : V → Type 0} (means : Means V D) (a : Asked V D) (u : LiveSignature V D) (from : ℕ) (p : Pair V D) (k : KeyParts) (view : KeyOctets) → IsLive means a u
+pub some_next : {V : Type 0} {D : V → Type 0} (means : Means V D) (a : CodeTerms V D) (u : LiveSignature V D) (from : ℕ) (p : Pair V D) (k : KeyParts) (view : KeyOctets) → IsLive means a u
     → IsLeastFrom (fits a.policy.now (parts u.signature.now)) (key_set a.keys.now).keys from (Some p.key)
     → slice_get (key_set a.keys.now).keys p.key ≡ Some k
     → view ≡ k.octets → IsWay means (option_map (λ v. means v.now) u.verifier) view (Some p.way)
     → p.signature ≡ u.number → p.alg ≡ u.alg → message_octets p.message ≡ message_of (token u.signed.now) (parts u.signature.now) → p.octets.now ≡ (parts u.signature.now).octets
-    → IsNextPair means (asked_table means a u.signed.now) u.number from p
-unfolding asked_table
+    → IsNextPair means (terms_table means a u.signed.now) u.number from p
+unfolding terms_table
 some_next means a u from p k view o h e same way number named message octets =
     let v = map means a.verifiers.now in
     let ks = (key_set a.keys.now).keys in
@@ -219,17 +219,17 @@ some_next means a u from p k view o h e same way number named message octets =
 
 -- ---- there are few pairs
 
-pub asked_few : {V : Type 0} {D : V → Type 0} (means : Means V D) (a : Asked V D) (signed : Signed) → (asked_table means a signed).keys ≤ 1024
-unfolding asked_table
-asked_few means a signed = rw (length-map a.keys.now.keys.items key_parts) a.keys.now.few
+pub terms_few : {V : Type 0} {D : V → Type 0} (means : Means V D) (a : CodeTerms V D) (signed : Signed) → (terms_table means a signed).keys ≤ 1024
+unfolding terms_table
+terms_few means a signed = rw (length-map a.keys.now.keys.items key_parts) a.keys.now.few
 
-pub asked_small : {V : Type 0} {D : V → Type 0} (means : Means V D) (a : Asked V D) (signed : Signed) → (asked_table means a signed).signatures * (asked_table means a signed).keys < 2 ^ 32
-unfolding asked_table
-asked_small means a signed = few_pairs (length (token signed).signatures) (length (key_set a.keys.now).keys)
-    (omega (arith, length-map signed.more.items parts, signed.few)) (asked_few means a signed)
+pub terms_small : {V : Type 0} {D : V → Type 0} (means : Means V D) (a : CodeTerms V D) (signed : Signed) → (terms_table means a signed).signatures * (terms_table means a signed).keys < 2 ^ 32
+unfolding terms_table
+terms_small means a signed = few_pairs (length (token signed).signatures) (length (key_set a.keys.now).keys)
+    (omega (arith, length-map signed.more.items parts, signed.few)) (terms_few means a signed)
 
-pub next_few : {V : Type 0} {D : V → Type 0} (means : Means V D) (a : Asked V D) (signed : Signed) {i from j : ℕ} → IsNextKey (asked_table means a signed) i from j → j < 1024
-next_few means a signed n = omega (arith, n.within, asked_few means a signed)
+pub next_few : {V : Type 0} {D : V → Type 0} (means : Means V D) (a : CodeTerms V D) (signed : Signed) {i from j : ℕ} → IsNextKey (terms_table means a signed) i from j → j < 1024
+next_few means a signed n = omega (arith, n.within, terms_few means a signed)
 
 slice_within : {X : Type 0} (xs : List X) (i : ℕ) → i < length xs → slice_get xs i ≡ None → ⊥
 slice_within [] i l h = absurd (omega arith)
@@ -245,10 +245,10 @@ none_past xs i l h = elim (cases_lt i (length xs)) [
 
 -- ---- what is said of an unbarred signature is said of the one of that number
 
-pub of_numbered : {V : Type 0} {D : V → Type 0} {means : Means V D} {a : Asked V D} {n : Numbered} {u : LiveSignature V D} (P : Table → ℕ → Type 0) → IsLiveOf means a n u
-    → P (asked_table means a n.signed.now) n.number → P (asked_table means a u.signed.now) u.number
+pub of_numbered : {V : Type 0} {D : V → Type 0} {means : Means V D} {a : CodeTerms V D} {n : Numbered} {u : LiveSignature V D} (P : Table → ℕ → Type 0) → IsLiveOf means a n u
+    → P (terms_table means a n.signed.now) n.number → P (terms_table means a u.signed.now) u.number
 of_numbered P h p = rw (h.same_token, h.same_number) p
 
-pub to_numbered : {V : Type 0} {D : V → Type 0} {means : Means V D} {a : Asked V D} {n : Numbered} {u : LiveSignature V D} (P : Table → ℕ → Type 0) → IsLiveOf means a n u
-    → P (asked_table means a u.signed.now) u.number → P (asked_table means a n.signed.now) n.number
+pub to_numbered : {V : Type 0} {D : V → Type 0} {means : Means V D} {a : CodeTerms V D} {n : Numbered} {u : LiveSignature V D} (P : Table → ℕ → Type 0) → IsLiveOf means a n u
+    → P (terms_table means a u.signed.now) u.number → P (terms_table means a n.signed.now) n.number
 to_numbered P h p = rw (sym h.same_token, sym h.same_number) p

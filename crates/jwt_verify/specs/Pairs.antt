@@ -6,14 +6,14 @@ use Rattle.jwt_mac.specs.Algorithm.{is_hmac_alg, tag_of, try_cost}
 use Rattle.jwt_mac.specs.Verifying.{Meaning, KeyOctets, OctKey, MessageOctets, key_octets, message_octets, signing_input, first_naming}
 use Rattle.jwt_jws.specs.Views.{token, parts}
 use Rattle.jwt_policy.specs.Bars.{alg, bar_of}
-use Rattle.jwt_verify.specs.declared.asked.Asked.{Asked}
+use Rattle.jwt_verify.specs.declared.terms.Terms.{Terms as CodeTerms}
 use Rattle.jwt_verify.specs.declared.live_signature.Numbered.{Numbered}
 use Rattle.jwt_verify.specs.declared.live_signature.LiveSignature.{LiveSignature}
 use Rattle.jwt_verify.specs.declared.pair.Way.{Way}
 use Rattle.jwt_verify.specs.declared.pair.Way.TheVariants as way
 use Rattle.jwt_verify.specs.declared.pair.Pair.{Pair}
 use Rattle.jwt_verify.specs.declared.report.Try.{Try}
-use Rattle.jwt_verify.specs.AskedTable.{Means}
+use Rattle.jwt_verify.specs.TermsTable.{Means}
 use Rattle.jwt_verify.specs.declared.tries.Tried.{Tried}
 use Rattle.jwt_verify.specs.declared.tries.Tried.TheVariants.{Verified, Failed, Stop}
 use Rattle.jwt_verify.specs.declared.tries.End.{End}
@@ -32,48 +32,48 @@ IsVerifier verifiers algorithm None = is_hmac_alg algorithm ≡ true
 IsVerifier verifiers algorithm (Some verifier) = (is_hmac_alg algorithm ≡ false) × (first_naming verifiers algorithm ≡ Some verifier)
 
 -- it is this signature of its token, nothing bars it, and its algorithm and its verifier are these
-pub record IsLive {V : Type 0} {D : V → Type 0} (means : Means V D) (asked : Asked V D) (live : LiveSignature V D) : Type 0 where
+pub record IsLive {V : Type 0} {D : V → Type 0} (means : Means V D) (terms : CodeTerms V D) (live : LiveSignature V D) : Type 0 where
   pub signature : slice_get (token live.signed.now).signatures live.number ≡ Some (parts live.signature.now)
-  pub unbarred : bar_of asked.policy.now (parts live.signature.now) (map means asked.verifiers.now) ≡ None
+  pub unbarred : bar_of terms.policy.now (parts live.signature.now) (map means terms.verifiers.now) ≡ None
   pub named : alg (parts live.signature.now) ≡ Some live.alg
-  pub verifier : IsVerifier (map means asked.verifiers.now) live.alg (option_map (λ v. means v.now) live.verifier)
+  pub verifier : IsVerifier (map means terms.verifiers.now) live.alg (option_map (λ v. means v.now) live.verifier)
 
 -- it is this one of its token
 abbrev pub IsThere : Numbered → Type 0
 IsThere numbered = slice_get (token numbered.signed.now).signatures numbered.number ≡ Some (parts numbered.signature.now)
 
-pub record IsLiveOf {V : Type 0} {D : V → Type 0} (means : Means V D) (asked : Asked V D) (numbered : Numbered) (live : LiveSignature V D) : Type 0 where
+pub record IsLiveOf {V : Type 0} {D : V → Type 0} (means : Means V D) (terms : CodeTerms V D) (numbered : Numbered) (live : LiveSignature V D) : Type 0 where
   pub same_token : live.signed.now ≡ numbered.signed.now
   pub same_number : live.number ≡ numbered.number
-  pub is_live : IsLive means asked live
+  pub is_live : IsLive means terms live
 
 -- ---- the try of a pair
 
 -- tags are for HMAC, verifiers for other algorithms
 abbrev pub IsFor : {V : Type 0} {D : V → Type 0} → Alg → Way V D → Type 0
 IsFor algorithm (way.Tag secret) = is_hmac_alg algorithm ≡ true
-IsFor algorithm (way.Asked verifier key) = is_hmac_alg algorithm ≡ false
+IsFor algorithm (way.ByVerifier verifier key) = is_hmac_alg algorithm ≡ false
 
 -- by the algorithm and the key: a secret gives a tag, and the verifier is asked about the key
 abbrev pub IsWay : {V : Type 0} {D : V → Type 0} → Means V D → Option Meaning → KeyOctets → Option (Way V D) → Type 0
 IsWay means verifier key None = (verifier ≡ None) × ((secret : List ℕ) → key ≢ OctKey secret)
 IsWay means verifier key (Some (way.Tag secret)) = (verifier ≡ None) × (key ≡ OctKey secret.now)
-IsWay means verifier key (Some (way.Asked asked view)) = (verifier ≡ Some (means asked.now)) × (key ≡ key_octets view)
+IsWay means verifier key (Some (way.ByVerifier asked view)) = (verifier ≡ Some (means asked.now)) × (key ≡ key_octets view)
 
 -- the signature is the tag, or the verifier accepts it
 abbrev pub way_accepts : {V : Type 0} {D : V → Type 0} → Means V D → Alg → MessageOctets → List ℕ → Way V D → Bool
 way_accepts means algorithm message signature (way.Tag secret) = bytes_eq signature (tag_of algorithm secret.now (signing_input message))
-way_accepts means algorithm message signature (way.Asked verifier key) = (means verifier.now).accepts algorithm (key_octets key) message signature
+way_accepts means algorithm message signature (way.ByVerifier verifier key) = (means verifier.now).accepts algorithm (key_octets key) message signature
 
 -- the verifier may lack memory
 abbrev pub way_may_lack : {V : Type 0} {D : V → Type 0} → Means V D → Alg → MessageOctets → List ℕ → Way V D → Bool
 way_may_lack means algorithm message signature (way.Tag secret) = false
-way_may_lack means algorithm message signature (way.Asked verifier key) = (means verifier.now).may_lack algorithm (key_octets key) message signature
+way_may_lack means algorithm message signature (way.ByVerifier verifier key) = (means verifier.now).may_lack algorithm (key_octets key) message signature
 
 -- the octets that the try feeds to HMAC (RFC 2104, section 2)
 abbrev pub way_cost : {V : Type 0} {D : V → Type 0} → Alg → MessageOctets → Way V D → ℕ
 way_cost algorithm message (way.Tag secret) = try_cost algorithm (length secret.now) (length (signing_input message))
-way_cost algorithm message (way.Asked verifier key) = 0
+way_cost algorithm message (way.ByVerifier verifier key) = 0
 
 abbrev pub pair_accepts : {V : Type 0} {D : V → Type 0} → Means V D → Pair V D → Bool
 pair_accepts means pair = way_accepts means pair.alg (message_octets pair.message) pair.octets.now pair.way

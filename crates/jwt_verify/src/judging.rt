@@ -5,7 +5,7 @@ ghost use Rattle.std.specs.List.{AllPairs};
 ghost use Rattle.jwt_text.specs.Answers.{Answers};
 ghost use Rattle.jwt_jws.specs.Views.{token};
 ghost use Rattle.jwt_verify.specs.Table.{work, paid};
-ghost use Rattle.jwt_verify.specs.AskedTable.{asked_terms, asked_table};
+ghost use Rattle.jwt_verify.specs.TermsTable.{terms_meant, terms_table};
 ghost use Rattle.jwt_verify.specs.Verdict.{token_verdict, token_of, without_line_feed};
 ghost use Rattle.jwt_verify.specs.Asks.{IsToken};
 ghost use Rattle.jwt_verify.specs.Accepted.{IsTokenFault, IsVerdict};
@@ -19,7 +19,7 @@ ghost use Rattle.jwt_verify.specs.declared.report.Fault.TheVariants.{OutOfMemory
 ghost use Rattle.jwt_verify.specs.declared.report.Verdict.TheVariants.{Refused};
 ghost use Rattle.jwt_verify.specs.declared.report.Try.{Try};
 
-use crate::asked::Asked;
+use crate::terms::Terms;
 use crate::conclusion::verdict_after;
 use crate::laws::reports_in_words;
 use crate::report::{Fault, InputFault, Report, Verdict};
@@ -100,7 +100,7 @@ pub struct JudgedToken<'a, 'p> {
 /// The verdict on a signed token.
 fn judge_token<'p, B: Budget>(
     alloc: Global,
-    asked: &Asked<'_, 'p, '_>,
+    terms: &Terms<'_, 'p, '_>,
     signed: &Signed<'_>,
     budget: &mut B,
     scratch: &mut Scratch,
@@ -108,12 +108,12 @@ fn judge_token<'p, B: Budget>(
     requires no_octets { B.octets budget.old ≡ 0 }
     requires no_calls { B.calls budget.old ≡ 0 }
     ensures verdict { FoundMemory result.verdict → result.verdict
-        ≡ token_verdict (asked_terms meaning asked.now) (B.ceiling budget.old) (token signed.now) }
-    ensures tries { IsWhole (asked_table meaning asked.now signed.now)
-        (B.ceiling budget.old) asked.now.policy.now.max_calls
+        ≡ token_verdict (terms_meant meaning terms.now) (B.ceiling budget.old) (token signed.now) }
+    ensures tries { IsWhole (terms_table meaning terms.now signed.now)
+        (B.ceiling budget.old) terms.now.policy.now.max_calls
         result.tries.items result.states.items result.verdict }
-    ensures front { (more : List Try) × (paid (asked_table meaning asked.now signed.now)
-        (B.ceiling budget.old) asked.now.policy.now.max_calls ≡ result.tries.items ++ more) }
+    ensures front { (more : List Try) × (paid (terms_table meaning terms.now signed.now)
+        (B.ceiling budget.old) terms.now.policy.now.max_calls ≡ result.tries.items ++ more) }
     ensures octets { B.octets budget.new ≡ work result.tries.items }
     ensures calls { B.calls budget.new ≡ length result.tries.items }
     ensures ceiling { B.ceiling budget.new ≡ B.ceiling budget.old }
@@ -121,8 +121,8 @@ fn judge_token<'p, B: Budget>(
 {
     let mut tries = Vec::new(alloc);
     let mut states = Vec::new(alloc);
-    let verdict = match run(asked, signed, budget, &mut tries, &mut states) {
-        Ok(outcome) => verdict_after(alloc, asked, signed.payload(), outcome, scratch),
+    let verdict = match run(terms, signed, budget, &mut tries, &mut states) {
+        Ok(outcome) => verdict_after(alloc, terms, signed.payload(), outcome, scratch),
         Err(_) => Verdict::Refused(Fault::OutOfMemory),
     };
     Report {
@@ -148,27 +148,27 @@ fn refused<'p>(alloc: Global, fault: Fault<'p>) -> Report<'p>
 /// The report on octets in hand, by the steps of the definitions, with the token.
 fn judge_octets<'a, 'p, B: Budget>(
     alloc: Global,
-    asked: &Asked<'_, 'p, '_>,
+    terms: &Terms<'_, 'p, '_>,
     octets: &'a [u8],
     budget: &mut B,
     scratch: &mut Scratch,
 ) -> JudgedToken<'a, 'p>
     requires no_octets { B.octets budget.old ≡ 0 }
     requires no_calls { B.calls budget.old ≡ 0 }
-    ensures listed { IsListed (asked_terms meaning asked.now)
+    ensures listed { IsListed (terms_meant meaning terms.now)
         octets.now (B.ceiling budget.old) result.report }
-    ensures token { IsReadAs asked.now.policy.now octets.now result.report.verdict result.token }
+    ensures token { IsReadAs terms.now.policy.now octets.now result.report.verdict result.token }
     ensures read { result.report.verdict ≢ Refused (Text Read) }
     ensures memory { result.report.verdict ≡ Refused OutOfMemory
-        → TakesMemory asked.now.policy.now octets.now }
+        → TakesMemory terms.now.policy.now octets.now }
     ensures octets { B.octets budget.new ≡ work result.report.tries.items }
     ensures calls { B.calls budget.new ≡ length result.report.tries.items }
     ensures ceiling { B.ceiling budget.new ≡ B.ceiling budget.old }
 {
     signed_tokens();
-    match read_with(alloc, octets, asked.policy, scratch) {
+    match read_with(alloc, octets, terms.policy, scratch) {
         Ok(signed) => JudgedToken {
-            report: judge_token(alloc, asked, &signed, budget, scratch),
+            report: judge_token(alloc, terms, &signed, budget, scratch),
             token: Some(signed),
         },
         Err(fault) => JudgedToken {
@@ -231,7 +231,7 @@ pub fn judge<'p, B: Budget>(
     ensures ceiling { B.ceiling budget.new ≡ B.ceiling budget.old }
 {
     reports_in_words();
-    let asked = Asked {
+    let terms = Terms {
         keys,
         policy,
         moment: now,
@@ -240,7 +240,7 @@ pub fn judge<'p, B: Budget>(
     let mut scratch = Scratch::new(alloc);
     let JudgedToken { report, token: _ } = judge_octets(
         alloc,
-        &asked,
+        &terms,
         octets,
         budget,
         &mut scratch,
@@ -248,9 +248,45 @@ pub fn judge<'p, B: Budget>(
     report
 }
 
-/// The report as [`judge`] gives it, with the token that was read for it: a caller who has more to ask
+/// The report as [`judge`] gives it under these terms, with the token that was read for it: a caller who has more to ask
 /// of the token needn't read it again. A caller with many tokens keeps the scratch from one to the next: it is what reading
 /// needs beside its result, and nothing depends on what it holds.
+///
+/// The condition: the budget is new.
+///
+/// # Refused
+/// As [`judge`] refuses.
+pub fn judge_under<'a, 'p, B: Budget>(
+    alloc: Global,
+    octets: &'a [u8],
+    terms: &Terms<'_, 'p, '_>,
+    budget: &mut B,
+    scratch: &mut Scratch,
+) -> JudgedToken<'a, 'p>
+    requires no_octets { B.octets budget.old ≡ 0 }
+    requires no_calls { B.calls budget.old ≡ 0 }
+
+    // The report is the one of `judge`.
+    ensures report { IsReport (terms_meant meaning terms.now)
+        octets.now (B.ceiling budget.old) result.report }
+    ensures read { result.report.verdict ≢ Refused (Text Read) }
+    ensures memory { result.report.verdict ≡ Refused OutOfMemory
+        → TakesMemory terms.now.policy.now octets.now }
+    ensures within { IsWithin terms.now.policy.now.max_calls (B.calls budget.new) }
+
+    // The token is the one that the octets are.
+    ensures token { IsReadAs terms.now.policy.now octets.now result.report.verdict result.token }
+
+    // The budget agrees with the tries.
+    ensures octets { B.octets budget.new ≡ work result.report.tries.items }
+    ensures calls { B.calls budget.new ≡ length result.report.tries.items }
+    ensures ceiling { B.ceiling budget.new ≡ B.ceiling budget.old }
+{
+    reports_in_words();
+    judge_octets(alloc, terms, octets, budget, scratch)
+}
+
+/// The report as [`judge`] gives it, with the token that was read for it, as [`judge_under`] hands it out.
 ///
 /// The condition: the budget is new.
 ///
@@ -285,14 +321,13 @@ pub fn judge_signed<'a, 'p, B: Budget>(
     ensures calls { B.calls budget.new ≡ length result.report.tries.items }
     ensures ceiling { B.ceiling budget.new ≡ B.ceiling budget.old }
 {
-    reports_in_words();
-    let asked = Asked {
+    let terms = Terms {
         keys,
         policy,
         moment: now,
         verifiers,
     };
-    judge_octets(alloc, &asked, octets, budget, scratch)
+    judge_under(alloc, octets, &terms, budget, scratch)
 }
 
 /// The octets of the source, as far as they are looked at: all, or one more than the limit.

@@ -4,10 +4,10 @@ ghost use Rattle.std.specs.Prelude.{◌≡◌, Some, MatchResult};
 ghost use Rattle.jwt_mac.specs.Verifying.{message_octets};
 ghost use Rattle.jwt_jws.specs.Token.{message_of};
 ghost use Rattle.jwt_jws.specs.Views.{parts, token};
-ghost use Rattle.jwt_verify.specs.AskedTable.{asked_table};
+ghost use Rattle.jwt_verify.specs.TermsTable.{terms_table};
 ghost use Rattle.jwt_verify.specs.Pairs.{IsThere, IsLiveOf};
 
-use crate::asked::Asked;
+use crate::terms::Terms;
 use jwt_jws::{Signature, Signed};
 use jwt_mac::{Alg, Message, Verifier, first_for};
 use jwt_policy::laws::bar_is_first_row;
@@ -36,13 +36,13 @@ pub(crate) struct LiveSignature<'s, 't, 'v> {
 impl<'s, 't, 'v> LiveSignature<'s, 't, 'v> {
     /// The signature, or what bars it. Its algorithm and its verifier are looked up once.
     pub(crate) fn of(
-        asked: &Asked<'_, '_, 'v>,
+        terms: &Terms<'_, '_, 'v>,
         numbered: &Numbered<'s, 't>,
     ) -> Result<LiveSignature<'s, 't, 'v>, SigFault>
         requires { IsThere numbered.now }
         ensures { MatchResult result
-            (IsLiveOf meaning asked.now numbered.now)
-            (λ f. (asked_table meaning asked.now numbered.now.signed.now).bar numbered.now.number
+            (IsLiveOf meaning terms.now numbered.now)
+            (λ f. (terms_table meaning terms.now numbered.now.signed.now).bar numbered.now.number
             ≡ Some f) }
     {
         bar_is_first_row();
@@ -51,7 +51,7 @@ impl<'s, 't, 'v> LiveSignature<'s, 't, 'v> {
             number,
             signature,
         } = *numbered;
-        if let Some(fault) = bar(asked.policy, signature, asked.verifiers) {
+        if let Some(fault) = bar(terms.policy, signature, terms.verifiers) {
             return Err(fault);
         }
         let Some(alg) = known_alg(signature) else {
@@ -60,7 +60,7 @@ impl<'s, 't, 'v> LiveSignature<'s, 't, 'v> {
         let verifier = if alg.is_hmac() {
             None
         } else {
-            first_for(asked.verifiers, alg)
+            first_for(terms.verifiers, alg)
         };
         Ok(LiveSignature {
             signed,

@@ -9,11 +9,11 @@ ghost use Rattle.jwt_keys.specs.Numbers.{IsLeastFrom};
 ghost use Rattle.jwt_keys.specs.KeySets.{key_set};
 ghost use Rattle.jwt_policy.specs.Bars.{alg};
 ghost use Rattle.jwt_policy.specs.Eligible.{fits};
-ghost use Rattle.jwt_verify.specs.AskedTable.{asked_table};
+ghost use Rattle.jwt_verify.specs.TermsTable.{terms_table};
 ghost use Rattle.jwt_verify.specs.Walk.{NoneEligible};
 ghost use Rattle.jwt_verify.specs.Pairs.{IsLive, IsWay, IsNextPair};
 
-use crate::asked::Asked;
+use crate::terms::Terms;
 use crate::pair::{Pair, Way};
 use crate::live_signature::LiveSignature;
 use jwt_keys::KeySet;
@@ -97,7 +97,7 @@ fn way<'k, 'v>(live: &LiveSignature<'_, '_, 'v>, key: KeyView<'k>) -> Option<Way
         (key_octets key.entry) result }
 {
     match (live.verifier, key) {
-        (Some(verifier), key) => Some(Way::Asked(verifier, key)),
+        (Some(verifier), key) => Some(Way::ByVerifier(verifier, key)),
         (None, KeyView::Oct { k }) => Some(Way::Tag(k)),
         (None, _) => None,
     }
@@ -105,20 +105,20 @@ fn way<'k, 'v>(live: &LiveSignature<'_, '_, 'v>, key: KeyView<'k>) -> Option<Way
 
 /// The first eligible key of the signature at or after a number, as it is tried.
 pub(crate) fn next_eligible<'s, 'k, 'v>(
-    asked: &Asked<'k, '_, 'v>,
+    terms: &Terms<'k, '_, 'v>,
     live: &LiveSignature<'s, '_, 'v>,
     from: u32,
 ) -> Option<Pair<'s, 'k, 'v>>
-    requires { IsLive meaning asked.now live.now }
-    ensures { let t = asked_table meaning asked.now live.now.signed.now in
+    requires { IsLive meaning terms.now live.now }
+    ensures { let t = terms_table meaning terms.now live.now.signed.now in
         MatchOption result
         (NoneEligible t live.now.number from t.keys)
         (IsNextPair meaning t live.now.number from) }
 {
-    let Some(number) = next_fitting(asked.policy, asked.keys, live, from) else {
+    let Some(number) = next_fitting(terms.policy, terms.keys, live, from) else {
         return None;
     };
-    let Some(key) = asked.keys.key(number) else {
+    let Some(key) = terms.keys.key(number) else {
         return None;
     };
     let Some(way) = way(live, key.view()) else {

@@ -12,7 +12,7 @@ pub(crate) enum Way<'k, 'v> {
     /// With the tag of the message under this secret (RFC 7518, section 3.2).
     Tag(&'k [u8]),
     /// By this verifier, which is asked about this key.
-    Asked(&'v Box<dyn Verifier>, KeyView<'k>),
+    ByVerifier(&'v Box<dyn Verifier>, KeyView<'k>),
 }
 
 /// A signature and a key that is eligible for it, as they are tried.
@@ -59,6 +59,6 @@ pub(crate) fn try_pair<B: Budget>(pair: &Pair<'_, '_, '_>, budget: &mut B) -> Re
                 Ok(Answer::Invalid)
             }
         }
-        Way::Asked(verifier, key) => Ok(ask(budget, verifier, alg, &key, message, octets)),
+        Way::ByVerifier(verifier, key) => Ok(ask(budget, verifier, alg, &key, message, octets)),
     }
 }

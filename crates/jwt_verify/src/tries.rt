@@ -5,10 +5,10 @@ ghost use Rattle.jwt_jws.specs.Views.{token};
 ghost use Rattle.jwt_verify.specs.Table.{work, is_within, paid, IsWholeRun};
 ghost use Rattle.jwt_verify.specs.Walk.{HasComeTo, IsCounted, IsRowEnd, IsEnd, stopped_at, goes_on, IsRecorded};
 ghost use Rattle.jwt_verify.specs.Paying.{IsFront};
-ghost use Rattle.jwt_verify.specs.AskedTable.{asked_table};
+ghost use Rattle.jwt_verify.specs.TermsTable.{terms_table};
 ghost use Rattle.jwt_verify.specs.Pairs.{IsFor, IsThere, IsTried, IsSigned};
 
-use crate::asked::Asked;
+use crate::terms::Terms;
 use crate::next_key::next_eligible;
 use crate::pair::{Pair, try_pair};
 use crate::report::{SigState, Try};
@@ -111,33 +111,33 @@ fn pay<B: Budget>(
 
 /// The tries of one signature: where nothing bars it, its eligible keys in ascending order, until one verifies it or the run stops.
 fn try_signature<'v, B: Budget>(
-    asked: &Asked<'_, '_, 'v>,
+    terms: &Terms<'_, '_, 'v>,
     numbered: &Numbered<'_, '_>,
     budget: &mut B,
     tries: &mut Vec<Try>,
 ) -> Result<RowEnd, AllocError>
     requires there { IsThere numbered.now }
-    requires at { HasComeTo (asked_table meaning asked.now numbered.now.signed.now)
+    requires at { HasComeTo (terms_table meaning terms.now numbered.now.signed.now)
         numbered.now.number 0 tries.old.items }
     requires counted { IsCounted (B.octets budget.old) (B.calls budget.old) (B.ceiling budget.old)
-        asked.now.policy.now.max_calls tries.old.items }
+        terms.now.policy.now.max_calls tries.old.items }
     ensures ceiling { B.ceiling budget.new ≡ B.ceiling budget.old }
     ensures counted { IsCounted (B.octets budget.new) (B.calls budget.new) (B.ceiling budget.old)
-        asked.now.policy.now.max_calls tries.new.items }
-    ensures end { let t = asked_table meaning asked.now numbered.now.signed.now in
+        terms.now.policy.now.max_calls tries.new.items }
+    ensures end { let t = terms_table meaning terms.now numbered.now.signed.now in
         MatchResult result
         (IsRowEnd t numbered.now.number
-        (B.ceiling budget.old) asked.now.policy.now.max_calls tries.new.items)
+        (B.ceiling budget.old) terms.now.policy.now.max_calls tries.new.items)
         (λ _. IsFront t tries.new.items) }
 {
-    let live = match LiveSignature::of(asked, numbered) {
+    let live = match LiveSignature::of(terms, numbered) {
         Ok(live) => live,
         Err(fault) => return Ok(RowEnd::Through(SignatureOutcome::Barred(fault))),
     };
     let mut outcome = SignatureOutcome::NoKey;
     let mut from = 0;
-    'keys: while let Some(pair) = next_eligible(asked, &live, from) {
-        match pay(&pair, asked.policy.max_calls(), budget, tries)? {
+    'keys: while let Some(pair) = next_eligible(terms, &live, from) {
+        match pay(&pair, terms.policy.max_calls(), budget, tries)? {
             Tried::Verified => return Ok(RowEnd::Through(SignatureOutcome::Verified(pair.key))),
             Tried::Failed => outcome = SignatureOutcome::BadSignature,
             Tried::Stop(end) => return Ok(RowEnd::Stop(end)),
@@ -160,7 +160,7 @@ fn runs_on(mode: Mode, verified: bool) -> bool
 /// The tries of the signatures in order, as far as the mode goes on (RFC 7515, section 5.2), and the states of those that were
 /// reached. The signature that ends the run decides what they come to, or the first one where the run goes through all.
 fn walk<B: Budget>(
-    asked: &Asked<'_, '_, '_>,
+    terms: &Terms<'_, '_, '_>,
     signed: &Signed<'_>,
     budget: &mut B,
     tries: &mut Vec<Try>,
@@ -172,15 +172,15 @@ fn walk<B: Budget>(
     requires no_calls { B.calls budget.old ≡ 0 }
     ensures ceiling { B.ceiling budget.new ≡ B.ceiling budget.old }
     ensures counted { IsCounted (B.octets budget.new) (B.calls budget.new) (B.ceiling budget.old)
-        asked.now.policy.now.max_calls tries.new.items }
-    ensures end { let t = asked_table meaning asked.now signed.now in
+        terms.now.policy.now.max_calls tries.new.items }
+    ensures end { let t = terms_table meaning terms.now signed.now in
         MatchResult result
-        (λ o. IsEnd t (B.ceiling budget.old) asked.now.policy.now.max_calls tries.new.items o.end)
+        (λ o. IsEnd t (B.ceiling budget.old) terms.now.policy.now.max_calls tries.new.items o.end)
         (λ _. IsFront t tries.new.items) }
-    ensures states { let t = asked_table meaning asked.now signed.now in
+    ensures states { let t = terms_table meaning terms.now signed.now in
         IfOk result (λ o. IsRecorded t (stopped_at t o.end) states.new.items) }
     ensures signing { IfOk result
-        (λ o. IsSigned (asked_table meaning asked.now signed.now) o.signing o.end) }
+        (λ o. IsSigned (terms_table meaning terms.now signed.now) o.signing o.end) }
 {
     let mut signing = Signing::Unverified(0, SigFault::NoKey);
     let mut number = 0;
@@ -190,7 +190,7 @@ fn walk<B: Budget>(
             number,
             signature,
         };
-        let outcome = match try_signature(asked, &numbered, budget, tries)? {
+        let outcome = match try_signature(terms, &numbered, budget, tries)? {
             RowEnd::Through(outcome) => outcome,
             RowEnd::Stop(end) => {
                 states.push(SigState::Stopped)?;
@@ -198,7 +198,7 @@ fn walk<B: Budget>(
             }
         };
         states.push(outcome.state())?;
-        if !runs_on(asked.policy.mode(), outcome.is_verified()) {
+        if !runs_on(terms.policy.mode(), outcome.is_verified()) {
             return Ok(RunOutcome {
                 end: End::Done,
                 signing: outcome.decides(number),
@@ -230,7 +230,7 @@ fn fill(states: &mut Vec<SigState>, count: u32) -> Result<(), AllocError>
 
 /// Tries the pairs of a token and a list of keys, within the budget's ceiling and the policy's `max_calls`.
 pub(crate) fn run<B: Budget>(
-    asked: &Asked<'_, '_, '_>,
+    terms: &Terms<'_, '_, '_>,
     signed: &Signed<'_>,
     budget: &mut B,
     tries: &mut Vec<Try>,
@@ -245,16 +245,16 @@ pub(crate) fn run<B: Budget>(
     ensures ceiling { B.ceiling budget.new ≡ B.ceiling budget.old }
     ensures octets { B.octets budget.new ≡ work tries.new.items }
     ensures calls { B.calls budget.new ≡ length tries.new.items }
-    ensures front { (more : List Try) × (paid (asked_table meaning asked.now signed.now)
-        (B.ceiling budget.old) asked.now.policy.now.max_calls ≡ tries.new.items ++ more) }
+    ensures front { (more : List Try) × (paid (terms_table meaning terms.now signed.now)
+        (B.ceiling budget.old) terms.now.policy.now.max_calls ≡ tries.new.items ++ more) }
 
-    ensures run { IfOk result (λ o. IsWholeRun (asked_table meaning asked.now signed.now)
-        (B.ceiling budget.old) asked.now.policy.now.max_calls tries.new.items states.new.items
+    ensures run { IfOk result (λ o. IsWholeRun (terms_table meaning terms.now signed.now)
+        (B.ceiling budget.old) terms.now.policy.now.max_calls tries.new.items states.new.items
         o.end) }
     ensures signing { IfOk result
-        (λ o. IsSigned (asked_table meaning asked.now signed.now) o.signing o.end) }
+        (λ o. IsSigned (terms_table meaning terms.now signed.now) o.signing o.end) }
 {
-    let outcome = walk(asked, signed, budget, tries, states)?;
+    let outcome = walk(terms, signed, budget, tries, states)?;
     fill(states, signed.count())?;
     Ok(outcome)
 }

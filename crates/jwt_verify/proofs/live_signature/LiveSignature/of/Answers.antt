@@ -1,27 +1,27 @@
 use Rattle.std.proofs.Common.{sym, ◌∙◌, refl, map}
 use Rattle.std.specs.Prelude.{option_map}
 use Rattle.jwt_jws.specs.Views.{parts}
-use Rattle.jwt_verify.proofs.Pairs.{asked_bar, named_alg, named_verified, verifier_hmac, verifier_first}
+use Rattle.jwt_verify.proofs.Pairs.{terms_bar, named_alg, named_verified, verifier_hmac, verifier_first}
 use Rattle.jwt_verify.specs.Pairs.{IsVerifier}
 use Rattle.jwt_verify.proofs.live_signature.LiveSignature.of.Goals.{then-is_hmac, else-is_hmac}
 use Rattle.jwt_verify.proofs.live_signature.LiveSignature.of.Goals as goal
 
 pub returns-in-Some : goal.returns-in-Some
 returns-in-Some g c =
-    asked_bar (λ b. (goal.Verifier-dyn g (b.vtable, b.value)).meaning b.value) c.args.asked.now c.args.numbered.now.signed.now c.args.numbered.now.number (parts c.args.numbered.now.signature.now) _ c.requires (sym c.in-Some.is ∙ c.bar.ensures)
+    terms_bar (λ b. (goal.Verifier-dyn g (b.vtable, b.value)).meaning b.value) c.args.terms.now c.args.numbered.now.signed.now c.args.numbered.now.number (parts c.args.numbered.now.signature.now) _ c.requires (sym c.in-Some.is ∙ c.bar.ensures)
 
 pub returns-in_default-known_alg : goal.returns-in_default-known_alg
 returns-in_default-known_alg g c =
-    let v = map (λ b. (goal.Verifier-dyn g (b.vtable, b.value)).meaning b.value) c.args.asked.now.verifiers.now in
+    let v = map (λ b. (goal.Verifier-dyn g (b.vtable, b.value)).meaning b.value) c.args.terms.now.verifiers.now in
     let s = parts c.args.numbered.now.signature.now in
-    let unbarred = (c.bar_is_first_row.ensures.none c.args.asked.now.policy.now s v).0 (sym c.bar.ensures ∙ c.in_default.is) in
-    absurd (named_alg c.args.asked.now.policy.now v s unbarred (sym c.known_alg.ensures ∙ c.in_default-known_alg.is))
+    let unbarred = (c.bar_is_first_row.ensures.none c.args.terms.now.policy.now s v).0 (sym c.bar.ensures ∙ c.in_default.is) in
+    absurd (named_alg c.args.terms.now.policy.now v s unbarred (sym c.known_alg.ensures ∙ c.in_default-known_alg.is))
 
 pub returns : goal.returns
 returns g c =
-    let v = map (λ b. (goal.Verifier-dyn g (b.vtable, b.value)).meaning b.value) c.args.asked.now.verifiers.now in
+    let v = map (λ b. (goal.Verifier-dyn g (b.vtable, b.value)).meaning b.value) c.args.terms.now.verifiers.now in
     let s = parts c.args.numbered.now.signature.now in
-    let p = c.args.asked.now.policy.now in
+    let p = c.args.terms.now.policy.now in
     let a = c.in-Some-known_alg.alg in
     let bar = sym c.bar.ensures ∙ c.in_default.is in
     let named = sym c.known_alg.ensures ∙ c.in-Some-known_alg.is in

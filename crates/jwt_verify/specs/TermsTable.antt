@@ -1,4 +1,4 @@
--- What is asked of a token, by what its verifiers mean.
+-- The terms of a verdict as the code lends them, by what their verifiers mean.
 use Rattle.std.specs.Prelude.{map}
 use Rattle.std.specs.Global.{Global}
 use Rattle.std.specs.declared.dyn_box.DynBox.{DynBox}
@@ -10,16 +10,16 @@ use Rattle.jwt_verify.specs.Table.{Table}
 use Rattle.jwt_verify.specs.Trying.{table_of}
 use Rattle.jwt_verify.specs.Verdict.{Terms}
 use Rattle.jwt_verify.specs.Reports.{terms}
-use Rattle.jwt_verify.specs.declared.asked.Asked.{Asked}
+use Rattle.jwt_verify.specs.declared.terms.Terms.{Terms as CodeTerms}
 
 -- what boxed verifiers mean
 abbrev pub Means : (V : Type 0) → (V → Type 0) → Type 0
 Means V D = DynBox V Global D → Meaning
 
 -- the terms of the verdict
-abbrev pub asked_terms : {V : Type 0} {D : V → Type 0} → Means V D → Asked V D → Terms
-asked_terms means asked = terms asked.policy.now asked.keys.now asked.moment (map means asked.verifiers.now)
+abbrev pub terms_meant : {V : Type 0} {D : V → Type 0} → Means V D → CodeTerms V D → Terms
+terms_meant means lent = terms lent.policy.now lent.keys.now lent.moment (map means lent.verifiers.now)
 
 -- the pairs of the token and the keys
-unfoldable pub asked_table : {V : Type 0} {D : V → Type 0} → Means V D → Asked V D → Signed → Table
-asked_table means asked signed = table_of asked.policy.now (map means asked.verifiers.now) (key_set asked.keys.now).keys (token signed)
+unfoldable pub terms_table : {V : Type 0} {D : V → Type 0} → Means V D → CodeTerms V D → Signed → Table
+terms_table means lent signed = table_of lent.policy.now (map means lent.verifiers.now) (key_set lent.keys.now).keys (token signed)
