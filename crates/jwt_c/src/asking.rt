@@ -88,7 +88,12 @@ fn spell(alloc: Global, asked: &Question<'_>) -> Result<Spelled, AllocError>
 }
 
 /// Writes a question at the front of `out`. 0; 3: memory was refused; 5: `out` is too short.
-fn write_question(alloc: Global, asked: &Question<'_>, out: &mut [u8], into: &mut FowQuestion) -> u32
+fn write_question(
+    alloc: Global,
+    asked: &Question<'_>,
+    out: &mut [u8],
+    into: &mut FowQuestion,
+) -> u32
     ensures { PutsQuestion (Some (question_parts asked.now)) result into.new out.old out.new }
 {
     let Ok(Spelled { all, input }) = spell(alloc, asked) else {

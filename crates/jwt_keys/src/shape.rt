@@ -6,7 +6,7 @@ ghost use Rattle.jwt_text.specs.Members.{text_at, is_no_text};
 ghost use Rattle.jwt_keys.specs.Kinds.{kind_at, required};
 ghost use Rattle.jwt_keys.specs.SkipTable.{lacks, is_no_texts, has_other_kind, shape_skip_of};
 
-use crate::kind::{KeyType, KeyKind, key_type_of, kind_of};
+use crate::kind::{KeyKind, KeyType, key_type_of, kind_of};
 use crate::skip::SkipReason;
 use jwt_text::ObjectRef;
 

@@ -15,6 +15,6 @@ mod outcome;
 mod telling;
 
 pub use judging::judge;
-pub use memory::{Basis, MemoryEntry, Memory};
+pub use memory::{Basis, Memory, MemoryEntry};
 pub use outcome::Outcome;
 pub use telling::judge_told;

@@ -31,8 +31,9 @@ fn suits(alg: Alg, key: KeyView<'_>) -> bool
             _ => false,
         },
         KeyView::Ec { curve, x: _, y: _ } => match (alg, curve) {
-            (Alg::ES256, EcCurve::P256) | (Alg::ES384, EcCurve::P384) | (Alg::ES512, EcCurve::P521) =>
-                true,
+            (Alg::ES256, EcCurve::P256)
+            | (Alg::ES384, EcCurve::P384)
+            | (Alg::ES512, EcCurve::P521) => true,
             _ => false,
         },
         KeyView::Okp { curve: _, x: _ } => match alg {

@@ -149,7 +149,10 @@ impl AnswerIndex {
 }
 
 /// The same answers, shared.
-pub(crate) fn copied(alloc: Global, answers: &[Arc<Answered>]) -> Result<Vec<Arc<Answered>>, AllocError>
+pub(crate) fn copied(
+    alloc: Global,
+    answers: &[Arc<Answered>],
+) -> Result<Vec<Arc<Answered>>, AllocError>
     ensures { IfOk result (λ v. views v.items ≡ views answers.now) }
 {
     let mut shared = Vec::new(alloc);

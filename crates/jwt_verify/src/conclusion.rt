@@ -6,9 +6,9 @@ ghost use Rattle.jwt_verify.specs.declared.report.Verdict.TheVariants.{Refused};
 ghost use Rattle.jwt_verify.specs.declared.report.Fault.TheVariants.{OutOfMemory};
 ghost use Rattle.jwt_verify.specs.SignatureOutcome.{signing_view};
 
-use crate::terms::Terms;
 use crate::report::{Fault, Verdict};
 use crate::signature_outcome::Signing;
+use crate::terms::Terms;
 use crate::tries::{End, RunOutcome};
 use jwt_policy::{ClaimFault, Claims, check};
 use jwt_text::Scratch;

@@ -19,10 +19,10 @@ ghost use Rattle.jwt_verify.specs.declared.report.Fault.TheVariants.{OutOfMemory
 ghost use Rattle.jwt_verify.specs.declared.report.Verdict.TheVariants.{Refused};
 ghost use Rattle.jwt_verify.specs.declared.report.Try.{Try};
 
-use crate::terms::Terms;
 use crate::conclusion::verdict_after;
 use crate::laws::reports_in_words;
 use crate::report::{Fault, InputFault, Report, Verdict};
+use crate::terms::Terms;
 use crate::tries::run;
 use jwt_jws::laws::{form_faults, signed_tokens};
 use jwt_jws::{FormFault, Signed, parse_with};

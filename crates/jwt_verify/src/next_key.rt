@@ -13,9 +13,9 @@ ghost use Rattle.jwt_verify.specs.TermsTable.{terms_table};
 ghost use Rattle.jwt_verify.specs.Walk.{NoneEligible};
 ghost use Rattle.jwt_verify.specs.Pairs.{IsLive, IsWay, IsNextPair};
 
-use crate::terms::Terms;
-use crate::pair::{Pair, Way};
 use crate::live_signature::LiveSignature;
+use crate::pair::{Pair, Way};
+use crate::terms::Terms;
 use jwt_keys::KeySet;
 use jwt_mac::KeyView;
 use jwt_policy::{Policy, fits};

@@ -8,12 +8,12 @@ ghost use Rattle.jwt_verify.specs.Paying.{IsFront};
 ghost use Rattle.jwt_verify.specs.TermsTable.{terms_table};
 ghost use Rattle.jwt_verify.specs.Pairs.{IsFor, IsThere, IsTried, IsSigned};
 
-use crate::terms::Terms;
+use crate::live_signature::{LiveSignature, Numbered};
 use crate::next_key::next_eligible;
 use crate::pair::{Pair, try_pair};
 use crate::report::{SigState, Try};
 use crate::signature_outcome::{SignatureOutcome, Signing};
-use crate::live_signature::{Numbered, LiveSignature};
+use crate::terms::Terms;
 use jwt_jws::Signed;
 use jwt_mac::{Answer, Budget};
 use jwt_policy::{Mode, SigFault};
