@@ -1,7 +1,7 @@
 -- ---- What contracts of public functions cite, in reading order
 
 -- the field of Ed25519
-pub mod Residue
+pub mod Field
 -- numbers as octets, the least significant first
 pub mod Octets
 -- points of Ed25519, their sums and their multiples
