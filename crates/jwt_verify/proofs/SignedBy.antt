@@ -1,5 +1,6 @@
 -- The signing that the states of a run come to, one state at a time.
-use Rattle.std.specs.Prelude.{ℕ, List, length, slice_get, Option, Some, None, option_and_then, option_map_or, Bool, if◌then◌else◌}
+use Rattle.std.specs.Prelude.{ℕ, List, length, slice_get, Option, Some, None, option_and_then, Bool, if◌then◌else◌}
+use Rattle.std.specs.Option.{option_map_or}
 use Rattle.jwt_policy.specs.declared.mode.Mode.{Mode}
 use Rattle.jwt_policy.specs.declared.sig_fault.SigFault.{SigFault}
 use Rattle.jwt_verify.specs.declared.report.SigState.{SigState}

@@ -1,6 +1,6 @@
 -- The clauses of private functions, by the steps of the definitions: what is held of a source, what a run leaves, and what the
 -- signatures in given states come to.
-use Rattle.std.specs.Prelude.{◌≡◌, ◌+◌, ◌≤◌, ℕ, ◌++◌, Bool, true, drop, Result, Ok, Err, List, ◌∷◌, length, Option, Some}
+use Rattle.std.specs.Prelude.{◌≡◌, ◌+◌, ◌≤◌, ℕ, ◌++◌, Bool, true, drop, Result, Ok, Err, List, [], ◌∷◌, length, Option, Some}
 use Rattle.jwt_text.specs.Intake.{Bounded, taken}
 use Rattle.jwt_jws.specs.Token.{Token}
 use Rattle.jwt_verify.specs.declared.report.Try.{Try}

@@ -1,5 +1,5 @@
 -- A run that is under way: the clauses of private functions on the tries so far.
-use Rattle.std.specs.Prelude.{ℕ, ◌+◌, ◌<◌, ◌≤◌, ◌≡◌, ◌++◌, ◌∷◌, Bool, true, false, not, List, map, length, Option, None, Some}
+use Rattle.std.specs.Prelude.{ℕ, ◌+◌, ◌<◌, ◌≤◌, ◌≡◌, ◌++◌, ◌∷◌, Bool, true, false, not, List, [], map, length, Option, None, Some}
 use Rattle.std.specs.List.{list_any, filter, flat_map, find}
 use Rattle.jwt_verify.specs.declared.tries.RowEnd.{RowEnd}
 use Rattle.jwt_verify.specs.declared.tries.RowEnd.TheVariants.{Through, Stop}
