@@ -2,7 +2,7 @@ use Rattle.std.proofs.Common.{◌≡◌, ◌&&◌, true, false, ap, ◌∙◌, s
 use Rattle.jwt_ed25519.specs.Elements.{element}
 use Rattle.jwt_ed25519.specs.Points.{double}
 use Rattle.jwt_ed25519.specs.Verifying.{is_neutral, is_small}
-use Rattle.jwt_ed25519.proofs.point.Point.is_small.Goals as goal
+use Rattle.jwt_ed25519.proofs.point.EdwardsPoint.is_small.Goals as goal
 
 pub returns-then-is : goal.returns-then-is
 unfolding is_small

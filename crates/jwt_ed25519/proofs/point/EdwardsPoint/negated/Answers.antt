@@ -1,5 +1,5 @@
 use Rattle.jwt_ed25519.specs.Points.{negated}
-use Rattle.jwt_ed25519.proofs.point.Point.negated.Goals as goal
+use Rattle.jwt_ed25519.proofs.point.EdwardsPoint.negated.Goals as goal
 
 pub returns : goal.returns
 unfolding negated

@@ -1,5 +1,5 @@
 use Rattle.jwt_ed25519.specs.Points.{point}
-use Rattle.jwt_ed25519.proofs.point.Point.of.Goals as goal
+use Rattle.jwt_ed25519.proofs.point.EdwardsPoint.of.Goals as goal
 
 pub returns : goal.returns
 unfolding point

@@ -1,5 +1,5 @@
 use Rattle.jwt_ed25519.specs.Points.{double}
-use Rattle.jwt_ed25519.proofs.point.Point.double.Goals as goal
+use Rattle.jwt_ed25519.proofs.point.EdwardsPoint.double.Goals as goal
 
 pub returns : goal.returns
 unfolding double

@@ -2,7 +2,7 @@ use Rattle.std.proofs.Common.{◌≡◌, ◌-◌}
 use Rattle.jwt_ed25519.specs.Elements.{coordinates}
 use Rattle.jwt_ed25519.specs.Limbs.{number}
 use Rattle.jwt_ed25519.specs.Points.{added_multiple, multiple}
-use Rattle.jwt_ed25519.proofs.point.Point.multiple.Given as goal
+use Rattle.jwt_ed25519.proofs.point.EdwardsPoint.multiple.Given as goal
 
 abbrev pub invariant-bits : goal.invariant-bits
 invariant-bits l =

@@ -1,9 +1,9 @@
 use Rattle.std.proofs.Common.{◌≡◌, ap, ◌∙◌, sym, arith}
 use Rattle.jwt_ed25519.specs.Elements.{coordinates}
 use Rattle.jwt_ed25519.specs.Limbs.{number}
-use Rattle.jwt_ed25519.proofs.point.Point.multiple.Goals as goal
+use Rattle.jwt_ed25519.proofs.point.EdwardsPoint.multiple.Goals as goal
 use Rattle.jwt_ed25519.proofs.Multiples.{multiple_more, multiple_end}
-use Rattle.jwt_ed25519.proofs.point.Point.multiple.Goals.{then-odd, else-odd}
+use Rattle.jwt_ed25519.proofs.point.EdwardsPoint.multiple.Goals.{then-odd, else-odd}
 
 pub bits-preserved : goal.bits-preserved
 bits-preserved c =
