@@ -28,6 +28,31 @@ static void check_member(const uint8_t *policy, size_t len, uint32_t fault)
         CHECK(fow_refused_member(policy, len, area_end(&rooms, written - 1), written - 1, &again) == FOW_TOO_SHORT);
 }
 
+/* The text of this member of a document, where it is a JSON object that has one. */
+static void check_text(const uint8_t *document, size_t len, const char *name)
+{
+    size_t written = 0, again = 0;
+    uint32_t status = fow_text_member(document, len, at(name), strlen(name), area_end(&rooms, len), len, &written);
+    CHECK(status == FOW_OK || status == FOW_ABSENT);
+    if (status == FOW_ABSENT)
+        return;
+    CHECK(written <= len);
+    CHECK(fow_text_member(document, len, at(name), strlen(name), area_end(&rooms, written), written, &again) == FOW_OK && again == written);
+    if (written != 0)
+        CHECK(fow_text_member(document, len, at(name), strlen(name), area_end(&rooms, written - 1), written - 1, &again) == FOW_TOO_SHORT);
+}
+
+/* What is told of the policy and the keys that are held. */
+static void check_terms(fow_validator *validator)
+{
+    uint32_t limit = 0;
+    size_t written = 0;
+    CHECK(fow_token_limit(validator, &limit) == FOW_OK && limit >= 1 && limit <= sizeof token);
+    uint32_t status = fow_sole_issuer(validator, token, 65536, &written);
+    CHECK(status == FOW_OK || status == FOW_ABSENT);
+    fow_documents_are_public(validator);
+}
+
 /* Tokens that the first keys sign are judged. */
 static void check_issued(fow_validator *validator)
 {
@@ -91,9 +116,12 @@ int LLVMFuzzerTestOneInput(const uint8_t *data, size_t size)
     CHECK(fow_open(&kept, policy, policy_len, keys, keys_len, &again) == status && (status == FOW_OK || again == fault));
     cover_outcome(status == FOW_OK ? 0 : fault);
     check_member(policy, policy_len, status == FOW_OK ? FOW_NO_FAULT : fault);
+    check_text(policy, policy_len, "mode");
+    check_text(keys, keys_len, "");
     if (status == FOW_REFUSED) {
         check_kept(&kept, &validator);
     } else {
+        check_terms(&validator);
         check_issued(&validator);
         check_unsigned(&validator);
     }

@@ -234,6 +234,10 @@ static void ngx_http_fowharimu_unwatch(void *data);
 static void ngx_http_fowharimu_look(ngx_event_t *event);
 static void ngx_http_fowharimu_look_again(ngx_http_fowharimu_watch_t *watch,
     ngx_log_t *log);
+static void ngx_http_fowharimu_look_at(ngx_http_fowharimu_watch_t *watch,
+    ngx_fd_t fd, ngx_log_t *log);
+static void ngx_http_fowharimu_miss(ngx_http_fowharimu_watch_t *watch,
+    ngx_err_t err, ngx_log_t *log);
 static ngx_int_t ngx_http_fowharimu_read_fd(ngx_fd_t fd, size_t size,
     ngx_str_t *document);
 static void ngx_http_fowharimu_exchange(ngx_http_fowharimu_watch_t *watch,
@@ -2353,37 +2357,42 @@ ngx_http_fowharimu_look(ngx_event_t *event)
 }
 
 
-/* what hasn't changed since the last look isn't read, and isn't told again */
-
 static void
 ngx_http_fowharimu_look_again(ngx_http_fowharimu_watch_t *watch, ngx_log_t *log)
 {
-    size_t                       size;
-    ngx_fd_t                     fd;
-    ngx_str_t                    keys;
-    ngx_file_info_t              fi;
-    ngx_http_fowharimu_stamp_t   stamp;
+    ngx_fd_t  fd;
 
     fd = ngx_open_file(watch->file.name.data,
                        NGX_FILE_RDONLY|NGX_FILE_NONBLOCK, NGX_FILE_OPEN, 0);
 
     if (fd == NGX_INVALID_FILE) {
-
-        if (!watch->missing) {
-            watch->missing = 1;
-            ngx_log_error(NGX_LOG_ERR, log, ngx_errno,
-                          "jwt: the keys stay as they were: " ngx_open_file_n
-                          " \"%V\" failed", &watch->file.name);
-        }
-
+        ngx_http_fowharimu_miss(watch, ngx_errno, log);
         return;
     }
 
-    keys.data = NULL;
-    ngx_memzero(&stamp, sizeof(ngx_http_fowharimu_stamp_t));
+    ngx_http_fowharimu_look_at(watch, fd, log);
+
+    if (ngx_close_file(fd) == NGX_FILE_ERROR) {
+        ngx_log_error(NGX_LOG_ALERT, log, ngx_errno,
+                      ngx_close_file_n " \"%V\" failed", &watch->file.name);
+    }
+}
+
+
+/* what hasn't changed since the last look isn't read, and isn't told again */
+
+static void
+ngx_http_fowharimu_look_at(ngx_http_fowharimu_watch_t *watch, ngx_fd_t fd,
+    ngx_log_t *log)
+{
+    size_t                       size;
+    ngx_str_t                    keys;
+    ngx_file_info_t              fi;
+    ngx_http_fowharimu_stamp_t   stamp;
 
     if (ngx_fd_info(fd, &fi) == NGX_FILE_ERROR || !ngx_is_file(&fi)) {
-        goto done;
+        ngx_http_fowharimu_miss(watch, 0, log);
+        return;
     }
 
     ngx_http_fowharimu_set_stamp(&stamp, &fi);
@@ -2392,35 +2401,39 @@ ngx_http_fowharimu_look_again(ngx_http_fowharimu_watch_t *watch, ngx_log_t *log)
         && ngx_memcmp(&stamp, &watch->file.stamp,
                       sizeof(ngx_http_fowharimu_stamp_t)) == 0)
     {
-        goto done;
+        return;
     }
 
     watch->missing = 0;
     watch->file.stamp = stamp;
 
     size = ngx_min((size_t) ngx_file_size(&fi), NGX_HTTP_FOWHARIMU_MAX_KEYS + 1);
+
     keys.data = ngx_alloc(size + 1, log);
-
-    if (keys.data == NULL
-        || ngx_http_fowharimu_read_fd(fd, size, &keys) != NGX_OK)
-    {
-        ngx_log_error(NGX_LOG_ERR, log, ngx_errno,
-                      "jwt: the keys stay as they were: " ngx_read_fd_n
-                      " \"%V\" failed", &watch->file.name);
-        goto done;
+    if (keys.data == NULL) {
+        return;
     }
 
-    ngx_http_fowharimu_exchange(watch, &keys, log);
+    if (ngx_http_fowharimu_read_fd(fd, size, &keys) == NGX_OK) {
+        ngx_http_fowharimu_exchange(watch, &keys, log);
 
-done:
-
-    if (keys.data) {
-        ngx_free(keys.data);
+    } else {
+        ngx_http_fowharimu_miss(watch, ngx_errno, log);
     }
 
-    if (ngx_close_file(fd) == NGX_FILE_ERROR) {
-        ngx_log_error(NGX_LOG_ALERT, log, ngx_errno,
-                      ngx_close_file_n " \"%V\" failed", &watch->file.name);
+    ngx_free(keys.data);
+}
+
+
+static void
+ngx_http_fowharimu_miss(ngx_http_fowharimu_watch_t *watch, ngx_err_t err,
+    ngx_log_t *log)
+{
+    if (!watch->missing) {
+        watch->missing = 1;
+        ngx_log_error(NGX_LOG_ERR, log, err,
+                      "jwt: the keys stay as they were: \"%V\" can't be read",
+                      &watch->file.name);
     }
 }
 
