@@ -22,7 +22,7 @@ use jwt_mac::{Budget, CountDown, Verifier};
 use jwt_policy::Policy;
 use jwt_text::Scratch;
 use jwt_verify::laws::tells_tokens;
-use jwt_verify::{Fault, JudgedToken, Report, Terms, Try, Verdict, judge_under};
+use jwt_verify::{Fault, JudgedToken, Report, Try, Verdict, judge_signed};
 use std::alloc::{AllocError, Global};
 
 /// The same answers, shared, in a box.
@@ -79,29 +79,32 @@ fn asking<'a>(first: Try, report: Report<'_>, token: Signed<'a>) -> Asking<'a>
     }
 }
 
-/// The report on octets in hand under terms whose one verifier is the answers, with the token.
+/// The report on octets in hand by verifiers that mean the answers, with the token.
 fn judge_with<'a, 'p>(
     alloc: Global,
     octets: &'a [u8],
-    given: &Terms<'_, 'p, '_>,
+    keys: &KeySet,
+    policy: &'p Policy,
+    now: i64,
     answers: &Answers,
+    verifiers: &[Box<dyn Verifier>],
     budget: &mut CountDown,
     scratch: &mut Scratch,
 ) -> JudgedToken<'a, 'p>
-    requires one { map meaning given.now.verifiers.now ≡ told_meaning (told answers.now) ∷ [] }
+    requires one { map meaning verifiers.now ≡ told_meaning (told answers.now) ∷ [] }
     requires no_octets { ⟦<CountDown as Budget>⟧.octets budget.old ≡ 0 }
     requires no_calls { ⟦<CountDown as Budget>⟧.calls budget.old ≡ 0 }
     ensures report { IsReport
-        (terms given.now.policy.now given.now.keys.now given.now.moment (told_meaning (told answers.now) ∷ []))
+        (terms policy.now keys.now now (told_meaning (told answers.now) ∷ []))
         octets.now (⟦<CountDown as Budget>⟧.ceiling budget.old) result.report }
-    ensures token { IsReadAs given.now.policy.now octets.now result.report.verdict result.token }
-    ensures within { IsWithin given.now.policy.now.max_calls (⟦<CountDown as Budget>⟧.calls budget.new) }
+    ensures token { IsReadAs policy.now octets.now result.report.verdict result.token }
+    ensures within { IsWithin policy.now.max_calls (⟦<CountDown as Budget>⟧.calls budget.new) }
     ensures octets { ⟦<CountDown as Budget>⟧.octets budget.new ≡ work result.report.tries.items }
     ensures calls { ⟦<CountDown as Budget>⟧.calls budget.new ≡ length result.report.tries.items }
     ensures ceiling { ⟦<CountDown as Budget>⟧.ceiling budget.new
         ≡ ⟦<CountDown as Budget>⟧.ceiling budget.old }
 {
-    judge_under(alloc, octets, given, budget, scratch)
+    judge_signed(alloc, octets, keys, policy, now, verifiers, budget, scratch)
 }
 
 /// The report on octets in hand, where these answers, shared, are the one verifier, with the token.
@@ -132,13 +135,9 @@ fn judge_by<'a, 'p>(
         return nothing_tried(alloc);
     };
     let verifiers: [Box<dyn Verifier>; 1] = [shared];
-    let given = Terms {
-        keys,
-        policy,
-        moment: now,
-        verifiers: &verifiers,
-    };
-    judge_with(alloc, octets, &given, answers, budget, scratch)
+    judge_with(
+        alloc, octets, keys, policy, now, answers, &verifiers, budget, scratch,
+    )
 }
 
 /// Judges a token in hand by answers on signatures by public keys, or asks about a pair that has no answer.
