@@ -79,8 +79,8 @@ fn asking<'a>(first: Try, report: Report<'_>, token: Signed<'a>) -> Asking<'a>
     }
 }
 
-/// The report on octets in hand by a verifier that is the answers, with the token.
-fn judge_under<'a, 'p>(
+/// The report on octets in hand by verifiers that mean the answers, with the token.
+fn judge_with<'a, 'p>(
     alloc: Global,
     octets: &'a [u8],
     keys: &KeySet,
@@ -135,7 +135,7 @@ fn judge_by<'a, 'p>(
         return nothing_tried(alloc);
     };
     let verifiers: [Box<dyn Verifier>; 1] = [shared];
-    judge_under(
+    judge_with(
         alloc, octets, keys, policy, now, answers, &verifiers, budget, scratch,
     )
 }
