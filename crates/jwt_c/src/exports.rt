@@ -30,9 +30,7 @@ use crate::proving::prove_state;
 use crate::remembering::remember_state;
 use crate::report::{FowQuestion, FowReport, FowState, FowTry};
 use crate::state::{Last, State};
-use crate::status::{
-    FOW_ABSENT, FOW_ASKS, FOW_NOT_OPEN, FOW_OK, FOW_OUT_OF_MEMORY, FOW_REFUSED, NotHeld,
-};
+use crate::status::{FOW_ABSENT, FOW_NOT_OPEN, FOW_OK, FOW_OUT_OF_MEMORY, FOW_REFUSED, NotHeld};
 use crate::writing::{number_at, payload_of, put, put_claim};
 use jwt_keys::{KeySet, KeysFault};
 use jwt_policy::{Policy, PolicyFault};

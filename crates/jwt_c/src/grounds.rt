@@ -6,7 +6,6 @@ ghost use Rattle.std.specs.Arc.{arc_value};
 
 use crate::judging::Judging;
 use crate::proving::judging_by_proof;
-use crate::status::{FOW_ASKS, FOW_OK, FOW_REFUSED};
 use jwt_keys::KeySet;
 use jwt_memory::Memory;
 use jwt_policy::Policy;

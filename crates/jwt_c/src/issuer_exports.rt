@@ -11,7 +11,7 @@ ghost use Rattle.jwt_c.specs.Written.{PutsSome};
 
 use crate::handle::{Handle, take};
 use crate::issuers::{are_public, put_issuer, put_sole_issuer, put_text};
-use crate::status::{FOW_ABSENT, FOW_NOT_OPEN, FOW_OK};
+use crate::status::{FOW_NOT_OPEN, FOW_OK};
 use std::alloc::Global;
 
 /// Whether no algorithm of the policy is HMAC, and no key of the set a shared secret. False where nothing is held.

@@ -21,7 +21,7 @@ ghost use Rattle.jwt_c.specs.Reports.{IsNew, IsAsked, IsAsking, IsJudged, Says, 
 use crate::grounds::Documents;
 use crate::report::FowReport;
 use crate::state::{Evidence, Last, State};
-use crate::status::{FOW_ASKS, FOW_OK, FOW_OUT_OF_MEMORY, FOW_REFUSED};
+use crate::status::{FOW_ASKS, FOW_OUT_OF_MEMORY};
 use jwt_jws::Signed;
 use jwt_keys::KeySet;
 use jwt_mac::{Budget, CountDown};

@@ -16,7 +16,7 @@ use crate::grounds::Documents;
 use crate::judging::{Judging, bare, judging_of};
 use crate::report::FowReport;
 use crate::state::State;
-use crate::status::{FOW_ASKS, FOW_OK, FOW_OUT_OF_MEMORY, FOW_OUT_OF_MEMORY, FOW_REFUSED};
+use crate::status::FOW_OUT_OF_MEMORY;
 use jwt_ecdsa::Ecdsa;
 use jwt_ed25519::Ed25519;
 use jwt_mac::{Budget, CountDown, Verifier};
