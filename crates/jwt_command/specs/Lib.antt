@@ -7,6 +7,7 @@ pub mod Jwk
 pub mod Keys
 pub mod Lines
 pub mod Mac
+pub mod Policy
 pub mod RunLines
 pub mod Runs
 pub mod Show

@@ -16,6 +16,7 @@ mod issue;
 mod jwk;
 mod keys;
 mod mac;
+mod policy;
 pub mod run;
 mod show;
 mod verify;

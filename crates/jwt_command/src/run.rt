@@ -15,6 +15,7 @@ use crate::issue::issue;
 use crate::jwk::{jwk, new_secret};
 use crate::keys::keys;
 use crate::mac::{mac, mac_in_hand};
+use crate::policy::policy;
 use crate::show::show;
 use crate::verify::verify;
 use crate::verify_lines::{Clock, NoClock, run_lines};
@@ -228,6 +229,7 @@ pub fn run_read<R: Source, W: Sink, C: Clock>(
         Ok(Request::EachLine(order)) => run_lines(alloc, order, built_in, moments, held, r, w),
         Ok(Request::Jwk(order)) => give(w, jwk(alloc, order, held, r)),
         Ok(Request::NewSecret(order)) => give(w, new_secret(alloc, order, held)),
+        Ok(Request::Policy(order)) => give(w, policy(alloc, order, built_in, held)),
         Err(WordsFault::Wrong(text)) => send(w, text.as_bytes(), 2),
         Err(WordsFault::OutOfMemory) => lack_memory(w),
     }

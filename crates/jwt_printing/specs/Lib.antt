@@ -6,6 +6,7 @@ pub mod Jwk
 pub mod Listed
 pub mod ListedJson
 pub mod Mac
+pub mod Meant
 pub mod Nearest
 pub mod Printed
 pub mod Shown

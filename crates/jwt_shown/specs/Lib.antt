@@ -1,0 +1,4 @@
+pub mod Obeyed
+pub mod Strings
+pub mod Shown
+pub mod Views
