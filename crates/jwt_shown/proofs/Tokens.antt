@@ -1,5 +1,5 @@
 -- What is laid out is read back: the lexer gives the lexemes that were written, and those are punctuated as the grammar asks.
-use Rattle.std.proofs.Common.{◌≡◌, ℕ, zero, suc, ◌*◌, Bool, true, false, cond, ◌&&◌, List, [], ◌∷◌, ◌++◌, refl, sym, ap, ap₂, ◌∙◌, append_assoc, inl, inr, replicate, IsUtf8, if◌then◌else◌, fold, append-nil}
+use Rattle.std.proofs.Common.{rules, ◌≡◌, ◌⊎◌, ℕ, zero, suc, ◌*◌, Bool, true, false, cond, ◌&&◌, List, [], ◌∷◌, ◌++◌, refl, sym, ap, ap₂, ◌∙◌, append_assoc, inl, inr, replicate, IsUtf8, if◌then◌else◌, fold, append-nil}
 use Rattle.json.specs.Token.{Token, begin_object, end_object, begin_array, end_array, key, string, number, boolean, null, bad}
 use Rattle.json.specs.Word.{ends_word, word}
 use Rattle.json.specs.Lex.{Lexeme, token, comma, colon, string_token, lex, between, Place, fresh, after_value, begins_colon, punctuate, tokens}
@@ -7,10 +7,17 @@ use Rattle.json.specs.Print.{begins, ends, IsPrintable, ArePrintable}
 use Rattle.json.specs.Layout as layout
 use Rattle.json.specs.Layout.{Last, is_value, gap, depth_at, step}
 use Rattle.json.specs.Spaced.{IsGap}
+use Rattle.json.specs.Align.{is_good}
+use Rattle.json.specs.Json.{document}
+use Rattle.std.specs.List.{list_all}
+use Rattle.std.specs.Prelude.{Option, Some, None, is_some, IsSome}
+use Rattle.std.specs.Str.{is_utf8}
+use Rattle.std.proofs.lemmas.Bool.{and_parts, cases_Bool}
+use Rattle.std.proofs.lemmas.Str.{IsUtf8-from_is_utf8, is_utf8-from_IsUtf8}
 use Rattle.json.proofs.Printed.Numbers.{lex-number, in_word-ended}
 use Rattle.jwt_shown.specs.Strings.{inner_text, quoted_text}
-use Rattle.jwt_shown.specs.Shown.{IsText, shown, shown_from, shown_piece, shown_token}
-use Rattle.jwt_shown.proofs.Strings.{inner_read, inner_lexed}
+use Rattle.jwt_shown.specs.Shown.{IsText, shown, shown_from, shown_json, shown_piece, shown_token}
+use Rattle.jwt_shown.proofs.Quoted.{inner_read, inner_lexed}
 
 -- the tokens can be written, and their texts are UTF-8
 abbrev pub AreShowable : List Token → Type 0
@@ -197,3 +204,39 @@ pub shown_push : (s : Last × ℕ) (ts : List Token) (t : Token) → shown_from 
 unfolding shown_from
 shown_push s [] t = append-nil (shown_piece s t)
 shown_push s (u ∷ ts) t = ap (λ l. shown_piece s u ++ l) (shown_push (step s u) ts t) ∙ sym (append_assoc (shown_piece s u) _ _)
+
+pub printable_good : (t : Token) → IsPrintable t → is_good t ≡ true
+printable_good begin_object h = refl
+printable_good end_object h = refl
+printable_good begin_array h = refl
+printable_good end_array h = refl
+printable_good (key s) h = refl
+printable_good (string s) h = refl
+printable_good (number s) h = refl
+printable_good (boolean b) h = refl
+printable_good null h = refl
+printable_good bad h = absurd h
+
+pub good_push : (ts : List Token) (t : Token) → list_all is_good ts ≡ true → is_good t ≡ true → list_all is_good (ts ++ t ∷ []) ≡ true
+good_push [] t h g = rw g
+good_push (x ∷ ts) t h g =
+    let both = and_parts (is_good x) (list_all is_good ts) h in
+    rw (both.0, good_push ts t both.1 g)
+
+-- ---- octets that are JSON, and others
+
+pub not_json : (o : List ℕ) → (IsUtf8 o → ⊥) → None ≡ shown_json o
+not_json o bad_text = go (cases_Bool (is_utf8 o))
+  where
+    go : (is_utf8 o ≡ true) ⊎ (is_utf8 o ≡ false) → None ≡ shown_json o
+    go (inl utf8) = absurd (bad_text (IsUtf8-from_is_utf8 o utf8))
+    go (inr none) = rw none
+
+pub some_is : {A : Type 0} (o : Option A) → IsSome o → is_some o ≡ true
+some_is None h = search rules
+some_is (Some a) h = refl
+
+pub json_is : (o t : List ℕ) → t ≡ o → IsUtf8 o → is_some (document t) ≡ true → (r : Option (List ℕ)) → r ≡ (if list_all is_good (tokens t) then Some (shown (tokens t)) else None) → r ≡ shown_json o
+json_is o t same utf8 valid r is =
+    let there : is_some (document o) ≡ true = ap (λ x. is_some (document x)) (sym same) ∙ valid in
+    is ∙ ap (λ x. if list_all is_good (tokens x) then Some (shown (tokens x)) else None) same ∙ (rw (is_utf8-from_IsUtf8 o utf8, there) refl)

@@ -118,11 +118,7 @@ pub(crate) fn push_gap(
 }
 
 /// The comma between two values.
-pub(crate) fn push_comma(
-    out: &mut String,
-    last: Last,
-    token: Token<'_>,
-) -> Result<(), AllocError>
+pub(crate) fn push_comma(out: &mut String, last: Last, token: Token<'_>) -> Result<(), AllocError>
     ensures { OnOk result (string_bytes out.new
         ≡ string_bytes out.old ++ separator (is_value (last_of last)) (token_of token.entry)) }
 {

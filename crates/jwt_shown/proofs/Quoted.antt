@@ -74,7 +74,7 @@ record IsHex (d : ℕ) : Type 0 where
   plain : IsPlain (digit_char d)
 
 sixteen : Each IsHex 16
-sixteen = (record { digit = refl; value = refl; plain = (λ e. omega (arith, e), λ e. omega (arith, e), omega arith) }, (record { digit = refl; value = refl; plain = (λ e. omega (arith, e), λ e. omega (arith, e), omega arith) }, (record { digit = refl; value = refl; plain = (λ e. omega (arith, e), λ e. omega (arith, e), omega arith) }, (record { digit = refl; value = refl; plain = (λ e. omega (arith, e), λ e. omega (arith, e), omega arith) }, (record { digit = refl; value = refl; plain = (λ e. omega (arith, e), λ e. omega (arith, e), omega arith) }, (record { digit = refl; value = refl; plain = (λ e. omega (arith, e), λ e. omega (arith, e), omega arith) }, (record { digit = refl; value = refl; plain = (λ e. omega (arith, e), λ e. omega (arith, e), omega arith) }, (record { digit = refl; value = refl; plain = (λ e. omega (arith, e), λ e. omega (arith, e), omega arith) }, (record { digit = refl; value = refl; plain = (λ e. omega (arith, e), λ e. omega (arith, e), omega arith) }, (record { digit = refl; value = refl; plain = (λ e. omega (arith, e), λ e. omega (arith, e), omega arith) }, (record { digit = refl; value = refl; plain = (λ e. omega (arith, e), λ e. omega (arith, e), omega arith) }, (record { digit = refl; value = refl; plain = (λ e. omega (arith, e), λ e. omega (arith, e), omega arith) }, (record { digit = refl; value = refl; plain = (λ e. omega (arith, e), λ e. omega (arith, e), omega arith) }, (record { digit = refl; value = refl; plain = (λ e. omega (arith, e), λ e. omega (arith, e), omega arith) }, (record { digit = refl; value = refl; plain = (λ e. omega (arith, e), λ e. omega (arith, e), omega arith) }, (record { digit = refl; value = refl; plain = (λ e. omega (arith, e), λ e. omega (arith, e), omega arith) }, tt))))))))))))))))
+sixteen = (record { digit = refl; value = refl; plain = (λ e. omega (arith, e), (λ e. omega (arith, e), omega arith)) }, (record { digit = refl; value = refl; plain = (λ e. omega (arith, e), (λ e. omega (arith, e), omega arith)) }, (record { digit = refl; value = refl; plain = (λ e. omega (arith, e), (λ e. omega (arith, e), omega arith)) }, (record { digit = refl; value = refl; plain = (λ e. omega (arith, e), (λ e. omega (arith, e), omega arith)) }, (record { digit = refl; value = refl; plain = (λ e. omega (arith, e), (λ e. omega (arith, e), omega arith)) }, (record { digit = refl; value = refl; plain = (λ e. omega (arith, e), (λ e. omega (arith, e), omega arith)) }, (record { digit = refl; value = refl; plain = (λ e. omega (arith, e), (λ e. omega (arith, e), omega arith)) }, (record { digit = refl; value = refl; plain = (λ e. omega (arith, e), (λ e. omega (arith, e), omega arith)) }, (record { digit = refl; value = refl; plain = (λ e. omega (arith, e), (λ e. omega (arith, e), omega arith)) }, (record { digit = refl; value = refl; plain = (λ e. omega (arith, e), (λ e. omega (arith, e), omega arith)) }, (record { digit = refl; value = refl; plain = (λ e. omega (arith, e), (λ e. omega (arith, e), omega arith)) }, (record { digit = refl; value = refl; plain = (λ e. omega (arith, e), (λ e. omega (arith, e), omega arith)) }, (record { digit = refl; value = refl; plain = (λ e. omega (arith, e), (λ e. omega (arith, e), omega arith)) }, (record { digit = refl; value = refl; plain = (λ e. omega (arith, e), (λ e. omega (arith, e), omega arith)) }, (record { digit = refl; value = refl; plain = (λ e. omega (arith, e), (λ e. omega (arith, e), omega arith)) }, (record { digit = refl; value = refl; plain = (λ e. omega (arith, e), (λ e. omega (arith, e), omega arith)) }, tt))))))))))))))))
 
 hex : (d : ℕ) → d < 16 → IsHex d
 hex = each_sound IsHex 16 sixteen
@@ -179,8 +179,8 @@ unfolding char_text
 char_reads c ok = go (cases_Bool (is_obeyed c))
   where
     go : (is_obeyed c ≡ true) ⊎ (is_obeyed c ≡ false) → Reads (char_text c) (encode_utf8 c)
-    go (inl yes) = rw yes (code_reads c ok)
-    go (inr no) = rw no (seen_reads c (ltb-false c 32 (or_parts _ _ no).0))
+    go (inl obeyed) = rw obeyed (code_reads c ok)
+    go (inr unobeyed) = rw unobeyed (seen_reads c (ltb-false c 32 (or_parts _ _ unobeyed).0))
 
 -- ---- a text
 
