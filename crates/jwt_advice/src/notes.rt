@@ -1,10 +1,10 @@
 //! Notes: each is an advice, with what it is about.
 
-ghost use Rattle.std.specs.Prelude.{◌≡◌, ◌++◌, ◌||◌, IfOk, map};
+ghost use Rattle.std.specs.Prelude.{◌≡◌, ◌++◌, ◌||◌, [], IfOk, map};
 ghost use Rattle.std.specs.List.{flat_map};
 ghost use Rattle.jwt_keys.specs.KeySets.{key_set};
 ghost use Rattle.jwt_advice.specs.Advised.{policy_advises, set_advises};
-ghost use Rattle.jwt_advice.specs.Findings.{note_if, notes, notes_with, policy_notes};
+ghost use Rattle.jwt_advice.specs.Findings.{note_if, notes, notes_of, notes_with, policy_notes};
 
 use crate::advice::{Advice, EVERY, advised_keys, policy_advises, set_advises};
 use jwt_keys::KeySet;
@@ -86,33 +86,55 @@ fn is_whole(
     policy_advises(advice, policy) || set_advises(advice, policy, keys, verifiers)
 }
 
-/// The notes of a policy, whatever its keys.
-///
-/// # Errors
-/// `AllocError`, where an allocation was refused.
+/// Adds a note, where it is to be advised of the policy.
+fn put_of_policy(list: &mut Vec<Note>, advice: Advice, policy: &Policy) -> Result<(), AllocError>
+    ensures { IfOk result (λ _. list.new.items
+        ≡ list.old.items ++ note_if (policy_advises advice policy.now) advice) }
+{
+    put_if(list, policy_advises(advice, policy), advice)
+}
+
+/// The notes of a policy, whatever its keys, among these.
 #[tactic(auto, using(std::proofs::lemmas::List::at_drop_more, std::proofs::lemmas::List::at_drop_all))]
-pub fn policy_notes(alloc: Global, policy: &Policy) -> Result<Vec<Note>, AllocError>
-    ensures { IfOk result (λ list. list.items ≡ policy_notes policy.now) }
+fn policy_notes_among(
+    alloc: Global,
+    every: &[Advice],
+    policy: &Policy,
+) -> Result<Vec<Note>, AllocError>
+    ensures { IfOk result (λ list. list.items
+        ≡ flat_map (λ advice. note_if (policy_advises advice policy.now) advice) every.now) }
 {
     let mut list = Vec::new(alloc);
-    for advice in &EVERY {
-        put_if(&mut list, policy_advises(*advice, policy), *advice)?;
+    for advice in every {
+        put_of_policy(&mut list, *advice, policy)?;
     }
     Ok(list)
 }
 
-/// The notes of each advice on a policy with its keys.
-fn advice_notes(
+/// The notes of a policy, whatever its keys.
+///
+/// # Errors
+/// `AllocError`, where an allocation was refused.
+pub fn policy_notes(alloc: Global, policy: &Policy) -> Result<Vec<Note>, AllocError>
+    ensures { IfOk result (λ list. list.items ≡ policy_notes policy.now) }
+{
+    policy_notes_among(alloc, &EVERY, policy)
+}
+
+/// The notes of these advices on a policy with its keys.
+fn notes_among(
     alloc: Global,
+    every: &[Advice],
     policy: &Policy,
     keys: &KeySet,
     verifiers: &[Box<dyn Verifier>],
 ) -> Result<Vec<Note>, AllocError>
     ensures { IfOk result (λ list. list.items
-        ≡ notes policy.now (map meaning verifiers.now) (key_set keys.now).keys []) }
+        ≡ flat_map (notes_of policy.now (map meaning verifiers.now) (key_set keys.now).keys)
+        every.now) }
 {
     let mut list = Vec::new(alloc);
-    for advice in &EVERY {
+    for advice in every {
         let numbers = advised_keys(alloc, *advice, policy, keys, verifiers)?;
         let whole = is_whole(*advice, policy, keys, verifiers);
         put_notes(&mut list, *advice, whole, numbers.as_slice())?;
@@ -135,7 +157,7 @@ pub fn notes(
     ensures { IfOk result (λ list. list.items
         ≡ notes policy.now (map meaning verifiers.now) (key_set keys.now).keys entries.now) }
 {
-    let mut list = advice_notes(alloc, policy, keys, verifiers)?;
+    let mut list = notes_among(alloc, &EVERY, policy, keys, verifiers)?;
     put_entries(&mut list, entries)?;
     Ok(list)
 }

@@ -8,6 +8,7 @@ pub mod Keys
 pub mod Lines
 pub mod Mac
 pub mod Policy
+pub mod Pretty
 pub mod RunLines
 pub mod Runs
 pub mod Show

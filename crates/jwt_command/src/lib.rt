@@ -17,6 +17,7 @@ mod jwk;
 mod keys;
 mod mac;
 mod policy;
+mod pretty;
 pub mod run;
 mod show;
 mod verify;

@@ -11,6 +11,7 @@ pub mod Nearest
 pub mod Printed
 pub mod Shown
 pub mod ShownJson
+pub mod Pretty
 pub mod Printer
 pub mod Verdicts
 pub mod Views

@@ -53,8 +53,24 @@ fn put_member(
     out.end_object()
 }
 
-/// Each member.
+/// These members.
 fn put_members(
+    out: &mut JsonOut,
+    document: &ObjectRef<'_>,
+    policy: &Policy,
+    members: &[Member],
+) -> Result<(), AllocError>
+    ensures { IfOk result (λ _. out.new
+        ≡ out.old ++ named_tokens (map (member_json document.now policy.now) members.now)) }
+{
+    for member in members {
+        put_member(out, document, policy, *member)?;
+    }
+    Ok(())
+}
+
+/// The object of the members.
+fn put_all(
     out: &mut JsonOut,
     document: &ObjectRef<'_>,
     policy: &Policy,
@@ -63,9 +79,7 @@ fn put_members(
         ≡ out.old ++ named_tokens (members_json document.now policy.now ∷ [])) }
 {
     out.begin_named("members")?;
-    for member in &MEMBERS {
-        put_member(out, document, policy, *member)?;
-    }
+    put_members(out, document, policy, &MEMBERS)?;
     out.end_object()
 }
 
@@ -203,7 +217,7 @@ pub(crate) fn policy_json(
         ≡ json_line (policy_json document.now policy.now (findings_view found.now)) status) }
 {
     let mut out = JsonOut::object(alloc)?;
-    put_members(&mut out, document, policy)?;
+    put_all(&mut out, document, policy)?;
     put_facts(&mut out, policy, &found.facts)?;
     put_notes(&mut out, found.notes.as_slice())?;
     out.reply(status)

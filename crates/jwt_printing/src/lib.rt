@@ -1,5 +1,5 @@
 //! What the command `jwt` prints: lines and JSON of a verdict, of a key set, of a token that is shown, of a tag, of a JWK, of what a policy
-//! means and of what is refused, and how they go out.
+//! means, of a token for a person and of what is refused, and how they go out.
 //!
 //! A [`Reply`] is a whole answer with its status; [`give`] and [`send`] send it.
 #![tactic(auto)]
@@ -19,6 +19,7 @@ mod meant;
 mod members;
 mod nearest;
 mod pieces;
+mod pretty;
 mod refusals;
 mod reply;
 mod sending;
@@ -35,6 +36,7 @@ pub use refusals::{
     printed_access_fault, printed_file_fault, printed_keys_fault, printed_policy_fault,
     printed_read_fault, refused_claims,
 };
+pub use pretty::pretty_token;
 pub use reply::Reply;
 pub use sending::{give, lack_memory, send};
 pub use show::{printed_form_fault, printed_token, printed_too_long};

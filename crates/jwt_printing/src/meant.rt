@@ -3,7 +3,7 @@ ghost use Rattle.std.specs.Prelude.{◌≡◌, ◌++◌, ◌∷◌, [], IfOk, co
 ghost use Rattle.std.specs.Fmt.{decimal};
 ghost use Rattle.std.specs.List.{flat_map};
 ghost use Rattle.jwt_advice.specs.Findings.{facts_view, findings_view};
-ghost use Rattle.jwt_printing.specs.Meant.{alg_line, ceilings_line, every_member, facts_lines, keys_lines, member_line, note_line, origin, policy_lines, printed_policy, status_of, unused_line};
+ghost use Rattle.jwt_printing.specs.Meant.{alg_line, ceilings_line, facts_lines, keys_lines, member_line, note_line, origin, policy_lines, printed_policy, status_of, unused_line};
 ghost use Rattle.jwt_printing.specs.Printed.{line_text};
 ghost use Rattle.jwt_printing.specs.Views.{reply_view};
 
@@ -50,11 +50,12 @@ fn put_members(
     out: &mut Vec<u8>,
     document: &ObjectRef<'_>,
     policy: &Policy,
+    members: &[Member],
 ) -> Result<(), AllocError>
     ensures { IfOk result (λ _. out.new.items
-        ≡ out.old.items ++ flat_map (member_line document.now policy.now) every_member) }
+        ≡ out.old.items ++ flat_map (member_line document.now policy.now) members.now) }
 {
-    for member in &MEMBERS {
+    for member in members {
         put_member(alloc, out, document, policy, *member)?;
     }
     Ok(())
@@ -197,7 +198,7 @@ fn policy_lines(
         ≡ policy_lines document.now policy.now (findings_view found.now)) }
 {
     let mut out = Vec::new(alloc);
-    put_members(alloc, &mut out, document, policy)?;
+    put_members(alloc, &mut out, document, policy, &MEMBERS)?;
     put_facts(alloc, &mut out, policy, &found.facts)?;
     put_notes(alloc, &mut out, found.notes.as_slice())?;
     Ok(out)
