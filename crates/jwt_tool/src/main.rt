@@ -11,8 +11,11 @@ use jwt_ecdsa::Ecdsa;
 use jwt_ed25519::Ed25519;
 use jwt_mac::Verifier;
 use jwt_rsa::Rsa;
+use jwt_shown::push_quoted;
 use jwt_text::{GREATEST_LIMIT, Intake, Reader, Sink, Source, Writer};
-use std::fs::File;
+use jwt_words::Order;
+use std::fs::{self, File};
+use std::io::IsTerminal;
 use std::process::ExitCode;
 use std::random::RandomSource;
 use std::time::{SystemTime, UNIX_EPOCH};
@@ -57,6 +60,58 @@ impl Clock for System<'_> {
     }
 }
 
+// Says on standard error why a file can't be read. What becomes of that changes nothing.
+fn complain(rt: &HostRuntime, name: &str, why: &str) {
+    let mut quoted = String::new(rt.alloc());
+    if push_quoted(&mut quoted, name).is_ok() {
+        let _ = eprintln!(rt; "jwt: the file {quoted} can't be read: {why}");
+    }
+}
+
+// Why a file can't be opened.
+fn reason(error: &io::Error) -> &'static str {
+    match error.kind() {
+        io::ErrorKind::NotFound => "there is none of this name",
+        io::ErrorKind::PermissionDenied => "this user has no permission",
+        _ => "it can't be opened",
+    }
+}
+
+// Why a file that was opened can't be read.
+fn read_reason(rt: &HostRuntime, name: &str) -> &'static str {
+    match fs::metadata(rt, name) {
+        Ok(metadata) if metadata.is_dir() => "it is a directory",
+        _ => "a read failed",
+    }
+}
+
+// The first octets of a file that was opened, in pieces; none where they can't be read.
+fn octets_of(rt: &HostRuntime, name: &str, file: File, limit: u32) -> io::Result<Option<Intake>>
+    requires least { 1 ≤ limit }
+    requires greatest { limit ≤ GREATEST_LIMIT }
+{
+    let document = read_document(rt.alloc(), limit, &mut Reader::new(file))?;
+    if document.is_none() {
+        complain(rt, name, read_reason(rt, name));
+    }
+    Ok(document)
+}
+
+// Says on standard error what is waited for, where `verify` waits for a policy at a terminal.
+fn say_what_is_waited_for(rt: &HostRuntime, request: &Result<Request<'_>, WordsFault>) {
+    if let Ok(Request::Once {
+        order: Order::Verify { files, .. },
+        ..
+    }) = request
+    {
+        if files.policy.is_none() && rt.stdin().is_terminal() {
+            let _ = eprintln!(rt;
+                "jwt: waits for a line with the policy, then for the documents that no option names: a line with the key set, and the token up to the end of input"
+            );
+        }
+    }
+}
+
 // The first octets of a file, in pieces; none where none is named or it can't be read.
 fn document(rt: &HostRuntime, name: Option<&str>, limit: u32) -> io::Result<Option<Intake>>
     requires least { 1 ≤ limit }
@@ -66,9 +121,12 @@ fn document(rt: &HostRuntime, name: Option<&str>, limit: u32) -> io::Result<Opti
         return Ok(None);
     };
     match File::open(rt, name) {
-        Ok(file) => Ok(read_document(rt.alloc(), limit, &mut Reader::new(file))?),
+        Ok(file) => octets_of(rt, name, file, limit),
         Err(error) if error.kind() == io::ErrorKind::OutOfMemory => Err(error),
-        Err(_) => Ok(None),
+        Err(error) => {
+            complain(rt, name, reason(&error));
+            Ok(None)
+        }
     }
 }
 
@@ -132,6 +190,7 @@ fn run_words<R: Source, W: Sink>(
         Box::new(rt.alloc(), Ecdsa)?,
     ];
     let request = read_words(rt.alloc(), words.as_slice(), clock);
+    say_what_is_waited_for(rt, &request);
     let files = files_to_read(&request);
     let policy = document(rt, files.policy, 65_536)?;
     let keys = document(rt, files.keys, 4_194_304)?;
