@@ -21,6 +21,8 @@ mod policy;
 #[cfg(test)]
 mod pretty;
 #[cfg(test)]
+mod reasons;
+#[cfg(test)]
 mod runs;
 #[cfg(test)]
 mod show;

@@ -10,6 +10,7 @@ use jwt_command::{Files, Moment, Request, WordsFault, files_in_request, octets_a
 use jwt_ecdsa::Ecdsa;
 use jwt_ed25519::Ed25519;
 use jwt_mac::Verifier;
+use jwt_reasons::{access_reason, keys_reason, policy_reason};
 use jwt_rsa::Rsa;
 use jwt_shown::push_quoted;
 use jwt_text::{GREATEST_LIMIT, Intake, Reader, Sink, Source, Writer};
@@ -19,6 +20,7 @@ use std::io::IsTerminal;
 use std::process::ExitCode;
 use std::random::RandomSource;
 use std::time::{SystemTime, UNIX_EPOCH};
+use std::alloc::AllocError;
 use std::{env, io};
 
 // The clock is read once, before anything else, and by `verify --lines` for each line. Standard input is read without a buffer, so
@@ -95,6 +97,37 @@ fn octets_of(rt: &HostRuntime, name: &str, file: File, limit: u32) -> io::Result
         complain(rt, name, read_reason(rt, name));
     }
     Ok(document)
+}
+
+// Says on standard error why a document is refused, if it is.
+fn say_reason(
+    rt: &HostRuntime,
+    document: &str,
+    reason: Result<Option<String>, AllocError>,
+) -> bool {
+    match reason {
+        Ok(Some(reason)) => {
+            let _ = eprintln!(rt; "jwt: the {document} is refused: {reason}");
+            true
+        }
+        _ => false,
+    }
+}
+
+// Says on standard error why the first document of a file that is refused is: the policy, the key set or the access rule.
+fn say_why(rt: &HostRuntime, held: Held<'_>) {
+    let policy = held.policy.unwrap_or(b"");
+    if held.policy.is_some() && say_reason(rt, "policy", policy_reason(rt.alloc(), policy)) {
+        return;
+    }
+    let keys = held.keys.unwrap_or(b"");
+    if held.keys.is_some() && say_reason(rt, "key set", keys_reason(rt.alloc(), keys)) {
+        return;
+    }
+    let access = held.access.unwrap_or(b"");
+    if held.access.is_some() {
+        say_reason(rt, "access rule", access_reason(rt.alloc(), access));
+    }
 }
 
 // Says on standard error what is waited for, where `verify` waits for a policy at a terminal.
@@ -207,5 +240,9 @@ fn run_words<R: Source, W: Sink>(
         random: random(rt, &request, &mut fresh),
     };
     let mut moments = System { rt };
-    Ok(run_read(rt.alloc(), request, &built_in, &mut moments, held, r, w))
+    let status = run_read(rt.alloc(), request, &built_in, &mut moments, held, r, w);
+    if status == 1 {
+        say_why(rt, held);
+    }
+    Ok(status)
 }
