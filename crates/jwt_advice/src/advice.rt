@@ -189,7 +189,7 @@ pub fn policy_advises(advice: Advice, policy: &Policy) -> bool
 }
 
 /// Whether this is to be advised of the policy with its keys as a whole.
-fn set_advises(
+pub(crate) fn set_advises(
     advice: Advice,
     policy: &Policy,
     keys: &KeySet,

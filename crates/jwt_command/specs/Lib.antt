@@ -24,6 +24,10 @@ pub mod Lines
 pub mod RunLines
 -- the answer of `jwt jwk`
 pub mod Jwk
+-- what `jwt policy` answers
+pub mod Policy
+-- what `jwt show --pretty` answers
+pub mod Pretty
 -- the end of a run of the command
 pub mod Runs
 -- ---- What contracts of private functions alone cite, which nobody has to believe

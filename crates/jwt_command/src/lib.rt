@@ -16,6 +16,8 @@ mod issue;
 mod jwk;
 mod keys;
 mod mac;
+mod policy;
+mod pretty;
 pub mod run;
 mod show;
 mod verify;

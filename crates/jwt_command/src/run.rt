@@ -3,18 +3,21 @@ ghost use Rattle.std.specs.Prelude.{◌≡◌, ◌⊎◌, [], None, Option, Some
 ghost use Rattle.jwt_command.specs.Answered.{answer_in_hand, answer_of, version_answer};
 ghost use Rattle.jwt_words.specs.InHand.{none_held, unread};
 ghost use Rattle.jwt_command.specs.Jwk.{jwk_most};
+ghost use Rattle.jwt_command.specs.Pretty.{pretty_most};
 ghost use Rattle.jwt_text.specs.Intake.{TakesAtMost};
 ghost use Rattle.jwt_command.specs.Runs.{IsReading, Runs, reads_nothing};
 ghost use Rattle.jwt_words.specs.Seen.{HasRange, held_view, requested, seconds_of, seen};
 ghost use Rattle.jwt_printing.specs.Views.{reply_view};
 ghost use Rattle.jwt_command.specs.Stops.{most_in_hand, most_taken};
 ghost use Rattle.jwt_command.specs.Verify.{asked_for};
-ghost use Rattle.jwt_words.specs.Words.{HasLimits, Jwk, JwkOrder, Once, Order as Asked, Request as Wanted, files_in_order, request_of};
+ghost use Rattle.jwt_words.specs.Words.{HasLimits, Jwk, JwkOrder, Once, Order as Asked, Pretty, PrettyOrder, Request as Wanted, files_in_order, request_of};
 
 use crate::issue::issue;
 use crate::jwk::{jwk, new_secret};
 use crate::keys::keys;
 use crate::mac::{mac, mac_in_hand};
+use crate::policy::policy;
+use crate::pretty::show_pretty;
 use crate::show::show;
 use crate::verify::{Manner, verify};
 use crate::verify_lines::{Clock, NoClock, run_lines};
@@ -56,6 +59,9 @@ pub fn run<R: Source, W: Sink>(alloc: Global, words: &[&str], r: &mut R, w: &mut
     ensures jwk_stops { (order : JwkOrder) → request_of None (map (λ word. word.now) words.now) ≡ Some (Jwk order)
         → IfSome (R.remaining r.old) (λ x. (R.failed r.new ≡ true)
         ⊎ TakesAtMost (jwk_most none_held order) x (R.remaining r.new)) }
+    ensures pretty_stops { (order : PrettyOrder) → request_of None (map (λ word. word.now) words.now) ≡ Some (Pretty order)
+        → IfSome (R.remaining r.old) (λ x. (R.failed r.new ≡ true)
+        ⊎ TakesAtMost (pretty_most order) x (R.remaining r.new)) }
 
     // Of every source: what is answered without reading, and where the status is 3.
     ensures unread { reads_nothing (request_of None (map (λ word. word.now) words.now)) ≡ true
@@ -76,6 +82,8 @@ pub fn run<R: Source, W: Sink>(alloc: Global, words: &[&str], r: &mut R, w: &mut
     ensures jwk_failed { (order : JwkOrder) → request_of None (map (λ word. word.now) words.now) ≡ Some (Jwk order)
         → result ≡ 3 → (R.failed r.new ≡ true) ⊎ ((W.failed w.new ≡ true)
         ⊎ (is_some (unread order.files none_held) ≡ true)) }
+    ensures pretty_failed { (order : PrettyOrder) → request_of None (map (λ word. word.now) words.now) ≡ Some (Pretty order)
+        → result ≡ 3 → (R.failed r.new ≡ true) ⊎ (W.failed w.new ≡ true) }
 {
     let built_in: [Box<dyn Verifier>; 0] = [];
     run_with(
@@ -130,6 +138,10 @@ pub fn run_with<R: Source, W: Sink, C: Clock>(
         ≡ Some (Jwk order)
         → IfSome (R.remaining r.old) (λ x. (R.failed r.new ≡ true)
         ⊎ TakesAtMost (jwk_most (held_view held.entry) order) x (R.remaining r.new)) }
+    ensures pretty_stops { (order : PrettyOrder) → request_of (seconds_of clock) (map (λ word. word.now) words.now)
+        ≡ Some (Pretty order)
+        → IfSome (R.remaining r.old) (λ x. (R.failed r.new ≡ true)
+        ⊎ TakesAtMost (pretty_most order) x (R.remaining r.new)) }
 
     // Of every source: what is answered without reading, and where the status is 3.
     ensures unread { reads_nothing
@@ -154,6 +166,9 @@ pub fn run_with<R: Source, W: Sink, C: Clock>(
         ≡ Some (Jwk order)
         → result ≡ 3 → (R.failed r.new ≡ true) ⊎ ((W.failed w.new ≡ true)
         ⊎ (is_some (unread order.files (held_view held.entry)) ≡ true)) }
+    ensures pretty_failed { (order : PrettyOrder) → request_of (seconds_of clock) (map (λ word. word.now) words.now)
+        ≡ Some (Pretty order)
+        → result ≡ 3 → (R.failed r.new ≡ true) ⊎ (W.failed w.new ≡ true) }
 {
     run_read(
         alloc,
@@ -200,6 +215,9 @@ pub fn run_read<R: Source, W: Sink, C: Clock>(
     ensures jwk_stops { (order : JwkOrder) → IsReading words.entry (Some (Jwk order))
         → IfSome (R.remaining r.old) (λ x. (R.failed r.new ≡ true)
         ⊎ TakesAtMost (jwk_most (held_view held.entry) order) x (R.remaining r.new)) }
+    ensures pretty_stops { (order : PrettyOrder) → IsReading words.entry (Some (Pretty order))
+        → IfSome (R.remaining r.old) (λ x. (R.failed r.new ≡ true)
+        ⊎ TakesAtMost (pretty_most order) x (R.remaining r.new)) }
 
     // Of every source: what is answered without reading, and where the status is 3.
     ensures unread { (asked : Option Wanted) → IsReading words.entry asked
@@ -220,6 +238,8 @@ pub fn run_read<R: Source, W: Sink, C: Clock>(
     ensures jwk_failed { (order : JwkOrder) → IsReading words.entry (Some (Jwk order))
         → result ≡ 3 → (R.failed r.new ≡ true) ⊎ ((W.failed w.new ≡ true)
         ⊎ (is_some (unread order.files (held_view held.entry)) ≡ true)) }
+    ensures pretty_failed { (order : PrettyOrder) → IsReading words.entry (Some (Pretty order))
+        → result ≡ 3 → (R.failed r.new ≡ true) ⊎ (W.failed w.new ≡ true) }
 {
     match words {
         Ok(Request::Once { printing, order }) => {
@@ -228,6 +248,8 @@ pub fn run_read<R: Source, W: Sink, C: Clock>(
         Ok(Request::EachLine(order)) => run_lines(alloc, order, built_in, moments, held, r, w),
         Ok(Request::Jwk(order)) => give(w, jwk(alloc, order, held, r)),
         Ok(Request::NewSecret(order)) => give(w, new_secret(alloc, order, held)),
+        Ok(Request::Policy(order)) => give(w, policy(alloc, order, built_in, held)),
+        Ok(Request::Pretty(order)) => give(w, show_pretty(alloc, order, r)),
         Err(WordsFault::Wrong(text)) => send(w, text.as_bytes(), 2),
         Err(WordsFault::OutOfMemory) => lack_memory(w),
     }

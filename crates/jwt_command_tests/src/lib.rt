@@ -17,6 +17,12 @@ mod lines;
 #[cfg(test)]
 mod mac;
 #[cfg(test)]
+mod policy;
+#[cfg(test)]
+mod pretty;
+#[cfg(test)]
+mod reasons;
+#[cfg(test)]
 mod runs;
 #[cfg(test)]
 mod show;

@@ -11,7 +11,7 @@ static SAID: [Row; 3] = [
         input: &[],
         prints: &[
             "error: 'jwt' requires a subcommand but one was not provided",
-            "  [subcommands: mac, keys, show, verify, issue, jwk, help]",
+            "  [subcommands: mac, keys, show, verify, issue, jwk, policy, help]",
             "",
             "Usage: jwt <COMMAND>",
             "",

@@ -26,8 +26,12 @@ pub mod ListedJson
 pub mod Mac
 -- the two ways to print an answer
 pub mod Printer
+-- a token for a person, as `jwt show --pretty` prints it
+pub mod Pretty
 -- this crate's own values as contracts see them
 pub mod Views
+-- what `jwt policy` prints
+pub mod Meant
 -- ---- What contracts of private functions alone cite, which nobody has to believe
 
 -- the tokens of the objects that are printed, as they are written one by one

@@ -1,10 +1,12 @@
 -- This crate's own values as contracts see them.
-use Rattle.std.specs.Prelude.{Option, option_map}
+use Rattle.std.specs.Prelude.{Option, option_map, string_bytes}
 use Rattle.std.specs.Borrow.{Bor}
 use Rattle.jwt_access.specs.Rules.{Rule}
 use Rattle.jwt_printing.specs.declared.mac.Digest.{Digest as CodeDigest}
 use Rattle.jwt_printing.specs.declared.reply.Reply.{Reply}
+use Rattle.jwt_printing.specs.declared.pretty.DateTexts.{DateTexts}
 use Rattle.jwt_printing.specs.Mac.{Digest}
+use Rattle.jwt_printing.specs.Pretty.{Dates}
 use Rattle.jwt_printing.specs.Printed.{Answer}
 
 abbrev pub digest_view : CodeDigest → Digest
@@ -16,3 +18,8 @@ reply_view r = record { text = r.text.items; status = r.status }
 -- an access rule, where there is one
 abbrev pub rule_view : Option (Bor Rule) → Option Rule
 rule_view rule = option_map (λ r. r.now) rule
+
+-- ---- Cited by contracts of private functions alone
+
+abbrev pub dates_view : DateTexts → Dates
+dates_view d = record { exp = option_map string_bytes d.exp; iat = option_map string_bytes d.iat; nbf = option_map string_bytes d.nbf }

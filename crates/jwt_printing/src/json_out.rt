@@ -1,8 +1,10 @@
 //! One line of JSON, written by the kit's writer.
 ghost use Rattle.std.specs.Prelude.{◌≡◌, ◌++◌, ◌∷◌, [], IfOk, OnOk, option_map};
+ghost use Rattle.std.specs.Fmt.{decimal};
+ghost use Rattle.json.specs.Json.{boolean, null, number, string};
 ghost use Rattle.json.specs.Print.{print};
 ghost use Rattle.json.specs.Token.{begin_array, begin_object, end_array, end_object, key};
-ghost use Rattle.json.specs.Tree.{HasNumbers};
+ghost use Rattle.json.specs.Tree.{HasNumbers, json_tokens};
 ghost use Rattle.json.specs.Value.{value_view};
 ghost use Rattle.jwt_printing.specs.Json.{count, some_text, text, value_of};
 ghost use Rattle.jwt_printing.specs.JsonTokens.{named_tokens};
@@ -42,6 +44,22 @@ impl JsonOut {
         Ok(JsonOut { writer })
     }
 
+    /// Nothing yet: a value is to stand alone.
+    pub(crate) fn bare(alloc: Global) -> JsonOut
+        ensures { result ≡ [] }
+    {
+        JsonOut {
+            writer: Writer::new(Vec::new(alloc)),
+        }
+    }
+
+    /// The text of what was written.
+    pub(crate) fn into_text(self) -> Vec<u8>
+        ensures { result.items ≡ print self }
+    {
+        let JsonOut { writer } = self;
+        writer.into_inner()
+    }
     /// Opens an object.
     pub(crate) fn begin_object(&mut self) -> Result<(), AllocError>
         ensures { OnOk result (self.new ≡ self.old ++ begin_object ∷ []) }
@@ -64,11 +82,51 @@ impl JsonOut {
         self.writer.begin_array()
     }
 
+    /// The start of a list without a name.
+    pub(crate) fn begin_array(&mut self) -> Result<(), AllocError>
+        ensures { OnOk result (self.new ≡ self.old ++ begin_array ∷ []) }
+    {
+        self.writer.begin_array()
+    }
     /// Closes a list.
     pub(crate) fn end_list(&mut self) -> Result<(), AllocError>
         ensures { OnOk result (self.new ≡ self.old ++ end_array ∷ []) }
     {
         self.writer.end_array()
+    }
+
+    /// A name, whose value is to come.
+    pub(crate) fn key(&mut self, name: &str) -> Result<(), AllocError>
+        ensures { OnOk result (self.new ≡ self.old ++ key name.now ∷ []) }
+    {
+        self.writer.key(name)
+    }
+
+    /// A text without a name.
+    pub(crate) fn string(&mut self, value: &str) -> Result<(), AllocError>
+        ensures { OnOk result (self.new ≡ self.old ++ json_tokens (string value.now)) }
+    {
+        self.writer.string(value)
+    }
+
+    /// A whole number without a name.
+    pub(crate) fn number(&mut self, value: u64) -> Result<(), AllocError>
+        ensures { OnOk result (self.new ≡ self.old ++ json_tokens (number (decimal value))) }
+    {
+        self.writer.u64(value)
+    }
+
+    /// A truth value without a name.
+    pub(crate) fn boolean(&mut self, value: bool) -> Result<(), AllocError>
+        ensures { OnOk result (self.new ≡ self.old ++ json_tokens (boolean value)) }
+    {
+        self.writer.boolean(value)
+    }
+
+    pub(crate) fn null(&mut self) -> Result<(), AllocError>
+        ensures { OnOk result (self.new ≡ self.old ++ json_tokens null) }
+    {
+        self.writer.null()
     }
 
     /// A name with a text.

@@ -22,7 +22,7 @@ use jwt_text::{TextFault, decode};
 use std::alloc::{AllocError, Global};
 
 /// The octets that a text spells, and none where it spells none.
-fn spelled_octets(alloc: Global, text: &[u8]) -> Result<Vec<u8>, AllocError>
+pub(crate) fn spelled_octets(alloc: Global, text: &[u8]) -> Result<Vec<u8>, AllocError>
     ensures { IfOk result (λ v. v.items ≡ spelled_octets text.now) }
 {
     match decode(alloc, text) {
@@ -77,7 +77,11 @@ fn signature_at<'d, 'a>(form: Form, document: &'d Value<'a>, i: u32) -> Option<&
 }
 
 /// Its unprotected header.
-fn header_at<'d, 'a>(form: Form, document: &'d Value<'a>, i: u32) -> Option<&'d Value<'a>>
+pub(crate) fn header_at<'d, 'a>(
+    form: Form,
+    document: &'d Value<'a>,
+    i: u32,
+) -> Option<&'d Value<'a>>
     requires { HasNumbers (value_view document.now) }
     ensures value { option_map (λ v. value_view v.now) result
         ≡ header_at form (value_view document.now) i }

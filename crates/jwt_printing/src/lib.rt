@@ -1,5 +1,5 @@
-//! The output of the command `jwt`: lines and JSON of a verdict, of a key set, of a token that is shown, of a tag, of a JWK and of what
-//! is refused, and how they go out.
+//! The output of the command `jwt`: lines and JSON of a verdict, of a key set, of a token that is shown, of a tag, of a JWK, of a policy's
+//! meaning, of a token for a person and of what is refused, and how they go out.
 //!
 //! A [`Reply`] is a whole answer with its status; [`give`] and [`send`] send it.
 #![tactic(auto)]
@@ -7,6 +7,7 @@
 mod denied;
 mod faults;
 mod json_keys;
+mod json_meant;
 mod json_out;
 mod json_show;
 mod json_verdict;
@@ -14,8 +15,11 @@ mod jwk;
 mod keys;
 pub mod laws;
 mod mac;
+mod meant;
+mod members;
 mod nearest;
 mod pieces;
+mod pretty;
 mod refusals;
 mod reply;
 mod sending;
@@ -27,6 +31,8 @@ pub use json_verdict::{read_failed_json, report_json};
 pub use jwk::{jwk_line, random_failed, refused_jwk};
 pub use keys::printed_set;
 pub use mac::{Digest, digest_line, refused_key};
+pub use meant::printed_policy;
+pub use pretty::pretty_token;
 pub use refusals::{
     printed_access_fault, printed_file_fault, printed_keys_fault, printed_policy_fault,
     printed_read_fault, refused_claims,

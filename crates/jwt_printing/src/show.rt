@@ -124,7 +124,7 @@ fn put_claims(alloc: Global, out: &mut Vec<u8>, claims: &Claims) -> Result<(), A
 }
 
 /// The line of claims that are refused before any policy is looked at.
-fn put_refused_claims(
+pub(crate) fn put_refused_claims(
     alloc: Global,
     out: &mut Vec<u8>,
     fault: &ClaimFault<'_>,

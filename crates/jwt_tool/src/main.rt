@@ -10,9 +10,14 @@ use jwt_command::{Files, Moment, Request, WordsFault, files_in_request, octets_a
 use jwt_ecdsa::Ecdsa;
 use jwt_ed25519::Ed25519;
 use jwt_mac::Verifier;
+use jwt_reasons::{access_reason, keys_reason, policy_reason};
 use jwt_rsa::Rsa;
+use jwt_shown::push_quoted;
 use jwt_text::{GREATEST_LIMIT, Intake, Reader, Sink, Source, Writer};
-use std::fs::File;
+use jwt_words::Order;
+use std::alloc::AllocError;
+use std::fs::{self, File};
+use std::io::IsTerminal;
 use std::process::ExitCode;
 use std::random::RandomSource;
 use std::time::{SystemTime, UNIX_EPOCH};
@@ -57,6 +62,91 @@ impl Clock for System<'_> {
     }
 }
 
+/// Says on standard error why a file can't be read. What becomes of that changes nothing.
+fn complain(rt: &HostRuntime, name: &str, why: &str) {
+    let mut quoted = String::new(rt.alloc());
+    if push_quoted(&mut quoted, name).is_ok() {
+        let _ = eprintln!(rt; "jwt: the file {quoted} can't be read: {why}");
+    }
+}
+
+/// Why a file can't be opened.
+fn reason(error: &io::Error) -> &'static str {
+    match error.kind() {
+        io::ErrorKind::NotFound => "there is none of this name",
+        io::ErrorKind::PermissionDenied => "this user has no permission",
+        _ => "it can't be opened",
+    }
+}
+
+/// Why a file that was opened can't be read.
+fn read_reason(rt: &HostRuntime, name: &str) -> &'static str {
+    match fs::metadata(rt, name) {
+        Ok(metadata) if metadata.is_dir() => "it is a directory",
+        _ => "a read failed",
+    }
+}
+
+/// The first octets of a file that was opened, in pieces; none where they can't be read.
+fn octets_of(rt: &HostRuntime, name: &str, file: File, limit: u32) -> io::Result<Option<Intake>>
+    requires least { 1 ≤ limit }
+    requires greatest { limit ≤ GREATEST_LIMIT }
+{
+    let document = read_document(rt.alloc(), limit, &mut Reader::new(file))?;
+    if document.is_none() {
+        complain(rt, name, read_reason(rt, name));
+    }
+    Ok(document)
+}
+
+/// Says on standard error why a document is refused, if it is.
+fn say_reason(
+    rt: &HostRuntime,
+    document: &str,
+    reason: Result<Option<String>, AllocError>,
+) -> bool {
+    match reason {
+        Ok(Some(reason)) => {
+            let _ = eprintln!(rt; "jwt: the {document} is refused: {reason}");
+            true
+        }
+        _ => false,
+    }
+}
+
+/// Says on standard error why the first document of a file that is refused is: the policy, the key set or the access rule.
+fn say_why(rt: &HostRuntime, held: Held<'_>) {
+    let policy = held.policy.unwrap_or(b"");
+    if held.policy.is_some() && say_reason(rt, "policy", policy_reason(rt.alloc(), policy)) {
+        return;
+    }
+    let keys = held.keys.unwrap_or(b"");
+    if held.keys.is_some() && say_reason(rt, "key set", keys_reason(rt.alloc(), keys)) {
+        return;
+    }
+    let access = held.access.unwrap_or(b"");
+    if held.access.is_some() {
+        say_reason(rt, "access rule", access_reason(rt.alloc(), access));
+    }
+}
+
+/// Says on standard error what is waited for, where `verify` waits for a policy at a terminal.
+fn say_what_is_waited_for(rt: &HostRuntime, request: &Result<Request<'_>, WordsFault>) {
+    if let Ok(
+        Request::Once {
+            order: Order::Verify { files, .. },
+            ..
+        },
+    ) = request
+    {
+        if files.policy.is_none() && rt.stdin().is_terminal() {
+            let _ = eprintln!(rt;
+                "jwt: waits for a line with the policy, then for the documents that no option names: a line with the key set, and the token up to the end of input"
+            );
+        }
+    }
+}
+
 /// The first octets of a file, in pieces; none where none is named or it can't be read.
 fn document(rt: &HostRuntime, name: Option<&str>, limit: u32) -> io::Result<Option<Intake>>
     requires least { 1 ≤ limit }
@@ -66,9 +156,12 @@ fn document(rt: &HostRuntime, name: Option<&str>, limit: u32) -> io::Result<Opti
         return Ok(None);
     };
     match File::open(rt, name) {
-        Ok(file) => Ok(read_document(rt.alloc(), limit, &mut Reader::new(file))?),
+        Ok(file) => octets_of(rt, name, file, limit),
         Err(error) if error.kind() == io::ErrorKind::OutOfMemory => Err(error),
-        Err(_) => Ok(None),
+        Err(error) => {
+            complain(rt, name, reason(&error));
+            Ok(None)
+        }
     }
 }
 
@@ -133,6 +226,7 @@ fn run_words<R: Source, W: Sink>(
         Box::new(rt.alloc(), Ecdsa)?,
     ];
     let request = read_words(rt.alloc(), words.as_slice(), clock);
+    say_what_is_waited_for(rt, &request);
     let files = files_to_read(&request);
     let policy = document(rt, files.policy, 65_536)?;
     let keys = document(rt, files.keys, 4_194_304)?;
@@ -149,5 +243,9 @@ fn run_words<R: Source, W: Sink>(
         random: random(rt, &request, &mut fresh),
     };
     let mut moments = System { rt };
-    Ok(run_read(rt.alloc(), request, &built_in, &mut moments, held, r, w))
+    let status = run_read(rt.alloc(), request, &built_in, &mut moments, held, r, w);
+    if status == 1 {
+        say_why(rt, held);
+    }
+    Ok(status)
 }

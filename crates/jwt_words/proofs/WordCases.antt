@@ -4,7 +4,7 @@ use Rattle.std.specs.Prelude.{codes}
 use Rattle.clap.proofs.OnLiterals.{clap_on_literals}
 use Rattle.jwt_mac.specs.Algorithm.{alg_named}
 use Rattle.jwt_mac.specs.declared.algorithm.Alg.TheVariants.{HS384}
-use Rattle.jwt_words.specs.Words.{EachLine, Jwk, Keys, KidNamed, KidThumbprint, Mac, MacFile, NewSecret, NoKid, Once, Show, Verify, Version, no_files, request_of}
+use Rattle.jwt_words.specs.Words.{EachLine, Jwk, Keys, KidNamed, KidThumbprint, Mac, MacFile, NewSecret, NoKid, Once, Policy, Pretty, Show, Verify, Version, no_files, request_of}
 use Rattle.jwt_words.specs.declared.printing.Printing.TheVariants.{Json, Lines}
 
 pub key_alone : request_of None (codes "jwt" ∷ codes "mac" ∷ codes "--k" ∷ codes "AA" ∷ []) ≡ Some (Once Lines (Mac (codes "AA") 8192))
@@ -210,3 +210,43 @@ new_secret_of_a_file = refl
 pub new_secret_with_a_kid : request_of None (codes "jwt" ∷ codes "jwk" ∷ codes "--new" ∷ codes "HS256" ∷ codes "--kid" ∷ codes "k" ∷ []) ≡ None
 unfolding clap_on_literals
 new_secret_with_a_kid = refl
+
+pub policy_alone : request_of None (codes "jwt" ∷ codes "policy" ∷ codes "--policy=p" ∷ []) ≡ Some (Policy (record { printing = Lines; files = record no_files { policy = Some (codes "p") } }))
+unfolding clap_on_literals
+policy_alone = refl
+
+pub policy_with_keys : request_of None (codes "jwt" ∷ codes "policy" ∷ codes "--json" ∷ codes "--keys" ∷ codes "k" ∷ codes "--policy" ∷ codes "p" ∷ []) ≡ Some (Policy (record { printing = Json; files = record no_files { policy = Some (codes "p"); keys = Some (codes "k") } }))
+unfolding clap_on_literals
+policy_with_keys = refl
+
+pub policy_unnamed : request_of None (codes "jwt" ∷ codes "policy" ∷ codes "--keys=k" ∷ []) ≡ None
+unfolding clap_on_literals
+policy_unnamed = refl
+
+pub policy_twice : request_of None (codes "jwt" ∷ codes "policy" ∷ codes "--policy=p" ∷ codes "--policy=p" ∷ []) ≡ None
+unfolding clap_on_literals
+policy_twice = refl
+
+pub policy_lines : request_of None (codes "jwt" ∷ codes "policy" ∷ codes "--policy=p" ∷ codes "--lines" ∷ []) ≡ None
+unfolding clap_on_literals
+policy_lines = refl
+
+pub pretty_alone : request_of None (codes "jwt" ∷ codes "show" ∷ codes "--pretty" ∷ []) ≡ Some (Pretty (record { limit = 8192; now = None }))
+unfolding clap_on_literals
+pretty_alone = refl
+
+pub pretty_by_the_clock : request_of (Some 7) (codes "jwt" ∷ codes "show" ∷ codes "--limit=9" ∷ codes "--pretty" ∷ []) ≡ Some (Pretty (record { limit = 9; now = Some 7 }))
+unfolding clap_on_literals
+pretty_by_the_clock = refl
+
+pub pretty_at_a_moment : request_of (Some 7) (codes "jwt" ∷ codes "show" ∷ codes "--pretty" ∷ codes "--now" ∷ codes "1300819379" ∷ []) ≡ Some (Pretty (record { limit = 8192; now = Some 1300819379 }))
+unfolding clap_on_literals
+pretty_at_a_moment = refl
+
+pub pretty_in_json : request_of (Some 7) (codes "jwt" ∷ codes "show" ∷ codes "--pretty" ∷ codes "--json" ∷ []) ≡ None
+unfolding clap_on_literals
+pretty_in_json = refl
+
+pub moment_of_plain_show : request_of (Some 7) (codes "jwt" ∷ codes "show" ∷ codes "--now=7" ∷ []) ≡ None
+unfolding clap_on_literals
+moment_of_plain_show = refl

@@ -1,7 +1,7 @@
 -- The requests of some examples of words.
 use Rattle.std.specs.Prelude.{◌≡◌, [], ◌∷◌, None, Some, true, false, codes}
 use Rattle.jwt_mac.specs.declared.algorithm.Alg.TheVariants.{HS384}
-use Rattle.jwt_words.specs.Words.{EachLine, Jwk, Keys, KidNamed, KidThumbprint, Mac, MacFile, NewSecret, NoKid, Once, Show, Verify, Version, no_files, request_of}
+use Rattle.jwt_words.specs.Words.{EachLine, Jwk, Keys, KidNamed, KidThumbprint, Mac, MacFile, NewSecret, NoKid, Once, Policy, Pretty, Show, Verify, Version, no_files, request_of}
 use Rattle.jwt_words.specs.declared.printing.Printing.TheVariants.{Json, Lines}
 
 pub record Examples : Type 0 where
@@ -56,3 +56,13 @@ pub record Examples : Type 0 where
   pub new_public_key : request_of None (codes "jwt" ∷ codes "jwk" ∷ codes "--new" ∷ codes "RS256" ∷ []) ≡ None
   pub new_secret_of_a_file : request_of None (codes "jwt" ∷ codes "jwk" ∷ codes "--new" ∷ codes "HS256" ∷ codes "--file" ∷ codes "k" ∷ []) ≡ None
   pub new_secret_with_a_kid : request_of None (codes "jwt" ∷ codes "jwk" ∷ codes "--new" ∷ codes "HS256" ∷ codes "--kid" ∷ codes "k" ∷ []) ≡ None
+  pub policy_alone : request_of None (codes "jwt" ∷ codes "policy" ∷ codes "--policy=p" ∷ []) ≡ Some (Policy (record { printing = Lines; files = record no_files { policy = Some (codes "p") } }))
+  pub policy_with_keys : request_of None (codes "jwt" ∷ codes "policy" ∷ codes "--json" ∷ codes "--keys" ∷ codes "k" ∷ codes "--policy" ∷ codes "p" ∷ []) ≡ Some (Policy (record { printing = Json; files = record no_files { policy = Some (codes "p"); keys = Some (codes "k") } }))
+  pub policy_unnamed : request_of None (codes "jwt" ∷ codes "policy" ∷ codes "--keys=k" ∷ []) ≡ None
+  pub policy_twice : request_of None (codes "jwt" ∷ codes "policy" ∷ codes "--policy=p" ∷ codes "--policy=p" ∷ []) ≡ None
+  pub policy_lines : request_of None (codes "jwt" ∷ codes "policy" ∷ codes "--policy=p" ∷ codes "--lines" ∷ []) ≡ None
+  pub pretty_alone : request_of None (codes "jwt" ∷ codes "show" ∷ codes "--pretty" ∷ []) ≡ Some (Pretty (record { limit = 8192; now = None }))
+  pub pretty_by_the_clock : request_of (Some 7) (codes "jwt" ∷ codes "show" ∷ codes "--limit=9" ∷ codes "--pretty" ∷ []) ≡ Some (Pretty (record { limit = 9; now = Some 7 }))
+  pub pretty_at_a_moment : request_of (Some 7) (codes "jwt" ∷ codes "show" ∷ codes "--pretty" ∷ codes "--now" ∷ codes "1300819379" ∷ []) ≡ Some (Pretty (record { limit = 8192; now = Some 1300819379 }))
+  pub pretty_in_json : request_of (Some 7) (codes "jwt" ∷ codes "show" ∷ codes "--pretty" ∷ codes "--json" ∷ []) ≡ None
+  pub moment_of_plain_show : request_of (Some 7) (codes "jwt" ∷ codes "show" ∷ codes "--now=7" ∷ []) ≡ None

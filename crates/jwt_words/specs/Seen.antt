@@ -1,12 +1,14 @@
 -- The crate's own types as contracts see them.
-use Rattle.std.specs.Prelude.{◌≡◌, ℕ, Option, option_map, true}
+use Rattle.std.specs.Prelude.{◌≡◌, ◌≤◌, ℕ, Option, option_map, true}
 use Rattle.jwt_mac.specs.Algorithm.{is_hmac_alg}
-use Rattle.jwt_words.specs.Words.{EachLine, Files, HasLimits, Issue, Jwk, JwkOrder, Keys, KidChoice, KidNamed, KidThumbprint, LinesOrder, Mac, MacFile, NewSecret, NoKid, Once, Order, Request, SecretOrder, Show, Verify, Version}
+use Rattle.jwt_words.specs.Words.{EachLine, Files, HasLimits, Issue, Jwk, JwkOrder, Keys, KidChoice, KidNamed, KidThumbprint, LinesOrder, Mac, MacFile, NewSecret, NoKid, Once, Order, Policy, PolicyOrder, Pretty, PrettyOrder, Request, SecretOrder, Show, Verify, Version}
 use Rattle.jwt_words.specs.declared.jwk.JwkOrder.{JwkOrder as CodeJwk}
 use Rattle.jwt_words.specs.declared.jwk.KidChoice.{KidChoice as CodeKid}
 use Rattle.jwt_words.specs.declared.jwk.KidChoice.TheVariants as kid
 use Rattle.jwt_words.specs.declared.jwk.SecretOrder.{SecretOrder as CodeSecret}
 use Rattle.jwt_words.specs.declared.moment.Moment.{Moment}
+use Rattle.jwt_words.specs.declared.policy.PolicyOrder.{PolicyOrder as CodePolicy}
+use Rattle.jwt_words.specs.declared.pretty.PrettyOrder.{PrettyOrder as CodePretty}
 use Rattle.jwt_words.specs.declared.words.Order.{Order as Asked}
 use Rattle.jwt_words.specs.declared.words.Order.TheVariants as asked
 use Rattle.jwt_words.specs.declared.words.Files.{Files as CodeFiles}
@@ -48,11 +50,19 @@ jwk_view o = record { printing = o.printing; der = o.der; bare = o.bare; kid = k
 abbrev pub secret_view : CodeSecret → SecretOrder
 secret_view o = record { printing = o.printing; bare = o.bare; alg = o.alg }
 
+abbrev pub policy_view : CodePolicy → PolicyOrder
+policy_view o = record { printing = o.printing; files = files_view o.files }
+
+abbrev pub pretty_view : CodePretty → PrettyOrder
+pretty_view o = record { limit = o.limit; now = seconds_of o.now }
+
 abbrev pub requested : CodeRequest → Request
 requested (request.Once printing order) = Once printing (seen order)
 requested (request.EachLine lines) = EachLine (lines_view lines)
 requested (request.Jwk order) = Jwk (jwk_view order)
 requested (request.NewSecret order) = NewSecret (secret_view order)
+requested (request.Policy order) = Policy (policy_view order)
+requested (request.Pretty order) = Pretty (pretty_view order)
 
 -- the numbers of a request are in their ranges, and a new secret is for HMAC
 abbrev pub HasRange : Request → Type 0
@@ -60,6 +70,8 @@ HasRange (Once printing order) = HasLimits order
 HasRange (EachLine order) = Unit {0}
 HasRange (Jwk order) = Unit {0}
 HasRange (NewSecret order) = is_hmac_alg order.alg ≡ true
+HasRange (Policy order) = Unit {0}
+HasRange (Pretty order) = (1 ≤ order.limit) × (order.limit ≤ 1048576)
 
 -- the words are wrong, and memory was there
 abbrev pub IsWrong : WordsFault → Type 0

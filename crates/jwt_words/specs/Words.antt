@@ -107,6 +107,14 @@ bare_rule = flag (codes "bare")
 abbrev pub secret_rule : Rule
 secret_rule = option (codes "new")
 
+-- `--pretty` of `show`
+abbrev pub pretty_rule : Rule
+pretty_rule = flag (codes "pretty")
+
+-- the policy that `policy` explains, which has to be named
+abbrev pub named_policy_rule : Rule
+named_policy_rule = record policy_rule { required = true }
+
 -- ---- the command
 
 abbrev pub mac_app : App
@@ -115,8 +123,15 @@ mac_app = with_rule (with_rule (with_rule (new_app (codes "mac")) key_rule) key_
 abbrev pub keys_app : App
 keys_app = with_rule (new_app (codes "keys")) json_rule
 
+-- `show` with its limit and `--json`, and with the options for a person too
+abbrev pub show_plain : App
+show_plain = with_rule (with_rule (new_app (codes "show")) limit_rule) json_rule
+
 abbrev pub show_app : App
-show_app = with_rule (with_rule (new_app (codes "show")) limit_rule) json_rule
+show_app = with_rule (with_rule show_plain pretty_rule) (now_rule true)
+
+abbrev pub policy_app : App
+policy_app = with_rule (with_rule (with_rule (new_app (codes "policy")) named_policy_rule) keys_rule) json_rule
 
 -- `verify` on standard input alone, and with files
 abbrev pub verify_on_input : Bool → App
@@ -152,7 +167,7 @@ abbrev pub top_app : App
 top_app = record (new_app (codes "jwt")) { top = record (new_app (codes "jwt")).top { subcommand_required = true } }
 
 abbrev pub jwt_app : Bool → App
-jwt_app has_clock = with_subcommand (with_subcommand (with_subcommand (with_subcommand (with_subcommand (with_subcommand top_app mac_app.top) keys_app.top) show_app.top) (verify_app has_clock).top) issue_app.top) jwk_app.top
+jwt_app has_clock = with_subcommand (with_subcommand (with_subcommand (with_subcommand (with_subcommand (with_subcommand (with_subcommand top_app mac_app.top) keys_app.top) show_app.top) (verify_app has_clock).top) issue_app.top) jwk_app.top) policy_app.top
 
 -- ---- what the words ask for
 
@@ -200,9 +215,6 @@ keyed text name limit = None
 abbrev pub mac_order : List Row → Option Order
 mac_order rows = option_and_then (keyed (first_of (codes "k") rows) (first_of (codes "key-file") rows)) (number_in limit_range (one_of (codes "limit") rows))
 
-abbrev pub show_order : List Row → Option Order
-show_order rows = option_map (λ limit. Show limit) (number_in limit_range (one_of (codes "limit") rows))
-
 -- a flag has the value `true` where it is used, and else `false`
 abbrev pub is_set : Text → List Row → Bool
 is_set name rows = option_map_or (λ t. bytes_eq t (codes "true")) (first_of name rows) false
@@ -214,6 +226,10 @@ printing_in rows = if is_set (codes "json") rows then Json else Lines
 -- the moment that `--now` names, else the clock's
 abbrev pub moment_in : Option ℕ → List Row → Option ℕ
 moment_in clock rows = if is_some (first_of (codes "now") rows) then number_in now_range (one_of (codes "now") rows) else clock
+
+-- `show` without `--pretty` has no moment
+abbrev pub show_order : List Row → Option Order
+show_order rows = if is_some (first_of (codes "now") rows) then None else option_map (λ limit. Show limit) (number_in limit_range (one_of (codes "limit") rows))
 
 abbrev pub files_in : List Row → Files
 files_in rows = record { policy = first_of (codes "policy") rows; keys = first_of (codes "keys") rows; access = first_of (codes "access") rows; token = first_of (codes "token") rows; key = None }
@@ -339,14 +355,45 @@ asks_of_public_keys rows = is_named (codes "file") rows || (is_set (codes "der")
 abbrev pub secret_order : List Row → Option SecretOrder
 secret_order rows = if asks_of_public_keys rows then None else option_map (λ alg. record { printing = printing_in rows; bare = is_set (codes "bare") rows; alg = alg }) (secret_alg_in rows)
 
+-- ---- what a policy means
+
+-- what `policy` asks for: the file of the policy, and that of a key set, if any
+pub record PolicyOrder : Type 0 where
+  pub printing : Printing
+  pub files : Files
+
+abbrev pub documents_in : Option Text → Option Text → Files
+documents_in policy keys = record { policy = policy; keys = keys; access = None; token = None; key = None }
+
+abbrev pub policy_order : List Row → PolicyOrder
+policy_order rows = record { printing = printing_in rows; files = documents_in (first_of (codes "policy") rows) (first_of (codes "keys") rows) }
+
+-- ---- a token for a person
+
+-- what `show --pretty` asks for: a token of at most so many octets, at a moment, where there is one
+pub record PrettyOrder : Type 0 where
+  pub limit : ℕ
+  pub now : Option ℕ
+
+-- the moment that `--now` names, else the clock's, where there is one
+abbrev pub shown_moment : Option ℕ → List Row → Option (Option ℕ)
+shown_moment clock rows = if is_some (first_of (codes "now") rows) then option_map (λ now. Some now) (number_in now_range (one_of (codes "now") rows)) else Some clock
+
+-- `--pretty` is never beside `--json`
+abbrev pub pretty_order : Option ℕ → List Row → Option PrettyOrder
+pretty_order clock rows = if is_set (codes "json") rows then None else option_and_then (λ limit. option_map (λ now. record { limit = limit; now = now }) (shown_moment clock rows)) (number_in limit_range (one_of (codes "limit") rows))
+
 -- ---- the request
 
--- one answer, in JSON or in lines; or an answer to each line of the input; or the JWKs of public keys, or of a new secret
+-- one answer, in JSON or in lines; or an answer to each line of the input; or the JWKs of public keys, or of a new secret; or what a
+-- policy means; or a token for a person
 pub data Request : Type 0 where
   Once : Printing → Order → Request
   EachLine : LinesOrder → Request
   Jwk : JwkOrder → Request
   NewSecret : SecretOrder → Request
+  Policy : PolicyOrder → Request
+  Pretty : PrettyOrder → Request
 
 abbrev pub jwk_request : List Row → Option Request
 jwk_request rows = if is_named (codes "new") rows then option_map (λ order. NewSecret order) (secret_order rows) else option_map (λ order. Jwk order) (jwk_order rows)
@@ -354,7 +401,9 @@ jwk_request rows = if is_named (codes "new") rows then option_map (λ order. New
 abbrev pub request_in : Option ℕ → Text → List Row → Option Request
 request_in clock name rows =
     if is_set (codes "lines") rows then option_map (λ order. EachLine order) (lines_order rows)
+    else if is_set (codes "pretty") rows then option_map (λ order. Pretty order) (pretty_order clock rows)
     else if bytes_eq name (codes "jwk") then jwk_request rows
+    else if bytes_eq name (codes "policy") then Some (Policy (policy_order rows))
     else option_map (λ order. Once (printing_in rows) order) (order_in clock name rows)
 
 -- what a subcommand with its matches asks for, where `clap` has no fault
@@ -391,6 +440,8 @@ files_in_request (Once printing order) = files_in_order order
 files_in_request (EachLine order) = order.files
 files_in_request (Jwk order) = order.files
 files_in_request (NewSecret order) = no_files
+files_in_request (Policy order) = order.files
+files_in_request (Pretty order) = no_files
 
 -- ---- the system's random source
 

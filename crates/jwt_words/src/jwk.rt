@@ -123,7 +123,7 @@ fn kid_chosen<'a>(name: Option<&'a str>, thumbprint: bool) -> Option<KidChoice<'
 }
 
 /// The value that an option has, where it has one.
-fn value<'a>(options: &ArgMatches<'a>, name: &str) -> Option<&'a str>
+pub(crate) fn value<'a>(options: &ArgMatches<'a>, name: &str) -> Option<&'a str>
     ensures { option_map (λ t. t.now) result ≡ first_of name.now (rows_of (found_of options.now)) }
 {
     options.get_str(name)

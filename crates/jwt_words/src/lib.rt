@@ -8,12 +8,16 @@ mod in_hand;
 mod jwk;
 mod moment;
 mod nearest;
+mod policy;
+mod pretty;
 mod printing;
 mod words;
 
 pub use in_hand::{Held, unread};
 pub use jwk::{JwkOrder, KidChoice, SecretOrder};
 pub use moment::Moment;
+pub use policy::PolicyOrder;
+pub use pretty::PrettyOrder;
 pub use printing::Printing;
 pub use words::{
     Files, LinesOrder, Order, Request, WordsFault, files_in_order, files_in_request, octets_asked,

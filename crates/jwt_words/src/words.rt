@@ -4,13 +4,15 @@ ghost use Rattle.clap.specs.Words.{app_of, found_of, new_rule, one_of, rows_of, 
 ghost use Rattle.clap.specs.declared.builder.action.ArgAction.TheVariants.{SetTrue};
 ghost use Rattle.clap.specs.declared.builder.command.Command.TheViews.{out-Command as fields_of};
 ghost use Rattle.clap.specs.declared.builder.ValueParser.TheVariants.{Unsigned};
-ghost use Rattle.jwt_words.specs.Words.{HasLimits, alg_in, alg_rule, asks_version, clap_request, files_in, files_in_order, files_in_request, flag, form_in, form_named, form_rule, is_named, is_set, issue_app, issue_order, json_rule, jwk_request, jwt_app, keyed, keys_app, keys_file_in, keys_rule, limit_rule, lines_order, mac_app, mac_order, moment_in, named_moment, no_files, now_range, now_rule, number_in, octets_asked, option, order_in, printing_in, public_keys_rule, request_in, request_of, show_app, show_order, top_app, verify_app, verify_on_files, verify_on_input, verify_order, verify_with_access};
+ghost use Rattle.jwt_words.specs.Words.{HasLimits, alg_in, alg_rule, asks_version, clap_request, files_in, files_in_order, files_in_request, flag, form_in, form_named, form_rule, is_named, is_set, issue_app, issue_order, json_rule, jwk_request, jwt_app, keyed, keys_app, keys_file_in, keys_rule, limit_rule, lines_order, mac_app, mac_order, moment_in, named_moment, no_files, now_range, now_rule, number_in, octets_asked, option, order_in, printing_in, public_keys_rule, request_in, request_of, show_app, show_order, show_plain, top_app, verify_app, verify_on_files, verify_on_input, verify_order, verify_with_access};
 ghost use Rattle.jwt_words.specs.Examples.{Examples};
 ghost use Rattle.jwt_words.specs.Seen.{IsWrong, files_view, HasRange, lines_view, requested, seconds_of, seen};
 
 use crate::jwk::{JwkOrder, SecretOrder, chosen_jwk, chosen_secret, jwk_command, wrong_jwk};
 use crate::moment::{LAST, Moment};
 use crate::nearest::nearest;
+use crate::policy::{PolicyOrder, chosen_policy, policy_command};
+use crate::pretty::{PrettyOrder, chosen_pretty};
 use crate::printing::Printing;
 use clap::builder::ValueParser;
 use clap::error::ErrorKind;
@@ -208,15 +210,26 @@ fn keys_command<'a>(alloc: Global) -> Result<Command<'a>, AllocError>
         .arg(json_option(alloc))
 }
 
-/// The subcommand `show`.
-fn show_command<'a>(alloc: Global) -> Result<Command<'a>, AllocError>
-    ensures shape { IfOk result (λ c. app_of c ≡ show_app) }
+/// `show` with its limit and `--json`.
+fn show_plain<'a>(alloc: Global) -> Result<Command<'a>, AllocError>
+    ensures shape { IfOk result (λ c. app_of c ≡ show_plain) }
     ensures local { IfOk result (λ c. (fields_of c).has_globals ≡ false) }
 {
     Command::new(alloc, "show")
         .about("Shows a token without verifying it; standard input holds it")
         .arg(limit_option(alloc))?
         .arg(json_option(alloc))
+}
+
+/// With the options for a person too.
+fn show_command<'a>(alloc: Global) -> Result<Command<'a>, AllocError>
+    ensures shape { IfOk result (λ c. app_of c ≡ show_app) }
+    ensures local { IfOk result (λ c. (fields_of c).has_globals ≡ false) }
+{
+    let pretty = "Prints the headers and the payload for a person, with the dates in words";
+    show_plain(alloc)?
+        .arg(flag(alloc, "pretty", pretty))?
+        .arg(now_option(alloc, true))
 }
 
 /// `verify` on standard input alone.
@@ -300,7 +313,8 @@ pub fn command<'a>(alloc: Global, has_clock: bool) -> Result<Command<'a>, AllocE
         .subcommand(show_command(alloc)?)?
         .subcommand(verify_command(alloc, has_clock)?)?
         .subcommand(issue_command(alloc)?)?
-        .subcommand(jwk_command(alloc)?)
+        .subcommand(jwk_command(alloc)?)?
+        .subcommand(policy_command(alloc)?)
 }
 
 /// What `verify --lines` asks for. With no moment, it is the clock's at each line.
@@ -313,7 +327,7 @@ pub struct LinesOrder<'a> {
 }
 
 /// What the words ask for: one answer, in JSON or in lines; or an answer to each line of the input; or the JWKs of public keys, or of a
-/// new secret.
+/// new secret; or what a policy means; or a token for a person.
 #[derive(Clone, Copy)]
 pub enum Request<'a> {
     Once {
@@ -323,6 +337,8 @@ pub enum Request<'a> {
     EachLine(LinesOrder<'a>),
     Jwk(JwkOrder<'a>),
     NewSecret(SecretOrder),
+    Policy(PolicyOrder<'a>),
+    Pretty(PrettyOrder),
 }
 
 /// Why the words ask for nothing.
@@ -406,6 +422,7 @@ fn unknown_name(alloc: Global, matches: &ArgMatches<'_>) -> Result<String, Alloc
         Some(("mac", options)) => wrong_keys(alloc, options),
         Some(("verify", options)) => wrong_lines(alloc, options),
         Some(("jwk", options)) => wrong_jwk(alloc, options),
+        Some(("show", options)) => wrong_show(alloc, options),
         Some((_, options)) => unknown_option(alloc, options),
         None => unknown_option(alloc, matches),
     }
@@ -427,6 +444,16 @@ fn wrong_lines(alloc: Global, options: &ArgMatches<'_>) -> Result<String, AllocE
         "the argument '--lines' cannot be used with '--token <FILE>'"
     } else {
         "the argument '--lines' needs '--policy <FILE>' and '--keys <FILE>'"
+    };
+    format!(in alloc; "error: {wrong}\n\nFor more information, try '--help'.\n")
+}
+
+/// What is said of options of `show` that don't stand together, as `clap` words it.
+fn wrong_show(alloc: Global, options: &ArgMatches<'_>) -> Result<String, AllocError> {
+    let wrong = if is_set(options, "pretty") {
+        "the argument '--pretty' cannot be used with '--json'"
+    } else {
+        "the argument '--now <N>' needs '--pretty'"
     };
     format!(in alloc; "error: {wrong}\n\nFor more information, try '--help'.\n")
 }
@@ -487,8 +514,15 @@ fn chosen_request<'a>(
         let lines = chosen_lines(options)?;
         return Some(Request::EachLine(lines));
     }
+    if is_set(options, "pretty") {
+        let order = chosen_pretty(options, clock)?;
+        return Some(Request::Pretty(order));
+    }
     if name == "jwk" {
         return chosen_jwk_request(options);
+    }
+    if name == "policy" {
+        return Some(Request::Policy(chosen_policy(options)));
     }
     let printing = chosen_printing(options);
     let order = chosen_order(name, options, clock)?;
@@ -554,11 +588,14 @@ fn chosen_mac<'a>(options: &ArgMatches<'a>) -> Option<Order<'a>>
     keyed(text, name, limit)
 }
 
-/// The request of `show`.
+/// What `show` asks for without `--pretty`: it has no moment.
 fn chosen_show<'a>(options: &ArgMatches<'a>) -> Option<Order<'a>>
     ensures limits { IfSome result (λ o. HasLimits (seen o)) }
     ensures order { option_map seen result ≡ show_order (rows_of (found_of options.now)) }
 {
+    if is_named(options, "now") {
+        return None;
+    }
     let limit = number(options, "limit", 1, 1_048_576)?;
     Some(Order::Show { limit })
 }
@@ -585,7 +622,7 @@ pub(crate) fn chosen_printing(options: &ArgMatches<'_>) -> Printing
 }
 
 /// The moment of `--now`, where that names one.
-fn chosen_now(options: &ArgMatches<'_>) -> Option<Moment>
+pub(crate) fn chosen_now(options: &ArgMatches<'_>) -> Option<Moment>
     ensures { seconds_of result
         ≡ number_in now_range (one_of (codes "now") (rows_of (found_of options.now))) }
 {
@@ -742,7 +779,7 @@ fn chosen_issue<'a>(options: &ArgMatches<'a>) -> Option<Order<'a>>
 
 /// `clap` has refused a number out of its range; its contract says so of the words and not of the
 /// matches, so the range is seen here again.
-fn number(options: &ArgMatches<'_>, id: &str, low: u64, high: u64) -> Option<u64>
+pub(crate) fn number(options: &ArgMatches<'_>, id: &str, low: u64, high: u64) -> Option<u64>
     ensures limits { IfSome result (λ n. (low ≤ n) × (n ≤ high)) }
     ensures number { result
         ≡ number_in (Unsigned low high) (one_of id.now (rows_of (found_of options.now))) }
@@ -774,6 +811,8 @@ pub fn files_in_request<'a>(request: Request<'a>) -> Files<'a>
         Request::EachLine(lines) => lines.files,
         Request::Jwk(order) => order.files,
         Request::NewSecret(_) => Files::none(),
+        Request::Policy(order) => order.files,
+        Request::Pretty(_) => Files::none(),
     }
 }
 

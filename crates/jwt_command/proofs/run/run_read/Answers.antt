@@ -1,13 +1,14 @@
 use Rattle.std.proofs.Common.{rules, ◌≡◌, ◌∙◌, ◌⊎◌, ap, sym, subst, map, Option, Some, IfSome, true}
-use Rattle.jwt_words.specs.Seen.{requested, seen, held_view, jwk_view, secret_view}
+use Rattle.jwt_words.specs.Seen.{requested, seen, held_view, jwk_view, pretty_view, secret_view}
 use Rattle.jwt_command.specs.Jwk.{JwkAnswer, jwk_most}
+use Rattle.jwt_command.specs.Pretty.{PrettyAnswer, pretty_most}
 use Rattle.jwt_command.specs.Answered.{answer_of}
 use Rattle.jwt_words.specs.declared.words.Request.TheVariants as request
 use Rattle.jwt_text.specs.Intake.{TakesAtMost}
 use Rattle.jwt_command.specs.Runs.{Runs}
 use Rattle.jwt_command.specs.Stops.{most_taken}
 use Rattle.jwt_printing.specs.Views.{reply_view}
-use Rattle.jwt_words.specs.Words.{Jwk, JwkOrder, NewSecret, Once, Order, Request}
+use Rattle.jwt_words.specs.Words.{Jwk, JwkOrder, NewSecret, Once, Order, Pretty, PrettyOrder, Request}
 use Rattle.jwt_command.proofs.Printing.{gives_known, gives_reply, some_known}
 use Rattle.jwt_command.proofs.run.run_read.Goals as goal
 
@@ -42,3 +43,19 @@ returns-in-Ok-Jwk-clause-jwk_stops g c = λ order reading.
     let is : Some (Jwk order) ≡ Some (Jwk (jwk_view c.in-Ok-Jwk.order)) = read ∙ ap (λ q. Some (requested q)) whole in
     let same : jwk_view c.in-Ok-Jwk.order ≡ order = cc is in
     subst (λ (o : JwkOrder). IfSome (g.R.Source.remaining c.args.r.now) (λ x. (g.R.Source.failed c.jwk.new.r ≡ true) ⊎ TakesAtMost (jwk_most (held_view c.args.held) o) x (g.R.Source.remaining c.jwk.new.r))) same c.jwk.ensures.taken
+
+pub returns-in-Ok-Pretty-clause-answer : goal.returns-in-Ok-Pretty-clause-answer
+returns-in-Ok-Pretty-clause-answer g c = λ asked reading.
+    let vs = map (λ b. (goal.Verifier-dyn g (b.vtable, b.value)).meaning b.value) c.args.built_in.now in
+    let is : asked ≡ Some (Pretty (pretty_view c.in-Ok-Pretty.order)) = search rules in
+    subst (λ (q : Option Request). IfSome (g.R.Source.remaining c.args.r.now) (λ x. Runs vs g.C.Clock.says (held_view c.args.held) q x (g.R.Source.failed c.show_pretty.new.r) (record { before = g.W.Sink.contents c.args.w.now; after = g.W.Sink.contents c.give-in-Ok-Pretty.new.w; failed = g.W.Sink.failed c.give-in-Ok-Pretty.new.w; status = c.give-in-Ok-Pretty.result }))) (sym is)
+    (some_known reply_view c.show_pretty.result (g.R.Source.remaining c.args.r.now) (λ x a. PrettyAnswer (pretty_view c.in-Ok-Pretty.order) (g.R.Source.failed c.show_pretty.new.r) x a) (record { before = g.W.Sink.contents c.args.w.now; after = g.W.Sink.contents c.give-in-Ok-Pretty.new.w; failed = g.W.Sink.failed c.give-in-Ok-Pretty.new.w; status = c.give-in-Ok-Pretty.result })
+    c.show_pretty.ensures.answer c.give-in-Ok-Pretty.ensures.ok c.give-in-Ok-Pretty.ensures.err)
+
+pub returns-in-Ok-Pretty-clause-pretty_stops : goal.returns-in-Ok-Pretty-clause-pretty_stops
+returns-in-Ok-Pretty-clause-pretty_stops g c = λ order reading.
+    let read : Some (Pretty order) ≡ Some (requested c.in-Ok-Pretty.field-0) = rw c.in-Ok-Pretty.is at reading in
+    let whole : c.in-Ok-Pretty.field-0 ≡ request.Pretty c.in-Ok-Pretty.order = rw c.in-Ok-Pretty.is at c.in-Ok-Pretty.field-0-is in
+    let is : Some (Pretty order) ≡ Some (Pretty (pretty_view c.in-Ok-Pretty.order)) = read ∙ ap (λ q. Some (requested q)) whole in
+    let same : pretty_view c.in-Ok-Pretty.order ≡ order = cc is in
+    subst (λ (o : PrettyOrder). IfSome (g.R.Source.remaining c.args.r.now) (λ x. (g.R.Source.failed c.show_pretty.new.r ≡ true) ⊎ TakesAtMost (pretty_most o) x (g.R.Source.remaining c.show_pretty.new.r))) same c.show_pretty.ensures.taken

@@ -33,3 +33,15 @@ returns-clause-jwk_failed g c = λ order is.
     let asked = request_of (seconds_of c.args.clock) (map (λ (w : Bor (List ℕ)). w.now) c.args.words.now) in
     let reading = reading_of c.read_words.result asked c.read_words.ensures.ok c.read_words.ensures.err in
     c.run_read.ensures.jwk_failed order (rw is at reading)
+
+pub returns-clause-pretty_stops : goal.returns-clause-pretty_stops
+returns-clause-pretty_stops g c = λ order is.
+    let asked = request_of (seconds_of c.args.clock) (map (λ (w : Bor (List ℕ)). w.now) c.args.words.now) in
+    let reading = reading_of c.read_words.result asked c.read_words.ensures.ok c.read_words.ensures.err in
+    c.run_read.ensures.pretty_stops order (rw is at reading)
+
+pub returns-clause-pretty_failed : goal.returns-clause-pretty_failed
+returns-clause-pretty_failed g c = λ order is.
+    let asked = request_of (seconds_of c.args.clock) (map (λ (w : Bor (List ℕ)). w.now) c.args.words.now) in
+    let reading = reading_of c.read_words.result asked c.read_words.ensures.ok c.read_words.ensures.err in
+    c.run_read.ensures.pretty_failed order (rw is at reading)

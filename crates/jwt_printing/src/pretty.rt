@@ -1,0 +1,329 @@
+//! A token for a person.
+ghost use Rattle.std.specs.Prelude.{◌≡◌, ◌≢◌, ◌++◌, ◌∷◌, [], ℕ, pos, Ok, Err, Some, IfOk, IfSome, OnOk, codes, option_map, string_bytes};
+ghost use Rattle.std.specs.Fmt.{decimal};
+ghost use Rattle.json.specs.Tree.{HasNumbers};
+ghost use Rattle.json.specs.Value.{value_view};
+ghost use Rattle.jwt_jws.specs.Views.{parts, token};
+ghost use Rattle.jwt_policy.specs.ClaimKinds.{claims_of};
+ghost use Rattle.jwt_words.specs.Seen.{seconds_of};
+ghost use Rattle.jwt_printing.specs.Pretty.{AreDates, Dates, IsDated, IsPretty, alg_shown, date_line, dates_lines, header_lines, json_lines, life_line, life_lines, not_verified, pretty_claims, pretty_payload, pretty_signature, pretty_signatures, pretty_start, protected_lines, signature_start};
+ghost use Rattle.jwt_printing.specs.Printed.{line_text};
+ghost use Rattle.jwt_printing.specs.Views.{dates_view, reply_view};
+
+use crate::json_out::value_in;
+use crate::json_show::{header_at, spelled_octets};
+use crate::reply::Reply;
+use crate::show::{form_name, put_refused_claims};
+use json::{Scratch, Value, to_vec};
+use jwt_jws::{Form, Signature, Signed};
+use jwt_policy::{ClaimFault, Claims};
+use jwt_shown::{date_text, push_quoted, shown_json};
+use jwt_words::Moment;
+use std::alloc::{AllocError, Global};
+
+/// The JSON value that octets are, laid out.
+fn put_json(alloc: Global, out: &mut String, octets: &[u8]) -> Result<(), AllocError>
+    ensures { OnOk result (string_bytes out.new ≡ string_bytes out.old ++ json_lines octets.now) }
+{
+    match shown_json(alloc, octets)? {
+        Some(text) => {
+            out.push_str(text.as_str())?;
+            out.push('\n')
+        }
+        None => out.push_str("no JSON\n"),
+    }
+}
+
+/// The algorithm of a signature.
+fn put_alg(out: &mut String, there: bool, alg: Option<&str>) -> Result<(), AllocError>
+    ensures { OnOk result (string_bytes out.new
+        ≡ string_bytes out.old ++ alg_shown there (option_map (λ t. t.now) alg.entry)) }
+{
+    match alg {
+        Some(alg) => push_quoted(out, alg),
+        None if there => out.push_str("?"),
+        None => out.push_str("-"),
+    }
+}
+
+/// The protected header, where its text isn't empty.
+fn put_protected(alloc: Global, out: &mut String, text: &[u8]) -> Result<(), AllocError>
+    ensures { OnOk result (string_bytes out.new
+        ≡ string_bytes out.old ++ protected_lines text.now) }
+{
+    if text.is_empty() {
+        return Ok(());
+    }
+    let octets = spelled_octets(alloc, text)?;
+    out.push_str("protected\n")?;
+    put_json(alloc, out, octets.as_slice())
+}
+
+/// An unprotected header.
+fn put_value(alloc: Global, out: &mut String, header: &Value<'_>) -> Result<(), AllocError>
+    requires { HasNumbers (value_view header.now) }
+    ensures { OnOk result (string_bytes out.new
+        ≡ string_bytes out.old ++ header_lines (Some (value_view header.now))) }
+{
+    let octets = to_vec(alloc, header)?;
+    out.push_str("header\n")?;
+    put_json(alloc, out, octets.as_slice())
+}
+
+/// The unprotected header, where there is one.
+fn put_header(alloc: Global, out: &mut String, header: Option<&Value<'_>>) -> Result<(), AllocError>
+    requires { IfSome header (λ v. HasNumbers (value_view v.now)) }
+    ensures { OnOk result (string_bytes out.new ≡ string_bytes out.old
+        ++ header_lines (option_map (λ v. value_view v.now) header.entry)) }
+{
+    match header {
+        Some(header) => put_value(alloc, out, header),
+        None => Ok(()),
+    }
+}
+
+/// The algorithm of signature `i`, and how many octets it has.
+fn put_signature_start(
+    alloc: Global,
+    out: &mut String,
+    i: u32,
+    signature: &Signature<'_>,
+) -> Result<(), AllocError>
+    ensures { OnOk result (string_bytes out.new
+        ≡ string_bytes out.old ++ signature_start i (parts signature.now)) }
+{
+    let start = format!(in alloc; "sig={i} alg=")?;
+    let octets = signature.octets().len();
+    let end = format!(in alloc; " octets={octets}\n")?;
+    out.push_str(start.as_str())?;
+    put_alg(out, signature.protected().has("alg"), signature.alg_text())?;
+    out.push_str(end.as_str())
+}
+
+/// Signature `i`, with its headers.
+fn put_signature(
+    alloc: Global,
+    out: &mut String,
+    i: u32,
+    signature: &Signature<'_>,
+    header: Option<&Value<'_>>,
+) -> Result<(), AllocError>
+    requires { IfSome header (λ v. HasNumbers (value_view v.now)) }
+    ensures { OnOk result (string_bytes out.new ≡ string_bytes out.old
+        ++ pretty_signature i (option_map (λ v. value_view v.now) header.entry)
+        (parts signature.now)) }
+{
+    put_signature_start(alloc, out, i, signature)?;
+    put_protected(alloc, out, signature.protected_text())?;
+    put_header(alloc, out, header)?;
+    out.push_str("not verified\n")
+}
+
+/// The signatures.
+fn put_signatures(
+    alloc: Global,
+    out: &mut String,
+    signed: &Signed<'_>,
+    document: &Value<'_>,
+) -> Result<(), AllocError>
+    requires { HasNumbers (value_view document.now) }
+    ensures { IfOk result (λ _. string_bytes out.new ≡ string_bytes out.old
+        ++ pretty_signatures (token signed.now).form (value_view document.now) 0
+        (token signed.now).signatures) }
+{
+    for i in 0..signed.count() {
+        if let Some(signature) = signed.signature(i) {
+            let header = header_at(signed.form(), document, i);
+            put_signature(alloc, out, i, signature, header)?;
+        }
+    }
+    Ok(())
+}
+
+/// The payload.
+fn put_payload(alloc: Global, out: &mut String, payload: &[u8]) -> Result<(), AllocError>
+    ensures { OnOk result (string_bytes out.new
+        ≡ string_bytes out.old ++ pretty_payload payload.now) }
+{
+    let octets = payload.len();
+    let start = format!(in alloc; "payload octets={octets}\n")?;
+    out.push_str(start.as_str())?;
+    put_json(alloc, out, payload)?;
+    out.push_str("not verified\n")
+}
+
+/// The texts of the dates of claims.
+#[derive(Drop)]
+pub(crate) struct DateTexts {
+    exp: Option<String>,
+    iat: Option<String>,
+    nbf: Option<String>,
+}
+
+/// The date of a number, where there is one.
+fn date_of(alloc: Global, seconds: Option<i64>) -> Result<Option<String>, AllocError>
+    ensures { IfOk result (λ date. IsDated seconds (option_map string_bytes date)) }
+{
+    match seconds {
+        Some(seconds) => date_text(alloc, seconds),
+        None => Ok(None),
+    }
+}
+
+/// The texts of the dates of claims.
+fn dates_of(alloc: Global, claims: &Claims) -> Result<DateTexts, AllocError>
+    ensures { IfOk result (λ dates. AreDates (Ok claims.now) (dates_view dates)) }
+{
+    let exp = date_of(alloc, claims.exp())?;
+    let iat = date_of(alloc, claims.iat())?;
+    let nbf = date_of(alloc, claims.nbf())?;
+    Ok(DateTexts { exp, iat, nbf })
+}
+
+/// A number, with its date where it has one.
+fn put_number(
+    alloc: Global,
+    out: &mut Vec<u8>,
+    name: &str,
+    seconds: i64,
+    date: &Option<String>,
+) -> Result<(), AllocError>
+    ensures { IfOk result (λ _. out.new.items ≡ out.old.items
+        ++ date_line name.now (Some seconds) (option_map string_bytes date.now)) }
+{
+    let line = match date {
+        Some(date) => format!(in alloc; "{name}{seconds} {date}\n")?,
+        None => format!(in alloc; "{name}{seconds}\n")?,
+    };
+    out.extend_from_slice(line.as_bytes())
+}
+
+/// The line of a date, where there is one.
+fn put_date(
+    alloc: Global,
+    out: &mut Vec<u8>,
+    name: &str,
+    seconds: Option<i64>,
+    date: &Option<String>,
+) -> Result<(), AllocError>
+    ensures { IfOk result (λ _. out.new.items ≡ out.old.items
+        ++ date_line name.now seconds (option_map string_bytes date.now)) }
+{
+    match seconds {
+        Some(seconds) => put_number(alloc, out, name, seconds, date),
+        None => Ok(()),
+    }
+}
+
+/// The lines of the dates of claims.
+fn put_dates(
+    alloc: Global,
+    out: &mut Vec<u8>,
+    claims: &Claims,
+    dates: &DateTexts,
+) -> Result<(), AllocError>
+    ensures { IfOk result (λ _. out.new.items
+        ≡ out.old.items ++ dates_lines (dates_view dates.now) claims.now) }
+{
+    put_date(alloc, out, "exp=", claims.exp(), &dates.exp)?;
+    put_date(alloc, out, "iat=", claims.iat(), &dates.iat)?;
+    put_date(alloc, out, "nbf=", claims.nbf(), &dates.nbf)
+}
+
+/// What is left of a life at a moment.
+fn put_life(alloc: Global, out: &mut Vec<u8>, now: u64, exp: i64) -> Result<(), AllocError>
+    ensures { IfOk result (λ _. out.new.items ≡ out.old.items ++ life_line (pos now) exp) }
+{
+    let now = i128::from(now);
+    let exp = i128::from(exp);
+    let line = if now < exp {
+        let left = exp - now;
+        format!(in alloc; "left seconds={left}\n")?
+    } else {
+        let past = now - exp;
+        format!(in alloc; "expired seconds={past}\n")?
+    };
+    out.extend_from_slice(line.as_bytes())
+}
+
+/// The same, where there is a moment and an end.
+fn put_life_if(
+    alloc: Global,
+    out: &mut Vec<u8>,
+    now: Option<Moment>,
+    exp: Option<i64>,
+) -> Result<(), AllocError>
+    ensures { IfOk result (λ _. out.new.items
+        ≡ out.old.items ++ life_lines (seconds_of now) exp) }
+{
+    match (now, exp) {
+        (Some(now), Some(exp)) => put_life(alloc, out, now.seconds, exp),
+        _ => Ok(()),
+    }
+}
+
+/// The dates of claims, and what is left of their life.
+fn put_claims(
+    alloc: Global,
+    out: &mut Vec<u8>,
+    now: Option<Moment>,
+    claims: &Claims,
+) -> Result<(), AllocError>
+    ensures { IfOk result (λ _. (dates : Dates) × AreDates (Ok claims.now) dates
+        × (out.new.items
+        ≡ out.old.items ++ pretty_claims (seconds_of now) dates (Ok claims.now))) }
+{
+    let dates = dates_of(alloc, claims)?;
+    put_dates(alloc, out, claims, &dates)?;
+    put_life_if(alloc, out, now, claims.exp())
+}
+
+/// What the claims of a payload say of its time.
+fn put_time(
+    alloc: Global,
+    out: &mut Vec<u8>,
+    now: Option<Moment>,
+    payload: &[u8],
+) -> Result<(), AllocError>
+    ensures { IfOk result (λ _. (dates : Dates) × AreDates (claims_of payload.now) dates
+        × (out.new.items
+        ≡ out.old.items ++ pretty_claims (seconds_of now) dates (claims_of payload.now))) }
+{
+    match Claims::read(alloc, payload) {
+        Ok(claims) => put_claims(alloc, out, now, &claims),
+        Err(ClaimFault::OutOfMemory) => Err(AllocError),
+        Err(fault) => put_refused_claims(alloc, out, &fault),
+    }
+}
+
+/// The first line.
+fn put_start(out: &mut String, form: Form) -> Result<(), AllocError>
+    ensures { OnOk result (string_bytes out.new ≡ string_bytes out.old ++ pretty_start form) }
+{
+    out.push_str("unverified ")?;
+    out.push_str(form_name(form))?;
+    out.push('\n')
+}
+
+/// What stands in a token of these octets, for a person: its headers and its payload, each a JSON value on lines of its own in which no
+/// terminal finds anything to obey, with *not verified* under it; the dates of its claims; and at a moment what is left of its life.
+pub fn pretty_token(
+    alloc: Global,
+    now: Option<Moment>,
+    octets: &[u8],
+    signed: &Signed<'_>,
+) -> Result<Reply, AllocError>
+    ensures text { IfOk result
+        (λ a. IsPretty (seconds_of now) octets.now (token signed.now) (reply_view a)) }
+    ensures done { IfOk result (λ a. a.status ≢ 3) }
+{
+    let mut scratch = Scratch::new(alloc);
+    let document = value_in(alloc, octets, &mut scratch)?;
+    let mut out = String::new(alloc);
+    put_start(&mut out, signed.form())?;
+    put_signatures(alloc, &mut out, signed, &document)?;
+    put_payload(alloc, &mut out, signed.payload())?;
+    let mut text = out.into_bytes();
+    put_time(alloc, &mut text, now, signed.payload())?;
+    Ok(Reply { text, status: 0 })
+}

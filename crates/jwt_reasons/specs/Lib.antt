@@ -1,0 +1,6 @@
+-- ---- What contracts of public functions cite, in reading order
+
+-- places in a text, by line and column in octets
+pub mod Places
+-- what the members of a policy are, in words
+pub mod MemberWords

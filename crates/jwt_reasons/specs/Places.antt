@@ -1,0 +1,13 @@
+-- Places in a text, by line and column in octets.
+use Rattle.std.specs.Prelude.{ℕ, ◌+◌, ◌==◌, List, fold, if◌then◌else◌}
+use Rattle.jwt_reasons.specs.declared.place.Place.{Place}
+
+-- one octet further: a line feed ends a line
+abbrev pub further : Place → ℕ → Place
+further place octet = if octet == 10 then record { line = place.line + 1; column = 1 } else record { line = place.line; column = place.column + 1 }
+
+abbrev pub first_place : Place
+first_place = record { line = 1; column = 1 }
+
+abbrev pub place_behind : List ℕ → Place
+place_behind octets = fold further first_place octets

@@ -1,0 +1,35 @@
+//! Places in a text.
+ghost use Rattle.std.specs.Prelude.{◌≡◌};
+ghost use Rattle.jwt_reasons.specs.Places.{further, place_behind};
+
+/// A place in a text: its line, and its column in octets, each from 1.
+#[derive(Clone, Copy, Debug, PartialEq, Eq)]
+pub struct Place {
+    /// The line.
+    pub line: u64,
+
+    /// The column, in octets.
+    pub column: u64,
+}
+
+/// The place behind these octets.
+#[tactic(auto, using(std::proofs::lemmas::List::at_drop_more, std::proofs::lemmas::List::at_drop_all))]
+pub fn place_behind(octets: &[u8]) -> Place
+    ensures { result ≡ place_behind octets.now }
+{
+    let mut place = Place { line: 1, column: 1 };
+    for octet in octets {
+        if *octet == b'\n' {
+            place = Place {
+                line: place.line + 1,
+                column: 1,
+            };
+        } else {
+            place = Place {
+                line: place.line,
+                column: place.column + 1,
+            };
+        }
+    }
+    place
+}

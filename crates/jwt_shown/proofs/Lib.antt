@@ -1,0 +1,4 @@
+-- ---- For shown.rt
+pub mod Tokens
+-- ---- For other lemmas
+pub mod Quoted

@@ -1,0 +1,15 @@
+-- What contracts see of the crate's own types.
+use Rattle.std.specs.Prelude.{ℕ}
+use Rattle.json.specs.Layout as layout
+use Rattle.jwt_shown.specs.declared.layout.Last.{Last}
+use Rattle.jwt_shown.specs.declared.layout.Last.TheVariants.{Nothing, Bracket, Name, Value}
+use Rattle.jwt_shown.specs.declared.layout.Place.{Place}
+
+abbrev pub last_of : Last → layout.Last
+last_of Nothing = layout.nothing
+last_of Bracket = layout.bracket
+last_of Name = layout.name
+last_of Value = layout.value
+
+abbrev pub state_of : Place → layout.Last × ℕ
+state_of place = (last_of place.last, place.depth)

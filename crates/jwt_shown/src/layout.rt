@@ -1,0 +1,129 @@
+//! Where the tokens of a JSON value stand.
+ghost use Rattle.std.specs.Prelude.{◌≡◌, ◌++◌, ◌*◌, OnOk, replicate, string_bytes};
+ghost use Rattle.json.specs.Layout.{after, depth_at, gap, is_value, line, nothing, step};
+ghost use Rattle.json.specs.Print.{begins, separator};
+ghost use Rattle.json.specs.Reads.{token_of};
+ghost use Rattle.jwt_shown.specs.Views.{last_of, state_of};
+
+use json::Token;
+use std::alloc::AllocError;
+
+/// What was written last.
+#[derive(Clone, Copy)]
+pub(crate) enum Last {
+    Nothing,
+    Bracket,
+    Name,
+    Value,
+}
+
+/// What was written last, and how deep the next token is.
+#[derive(Clone, Copy)]
+pub(crate) struct Place {
+    pub(crate) last: Last,
+    pub(crate) depth: usize,
+}
+
+/// Whether the token begins a value or a member: each but a closing bracket.
+pub(crate) fn begins(token: Token<'_>) -> bool
+    ensures { result ≡ begins (token_of token.entry) }
+{
+    !matches!(token, Token::EndObject | Token::EndArray)
+}
+
+/// How deep the token is: a closing bracket stands one level out.
+pub(crate) fn depth_at(depth: usize, token: Token<'_>) -> usize
+    ensures { result ≡ depth_at depth (token_of token.entry) }
+{
+    if begins(token) {
+        depth
+    } else {
+        depth.saturating_sub(1)
+    }
+}
+
+/// The place after a token at that depth.
+fn after(token: Token<'_>, depth: usize) -> Place
+    ensures { state_of result ≡ after (token_of token.entry) depth }
+{
+    match token {
+        Token::BeginObject | Token::BeginArray => Place {
+            last: Last::Bracket,
+            depth: depth.saturating_add(1),
+        },
+        Token::Key(_) => Place {
+            last: Last::Name,
+            depth,
+        },
+        _ => Place {
+            last: Last::Value,
+            depth,
+        },
+    }
+}
+
+impl Place {
+    /// Before the first token.
+    pub(crate) fn first() -> Place
+        ensures { state_of result ≡ (nothing, 0) }
+    {
+        Place {
+            last: Last::Nothing,
+            depth: 0,
+        }
+    }
+
+    /// After the token.
+    pub(crate) fn step(self, token: Token<'_>) -> Place
+        ensures { state_of result ≡ step (state_of self) (token_of token.entry) }
+    {
+        after(token, depth_at(self.depth, token))
+    }
+}
+
+/// Spaces, two for each level.
+fn push_spaces(out: &mut String, depth: usize) -> Result<(), AllocError>
+    ensures { OnOk result (string_bytes out.new ≡ string_bytes out.old ++ replicate (2 * depth) 32) }
+{
+    for _ in 0..depth {
+        out.push_str("  ")?;
+    }
+    Ok(())
+}
+
+/// A line feed, and the spaces of the next line.
+fn push_line(out: &mut String, depth: usize) -> Result<(), AllocError>
+    ensures { OnOk result (string_bytes out.new ≡ string_bytes out.old ++ line depth) }
+{
+    out.push('\n')?;
+    push_spaces(out, depth)
+}
+
+/// What stands before a token, behind its comma.
+pub(crate) fn push_gap(
+    out: &mut String,
+    last: Last,
+    opens: bool,
+    depth: usize,
+) -> Result<(), AllocError>
+    ensures { OnOk result (string_bytes out.new
+        ≡ string_bytes out.old ++ gap (last_of last) opens depth) }
+{
+    match last {
+        Last::Nothing => Ok(()),
+        Last::Name => out.push(' '),
+        Last::Bracket if !opens => Ok(()),
+        _ => push_line(out, depth),
+    }
+}
+
+/// The comma between two values.
+pub(crate) fn push_comma(out: &mut String, last: Last, token: Token<'_>) -> Result<(), AllocError>
+    ensures { OnOk result (string_bytes out.new
+        ≡ string_bytes out.old ++ separator (is_value (last_of last)) (token_of token.entry)) }
+{
+    match last {
+        Last::Value if begins(token) => out.push(','),
+        _ => Ok(()),
+    }
+}
