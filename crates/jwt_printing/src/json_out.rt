@@ -123,6 +123,7 @@ impl JsonOut {
         self.writer.boolean(value)
     }
 
+    /// Puts null.
     pub(crate) fn null(&mut self) -> Result<(), AllocError>
         ensures { OnOk result (self.new ≡ self.old ++ json_tokens null) }
     {
