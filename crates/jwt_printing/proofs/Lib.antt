@@ -2,6 +2,8 @@ pub mod JsonLemmas
 pub mod Listing
 pub mod NearLemmas
 pub mod Passing
+pub mod Joined
+pub mod PrettyLemmas
 pub mod Showing
 pub mod ShowingJson
 pub mod SpelledLemmas

@@ -118,7 +118,7 @@ abbrev pub alg_line : AlgKeys → List ℕ
 alg_line counted = line_text (codes "alg " ∷ name_of counted.alg ∷ codes " keys=" ∷ decimal counted.keys ∷ [])
 
 abbrev pub unused_line : ℕ → List ℕ
-unused_line number = line_text (codes "unused key=" ∷ decimal number ∷ [])
+unused_line key = line_text (codes "unused key=" ∷ decimal key ∷ [])
 
 abbrev pub cost_line : Facts → List ℕ
 cost_line facts = line_text (codes "cost work=" ∷ decimal facts.work ∷ codes " calls=" ∷ decimal facts.calls ∷ [])
