@@ -1,4 +1,4 @@
--- What is found of a policy, alone or with its keys.
+-- The findings on a policy, alone or with its keys.
 use Rattle.std.specs.Prelude.{ℕ, List, [], ◌∷◌, ◌++◌, Bool, true, false, ◌||◌, map, Option, Some, None, option_map}
 use Rattle.std.specs.List.{flat_map}
 use Rattle.jwt_mac.specs.declared.algorithm.Alg.{Alg}

@@ -1,4 +1,4 @@
-//! What is found of a policy, alone or with its keys.
+//! The findings on a policy, alone or with its keys.
 
 ghost use Rattle.std.specs.Prelude.{◌≡◌, IfOk, map};
 ghost use Rattle.jwt_keys.specs.KeySets.{key_set};

@@ -1,4 +1,4 @@
--- What `jwt policy` answers.
+-- The answer of `jwt policy`.
 use Rattle.std.specs.Prelude.{ℕ, List, [], Option, Some, None, unwrap_or, Result, Ok, Err}
 use Rattle.serde_json.specs.Data.{Members, no_members}
 use Rattle.jwt_text.specs.ObjectText.{object_of}

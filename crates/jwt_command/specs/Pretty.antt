@@ -1,4 +1,4 @@
--- What `jwt show --pretty` answers.
+-- The answer of `jwt show --pretty`.
 use Rattle.std.specs.Prelude.{◌≡◌, ◌⊎◌, ◌+◌, ℕ, Bool, true, false, List, length, nat_lt, Option, Result, Ok, Err}
 use Rattle.jwt_jws.specs.Forms.{form_of}
 use Rattle.jwt_jws.specs.Token.{Token}

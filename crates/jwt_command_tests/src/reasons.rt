@@ -1,4 +1,4 @@
-//! What is said on standard error of a document that is refused.
+//! The reasons on standard error why a document is refused.
 use jwt_reasons::{access_reason, keys_reason, policy_reason};
 use std::alloc::Global;
 use std::process::Abort;

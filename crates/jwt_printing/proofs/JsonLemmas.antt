@@ -62,6 +62,20 @@ list_put f xs name old start done new s d n =
     ∙ append_assoc old (Token.key name ∷ Token.begin_array ∷ []) (each ++ Token.end_array ∷ [])
     ∙ ap (λ ts. old ++ Token.key name ∷ Token.begin_array ∷ ts) (sym (items_written f xs) ∙ sym (append-nil (items_tokens (items_in (map f xs)))))
 
+-- a list without a name
+pub array_put : {A : Type 0} (f : A → Json) (xs : List A) (old start done new : List Token) → start ≡ old ++ Token.begin_array ∷ []
+    → done ≡ start ++ flat_map (λ x. json_tokens (f x)) xs → new ≡ done ++ Token.end_array ∷ [] → new ≡ old ++ json_tokens (array (items_in (map f xs)))
+array_put f xs old start done new s d n =
+    let each = flat_map (λ x. json_tokens (f x)) xs in
+    n ∙ ap (λ ts. ts ++ Token.end_array ∷ []) (d ∙ ap (λ ts. ts ++ each) s)
+    ∙ append_assoc (old ++ Token.begin_array ∷ []) each (Token.end_array ∷ [])
+    ∙ append_assoc old (Token.begin_array ∷ []) (each ++ Token.end_array ∷ [])
+    ∙ ap (λ ts. old ++ Token.begin_array ∷ ts) (sym (items_written f xs))
+
+pub mapped_twice : {A B C : Type 0} (g : B → C) (f : A → B) (xs : List A) → map (λ x. g (f x)) xs ≡ map g (map f xs)
+mapped_twice g f [] = refl
+mapped_twice g f (x ∷ xs) = ap (λ ys. g (f x) ∷ ys) (mapped_twice g f xs)
+
 -- the line of an object whose members were written
 pub line_put : (ms : List Named) (status : ℕ) (start done : List Token) → start ≡ Token.begin_object ∷ [] → done ≡ start ++ named_tokens ms → (a : Answer)
     → a ≡ record { text = print (done ++ Token.end_object ∷ []) ++ 10 ∷ []; status = status } → a ≡ json_line ms status

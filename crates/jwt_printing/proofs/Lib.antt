@@ -6,6 +6,9 @@ pub mod Listing
 pub mod Passing
 -- ---- For nearest.rt
 pub mod NearLemmas
+-- ---- For pretty.rt
+pub mod Joined
+pub mod PrettyLemmas
 -- ---- For show.rt
 pub mod Showing
 pub mod SpelledLemmas

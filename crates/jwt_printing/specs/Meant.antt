@@ -1,4 +1,4 @@
--- What `jwt policy` prints: each member of a policy, what its keys are for, and what ought to be written otherwise.
+-- The output of `jwt policy`: each member of a policy, the uses of its keys, and the advice.
 use Rattle.std.specs.Prelude.{ℕ, List, [], ◌∷◌, ◌++◌, Bool, true, false, map, Option, Some, None, codes, string_bytes, option_map}
 use Rattle.std.specs.Fmt.{decimal}
 use Rattle.std.specs.List.{flat_map}
@@ -108,7 +108,7 @@ abbrev pub alg_line : AlgKeys → List ℕ
 alg_line counted = line_text (codes "alg " ∷ name_of counted.alg ∷ codes " keys=" ∷ decimal counted.keys ∷ [])
 
 abbrev pub unused_line : ℕ → List ℕ
-unused_line number = line_text (codes "unused key=" ∷ decimal number ∷ [])
+unused_line key = line_text (codes "unused key=" ∷ decimal key ∷ [])
 
 abbrev pub cost_line : Facts → List ℕ
 cost_line facts = line_text (codes "cost work=" ∷ decimal facts.work ∷ codes " calls=" ∷ decimal facts.calls ∷ [])

@@ -1,9 +1,9 @@
-//! What `policy --json` prints.
+//! The output of `policy --json`.
 ghost use Rattle.std.specs.Prelude.{◌≡◌, ◌++◌, ◌∷◌, [], IfOk, OnOk, codes, map, option_map};
 ghost use Rattle.json.specs.Json.{boolean};
 ghost use Rattle.json.specs.Tree.{json_tokens};
 ghost use Rattle.jwt_advice.specs.Findings.{facts_view, findings_view};
-ghost use Rattle.jwt_printing.specs.Json.{json_line, list, object_of_members};
+ghost use Rattle.jwt_printing.specs.Json.{count, json_line, list, object_of_members, text};
 ghost use Rattle.jwt_printing.specs.JsonTokens.{named_tokens};
 ghost use Rattle.jwt_printing.specs.Meant.{alg_json, bounds_json, facts_json, keys_json, member_json, member_value, members_json, note_json, note_members, number_json, number_or_null, policy_json};
 ghost use Rattle.jwt_printing.specs.Views.{reply_view};
@@ -154,20 +154,23 @@ fn put_facts(out: &mut JsonOut, policy: &Policy, facts: &Option<KeyFacts>) -> Re
     }
 }
 
+/// The name of an advice, and the number of what it is about.
+fn put_about(out: &mut JsonOut, name: &str, about: &str, number: u64) -> Result<(), AllocError>
+    ensures { OnOk result (out.new ≡ out.old
+        ++ named_tokens (text (codes "name") name.now ∷ count about.now number ∷ [])) }
+{
+    out.text("name", name)?;
+    out.count(about, number)
+}
+
 /// The name of an advice, and what it is about.
 fn put_note_members(out: &mut JsonOut, note: Note) -> Result<(), AllocError>
     ensures { OnOk result (out.new ≡ out.old ++ named_tokens (note_members note)) }
 {
     match note {
         Note::Whole(advice) => out.text("name", advice.name()),
-        Note::OfKey(advice, key) => {
-            out.text("name", advice.name())?;
-            out.count("key", u64::from(key))
-        }
-        Note::PrivateEntry(place) => {
-            out.text("name", "PrivateMember")?;
-            out.count("entry", place as u64)
-        }
+        Note::OfKey(advice, key) => put_about(out, advice.name(), "key", u64::from(key)),
+        Note::PrivateEntry(place) => put_about(out, "PrivateMember", "entry", place as u64),
     }
 }
 

@@ -1,5 +1,5 @@
 //! A token for a person.
-ghost use Rattle.std.specs.Prelude.{◌≡◌, ◌≢◌, ◌++◌, ◌∷◌, [], ℕ, pos, Ok, Err, Some, IfOk, IfSome, OnOk, codes, option_map, string_bytes};
+ghost use Rattle.std.specs.Prelude.{◌≡◌, ◌≢◌, ◌++◌, ◌∷◌, [], ℕ, pos, Ok, Err, Option, Some, IfOk, IfSome, OnOk, codes, option_map, string_bytes};
 ghost use Rattle.std.specs.Fmt.{decimal};
 ghost use Rattle.json.specs.Tree.{HasNumbers};
 ghost use Rattle.json.specs.Value.{value_view};
@@ -20,6 +20,13 @@ use jwt_policy::{ClaimFault, Claims};
 use jwt_shown::{date_text, push_quoted, shown_json};
 use jwt_words::Moment;
 use std::alloc::{AllocError, Global};
+
+/// A text as it stands.
+fn put_text(out: &mut String, text: &str) -> Result<(), AllocError>
+    ensures { OnOk result (string_bytes out.new ≡ string_bytes out.old ++ text.now) }
+{
+    out.push_str(text)
+}
 
 /// The JSON value that octets are, laid out.
 fn put_json(alloc: Global, out: &mut String, octets: &[u8]) -> Result<(), AllocError>
@@ -95,9 +102,9 @@ fn put_signature_start(
     let start = format!(in alloc; "sig={i} alg=")?;
     let octets = signature.octets().len();
     let end = format!(in alloc; " octets={octets}\n")?;
-    out.push_str(start.as_str())?;
+    put_text(out, start.as_str())?;
     put_alg(out, signature.protected().has("alg"), signature.alg_text())?;
-    out.push_str(end.as_str())
+    put_text(out, end.as_str())
 }
 
 /// Signature `i`, with its headers.
@@ -116,7 +123,7 @@ fn put_signature(
     put_signature_start(alloc, out, i, signature)?;
     put_protected(alloc, out, signature.protected_text())?;
     put_header(alloc, out, header)?;
-    out.push_str("not verified\n")
+    put_text(out, "not verified\n")
 }
 
 /// The signatures.
@@ -147,9 +154,9 @@ fn put_payload(alloc: Global, out: &mut String, payload: &[u8]) -> Result<(), Al
 {
     let octets = payload.len();
     let start = format!(in alloc; "payload octets={octets}\n")?;
-    out.push_str(start.as_str())?;
+    put_text(out, start.as_str())?;
     put_json(alloc, out, payload)?;
-    out.push_str("not verified\n")
+    put_text(out, "not verified\n")
 }
 
 /// The texts of the dates of claims.
@@ -230,20 +237,28 @@ fn put_dates(
     put_date(alloc, out, "nbf=", claims.nbf(), &dates.nbf)
 }
 
+/// The line of what is left of a life at a moment.
+fn life_text(alloc: Global, now: u64, exp: i64) -> Result<String, AllocError>
+    ensures { IfOk result (λ line. string_bytes line ≡ life_line (pos now) exp) }
+{
+    let now = i128::from(now);
+    let exp = i128::from(exp);
+    if now < exp {
+        let left = exp - now;
+        format!(in alloc; "left seconds={left}\n")
+    } else {
+        let past = now - exp;
+        format!(in alloc; "expired seconds={past}\n")
+    }
+}
+
 /// What is left of a life at a moment.
 fn put_life(alloc: Global, out: &mut Vec<u8>, now: u64, exp: i64) -> Result<(), AllocError>
     ensures { IfOk result (λ _. out.new.items ≡ out.old.items ++ life_line (pos now) exp) }
 {
-    let now = i128::from(now);
-    let exp = i128::from(exp);
-    let line = if now < exp {
-        let left = exp - now;
-        format!(in alloc; "left seconds={left}\n")?
-    } else {
-        let past = now - exp;
-        format!(in alloc; "expired seconds={past}\n")?
-    };
-    out.extend_from_slice(line.as_bytes())
+    let line = life_text(alloc, now, exp)?;
+    out.extend_from_slice(line.as_bytes())?;
+    Ok(())
 }
 
 /// The same, where there is a moment and an end.
@@ -278,6 +293,14 @@ fn put_claims(
     put_life_if(alloc, out, now, claims.exp())
 }
 
+/// The line of claims that are refused before any policy is looked at.
+fn put_refused(alloc: Global, out: &mut Vec<u8>, fault: &ClaimFault<'_>) -> Result<(), AllocError>
+    ensures { IfOk result (λ _. (now : Option ℕ) → (dates : Dates) × AreDates (Err fault.now) dates
+        × (out.new.items ≡ out.old.items ++ pretty_claims now dates (Err fault.now))) }
+{
+    put_refused_claims(alloc, out, fault)
+}
+
 /// What the claims of a payload say of its time.
 fn put_time(
     alloc: Global,
@@ -292,17 +315,17 @@ fn put_time(
     match Claims::read(alloc, payload) {
         Ok(claims) => put_claims(alloc, out, now, &claims),
         Err(ClaimFault::OutOfMemory) => Err(AllocError),
-        Err(fault) => put_refused_claims(alloc, out, &fault),
+        Err(fault) => put_refused(alloc, out, &fault),
     }
 }
 
 /// The first line.
-fn put_start(out: &mut String, form: Form) -> Result<(), AllocError>
+fn put_start(alloc: Global, out: &mut String, form: Form) -> Result<(), AllocError>
     ensures { OnOk result (string_bytes out.new ≡ string_bytes out.old ++ pretty_start form) }
 {
-    out.push_str("unverified ")?;
-    out.push_str(form_name(form))?;
-    out.push('\n')
+    let form = form_name(form);
+    let line = format!(in alloc; "unverified {form}\n")?;
+    put_text(out, line.as_str())
 }
 
 /// What stands in a token of these octets, for a person: its headers and its payload, each a JSON value on lines of its own in which no
@@ -320,7 +343,7 @@ pub fn pretty_token(
     let mut scratch = Scratch::new(alloc);
     let document = value_in(alloc, octets, &mut scratch)?;
     let mut out = String::new(alloc);
-    put_start(&mut out, signed.form())?;
+    put_start(alloc, &mut out, signed.form())?;
     put_signatures(alloc, &mut out, signed, &document)?;
     put_payload(alloc, &mut out, signed.payload())?;
     let mut text = out.into_bytes();

@@ -1,4 +1,4 @@
--- What the members of a policy are, in words.
+-- The members of a policy, in words.
 use Rattle.std.specs.Prelude.{ℕ, List, Option, Some, None, codes, if◌then◌else◌}
 use Rattle.std.specs.Str.{bytes_eq}
 

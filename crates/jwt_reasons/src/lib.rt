@@ -1,4 +1,4 @@
-//! Why a document is refused, in words for a person.
+//! The reason why a document is refused, in words for a person.
 //!
 //! [`policy_reason`], [`keys_reason`] and [`access_reason`] say it of a document that is refused; where its text can't be JSON, or a name stands
 //! twice, they say the [`Place`]. What they say is tested, and only the words of members and the counting of lines are proved.

@@ -1,4 +1,4 @@
-//! Why a document is refused.
+//! The reason why a document is refused.
 use crate::members::member_words;
 use crate::place::place_behind;
 use crate::scan::{doubled_name, json_fault};

@@ -1,4 +1,4 @@
-//! Where a text can't be JSON, and where a name stands twice.
+//! The place where a text can't be JSON, or where a name stands twice.
 ghost use Rattle.std.specs.Prelude.{◌≤◌, length};
 
 use json::{Reader, Scratch, Token};

@@ -1,4 +1,4 @@
--- What contracts see of the crate's own types.
+-- The crate's own types as contracts see them.
 use Rattle.std.specs.Prelude.{ℕ}
 use Rattle.json.specs.Layout as layout
 use Rattle.jwt_shown.specs.declared.layout.Last.{Last}

@@ -1,4 +1,4 @@
-//! Where the tokens of a JSON value stand.
+//! The layout of a JSON value: where its tokens stand.
 ghost use Rattle.std.specs.Prelude.{◌≡◌, ◌++◌, ◌*◌, OnOk, replicate, string_bytes};
 ghost use Rattle.json.specs.Layout.{after, depth_at, gap, is_value, line, nothing, step};
 ghost use Rattle.json.specs.Print.{begins, separator};
