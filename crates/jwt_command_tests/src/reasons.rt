@@ -1,5 +1,5 @@
 //! The reasons on standard error why a document is refused.
-use jwt_reasons::{access_reason, keys_reason, policy_reason};
+use jwt_reasons::{access_reason, keys_reason, policy_reason, token_reason};
 use std::alloc::Global;
 use std::process::Abort;
 use std::test::Fail;
@@ -77,16 +77,53 @@ static RULES: [(&str, &str); 3] = [
     ),
 ];
 
+/// Tokens; of those that aren't in JSON form, and of those that are refused for what they hold, no reason is given.
+static TOKENS: [(&str, &str); 5] = [
+    ("", ""),
+    ("e30.e30.", ""),
+    (
+        "{\"payload\":\"e30\",\n\"signatures\":[}",
+        "line 2, column 15: no JSON text goes on so",
+    ),
+    (
+        "{\"payload\":\"e30\",\"payload\":\"e30\",\"signature\":\"\"}",
+        "line 1, column 18: this name stands twice in its object",
+    ),
+    ("{\"payload\":7,\"signature\":\"\"}", ""),
+];
+
+/// Policies, and why they are refused, as a JSON object.
+static POLICIES_IN_JSON: [(&str, &str); 3] = [
+    (r#"{"algs":["HS256"]}"#, ""),
+    (
+        "{\"algs\":[\"HS256\"],}",
+        r#"{"document":"policy","line":1,"column":19,"reason":"no JSON text goes on so"}"#,
+    ),
+    (
+        r#"{"algs":["HS256"],"need_kid":1}"#,
+        r#"{"document":"policy","reason":"\"need_kid\" is true or false"}"#,
+    ),
+];
+
 /// Why a document of this kind is refused, and an empty text where it isn't.
 fn reason(alloc: Global, kind: &str, document: &str) -> Result<String, Fail> {
     let octets = document.as_bytes();
     let found = match kind {
         "policy" => policy_reason(alloc, octets)?,
         "keys" => keys_reason(alloc, octets)?,
+        "token" => token_reason(alloc, octets)?,
         _ => access_reason(alloc, octets)?,
     };
     match found {
-        Some(reason) => Ok(reason),
+        Some(reason) => Ok(reason.text(alloc)?),
+        None => Ok(String::new(alloc)),
+    }
+}
+
+/// The same as a JSON object; an empty text where there is no reason.
+fn json(alloc: Global, document: &str) -> Result<String, Fail> {
+    match policy_reason(alloc, document.as_bytes())? {
+        Some(reason) => Ok(reason.json(alloc, "policy")?),
         None => Ok(String::new(alloc)),
     }
 }
@@ -110,5 +147,16 @@ fn assert_reasons(
 fn a_refused_document_has_its_reason(rt: HostRuntime) -> Result<(), Fail> {
     assert_reasons(&rt, rt.alloc(), "policy", &POLICIES)?;
     assert_reasons(&rt, rt.alloc(), "keys", &KEY_SETS)?;
-    assert_reasons(&rt, rt.alloc(), "access", &RULES)
+    assert_reasons(&rt, rt.alloc(), "access", &RULES)?;
+    assert_reasons(&rt, rt.alloc(), "token", &TOKENS)
+}
+
+/// As a JSON object a reason has the document, and its line and its column where it is about a place.
+#[test]
+fn a_reason_is_an_object_too(rt: HostRuntime) -> Result<(), Fail> {
+    for &(document, wanted) in &POLICIES_IN_JSON {
+        let found = json(rt.alloc(), document)?;
+        assert_eq!(rt; found.as_str(), wanted, "at {document}");
+    }
+    Ok(())
 }

@@ -1,39 +1,49 @@
 //! The reason why a document is refused.
 use crate::members::member_words;
 use crate::place::place_behind;
+use crate::reason::Reason;
 use crate::scan::{doubled_name, json_fault};
 use jwt_access::{AccessFault, AccessRule};
+use jwt_jws::{FormFault, parse};
 use jwt_keys::{KeySet, KeysFault};
 use jwt_policy::{Policy, PolicyFault};
 use jwt_shown::push_quoted;
 use std::alloc::{AllocError, Global};
 
-/// A place and what is wrong there.
+/// A reason that is about no place.
+fn bare(alloc: Global, words: &str) -> Result<Reason, AllocError> {
+    Ok(Reason {
+        place: None,
+        words: String::from_str(alloc, words)?,
+    })
+}
+
+/// What is wrong behind so many octets.
 fn at(
     alloc: Global,
     octets: &[u8],
     offset: Option<usize>,
-    wrong: &str,
-) -> Result<String, AllocError> {
+    words: &str,
+) -> Result<Reason, AllocError> {
     let Some(before) = octets.get(..offset.unwrap_or(usize::MAX)) else {
-        return String::from_str(alloc, wrong);
+        return bare(alloc, words);
     };
-    let place = place_behind(before);
-    let line = place.line;
-    let column = place.column;
-    format!(in alloc; "line {line}, column {column}: {wrong}")
+    Ok(Reason {
+        place: Some(place_behind(before)),
+        words: String::from_str(alloc, words)?,
+    })
 }
 
 /// Where a text can't be JSON, or that it is no object.
-fn of_json(alloc: Global, octets: &[u8]) -> Result<String, AllocError> {
+fn of_json(alloc: Global, octets: &[u8]) -> Result<Reason, AllocError> {
     match json_fault(alloc, octets)? {
         Some(offset) => at(alloc, octets, Some(offset), "no JSON text goes on so"),
-        None => String::from_str(alloc, "it is no JSON object"),
+        None => bare(alloc, "it is no JSON object"),
     }
 }
 
 /// Where a name stands twice.
-fn of_doubled(alloc: Global, octets: &[u8]) -> Result<String, AllocError> {
+fn of_doubled(alloc: Global, octets: &[u8]) -> Result<Reason, AllocError> {
     let offset = doubled_name(alloc, octets)?;
     at(
         alloc,
@@ -44,17 +54,17 @@ fn of_doubled(alloc: Global, octets: &[u8]) -> Result<String, AllocError> {
 }
 
 /// A member by its name, and what it is.
-fn of_member(alloc: Global, name: &str) -> Result<String, AllocError> {
-    let mut reason = String::new(alloc);
-    push_quoted(&mut reason, name)?;
+fn of_member(alloc: Global, name: &str) -> Result<Reason, AllocError> {
+    let mut words = String::new(alloc);
+    push_quoted(&mut words, name)?;
     match member_words(name) {
-        Some(words) => {
-            reason.push(' ')?;
-            reason.push_str(words)?;
+        Some(kind) => {
+            words.push(' ')?;
+            words.push_str(kind)?;
         }
-        None => reason.push_str(" is no member of a policy")?,
+        None => words.push_str(" is no member of a policy")?,
     }
-    Ok(reason)
+    Ok(Reason { place: None, words })
 }
 
 /// Why a policy is refused: the place at which its text can't be JSON or at which a name stands twice, or its member with what that has to be;
@@ -62,7 +72,7 @@ fn of_member(alloc: Global, name: &str) -> Result<String, AllocError> {
 ///
 /// # Errors
 /// `AllocError`, where an allocation was refused.
-pub fn policy_reason(alloc: Global, document: &[u8]) -> Result<Option<String>, AllocError> {
+pub fn policy_reason(alloc: Global, document: &[u8]) -> Result<Option<Reason>, AllocError> {
     let reason = match Policy::read(alloc, document) {
         Ok(_) => return Ok(None),
         Err(PolicyFault::OutOfMemory) => return Err(AllocError),
@@ -71,7 +81,7 @@ pub fn policy_reason(alloc: Global, document: &[u8]) -> Result<Option<String>, A
         Err(PolicyFault::Member(name)) => of_member(alloc, name.text())?,
         Err(PolicyFault::Range(name)) => of_member(alloc, name.text())?,
         Err(PolicyFault::NoAlgorithm) => of_member(alloc, "algs")?,
-        Err(PolicyFault::TooLong) => { String::from_str(alloc, "it has more than 65,536 octets")? }
+        Err(PolicyFault::TooLong) => bare(alloc, "it has more than 65,536 octets")?,
     };
     Ok(Some(reason))
 }
@@ -80,17 +90,15 @@ pub fn policy_reason(alloc: Global, document: &[u8]) -> Result<Option<String>, A
 ///
 /// # Errors
 /// `AllocError`, where an allocation was refused.
-pub fn keys_reason(alloc: Global, document: &[u8]) -> Result<Option<String>, AllocError> {
+pub fn keys_reason(alloc: Global, document: &[u8]) -> Result<Option<Reason>, AllocError> {
     let reason = match KeySet::read(alloc, document) {
         Ok(_) => return Ok(None),
         Err(KeysFault::OutOfMemory) => return Err(AllocError),
         Err(KeysFault::Json) => of_json(alloc, document)?,
         Err(KeysFault::NameTwice) => of_doubled(alloc, document)?,
-        Err(KeysFault::NotKeySet) => {
-            String::from_str(alloc, "it is no object with a list \"keys\"")?
-        }
-        Err(KeysFault::TooManyKeys) => String::from_str(alloc, "it has more than 1,024 entries")?,
-        Err(KeysFault::TooLong) => { String::from_str(alloc, "it has more than 4,194,304 octets")? }
+        Err(KeysFault::NotKeySet) => bare(alloc, "it is no object with a list \"keys\"")?,
+        Err(KeysFault::TooManyKeys) => bare(alloc, "it has more than 1,024 entries")?,
+        Err(KeysFault::TooLong) => bare(alloc, "it has more than 4,194,304 octets")?,
     };
     Ok(Some(reason))
 }
@@ -99,39 +107,69 @@ pub fn keys_reason(alloc: Global, document: &[u8]) -> Result<Option<String>, All
 ///
 /// # Errors
 /// `AllocError`, where an allocation was refused.
-pub fn access_reason(alloc: Global, document: &[u8]) -> Result<Option<String>, AllocError> {
+pub fn access_reason(alloc: Global, document: &[u8]) -> Result<Option<Reason>, AllocError> {
     let reason = match AccessRule::read(alloc, document) {
         Ok(_) => return Ok(None),
         Err(AccessFault::OutOfMemory) => return Err(AllocError),
         Err(AccessFault::Json) => of_json(alloc, document)?,
         Err(AccessFault::NameTwice) => of_doubled(alloc, document)?,
-        Err(AccessFault::TooLong) => { String::from_str(alloc, "it has more than 65,536 octets")? }
+        Err(AccessFault::TooLong) => bare(alloc, "it has more than 65,536 octets")?,
         Err(fault) => of_rule(alloc, &fault)?,
     };
     Ok(Some(reason))
 }
 
-/// A member of an access rule, or a claim that it asks for, by its name.
-fn of_rule(alloc: Global, fault: &AccessFault) -> Result<String, AllocError> {
-    let mut reason = String::new(alloc);
+/// The words that follow the name of a member, or of a claim, for which an access rule is refused.
+fn rule_words(fault: &AccessFault) -> Option<(&str, &str)> {
     match fault {
         AccessFault::Member(name) => {
-            push_quoted(&mut reason, name.text())?;
-            reason.push_str(" is no member of an access rule, or is of another kind")?;
+            Some((
+                name.text(),
+                " is no member of an access rule, or is of another kind",
+            ))
         }
         AccessFault::Range(name) => {
-            push_quoted(&mut reason, name.text())?;
-            reason.push_str(" has a text that is no scope token, or no JSON Pointer")?;
+            Some((
+                name.text(),
+                " has a text that is no scope token, or no JSON Pointer",
+            ))
         }
         AccessFault::Claim(name) => {
-            push_quoted(&mut reason, name.text())?;
-            reason.push_str(" isn't asked for by a list of texts, whole numbers and truth values")?;
+            Some((
+                name.text(),
+                " isn't asked for by a list of texts, whole numbers and truth values",
+            ))
         }
         AccessFault::ClaimRange(name) => {
-            push_quoted(&mut reason, name.text())?;
-            reason.push_str(" begins with / and is no JSON Pointer, or allows no value")?;
+            Some((
+                name.text(),
+                " begins with / and is no JSON Pointer, or allows no value",
+            ))
         }
-        _ => {}
+        _ => None,
     }
-    Ok(reason)
+}
+
+/// A member of an access rule, or a claim that it asks for, by its name.
+fn of_rule(alloc: Global, fault: &AccessFault) -> Result<Reason, AllocError> {
+    let mut words = String::new(alloc);
+    if let Some((name, rest)) = rule_words(fault) {
+        push_quoted(&mut words, name)?;
+        words.push_str(rest)?;
+    }
+    Ok(Reason { place: None, words })
+}
+
+/// Why octets in JSON form are no token: the place at which their text can't be JSON, or at which a name stands twice; none of any other
+/// fault. No octet of them is in what is said.
+///
+/// # Errors
+/// `AllocError`, where an allocation was refused.
+pub fn token_reason(alloc: Global, octets: &[u8]) -> Result<Option<Reason>, AllocError> {
+    match parse(alloc, octets, 32) {
+        Err(FormFault::OutOfMemory) => Err(AllocError),
+        Err(FormFault::Json) => Ok(Some(of_json(alloc, octets)?)),
+        Err(FormFault::NameTwice) => Ok(Some(of_doubled(alloc, octets)?)),
+        _ => Ok(None),
+    }
 }

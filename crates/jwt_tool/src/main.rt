@@ -1,8 +1,13 @@
 //! The program `jwt`: JSON Web Tokens on the command line.
 #![tactic(auto)]
 
+mod documents;
+mod recorded;
+
 ghost use Rattle.std.specs.Prelude.{◌≤◌};
 
+use crate::documents::{ReadDocuments, asked_of, documents_of};
+use crate::recorded::Recorded;
 use jwt_command::documents::{Held, read_document};
 use jwt_command::run::{lack_memory, run_read};
 use jwt_command::verify_lines::Clock;
@@ -10,11 +15,11 @@ use jwt_command::{Files, Moment, Request, WordsFault, files_in_request, octets_a
 use jwt_ecdsa::Ecdsa;
 use jwt_ed25519::Ed25519;
 use jwt_mac::Verifier;
-use jwt_reasons::{access_reason, keys_reason, policy_reason};
+use jwt_reasons::{Reason, access_reason, keys_reason, policy_reason, token_reason};
 use jwt_rsa::Rsa;
 use jwt_shown::push_quoted;
 use jwt_text::{GREATEST_LIMIT, Intake, Reader, Sink, Source, Writer};
-use jwt_words::Order;
+use jwt_words::{Order, Printing};
 use std::alloc::AllocError;
 use std::fs::{self, File};
 use std::io::IsTerminal;
@@ -28,7 +33,7 @@ use std::{env, io};
 /// out before the next line is waited for.
 fn main(rt: HostRuntime) -> ExitCode {
     let clock = moment(&rt);
-    let mut r = Reader::new(rt.stdin());
+    let mut r = Recorded::new(rt.alloc(), Reader::new(rt.stdin()));
     let mut w = Writer::new(rt.stdout());
     match run_words(&rt, clock, &mut r, &mut w) {
         Ok(status) => ExitCode::from(status),
@@ -99,34 +104,47 @@ fn octets_of(rt: &HostRuntime, name: &str, file: File, limit: u32) -> io::Result
     Ok(document)
 }
 
-/// Says on standard error why a document is refused, if it is.
+/// Says on standard error why a document is refused, if it is, in words or as a JSON object. What becomes of that changes nothing.
 fn say_reason(
     rt: &HostRuntime,
+    printing: Printing,
     document: &str,
-    reason: Result<Option<String>, AllocError>,
+    reason: Result<Option<Reason>, AllocError>,
 ) -> bool {
-    match reason {
-        Ok(Some(reason)) => {
-            let _ = eprintln!(rt; "jwt: the {document} is refused: {reason}");
-            true
-        }
-        _ => false,
+    let Ok(Some(reason)) = reason else {
+        return false;
+    };
+    match printing {
+        Printing::Json => if let Ok(text) = reason.json(rt.alloc(), document) {
+            let _ = eprintln!(rt; "{text}");
+        },
+        Printing::Lines => if let Ok(text) = reason.text(rt.alloc()) {
+            let _ = eprintln!(rt; "jwt: the {document} is refused: {text}");
+        },
     }
+    true
 }
 
-/// Says on standard error why the first document of a file that is refused is: the policy, the key set or the access rule.
-fn say_why(rt: &HostRuntime, held: Held<'_>) {
-    let policy = held.policy.unwrap_or(b"");
-    if held.policy.is_some() && say_reason(rt, "policy", policy_reason(rt.alloc(), policy)) {
-        return;
+/// Says on standard error why the first document that is refused is: the policy, the key set, the access rule or the token.
+fn say_why(rt: &HostRuntime, printing: Printing, documents: ReadDocuments<'_>) {
+    let alloc = rt.alloc();
+    if let Some(policy) = documents.policy {
+        if say_reason(rt, printing, "policy", policy_reason(alloc, policy)) {
+            return;
+        }
     }
-    let keys = held.keys.unwrap_or(b"");
-    if held.keys.is_some() && say_reason(rt, "key set", keys_reason(rt.alloc(), keys)) {
-        return;
+    if let Some(keys) = documents.keys {
+        if say_reason(rt, printing, "key set", keys_reason(alloc, keys)) {
+            return;
+        }
     }
-    let access = held.access.unwrap_or(b"");
-    if held.access.is_some() {
-        say_reason(rt, "access rule", access_reason(rt.alloc(), access));
+    if let Some(access) = documents.access {
+        if say_reason(rt, printing, "access rule", access_reason(alloc, access)) {
+            return;
+        }
+    }
+    if let Some(token) = documents.token {
+        say_reason(rt, printing, "token", token_reason(alloc, token));
     }
 }
 
@@ -215,7 +233,7 @@ fn random<'a>(
 fn run_words<R: Source, W: Sink>(
     rt: &HostRuntime,
     clock: Option<Moment>,
-    r: &mut R,
+    r: &mut Recorded<R>,
     w: &mut W,
 ) -> io::Result<u8> {
     let args: Vec<String> = env::args(rt)?.collect(rt.alloc())?;
@@ -243,9 +261,15 @@ fn run_words<R: Source, W: Sink>(
         random: random(rt, &request, &mut fresh),
     };
     let mut moments = System { rt };
+    let asked = asked_of(&request);
+    r.keeps = asked.is_some();
     let status = run_read(rt.alloc(), request, &built_in, &mut moments, held, r, w);
-    if status == 1 {
-        say_why(rt, held);
+    if let (1, Some(asked)) = (status, asked) {
+        say_why(
+            rt,
+            asked.printing,
+            documents_of(asked, held, r.kept.as_slice()),
+        );
     }
     Ok(status)
 }
