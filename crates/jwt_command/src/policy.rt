@@ -75,9 +75,9 @@ fn with_set(
     keys: &KeySet,
 ) -> Result<Reply, AllocError>
     ensures { IfOk result (λ a. reply_view a
-        ≡ printed_policy printing (members_or_none (object_of documents.policy.now)) policy.now
+        ≡ printed_policy printing (members_or_none (object_of documents.entry.policy.now)) policy.now
         (found_with policy.now (map meaning verifiers.now) (key_set keys.now).keys
-        (numbers is_private 0 (entries_of documents.keys.now)))) }
+        (numbers is_private 0 (entries_of documents.entry.keys.now)))) }
 {
     let places = private_places(alloc, documents.keys)?;
     let found = Findings::with_keys(alloc, policy, keys, verifiers, places.as_slice())?;
@@ -94,8 +94,8 @@ fn with_keys(
     policy: &Policy,
 ) -> Result<Reply, AllocError>
     ensures { IfOk result (λ a. reply_view a
-        ≡ with_keys printing (map meaning verifiers.now) documents.policy.now policy.now
-        documents.keys.now (key_set_of documents.keys.now)) }
+        ≡ with_keys printing (map meaning verifiers.now) documents.entry.policy.now policy.now
+        documents.entry.keys.now (key_set_of documents.entry.keys.now)) }
 {
     match KeySet::read(alloc, documents.keys) {
         Ok(keys) => with_set(alloc, printing, verifiers, documents, policy, &keys),
