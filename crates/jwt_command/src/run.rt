@@ -19,7 +19,7 @@ use crate::mac::{mac, mac_in_hand};
 use crate::policy::policy;
 use crate::pretty::show_pretty;
 use crate::show::show;
-use crate::verify::{Manner, verify};
+use crate::verify::verify;
 use crate::verify_lines::{Clock, NoClock, run_lines};
 use jwt_issue::IssueOptions;
 use jwt_mac::Verifier;
@@ -313,12 +313,8 @@ fn reply_in_hand<R: Source>(
             public_keys,
             ..
         } => {
-            let manner = Manner {
-                printing,
-                verifiers: asked_for(public_keys, built_in),
-                moment: now,
-            };
-            verify(alloc, &manner, held, r)
+            let verifiers = asked_for(public_keys, built_in);
+            verify(alloc, printing, verifiers, now, held, r)
         }
         Order::Issue { alg, typ, form, .. } => {
             let options = IssueOptions {
