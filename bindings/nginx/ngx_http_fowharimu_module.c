@@ -2265,20 +2265,25 @@ ngx_http_fowharimu_is_readable(ngx_conf_t *cf, ngx_str_t *name)
 
     groups = ngx_palloc(cf->temp_pool, (count + 1) * sizeof(gid_t));
 
-    if (groups == NULL || getgroups(count, groups) != count
-        || initgroups(username, group) == -1 || setegid(group) == -1)
-    {
+    if (groups == NULL || getgroups(count, groups) != count) {
         return NGX_ERROR;
     }
 
     err = 0;
 
-    if (seteuid(user) == 0) {
+    if (initgroups(username, group) == -1 || setegid(group) == -1
+        || seteuid(user) == -1)
+    {
+        err = ngx_errno;
+
+    } else {
         fd = ngx_open_file(name->data, NGX_FILE_RDONLY|NGX_FILE_NONBLOCK,
                            NGX_FILE_OPEN, 0);
-        err = fd == NGX_INVALID_FILE ? ngx_errno : 0;
 
-        if (fd != NGX_INVALID_FILE) {
+        if (fd == NGX_INVALID_FILE) {
+            err = ngx_errno;
+
+        } else {
             (void) ngx_close_file(fd);
         }
     }

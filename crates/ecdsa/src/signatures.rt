@@ -15,7 +15,7 @@ use crate::limbs::{is_less, is_same, reduce, small};
 use crate::multiples::multiple;
 use crate::point::Point;
 use crate::sums::add;
-use crate::tables::base_multiple;
+use crate::tables::{Doubles, base_multiple};
 
 /// The finite point at forms x and y.
 pub fn affine<const N: usize, const KIND: usize>(
@@ -139,88 +139,85 @@ fn has_x<const N: usize, const KIND: usize>(
     }
 }
 
-/// Whether x of [e w]G + [r w]Q is r modulo n; xs and ys are the table of G's doubles.
-fn holds_at<const N: usize, const KIND: usize>(
-    curve: &Curve<N, KIND>,
-    xs: &[[u64; N]],
-    ys: &[[u64; N]],
-    x: [u64; N],
-    y: [u64; N],
-    e: [u64; N],
-    r: [u64; N],
-    w: [u64; N],
-) -> bool
-    requires table { IsTable curve.now.field (domain curve.now) xs.now ys.now }
-    requires x { number x < size curve.now.field }
-    requires y { number y < size curve.now.field }
-    requires e { number e < size curve.now.order }
-    requires r { number r < size curve.now.order }
-    ensures { result ≡ holds_by (domain curve.now) (number x.entry) (number y.entry) (number e.entry) (number r.entry) (Some (value curve.now.order w.entry)) }
-{
-    let f = &curve.field;
-    let x_form = f.form(x);
-    let y_form = f.form(y);
-    let key = affine(f, x_form, y_form);
-    let u = curve.order.scaled(e, w);
-    let v = curve.order.scaled(r, w);
-    let first = base_multiple(curve, xs, ys, u);
-    let second = multiple(curve, v, key);
-    let sum = add(curve, first, second);
-    has_x(curve, sum, r)
+/// A key and a signature, in numbers: the key's coordinates, the hash, r and s.
+#[derive(Clone, Copy)]
+pub struct Claimed<const N: usize> {
+    pub x: [u64; N],
+    pub y: [u64; N],
+    pub e: [u64; N],
+    pub r: [u64; N],
+    pub s: [u64; N],
 }
 
-/// The same with the inverse of s, if there is one.
+/// Whether x of [e w]G + [r w]Q is r modulo n, with this e in place of the hash.
+fn holds_at<const N: usize, const KIND: usize>(
+    curve: &Curve<N, KIND>,
+    doubles: &Doubles<'_, N>,
+    claimed: &Claimed<N>,
+    e: [u64; N],
+    w: [u64; N],
+) -> bool
+    requires table { IsTable curve.now.field (domain curve.now) doubles.now.xs.now doubles.now.ys.now }
+    requires x { number claimed.now.x < size curve.now.field }
+    requires y { number claimed.now.y < size curve.now.field }
+    requires e { number e < size curve.now.order }
+    requires r { number claimed.now.r < size curve.now.order }
+    ensures { result ≡ holds_by (domain curve.now) (number claimed.now.x) (number claimed.now.y) (number e.entry) (number claimed.now.r) (Some (value curve.now.order w.entry)) }
+{
+    let f = &curve.field;
+    let x_form = f.form(claimed.x);
+    let y_form = f.form(claimed.y);
+    let key = affine(f, x_form, y_form);
+    let u = curve.order.scaled(e, w);
+    let v = curve.order.scaled(claimed.r, w);
+    let first = base_multiple(curve, doubles.xs, doubles.ys, u);
+    let second = multiple(curve, v, key);
+    let sum = add(curve, first, second);
+    has_x(curve, sum, claimed.r)
+}
+
+/// The same with the hash and the inverse of s, if there is one.
 fn holds_with<const N: usize, const KIND: usize>(
     curve: &Curve<N, KIND>,
-    xs: &[[u64; N]],
-    ys: &[[u64; N]],
-    x: [u64; N],
-    y: [u64; N],
-    e: [u64; N],
-    r: [u64; N],
-    s: [u64; N],
+    doubles: &Doubles<'_, N>,
+    claimed: &Claimed<N>,
 ) -> bool
-    requires table { IsTable curve.now.field (domain curve.now) xs.now ys.now }
-    requires x { number x < size curve.now.field }
-    requires y { number y < size curve.now.field }
-    requires e { number e < 2 * size curve.now.order }
-    requires r { number r < size curve.now.order }
-    requires s { number s < size curve.now.order }
-    ensures { result ≡ holds_by (domain curve.now) (number x.entry) (number y.entry) (number e.entry) (number r.entry) (the_inverse (size curve.now.order) (number s.entry)) }
+    requires table { IsTable curve.now.field (domain curve.now) doubles.now.xs.now doubles.now.ys.now }
+    requires x { number claimed.now.x < size curve.now.field }
+    requires y { number claimed.now.y < size curve.now.field }
+    requires e { number claimed.now.e < 2 * size curve.now.order }
+    requires r { number claimed.now.r < size curve.now.order }
+    requires s { number claimed.now.s < size curve.now.order }
+    ensures { result ≡ holds_by (domain curve.now) (number claimed.now.x) (number claimed.now.y) (number claimed.now.e) (number claimed.now.r) (the_inverse (size curve.now.order) (number claimed.now.s)) }
 {
-    let form = curve.order.form(s);
+    let form = curve.order.form(claimed.s);
     match curve.order.inverse(form) {
         None => false,
         Some(w) => {
-            let rest = reduce(e, false, curve.order.n);
-            holds_at(curve, xs, ys, x, y, rest, r, w)
+            let rest = reduce(claimed.e, false, curve.order.n);
+            holds_at(curve, doubles, claimed, rest, w)
         }
     }
 }
 
-/// Whether r and s are a signature of the hash e by the key (x, y); xs and ys are the table of the base point's doubles.
+/// Whether r and s are a signature of the hash by the key.
 pub fn holds<const N: usize, const KIND: usize>(
     curve: &Curve<N, KIND>,
-    xs: &[[u64; N]],
-    ys: &[[u64; N]],
-    x: [u64; N],
-    y: [u64; N],
-    e: [u64; N],
-    r: [u64; N],
-    s: [u64; N],
+    doubles: &Doubles<'_, N>,
+    claimed: &Claimed<N>,
 ) -> bool
-    requires table { IsTable curve.now.field (domain curve.now) xs.now ys.now }
-    requires e { number e < 2 * size curve.now.order }
-    ensures { result ≡ holds (domain curve.now) (number x.entry) (number y.entry) (number e.entry) (number r.entry) (number s.entry) }
+    requires table { IsTable curve.now.field (domain curve.now) doubles.now.xs.now doubles.now.ys.now }
+    requires e { number claimed.now.e < 2 * size curve.now.order }
+    ensures { result ≡ holds (domain curve.now) (number claimed.now.x) (number claimed.now.y) (number claimed.now.e) (number claimed.now.r) (number claimed.now.s) }
 {
-    if !is_scalar(r, curve.order.n) {
+    if !is_scalar(claimed.r, curve.order.n) {
         return false;
     }
-    if !is_scalar(s, curve.order.n) {
+    if !is_scalar(claimed.s, curve.order.n) {
         return false;
     }
-    if !is_key(curve, x, y) {
+    if !is_key(curve, claimed.x, claimed.y) {
         return false;
     }
-    holds_with(curve, xs, ys, x, y, e, r, s)
+    holds_with(curve, doubles, claimed)
 }

@@ -53,6 +53,13 @@ fn double_at<const N: usize, const KIND: usize>(
     Point { x, y, z: one }
 }
 
+/// The table of the doubles of a curve's base point: the coordinates of each.
+#[derive(Clone, Copy)]
+pub struct Doubles<'a, const N: usize> {
+    pub xs: &'a [[u64; N]],
+    pub ys: &'a [[u64; N]],
+}
+
 /// The multiple of the base point: the sum of its doubles whose bit is set, from the lowest.
 pub fn base_multiple<const N: usize, const KIND: usize>(
     curve: &Curve<N, KIND>,

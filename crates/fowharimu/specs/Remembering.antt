@@ -13,5 +13,5 @@ abbrev pub built_in : List Meaning
 built_in = rsa_meaning ∷ ecdsa_meaning ∷ ed25519_meaning ∷ []
 
 -- a policy and its keys, at a moment, by the verifiers that are built in
-abbrev pub terms_by : Settings × List KeyParts → ℤ → Terms
-terms_by documents now = record { policy = documents.0; keys = documents.1; now = now; verifiers = built_in }
+abbrev pub terms_of_documents : Settings × List KeyParts → ℤ → Terms
+terms_of_documents documents now = record { policy = documents.0; keys = documents.1; now = now; verifiers = built_in }

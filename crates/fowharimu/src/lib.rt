@@ -1,4 +1,4 @@
-//! All that a service needs which takes JSON Web Tokens, from one crate.
+//! All that a service needs to take JSON Web Tokens, from one crate.
 //!
 //! ```rust
 //! use fowharimu::{KeySet, Policy, Reader, Validator};
@@ -14,7 +14,7 @@
 //! [`Ed25519`] are three, and a caller's own is a [`Verifier`]. The [`Report`] has the [`Verdict`], what became of each signature, and each try of a
 //! key with its cost.
 //!
-//! What an accepted token may do says an [`AccessRule`], by [`AccessRule::denial`] of its claims.
+//! An [`AccessRule`] says what an accepted token may do, by [`AccessRule::denial`] of its claims.
 //!
 //! Each other name here is that of one of the libraries below: `jwt_text`, `jwt_mac`, `jwt_keys`, `jwt_jws`, `jwt_policy`, `jwt_access`,
 //! `jwt_verify`, `jwt_memory`, `jwt_issue`, `jwt_rsa`, `jwt_ecdsa` and `jwt_ed25519`. Their modules `laws` stand here as `access_laws`,

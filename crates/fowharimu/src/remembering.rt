@@ -13,7 +13,7 @@ ghost use Rattle.jwt_verify.specs.declared.report.Fault.TheVariants.{OutOfMemory
 ghost use Rattle.jwt_verify.specs.declared.report.Verdict.TheVariants.{Refused};
 ghost use Rattle.jwt_memory.specs.Kept.{AreKept};
 ghost use Rattle.jwt_memory.specs.Outcomes.{report_in, paid_in};
-ghost use Rattle.fowharimu.specs.Remembering.{built_in, terms_by};
+ghost use Rattle.fowharimu.specs.Remembering.{built_in, terms_of_documents};
 
 use jwt_ecdsa::Ecdsa;
 use jwt_ed25519::Ed25519;
@@ -202,17 +202,17 @@ impl<'p> Remembering<'p> {
 
         // The verdict is that on the octets, unless memory was refused; and what else the report holds.
         ensures verdict { FoundMemory (report_in result).verdict
-            → IsVerdict (terms_by self.old now)
+            → IsVerdict (terms_of_documents self.old now)
             octets.now (B.ceiling budget.old) (report_in result).verdict }
-        ensures report { IsReport (terms_by self.old now)
+        ensures report { IsReport (terms_of_documents self.old now)
             octets.now (B.ceiling budget.old) (report_in result) }
         ensures read { (report_in result).verdict ≢ Refused (Text Read) }
 
         // What was paid in this call: no pair is tried twice, and each is eligible; the octets are within the bound, the calls within the
         // policy's ceiling.
         ensures once { AllPairs IsBefore (paid_in result) }
-        ensures eligible { AreEligible (terms_by self.old now) octets.now (paid_in result) }
-        ensures bound { IsBounded (terms_by self.old now) octets.now (paid_in result) (B.octets budget.new) }
+        ensures eligible { AreEligible (terms_of_documents self.old now) octets.now (paid_in result) }
+        ensures bound { IsBounded (terms_of_documents self.old now) octets.now (paid_in result) (B.octets budget.new) }
         ensures within { IsWithin self.old.0.max_calls (B.calls budget.new) }
 
         // The budget agrees with that.

@@ -14,22 +14,22 @@ use Rattle.jwt_verify.specs.declared.report.Verdict.TheVariants.{Accepted, Refus
 use Rattle.jwt_told.specs.Questions.{QuestionParts}
 use Rattle.jwt_c.specs.declared.asking.Proved.{Proved}
 use Rattle.jwt_c.specs.declared.asking.Proved.TheVariants.{Rsa, Ed25519 as OnEd25519, Any}
-use Rattle.jwt_c.specs.declared.desk.Desk.{Desk}
-use Rattle.jwt_c.specs.Asking.{TellsDesk, is_ed25519, rsa_says, ed25519_says, proved_says, asked_of, said_by}
+use Rattle.jwt_c.specs.declared.state.State.{State}
+use Rattle.jwt_c.specs.Asking.{TellsState, is_ed25519, rsa_says, ed25519_says, proved_says, asked_of, said_by}
 use Rattle.jwt_c.specs.Faults.{form_numbers, claim_numbers, verdict_numbers}
 use Rattle.jwt_c.specs.Reports.{claims_in}
 
 -- ---- what a proved verifier tells
 
-told_if : (b accepts : Bool) (says : QuestionParts → Bool) (q : QuestionParts) (status : ℕ) (d e : Desk)
-    → Some accepts ≡ option_map says (if b then Some q else None) → TellsDesk (Some q) accepts status d e
-    → TellsDesk (if b then Some q else None) (says q) status d e
-told_if true accepts says q status d e h t = let same : accepts ≡ says q = cc in subst (λ v. TellsDesk (Some q) v status d e) same t
+told_if : (b accepts : Bool) (says : QuestionParts → Bool) (q : QuestionParts) (status : ℕ) (d e : State)
+    → Some accepts ≡ option_map says (if b then Some q else None) → TellsState (Some q) accepts status d e
+    → TellsState (if b then Some q else None) (says q) status d e
+told_if true accepts says q status d e h t = let same : accepts ≡ says q = cc in subst (λ v. TellsState (Some q) v status d e) same t
 told_if false accepts says q status d e h t = cc
 
-pub tells : (by : Proved) (q : QuestionParts) (accepts : Bool) (status : ℕ) (d e : Desk)
-    → Some accepts ≡ option_map (λ r. said_by by (Some r)) (asked_of by (Some q)) → TellsDesk (Some q) accepts status d e
-    → TellsDesk (asked_of by (Some q)) (said_by by (Some q)) status d e
+pub tells : (by : Proved) (q : QuestionParts) (accepts : Bool) (status : ℕ) (d e : State)
+    → Some accepts ≡ option_map (λ r. said_by by (Some r)) (asked_of by (Some q)) → TellsState (Some q) accepts status d e
+    → TellsState (asked_of by (Some q)) (said_by by (Some q)) status d e
 tells Rsa q accepts status d e h t = told_if (rsa_meaning.named q.alg) accepts (λ r. rsa_says (Some r)) q status d e h t
 tells OnEd25519 q accepts status d e h t =
     told_if (ed25519_meaning.named q.alg && is_ed25519 q.key) accepts (λ r. ed25519_says (Some r)) q status d e h t

@@ -10,7 +10,7 @@ use Rattle.jwt_access.specs.declared.access_fault.AccessFault.{AccessFault}
 use Rattle.jwt_access.specs.declared.access_fault.AccessFault.TheVariants as fault
 use Rattle.jwt_access.specs.declared.denial.Denial.{Denial}
 use Rattle.jwt_access.specs.declared.denial.Denial.TheVariants.{ScopeMissing, ClaimMissing, ClaimNotAllowed}
-use Rattle.jwt_c.specs.declared.rule_desk.RuleDesk.{RuleDesk}
+use Rattle.jwt_c.specs.declared.rule_state.RuleState.{RuleState}
 use Rattle.jwt_c.specs.Written.{Puts}
 
 -- ---- numbers
@@ -33,9 +33,9 @@ denial_number (ClaimNotAllowed _) = 1003
 -- ---- what a handle holds
 
 -- the rule that this document says
-abbrev pub HoldsRule : List ℕ → Option RuleDesk → Type 0
+abbrev pub HoldsRule : List ℕ → Option RuleState → Type 0
 HoldsRule document None = ⊥
-HoldsRule document (Some desk) = rule_of document ≡ Ok desk.rule
+HoldsRule document (Some state) = rule_of document ≡ Ok state.rule
 
 abbrev pub RefusesRule : Result Rule AccessFault → ℕ → Type 0
 RefusesRule (Ok rule) number = ⊥

@@ -16,7 +16,7 @@ use Rattle.jwt_told.specs.Questions.{QuestionParts, told_of}
 use Rattle.jwt_told.specs.Ranks.{key_first, key_second}
 use Rattle.jwt_c.specs.declared.asking.Proved.{Proved}
 use Rattle.jwt_c.specs.declared.asking.Proved.TheVariants.{Rsa, Ed25519 as OnEd25519, Any}
-use Rattle.jwt_c.specs.declared.desk.Desk.{Desk}
+use Rattle.jwt_c.specs.declared.state.State.{State}
 use Rattle.jwt_c.specs.declared.report.FowQuestion.{FowQuestion}
 use Rattle.jwt_c.specs.Documents.{documents}
 use Rattle.jwt_c.specs.Written.{IsAbsent}
@@ -80,19 +80,19 @@ PutsQuestion None status written old out = IsAbsent status
 PutsQuestion (Some question) status written old out = (status ≡ 0 → IsSized question written × ((more : List ℕ) × (out ≡ question_octets question ++ more)))
     × (status ≢ 0 → status ≢ 3 → (status ≡ 5) × (length old < length (question_octets question)))
 
--- the same policy and key set, where this is told besides
-abbrev TellsOf : List ToldParts → Desk → Desk → Type 0
+-- the same policy and key set, with these answers added
+abbrev TellsOf : List ToldParts → State → State → Type 0
 TellsOf answers before after = (documents after ≡ documents before) × (told after.answers ≡ told before.answers ++ answers)
 
--- exactly this answer is told besides, unless memory was refused; where there is no question, nothing is
-abbrev pub TellsDesk : Option QuestionParts → Bool → ℕ → Desk → Desk → Type 0
-TellsDesk None valid status before after = IsAbsent status × (status ≢ 0) × (documents after ≡ documents before) × (told after.answers ≡ told before.answers)
-TellsDesk (Some question) valid status before after = (status ≡ 0 → TellsOf (told_of question valid ∷ []) before after)
+-- exactly this answer is added, unless memory was refused; where there is no question, none is
+abbrev pub TellsState : Option QuestionParts → Bool → ℕ → State → State → Type 0
+TellsState None valid status before after = IsAbsent status × (status ≢ 0) × (documents after ≡ documents before) × (told after.answers ≡ told before.answers)
+TellsState (Some question) valid status before after = (status ≡ 0 → TellsOf (told_of question valid ∷ []) before after)
     × (status ≢ 0 → (status ≡ 3) × (documents after ≡ documents before) × (told after.answers ≡ told before.answers))
 
-abbrev pub IsTold : Option QuestionParts → Bool → ℕ → Desk → Option Desk → Type 0
+abbrev pub IsTold : Option QuestionParts → Bool → ℕ → State → Option State → Type 0
 IsTold question valid status before None = ⊥
-IsTold question valid status before (Some after) = TellsDesk question valid status before after
+IsTold question valid status before (Some after) = TellsState question valid status before after
 
 -- ---- the questions that the proved verifiers answer
 
@@ -138,7 +138,7 @@ proved_says (Some question) = if rsa_meaning.named question.alg then rsa_says (S
 
 -- ---- Cited by contracts of private functions alone
 
--- exactly this answer is told besides, unless memory was refused
+-- exactly this answer is added, unless memory was refused
 abbrev pub TellsOne : QuestionParts → Bool → ℕ → List ToldParts → List ToldParts → Type 0
 TellsOne question valid status old new = (status ≡ 0 → new ≡ old ++ told_of question valid ∷ []) × (status ≢ 0 → (status ≡ 3) × (new ≡ old))
 

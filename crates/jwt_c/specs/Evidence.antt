@@ -4,9 +4,9 @@ use Rattle.std.specs.Arc.{arc_value}
 use Rattle.serde_json.specs.Data.{Members}
 use Rattle.jwt_verify.specs.declared.report.SigState.{SigState}
 use Rattle.jwt_verify.specs.declared.report.Try.{Try}
-use Rattle.jwt_c.specs.declared.desk.Evidence.{Evidence}
-use Rattle.jwt_c.specs.declared.desk.Evidence.TheVariants.{Own, Shared}
-use Rattle.jwt_c.specs.declared.desk.Last.{Last}
+use Rattle.jwt_c.specs.declared.state.Evidence.{Evidence}
+use Rattle.jwt_c.specs.declared.state.Evidence.TheVariants.{Own, Shared}
+use Rattle.jwt_c.specs.declared.state.Last.{Last}
 
 -- what became of each signature
 abbrev pub states_of : Evidence → List SigState

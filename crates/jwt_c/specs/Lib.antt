@@ -1,6 +1,6 @@
 -- ---- What contracts of public functions cite, in reading order
 
--- the documents of a desk
+-- the documents of a state
 pub mod Documents
 -- the parts of a report beside its numbers
 pub mod Evidence

@@ -3,8 +3,8 @@ use Rattle.std.specs.Prelude.{◌≡◌, ℕ, ℤ, List, Option, Some, None}
 use Rattle.jwt_verify.specs.Reports.{IsReport, terms}
 use Rattle.jwt_verify.specs.declared.report.Report.{Report}
 use Rattle.jwt_memory.specs.declared.memory.Memory.{Memory}
-use Rattle.jwt_c.specs.declared.desk.Desk.{Desk}
-use Rattle.jwt_c.specs.declared.desk.Last.{Last}
+use Rattle.jwt_c.specs.declared.state.State.{State}
+use Rattle.jwt_c.specs.declared.state.Last.{Last}
 use Rattle.jwt_c.specs.declared.grounds.Documents.{Documents}
 use Rattle.jwt_c.specs.declared.report.FowReport.{FowReport}
 use Rattle.jwt_c.specs.ProvedKept.{proved_meanings}
@@ -19,7 +19,7 @@ IsProved grounds now octets said last = (report : Report)
     × IsHeldIn last.remembered grounds.1 octets grounds.0.policy.run.work
     × Says report said last
 
--- the report is judged so, and is what the desk that is held keeps
-abbrev pub IsProvedBy : Desk → ℤ → List ℕ → FowReport → Option Desk → Type 0
-IsProvedBy desk now octets said None = ⊥
-IsProvedBy desk now octets said (Some held) = IsProved desk.grounds now octets said held.last
+-- the report is judged so, and is what the state that is held keeps
+abbrev pub IsProvedBy : State → ℤ → List ℕ → FowReport → Option State → Type 0
+IsProvedBy state now octets said None = ⊥
+IsProvedBy state now octets said (Some held) = IsProved state.grounds now octets said held.last

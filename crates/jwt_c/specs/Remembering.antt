@@ -6,19 +6,19 @@ use Rattle.jwt_memory.specs.declared.memory.MemoryEntry.{MemoryEntry}
 use Rattle.jwt_memory.specs.declared.memory.Memory.{Memory}
 use Rattle.jwt_memory.specs.Entries.{Holds}
 use Rattle.jwt_memory.specs.ToldKept.{AreTrulyKept, IsToldNow, IsTrulyRemembered}
-use Rattle.jwt_c.specs.declared.desk.Desk.{Desk}
+use Rattle.jwt_c.specs.declared.state.State.{State}
 use Rattle.jwt_c.specs.declared.grounds.Documents.{Documents}
 use Rattle.jwt_c.specs.Documents.{documents}
 use Rattle.jwt_c.specs.ProvedKept.{HasSameRoom}
 
 -- ---- a verdict that came out of a memory
 
--- where what was told of the tokens that the memory keeps is true, the verdict is the true one, and the report is that of a run by true answers
+-- where the answers on the tokens that the memory keeps are true, the verdict is the true one, and the report is that of a run by true answers
 abbrev pub RestsOnMemory : Option Memory → Documents → ℤ → List ℕ → Report → Type 0
 RestsOnMemory None grounds now octets report = ⊥
 RestsOnMemory (Some memory) grounds now octets report = (truth : Truth) → AreTrulyKept truth grounds.policy grounds.keys memory → IsTrulyRemembered truth grounds.policy grounds.keys now octets grounds.policy.run.work report
 
--- a report that isn't remembered rests on what is told now, one that is remembered on what was told when the token was accepted
+-- a new report rests on the answers now, a remembered one on those when the token was accepted
 abbrev pub RestsOn : Bool → List ToldParts → Option Memory → Documents → ℤ → List ℕ → Report → Type 0
 RestsOn false answers memory grounds now octets report = IsToldNow answers grounds.policy grounds.keys now octets grounds.policy.run.work report
 RestsOn true answers memory grounds now octets report = RestsOnMemory memory grounds now octets report
@@ -33,29 +33,29 @@ abbrev pub IsHeldIn : Bool → Option Memory → List ℕ → ℕ → Type 0
 IsHeldIn false memory octets ceiling = Unit {0}
 IsHeldIn true memory octets ceiling = Knows memory octets ceiling
 
--- ---- what becomes of the memories of a desk
+-- ---- what becomes of the memories of a state
 
--- what was told of the tokens that the memory keeps is true
+-- the answers on the tokens that the memory keeps are true
 abbrev pub IsTrulyKept : Truth → Documents → Option Memory → Type 0
 IsTrulyKept truth grounds None = Unit {0}
 IsTrulyKept truth grounds (Some memory) = AreTrulyKept truth grounds.policy grounds.keys memory
 
--- where what is told is true, the memory keeps what was told truly, if it did before
+-- where the answers are true, the memory keeps tokens by true answers, if it did before
 abbrev pub StaysTrue : List ToldParts → Documents → Option Memory → Option Memory → Type 0
 StaysTrue answers grounds before after = (truth : Truth) → AreRight truth answers → IsTrulyKept truth grounds before → IsTrulyKept truth grounds after
 
--- what a judging by what is told does to them
-abbrev pub RemembersTold : Desk → Option Desk → Type 0
+-- what a judging by answers does to them
+abbrev pub RemembersTold : State → Option State → Type 0
 RemembersTold before None = ⊥
 RemembersTold before (Some after) = StaysTrue (told before.answers) (documents before) before.memory after.memory × HasSameRoom after.memory before.memory × (after.grounds ≡ before.grounds)
 
 -- what a judging by the proved verifiers does to them
-abbrev pub RemembersProved : Desk → Option Desk → Type 0
+abbrev pub RemembersProved : State → Option State → Type 0
 RemembersProved before None = ⊥
 RemembersProved before (Some after) = HasSameRoom after.grounds.1 before.grounds.1 × (after.memory ≡ before.memory)
 
 -- they stay as they are
-abbrev pub RemembersAlike : Desk → Option Desk → Type 0
+abbrev pub RemembersAlike : State → Option State → Type 0
 RemembersAlike before None = ⊥
 RemembersAlike before (Some after) = (after.memory ≡ before.memory) × (after.grounds ≡ before.grounds)
 
@@ -65,10 +65,10 @@ IsMemoryFor tokens octets None = tokens ≡ 0
 IsMemoryFor tokens octets (Some memory) = (memory.table.cap ≡ tokens) × (memory.longest ≡ octets) × (memory.table.entries ≡ [])
 
 -- from now on so many tokens of so many octets are remembered of each way of judging, and nothing else has changed
-abbrev pub IsRemembering : ℕ → ℕ → Desk → Desk → Type 0
+abbrev pub IsRemembering : ℕ → ℕ → State → State → Type 0
 IsRemembering tokens octets before after = IsMemoryFor tokens octets after.memory × IsMemoryFor tokens octets after.grounds.1
     × (documents after ≡ documents before) × (after.answers ≡ before.answers) × (after.last ≡ before.last)
 
-abbrev pub Remembers : ℕ → ℕ → Desk → Option Desk → Type 0
+abbrev pub Remembers : ℕ → ℕ → State → Option State → Type 0
 Remembers tokens octets before None = ⊥
 Remembers tokens octets before (Some after) = IsRemembering tokens octets before after

@@ -5,7 +5,8 @@ ghost use Rattle.jwt_access.specs.Document.{rule_of};
 ghost use Rattle.jwt_c.specs.Access.{access_number, denial_number, IsRuleRefused, IsHeldAgainst, PutsDenied, refused_in};
 ghost use Rattle.jwt_c.specs.Written.{PutsSome};
 
-use crate::rule_desk::RuleDesk;
+use crate::rule_state::RuleState;
+use crate::status::{FOW_ABSENT, FOW_DENIED, FOW_OK, FOW_OUT_OF_MEMORY, FOW_REFUSED, NotHeld};
 use crate::writing::put;
 use jwt_access::{AccessFault, AccessRule, Denial};
 use jwt_policy::Claims;
@@ -39,63 +40,74 @@ fn denial_number(denial: &Denial<'_>) -> u32
 }
 
 /// The rule of a document, or the status and the number of the fault for which it is refused.
-pub(crate) fn rule_of(alloc: Global, document: &[u8]) -> Result<Box<RuleDesk>, (u32, u32)>
+pub(crate) fn rule_of(alloc: Global, document: &[u8]) -> Result<Box<RuleState>, NotHeld>
     ensures read { IfOk result (λ b. rule_of document.now ≡ Ok b.value.rule) }
-    ensures refused { IfErr result (λ e. IsRuleRefused document.now e.0 e.1) }
+    ensures refused { IfErr result (λ e. IsRuleRefused document.now e.status e.fault) }
 {
     let rule = match AccessRule::read(alloc, document) {
         Ok(rule) => rule,
-        Err(AccessFault::OutOfMemory) => return Err((3, 0)),
-        Err(fault) => return Err((1, access_number(&fault))),
+        Err(AccessFault::OutOfMemory) => return Err(NotHeld {
+            status: FOW_OUT_OF_MEMORY,
+            fault: 0,
+        }),
+        Err(fault) => return Err(NotHeld {
+            status: FOW_REFUSED,
+            fault: access_number(&fault),
+        }),
     };
-    match Box::new(alloc, RuleDesk { rule }) {
-        Ok(desk) => Ok(desk),
-        Err(_) => Err((3, 0)),
+    match Box::new(alloc, RuleState { rule }) {
+        Ok(state) => Ok(state),
+        Err(_) => Err(NotHeld {
+            status: FOW_OUT_OF_MEMORY,
+            fault: 0,
+        }),
     }
 }
 
-/// Puts the name of the member, or of the claim, for which a rule is refused at the front of `out`. 0; 3: memory was refused; 5: `out` is
-/// too short; 6: the rule isn't refused for one.
+/// Puts the name of the member, or of the claim, for which a rule is refused at the front of `out`. `FOW_OK`; `FOW_OUT_OF_MEMORY`: memory
+/// was refused; `FOW_TOO_SHORT`: `out` is too short; `FOW_ABSENT`: the rule isn't refused for one.
 pub(crate) fn put_refused(alloc: Global, rule: &[u8], out: &mut [u8], written: &mut usize) -> u32
     ensures { PutsSome (refused_in (rule_of rule.now)) result written.new out.old out.new }
 {
     match AccessRule::read(alloc, rule) {
-        Err(AccessFault::OutOfMemory) => 3,
+        Err(AccessFault::OutOfMemory) => FOW_OUT_OF_MEMORY,
         Err(
             AccessFault::Member(name)
             | AccessFault::Range(name)
             | AccessFault::Claim(name)
             | AccessFault::ClaimRange(name),
         ) => put(name.text().as_bytes(), out, written),
-        _ => 6,
+        _ => FOW_ABSENT,
     }
 }
 
-/// Puts a scope that the rule asks for at the front of `out`. 0; 5: `out` is too short; 6: there is no such scope.
+/// Puts a scope that the rule asks for at the front of `out`. `FOW_OK`; `FOW_TOO_SHORT`: `out` is too short;
+/// `FOW_ABSENT`: there is no such scope.
 pub(crate) fn put_scope(rule: &AccessRule, number: u32, out: &mut [u8], written: &mut usize) -> u32
     ensures { PutsSome (slice_get rule.now.scopes number) result written.new out.old out.new }
 {
     match rule.scopes().get(number as usize) {
         Some(scope) => put(scope.as_bytes(), out, written),
-        None => 6,
+        None => FOW_ABSENT,
     }
 }
 
-/// Holds the rule against claims. 0: they meet it; 7: they don't, and the number is that of the denial; 6: there are none.
+/// Holds the rule against claims. `FOW_OK`: they meet it; `FOW_DENIED`: they don't, and the number is that of the denial;
+/// `FOW_ABSENT`: there are none.
 pub(crate) fn hold(rule: &AccessRule, claims: Option<&Claims>) -> (u32, u32)
     ensures { IsHeldAgainst rule.now (option_map (λ c. c.now) claims.entry) result.0 result.1 }
 {
     match claims {
         Some(claims) => match rule.denial(claims) {
-            Some(denial) => (7, denial_number(&denial)),
-            None => (0, 0),
+            Some(denial) => (FOW_DENIED, denial_number(&denial)),
+            None => (FOW_OK, 0),
         },
-        None => (6, 0),
+        None => (FOW_ABSENT, 0),
     }
 }
 
-/// Puts the scope or the claim that the claims lack at the front of `out`. 0; 5: `out` is too short; 6: they meet the rule, or there are
-/// none.
+/// Puts the scope or the claim that the claims lack at the front of `out`. `FOW_OK`; `FOW_TOO_SHORT`: `out` is too short; `FOW_ABSENT`:
+/// they meet the rule, or there are none.
 pub(crate) fn put_denied(
     rule: &AccessRule,
     claims: Option<&Claims>,
@@ -107,8 +119,8 @@ pub(crate) fn put_denied(
     match claims {
         Some(claims) => match rule.denial(claims) {
             Some(denial) => put(denial.denied().as_bytes(), out, written),
-            None => 6,
+            None => FOW_ABSENT,
         },
-        None => 6,
+        None => FOW_ABSENT,
     }
 }

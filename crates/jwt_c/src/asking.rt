@@ -8,10 +8,11 @@ ghost use Rattle.jwt_told.specs.Questions.{kept_parts, question_parts};
 ghost use Rattle.jwt_told.specs.Told.{told};
 ghost use Rattle.jwt_c.specs.Documents.{documents};
 ghost use Rattle.jwt_c.specs.Reports.{asked_at};
-ghost use Rattle.jwt_c.specs.Asking.{alg_number, kind_number, question_octets, PutsQuestion, TellsOne, TellsDesk, is_ed25519, is_secret, public_asked, rsa_asked, rsa_says, ecdsa_asked, ecdsa_says, ed25519_asked, ed25519_says, proved_asked, proved_says, asked_of, said_by};
+ghost use Rattle.jwt_c.specs.Asking.{alg_number, kind_number, question_octets, PutsQuestion, TellsOne, TellsState, is_ed25519, is_secret, public_asked, rsa_asked, rsa_says, ecdsa_asked, ecdsa_says, ed25519_asked, ed25519_says, proved_asked, proved_says, asked_of, said_by};
 
-use crate::desk::{Desk, Last};
 use crate::report::FowQuestion;
+use crate::state::{Last, State};
+use crate::status::{FOW_ABSENT, FOW_OK, FOW_OUT_OF_MEMORY, FOW_TOO_SHORT};
 use jwt_ecdsa::Ecdsa;
 use jwt_ed25519::Ed25519;
 use jwt_mac::{Alg, Answer, EcCurve, EdCurve, KeyView, Verifier};
@@ -87,7 +88,8 @@ fn spell(alloc: Global, asked: &Question<'_>) -> Result<Spelled, AllocError>
     Ok(Spelled { all, input })
 }
 
-/// Writes a question at the front of `out`. 0; 3: memory was refused; 5: `out` is too short.
+/// Writes a question at the front of `out`. `FOW_OK`; `FOW_OUT_OF_MEMORY`: memory was refused; `FOW_TOO_SHORT`:
+/// `out` is too short.
 fn write_question(
     alloc: Global,
     asked: &Question<'_>,
@@ -97,10 +99,10 @@ fn write_question(
     ensures { PutsQuestion (Some (question_parts asked.now)) result into.new out.old out.new }
 {
     let Ok(Spelled { all, input }) = spell(alloc, asked) else {
-        return 3;
+        return FOW_OUT_OF_MEMORY;
     };
     if all.len() > out.len() {
-        return 5;
+        return FOW_TOO_SHORT;
     }
     out[..all.len()].copy_from_slice(&all);
     *into = FowQuestion {
@@ -111,7 +113,7 @@ fn write_question(
         first: first_member(&asked.key).len(),
         second: second_member(&asked.key).len(),
     };
-    0
+    FOW_OK
 }
 
 /// Whether a key is a shared secret.
@@ -124,106 +126,104 @@ pub(crate) fn is_secret(key: &KeyView) -> bool
     }
 }
 
-/// Writes a question at the front of `out`, unless it is about HMAC or a secret. 0; 3: memory was refused; 5: `out` is too short; 6: it
-/// isn't written.
+/// Writes a question at the front of `out`, unless it is about HMAC or a secret. `FOW_OK`; `FOW_OUT_OF_MEMORY`: memory was refused;
+/// `FOW_TOO_SHORT`: `out` is too short; `FOW_ABSENT`: it isn't written.
 fn write_public(alloc: Global, asked: &Question<'_>, out: &mut [u8], into: &mut FowQuestion) -> u32
     ensures { PutsQuestion (public_asked (Some (question_parts asked.now))) result into.new out.old out.new }
 {
     if asked.alg.is_hmac() || is_secret(&asked.key) {
-        return 6;
+        return FOW_ABSENT;
     }
     write_question(alloc, asked, out, into)
 }
 
-/// Writes the question about a pair at the front of `out`. 0; 3: memory was refused; 5: `out` is too short; 6: there is none, or its
-/// algorithm is HMAC, or its key is a secret.
-pub(crate) fn ask_about(
-    alloc: Global,
-    desk: &Desk,
-    token: &[u8],
-    signature: u32,
-    key: u32,
-    out: &mut [u8],
-    into: &mut FowQuestion,
-) -> u32
-    ensures { PutsQuestion
-        (public_asked (asked_at (token_of (documents desk.now).policy token.now)
-        (key_set (documents desk.now).keys).keys signature key))
-        result into.new out.old out.new }
-{
-    match read_token(alloc, token, &desk.grounds.documents().policy) {
-        Ok(Some(signed)) => match (OpenPair { signature, key }).about(
-            &signed,
-            &desk.grounds.documents().keys,
-        ) {
-            Some(asked) => write_public(alloc, &asked, out, into),
-            None => 6,
-        },
-        Ok(None) => 6,
-        Err(_) => 3,
+impl State {
+    /// Writes the question about a pair at the front of `out`. `FOW_OK`; `FOW_OUT_OF_MEMORY`: memory was refused; `FOW_TOO_SHORT`: `out`
+    /// is too short; `FOW_ABSENT`: there is none, or its algorithm is HMAC, or its key is a secret.
+    pub(crate) fn ask_about(
+        &self,
+        alloc: Global,
+        token: &[u8],
+        pair: OpenPair,
+        out: &mut [u8],
+        into: &mut FowQuestion,
+    ) -> u32
+        ensures { PutsQuestion
+            (public_asked (asked_at (token_of (documents self.now).policy token.now)
+            (key_set (documents self.now).keys).keys pair.signature pair.key))
+            result into.new out.old out.new }
+    {
+        let documents = self.grounds.documents();
+        match read_token(alloc, token, &documents.policy) {
+            Ok(Some(signed)) => match pair.about(&signed, &documents.keys) {
+                Some(asked) => write_public(alloc, &asked, out, into),
+                None => FOW_ABSENT,
+            },
+            Ok(None) => FOW_ABSENT,
+            Err(_) => FOW_OUT_OF_MEMORY,
+        }
     }
 }
 
-/// Writes the question of the last judging at the front of `out`. 0; 3: memory was refused; 5: `out` is too short; 6: there is none.
+/// Writes the question of the last judging at the front of `out`. `FOW_OK`; `FOW_OUT_OF_MEMORY`: memory was refused;
+/// `FOW_TOO_SHORT`: `out` is too short; `FOW_ABSENT`: there is none.
 pub(crate) fn ask_last(alloc: Global, last: &Last, out: &mut [u8], into: &mut FowQuestion) -> u32
     ensures { PutsQuestion (option_map kept_parts last.now.asked) result into.new out.old out.new }
 {
     match &last.asked {
         Some(copy) => write_question(alloc, &copy.lent(), out, into),
-        None => 6,
+        None => FOW_ABSENT,
     }
 }
 
-/// Tells the answer to the question of the last judging, which asks it no more. 0; 3: memory was refused; 6: there is none.
-pub(crate) fn tell_last(alloc: Global, desk: &mut Desk, valid: bool) -> u32
-    ensures told { TellsDesk (option_map kept_parts desk.old.last.asked) valid result
-        desk.old desk.new }
-    ensures none { desk.new.last.asked ≡ None }
-    ensures memories { (desk.new.memory ≡ desk.old.memory) × (desk.new.grounds ≡ desk.old.grounds) }
+/// Tells the answer to the question of the last judging, which asks it no more. `FOW_OK`; `FOW_OUT_OF_MEMORY`: memory was
+/// refused; `FOW_ABSENT`: there is none.
+pub(crate) fn tell_last(alloc: Global, state: &mut State, valid: bool) -> u32
+    ensures told { TellsState (option_map kept_parts state.old.last.asked) valid result
+        state.old state.new }
+    ensures none { state.new.last.asked ≡ None }
+    ensures memories { (state.new.memory ≡ state.old.memory) × (state.new.grounds ≡ state.old.grounds) }
 {
-    match replace(&mut desk.last.asked, None) {
-        Some(asked) => match desk.answers.tell_copy(alloc, asked, valid) {
-            Ok(()) => 0,
-            Err(_) => 3,
+    match replace(&mut state.last.asked, None) {
+        Some(asked) => match state.answers.tell_copy(alloc, asked, valid) {
+            Ok(()) => FOW_OK,
+            Err(_) => FOW_OUT_OF_MEMORY,
         },
-        None => 6,
+        None => FOW_ABSENT,
     }
 }
 
-/// Tells the answer to a question. 0; 3: memory was refused.
+/// Tells the answer to a question. `FOW_OK`; `FOW_OUT_OF_MEMORY`: memory was refused.
 fn tell_of(alloc: Global, answers: &mut Answers, asked: &Question<'_>, valid: bool) -> u32
     ensures { TellsOne (question_parts asked.now) valid result (told answers.old)
         (told answers.new) }
 {
     match answers.tell(alloc, asked, valid) {
-        Ok(()) => 0,
-        Err(_) => 3,
+        Ok(()) => FOW_OK,
+        Err(_) => FOW_OUT_OF_MEMORY,
     }
 }
 
-/// Tells whether a key made a signature. 0; 3: memory was refused; 6: there is no such pair.
+/// Tells whether a key made a signature. `FOW_OK`; `FOW_OUT_OF_MEMORY`: memory was refused; `FOW_ABSENT`: there
+/// is no such pair.
 pub(crate) fn tell(
     alloc: Global,
-    desk: &mut Desk,
+    state: &mut State,
     token: &[u8],
-    signature: u32,
-    key: u32,
+    pair: OpenPair,
     valid: bool,
 ) -> u32
-    ensures told { TellsDesk (asked_at (token_of (documents desk.old).policy token.now)
-        (key_set (documents desk.old).keys).keys signature key) valid result desk.old desk.new }
-    ensures memories { (desk.new.memory ≡ desk.old.memory) × (desk.new.grounds ≡ desk.old.grounds) }
+    ensures told { TellsState (asked_at (token_of (documents state.old).policy token.now)
+        (key_set (documents state.old).keys).keys pair.signature pair.key) valid result state.old state.new }
+    ensures memories { (state.new.memory ≡ state.old.memory) × (state.new.grounds ≡ state.old.grounds) }
 {
-    match read_token(alloc, token, &desk.grounds.documents().policy) {
-        Ok(Some(signed)) => match (OpenPair { signature, key }).about(
-            &signed,
-            &desk.grounds.documents().keys,
-        ) {
-            Some(asked) => tell_of(alloc, &mut desk.answers, &asked, valid),
-            None => 6,
+    match read_token(alloc, token, &state.grounds.documents().policy) {
+        Ok(Some(signed)) => match pair.about(&signed, &state.grounds.documents().keys) {
+            Some(asked) => tell_of(alloc, &mut state.answers, &asked, valid),
+            None => FOW_ABSENT,
         },
-        Ok(None) => 6,
-        Err(_) => 3,
+        Ok(None) => FOW_ABSENT,
+        Err(_) => FOW_OUT_OF_MEMORY,
     }
 }
 
@@ -339,33 +339,32 @@ fn proved_answer(by: Proved, asked: &Question<'_>) -> Option<bool>
     }
 }
 
-/// Tells what a proved verifier says of a signature. 0; 3: memory was refused; 6: there is no such pair, or it is about an algorithm or a
-/// curve of others.
+/// Tells what a proved verifier says of a signature. `FOW_OK`; `FOW_OUT_OF_MEMORY`: memory was refused; `FOW_ABSENT`: there is no such
+/// pair, or it is about an algorithm or a curve of others.
 pub(crate) fn tell_by(
     alloc: Global,
-    desk: &mut Desk,
+    state: &mut State,
     token: &[u8],
-    signature: u32,
-    key: u32,
+    pair: OpenPair,
     by: Proved,
 ) -> u32
-    ensures told { TellsDesk
-        (asked_of by (asked_at (token_of (documents desk.old).policy token.now)
-        (key_set (documents desk.old).keys).keys signature key))
-        (said_by by (asked_at (token_of (documents desk.old).policy token.now)
-        (key_set (documents desk.old).keys).keys signature key)) result desk.old desk.new }
-    ensures memories { (desk.new.memory ≡ desk.old.memory) × (desk.new.grounds ≡ desk.old.grounds) }
+    ensures told { TellsState
+        (asked_of by (asked_at (token_of (documents state.old).policy token.now)
+        (key_set (documents state.old).keys).keys pair.signature pair.key))
+        (said_by by (asked_at (token_of (documents state.old).policy token.now)
+        (key_set (documents state.old).keys).keys pair.signature pair.key)) result state.old state.new }
+    ensures memories { (state.new.memory ≡ state.old.memory) × (state.new.grounds ≡ state.old.grounds) }
 {
-    let documents = desk.grounds.documents();
+    let documents = state.grounds.documents();
     match read_token(alloc, token, &documents.policy) {
-        Ok(Some(signed)) => match (OpenPair { signature, key }).about(&signed, &documents.keys) {
+        Ok(Some(signed)) => match pair.about(&signed, &documents.keys) {
             Some(asked) => match proved_answer(by, &asked) {
-                Some(accepts) => tell_of(alloc, &mut desk.answers, &asked, accepts),
-                None => 6,
+                Some(accepts) => tell_of(alloc, &mut state.answers, &asked, accepts),
+                None => FOW_ABSENT,
             },
-            None => 6,
+            None => FOW_ABSENT,
         },
-        Ok(None) => 6,
-        Err(_) => 3,
+        Ok(None) => FOW_ABSENT,
+        Err(_) => FOW_OUT_OF_MEMORY,
     }
 }

@@ -1,5 +1,6 @@
 //! The policy and the keys that a validator judges by, with the memory of the proved verifiers.
 
+ghost use Rattle.jwt_c.specs.declared.status.TheConstants.{FOW_ASKS, FOW_OK, FOW_REFUSED};
 ghost use Rattle.std.specs.Prelude.{◌≡◌, ◌≢◌, ◌≤◌, None, IfSome};
 ghost use Rattle.std.specs.Arc.{arc_value};
 
@@ -96,10 +97,10 @@ impl Grounds {
         now: i64,
         scratch: &mut Scratch,
     ) -> Judging
-        ensures judged { result.said.verdict ≤ 1
+        ensures judged { result.said.verdict ≤ FOW_REFUSED
             → IsProved self.old now octets.now result.said result.last }
-        ensures never_asks { result.said.verdict ≢ 2 }
-        ensures claims { result.said.verdict ≢ 0 → claims_kept result.last ≡ None }
+        ensures never_asks { result.said.verdict ≢ FOW_ASKS }
+        ensures claims { result.said.verdict ≢ FOW_OK → claims_kept result.last ≡ None }
         ensures documents { self.new.0 ≡ self.old.0 }
         ensures room { HasSameRoom self.new.1 self.old.1 }
     {

@@ -1,10 +1,10 @@
 //! A handle.
 ghost use Rattle.std.specs.Prelude.{◌≡◌, Option, Some, None, MatchOption};
-ghost use Rattle.jwt_c.specs.declared.desk.Desk.{Desk};
-ghost use Rattle.jwt_c.specs.Handles.{handle_owns, desk_coded};
+ghost use Rattle.jwt_c.specs.declared.state.State.{State};
+ghost use Rattle.jwt_c.specs.Handles.{handle_owns, state_coded};
 
-use crate::desk::Desk;
-use crate::loose::Loose;
+use crate::raw_box::RawBox;
+use crate::state::State;
 use std::alloc::Global;
 use std::marker::Model;
 use std::mem::replace;
@@ -16,17 +16,17 @@ pub struct Handle {
     at: *mut u8,
     held: bool,
     alloc: Global,
-    pub ghost desk: { Option Desk } by { desk_coded },
+    pub ghost state: { Option State } by { state_coded },
 }
 
 impl Model for Handle {
-    ghost also_owns = { λ h. handle_owns h.alloc h.held h.at h.desk };
+    ghost also_owns = { λ h. handle_owns h.alloc h.held h.at h.state };
 }
 
 impl Handle {
     /// An empty one.
     pub fn empty(alloc: Global) -> Handle
-        ensures { result.desk ≡ None }
+        ensures { result.state ≡ None }
     {
         Handle {
             at: null_mut(),
@@ -35,11 +35,11 @@ impl Handle {
         }
     }
 
-    /// One that holds the desk.
-    pub fn of_loose(desk: Loose<Desk, Global>) -> Handle
-        ensures { result.desk ≡ Some desk.value }
+    /// One that holds the state.
+    pub fn of_raw_box(state: RawBox<State, Global>) -> Handle
+        ensures { result.state ≡ Some state.value }
     {
-        let Loose { at, alloc } = desk;
+        let RawBox { at, alloc } = state;
         Handle {
             at: at as *mut u8,
             held: true,
@@ -47,14 +47,14 @@ impl Handle {
         }
     }
 
-    /// The desk, where one is held.
-    pub fn into_loose(self) -> Option<Loose<Desk, Global>>
-        ensures { MatchOption result (self.desk ≡ None) (λ b. self.desk ≡ Some b.value) }
+    /// The state, where one is held.
+    pub fn into_raw_box(self) -> Option<RawBox<State, Global>>
+        ensures { MatchOption result (self.state ≡ None) (λ b. self.state ≡ Some b.value) }
     {
         let Handle { at, held, alloc } = self;
         if held {
-            Some(Loose {
-                at: at as *mut Desk,
+            Some(RawBox {
+                at: at as *mut State,
                 alloc,
             })
         } else {
@@ -63,28 +63,28 @@ impl Handle {
     }
 
     /// One that holds the box.
-    pub fn of(desk: Box<Desk>) -> Handle
-        ensures { result.desk ≡ Some desk.value }
+    pub fn of(state: Box<State>) -> Handle
+        ensures { result.state ≡ Some state.value }
     {
-        Handle::of_loose(Loose::of(desk))
+        Handle::of_raw_box(RawBox::of(state))
     }
 
     /// The box.
-    pub fn open(self) -> Option<Box<Desk>>
-        ensures { MatchOption result (self.desk ≡ None) (λ b. self.desk ≡ Some b.value) }
+    pub fn open(self) -> Option<Box<State>>
+        ensures { MatchOption result (self.state ≡ None) (λ b. self.state ≡ Some b.value) }
     {
-        match self.into_loose() {
-            Some(desk) => Some(desk.into_box()),
+        match self.into_raw_box() {
+            Some(state) => Some(state.into_box()),
             None => None,
         }
     }
 }
 
-/// Takes the desk out, where one is held, and leaves none.
-pub fn take(validator: &mut Handle, alloc: Global) -> Option<Box<Desk>>
-    ensures held { MatchOption result (validator.old.desk ≡ None)
-        (λ b. validator.old.desk ≡ Some b.value) }
-    ensures left { validator.new.desk ≡ None }
+/// Takes the state out, where one is held, and leaves none.
+pub fn take(validator: &mut Handle, alloc: Global) -> Option<Box<State>>
+    ensures held { MatchOption result (validator.old.state ≡ None)
+        (λ b. validator.old.state ≡ Some b.value) }
+    ensures left { validator.new.state ≡ None }
 {
     replace(validator, Handle::empty(alloc)).open()
 }

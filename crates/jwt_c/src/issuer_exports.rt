@@ -1,5 +1,6 @@
 //! What C calls for keys by URL, and for several issuers.
 
+ghost use Rattle.jwt_c.specs.declared.status.TheConstants.{FOW_ABSENT, FOW_NOT_OPEN, FOW_OK};
 ghost use Rattle.std.specs.Prelude.{◌≡◌, IfSome, IsUtf8, None, false};
 ghost use Rattle.jwt_text.specs.ObjectText.{object_of};
 ghost use Rattle.jwt_keys.specs.KeySets.{key_set};
@@ -10,42 +11,43 @@ ghost use Rattle.jwt_c.specs.Written.{PutsSome};
 
 use crate::handle::{Handle, take};
 use crate::issuers::{are_public, put_issuer, put_sole_issuer, put_text};
+use crate::status::{FOW_NOT_OPEN, FOW_OK};
 use std::alloc::Global;
 
 /// Whether no algorithm of the policy is HMAC, and no key of the set a shared secret. False where nothing is held.
 #[unsafe(no_mangle)]
 pub extern "C" fn fow_documents_are_public(validator: &mut Handle, alloc: Global) -> bool
-    ensures same { validator.new.desk ≡ validator.old.desk }
-    ensures none { validator.old.desk ≡ None → result ≡ false }
-    ensures public { IfSome validator.old.desk (λ d. result
+    ensures same { validator.new.state ≡ validator.old.state }
+    ensures none { validator.old.state ≡ None → result ≡ false }
+    ensures public { IfSome validator.old.state (λ d. result
         ≡ are_public (documents d).policy (key_set (documents d).keys).keys) }
 {
-    let Some(desk) = take(validator, alloc) else {
+    let Some(state) = take(validator, alloc) else {
         return false;
     };
-    let public = are_public(&desk);
-    *validator = Handle::of(desk);
+    let public = are_public(&state);
+    *validator = Handle::of(state);
     public
 }
 
-/// The greatest number of octets of a token that the policy takes. 0; 4: nothing is held.
+/// The greatest number of octets of a token that the policy takes. `FOW_OK`; `FOW_NOT_OPEN`: nothing is held.
 #[unsafe(no_mangle)]
 pub extern "C" fn fow_token_limit(validator: &mut Handle, alloc: Global, limit: &mut u32) -> u32
-    ensures same { validator.new.desk ≡ validator.old.desk }
-    ensures none { validator.old.desk ≡ None → result ≡ 4 }
-    ensures limit { IfSome validator.old.desk (λ d. (result ≡ 0)
+    ensures same { validator.new.state ≡ validator.old.state }
+    ensures none { validator.old.state ≡ None → result ≡ FOW_NOT_OPEN }
+    ensures limit { IfSome validator.old.state (λ d. (result ≡ FOW_OK)
         × (limit.new ≡ (documents d).policy.run.limit)) }
 {
-    let Some(desk) = take(validator, alloc) else {
-        return 4;
+    let Some(state) = take(validator, alloc) else {
+        return FOW_NOT_OPEN;
     };
-    *limit = desk.grounds.documents().policy.limit();
-    *validator = Handle::of(desk);
-    0
+    *limit = state.grounds.documents().policy.limit();
+    *validator = Handle::of(state);
+    FOW_OK
 }
 
-/// Writes the issuer that the policy allows at the front of `out`, where it is one alone. 0; 4: nothing is held; 5: `out` is too short; 6: the
-/// policy allows any, or several.
+/// Writes the issuer that the policy allows at the front of `out`, where it is one alone. `FOW_OK`; `FOW_NOT_OPEN`: nothing is held;
+/// `FOW_TOO_SHORT`: `out` is too short; `FOW_ABSENT`: the policy allows any, or several.
 #[unsafe(no_mangle)]
 pub extern "C" fn fow_sole_issuer(
     validator: &mut Handle,
@@ -53,21 +55,22 @@ pub extern "C" fn fow_sole_issuer(
     out: &mut [u8],
     written: &mut usize,
 ) -> u32
-    ensures same { validator.new.desk ≡ validator.old.desk }
-    ensures none { validator.old.desk ≡ None → result ≡ 4 }
-    ensures issuer { IfSome validator.old.desk (λ d. PutsHeld
+    ensures same { validator.new.state ≡ validator.old.state }
+    ensures none { validator.old.state ≡ None → result ≡ FOW_NOT_OPEN }
+    ensures issuer { IfSome validator.old.state (λ d. PutsHeld
         (sole (documents d).policy.claims.issuers) result written.new out.old out.new) }
 {
-    let Some(desk) = take(validator, alloc) else {
-        return 4;
+    let Some(state) = take(validator, alloc) else {
+        return FOW_NOT_OPEN;
     };
-    let status = put_sole_issuer(&desk, out, written);
-    *validator = Handle::of(desk);
+    let status = put_sole_issuer(&state, out, written);
+    *validator = Handle::of(state);
     status
 }
 
-/// Writes the issuer that a token names at the front of `out`. 0; 3: memory was refused; 4: nothing is held; 5: `out` is too short; 6: the octets
-/// are no token; 8: its payload is no object text, or has no text `iss`.
+/// Writes the issuer that a token names at the front of `out`. `FOW_OK`; `FOW_OUT_OF_MEMORY`: memory was refused; `FOW_NOT_OPEN`: nothing is
+/// held; `FOW_TOO_SHORT`: `out` is too short; `FOW_ABSENT`: the octets are no token; `FOW_UNNAMED`: its payload is no object text, or has no text
+/// `iss`.
 #[unsafe(no_mangle)]
 pub extern "C" fn fow_unverified_issuer(
     validator: &mut Handle,
@@ -76,21 +79,21 @@ pub extern "C" fn fow_unverified_issuer(
     out: &mut [u8],
     written: &mut usize,
 ) -> u32
-    ensures same { validator.new.desk ≡ validator.old.desk }
-    ensures none { validator.old.desk ≡ None → result ≡ 4 }
-    ensures issuer { IfSome validator.old.desk (λ d. PutsIssuer
+    ensures same { validator.new.state ≡ validator.old.state }
+    ensures none { validator.old.state ≡ None → result ≡ FOW_NOT_OPEN }
+    ensures issuer { IfSome validator.old.state (λ d. PutsIssuer
         (token_of (documents d).policy token.now) result written.new out.old out.new) }
 {
-    let Some(desk) = take(validator, alloc) else {
-        return 4;
+    let Some(state) = take(validator, alloc) else {
+        return FOW_NOT_OPEN;
     };
-    let status = put_issuer(alloc, &desk, token, out, written);
-    *validator = Handle::of(desk);
+    let status = put_issuer(alloc, &state, token, out, written);
+    *validator = Handle::of(state);
     status
 }
 
-/// Writes the text of this name in an object text at the front of `out`. 0; 3: memory was refused; 5: `out` is too short; 6: the octets are no
-/// object text, or it has no text of this name.
+/// Writes the text of this name in an object text at the front of `out`. `FOW_OK`; `FOW_OUT_OF_MEMORY`: memory was refused; `FOW_TOO_SHORT`:
+/// `out` is too short; `FOW_ABSENT`: the octets are no object text, or it has no text of this name.
 #[unsafe(no_mangle)]
 pub extern "C" fn fow_text_member(
     alloc: Global,
@@ -101,7 +104,7 @@ pub extern "C" fn fow_text_member(
 ) -> u32
     ensures text { IsUtf8 name.now
         → PutsSome (text_in name.now (object_of document.now)) result written.new out.old out.new }
-    ensures other { ¬ IsUtf8 name.now → result ≡ 6 }
+    ensures other { ¬ IsUtf8 name.now → result ≡ FOW_ABSENT }
 {
     put_text(alloc, document, name, out, written)
 }

@@ -1,5 +1,6 @@
 //! What is told of a validator's documents, and of the issuer that a token names.
 
+ghost use Rattle.jwt_c.specs.declared.status.TheConstants.{FOW_ABSENT};
 ghost use Rattle.std.specs.Prelude.{◌≡◌, IsUtf8, codes, false, map, option_map, slice_get, string_bytes};
 ghost use Rattle.std.specs.List.{list_any};
 ghost use Rattle.std.specs.Option.{option_map_or};
@@ -12,7 +13,8 @@ ghost use Rattle.jwt_c.specs.Issuers.{PutsHeld, PutsIssuer, PutsNamed, are_publi
 ghost use Rattle.jwt_c.specs.Written.{PutsSome};
 
 use crate::asking::is_secret;
-use crate::desk::Desk;
+use crate::state::State;
+use crate::status::{FOW_ABSENT, FOW_OUT_OF_MEMORY, FOW_UNNAMED};
 use crate::writing::put;
 use jwt_keys::KeySet;
 use jwt_mac::Alg;
@@ -59,11 +61,11 @@ fn some_is_secret(keys: &KeySet) -> bool
 }
 
 /// Whether no algorithm of the policy is HMAC, and no key a shared secret. It takes no memory.
-pub(crate) fn are_public(desk: &Desk) -> bool
+pub(crate) fn are_public(state: &State) -> bool
     ensures { result
-        ≡ are_public (documents desk.now).policy (key_set (documents desk.now).keys).keys }
+        ≡ are_public (documents state.now).policy (key_set (documents state.now).keys).keys }
 {
-    let documents = desk.grounds.documents();
+    let documents = state.grounds.documents();
     !some_is_hmac(documents.policy.algs()) && !some_is_secret(&documents.keys)
 }
 
@@ -79,52 +81,54 @@ fn sole_issuer(policy: &Policy) -> Option<&str>
     }
 }
 
-/// Puts the issuer that the policy allows at the front of `out`, where it is one alone. 0; 5: `out` is too short; 6: it isn't one alone.
-pub(crate) fn put_sole_issuer(desk: &Desk, out: &mut [u8], written: &mut usize) -> u32
-    ensures { PutsHeld (sole (documents desk.now).policy.claims.issuers)
+/// Puts the issuer that the policy allows at the front of `out`, where it is one alone. `FOW_OK`; `FOW_TOO_SHORT`: `out` is too short;
+/// `FOW_ABSENT`: it isn't one alone.
+pub(crate) fn put_sole_issuer(state: &State, out: &mut [u8], written: &mut usize) -> u32
+    ensures { PutsHeld (sole (documents state.now).policy.claims.issuers)
         result written.new out.old out.new }
 {
-    match sole_issuer(&desk.grounds.documents().policy) {
+    match sole_issuer(&state.grounds.documents().policy) {
         Some(issuer) => put(issuer.as_bytes(), out, written),
-        None => 6,
+        None => FOW_ABSENT,
     }
 }
 
-/// Puts the issuer that a payload names at the front of `out`. 0; 3: memory was refused; 5: `out` is too short; 8: it names none.
+/// Puts the issuer that a payload names at the front of `out`. `FOW_OK`; `FOW_OUT_OF_MEMORY`: memory was refused;
+/// `FOW_TOO_SHORT`: `out` is too short; `FOW_UNNAMED`: it names none.
 fn put_named(alloc: Global, payload: &[u8], out: &mut [u8], written: &mut usize) -> u32
     ensures { PutsNamed (named_issuer payload.now) result written.new out.old out.new }
 {
     match object(alloc, payload) {
         Ok(claims) => match claims.text("iss") {
             Some(issuer) => put(issuer.as_bytes(), out, written),
-            None => 8,
+            None => FOW_UNNAMED,
         },
-        Err(TextFault::OutOfMemory) => 3,
-        Err(_) => 8,
+        Err(TextFault::OutOfMemory) => FOW_OUT_OF_MEMORY,
+        Err(_) => FOW_UNNAMED,
     }
 }
 
-/// Puts the issuer that a token names at the front of `out`. 0; 3: memory was refused; 5: `out` is too short; 6: the octets are no token; 8: it
-/// names none.
+/// Puts the issuer that a token names at the front of `out`. `FOW_OK`; `FOW_OUT_OF_MEMORY`: memory was refused; `FOW_TOO_SHORT`: `out` is too
+/// short; `FOW_ABSENT`: the octets are no token; `FOW_UNNAMED`: it names none.
 pub(crate) fn put_issuer(
     alloc: Global,
-    desk: &Desk,
+    state: &State,
     token: &[u8],
     out: &mut [u8],
     written: &mut usize,
 ) -> u32
-    ensures { PutsIssuer (token_of (documents desk.now).policy token.now)
+    ensures { PutsIssuer (token_of (documents state.now).policy token.now)
         result written.new out.old out.new }
 {
-    match read_token(alloc, token, &desk.grounds.documents().policy) {
+    match read_token(alloc, token, &state.grounds.documents().policy) {
         Ok(Some(signed)) => put_named(alloc, signed.payload(), out, written),
-        Ok(None) => 6,
-        Err(_) => 3,
+        Ok(None) => FOW_ABSENT,
+        Err(_) => FOW_OUT_OF_MEMORY,
     }
 }
 
-/// Puts the text of this name in an object text at the front of `out`. 0; 3: memory was refused; 5: `out` is too short; 6: the octets are no
-/// object text, or it has no text of this name.
+/// Puts the text of this name in an object text at the front of `out`. `FOW_OK`; `FOW_OUT_OF_MEMORY`: memory was refused; `FOW_TOO_SHORT`:
+/// `out` is too short; `FOW_ABSENT`: the octets are no object text, or it has no text of this name.
 pub(crate) fn put_text(
     alloc: Global,
     document: &[u8],
@@ -134,17 +138,17 @@ pub(crate) fn put_text(
 ) -> u32
     ensures text { IsUtf8 name.now
         → PutsSome (text_in name.now (object_of document.now)) result written.new out.old out.new }
-    ensures other { ¬ IsUtf8 name.now → result ≡ 6 }
+    ensures other { ¬ IsUtf8 name.now → result ≡ FOW_ABSENT }
 {
     let Ok(name) = from_utf8(name) else {
-        return 6;
+        return FOW_ABSENT;
     };
     match object(alloc, document) {
         Ok(members) => match members.text(name) {
             Some(text) => put(text.as_bytes(), out, written),
-            None => 6,
+            None => FOW_ABSENT,
         },
-        Err(TextFault::OutOfMemory) => 3,
-        Err(_) => 6,
+        Err(TextFault::OutOfMemory) => FOW_OUT_OF_MEMORY,
+        Err(_) => FOW_ABSENT,
     }
 }

@@ -1,5 +1,6 @@
 //! Issues tokens.
 
+ghost use Rattle.jwt_c.specs.declared.status.TheConstants.{FOW_ABSENT};
 ghost use Rattle.std.specs.Prelude.{◌≡◌, None, IfSome};
 ghost use Rattle.jwt_keys.specs.KeySets.{key_set};
 ghost use Rattle.jwt_issue.specs.ClaimSets.{claim_set_of};
@@ -8,6 +9,7 @@ ghost use Rattle.jwt_issue.specs.Views.{options_parts, text_of};
 ghost use Rattle.jwt_c.specs.Issuing.{hmac_at, form_at, typ_of, PutsToken, PutsIssued};
 
 use crate::report::FowReport;
+use crate::status::{FOW_ABSENT, FOW_OUT_OF_MEMORY, FOW_REFUSED};
 use crate::writing::put;
 use jwt_issue::{ClaimSet, IssueFault, IssueOptions, issue_by};
 use jwt_jws::Form;
@@ -53,8 +55,8 @@ fn typ_of(typ: &str) -> Option<&str>
     if typ.is_empty() { None } else { Some(typ) }
 }
 
-/// Writes the token of some claims at the front of `out`. 0; 1: it is refused, as the report says; 3: memory was refused; 5: `out` is
-/// too short.
+/// Writes the token of some claims at the front of `out`. `FOW_OK`; `FOW_REFUSED`: it is refused, as the report says;
+/// `FOW_OUT_OF_MEMORY`: memory was refused; `FOW_TOO_SHORT`: `out` is too short.
 fn put_token(
     alloc: Global,
     options: IssueOptions<'_>,
@@ -70,10 +72,10 @@ fn put_token(
 {
     match issue_by(alloc, options, keys, claims) {
         Ok(token) => put(&token, out, written),
-        Err(IssueFault::OutOfMemory) => 3,
+        Err(IssueFault::OutOfMemory) => FOW_OUT_OF_MEMORY,
         Err(fault) => {
             *report = FowReport::of_issue(fault);
-            1
+            FOW_REFUSED
         }
     }
 }
@@ -92,19 +94,20 @@ fn put_issued(
         (claim_set_of claims.now) result report.new written.new out.old out.new }
 {
     let Ok(octets) = claims.to_vec(alloc) else {
-        return 3;
+        return FOW_OUT_OF_MEMORY;
     };
     match ClaimSet::from_octets(alloc, octets) {
         Ok(claims) => put_token(alloc, options, keys, &claims, out, written, report),
-        Err(ClaimFault::OutOfMemory) => 3,
+        Err(ClaimFault::OutOfMemory) => FOW_OUT_OF_MEMORY,
         Err(fault) => {
             *report = FowReport::of_claims(&fault);
-            1
+            FOW_REFUSED
         }
     }
 }
 
-/// The same in the form and by the algorithm of these numbers, with this `typ` where it has octets. 6: there is no such algorithm or form.
+/// The same in the form and by the algorithm of these numbers, with this `typ` where it has octets. `FOW_ABSENT`: there is no such
+/// algorithm or form.
 pub(crate) fn put_numbered(
     alloc: Global,
     alg: u32,
@@ -117,8 +120,8 @@ pub(crate) fn put_numbered(
     written: &mut usize,
     report: &mut FowReport,
 ) -> u32
-    ensures alg { hmac_at alg ≡ None → result ≡ 6 }
-    ensures form { form_at form ≡ None → result ≡ 6 }
+    ensures alg { hmac_at alg ≡ None → result ≡ FOW_ABSENT }
+    ensures form { form_at form ≡ None → result ≡ FOW_ABSENT }
     ensures token { IfSome (hmac_at alg)
         (λ a. IfSome (form_at form) (λ f. PutsIssued
         (record { alg = a; typ = typ_of typ.now; form = f; key = key }) (key_set keys.now).keys
@@ -135,8 +138,8 @@ pub(crate) fn put_numbered(
                 };
                 put_issued(alloc, options, keys, claims, out, written, report)
             }
-            None => 6,
+            None => FOW_ABSENT,
         },
-        None => 6,
+        None => FOW_ABSENT,
     }
 }

@@ -1,5 +1,6 @@
-//! Judges a token by what was told.
+//! The judging of a token by answers.
 
+ghost use Rattle.jwt_c.specs.declared.status.TheConstants.{FOW_ASKS, FOW_OK, FOW_REFUSED};
 ghost use Rattle.std.specs.Prelude.{◌≡◌, ◌≢◌, None, ◌≤◌, [], true, false, IfOk, IfErr, length, option_map};
 ghost use Rattle.std.specs.Arc.{arc_value};
 ghost use Rattle.jwt_jws.specs.Views.{token};
@@ -10,16 +11,17 @@ ghost use Rattle.jwt_told.specs.Questions.{kept_parts, question_at};
 ghost use Rattle.jwt_told.specs.Told.{told};
 ghost use Rattle.jwt_memory.specs.Outcomes.{report_in, report_of, paid_in, is_remembered};
 ghost use Rattle.jwt_c.specs.Documents.{documents};
-ghost use Rattle.jwt_c.specs.declared.desk.Evidence.TheVariants.{Shared};
+ghost use Rattle.jwt_c.specs.declared.state.Evidence.TheVariants.{Shared};
 ghost use Rattle.jwt_c.specs.Evidence.{states_of, tries_of, claims_of, states_kept, tries_kept, claims_kept};
 ghost use Rattle.jwt_c.specs.Faults.{missing_in, missing_name, bare, verdict_numbers};
 ghost use Rattle.jwt_c.specs.ProvedKept.{HasSameRoom};
 ghost use Rattle.jwt_c.specs.Remembering.{RestsOn, IsHeldIn, StaysTrue};
 ghost use Rattle.jwt_c.specs.Reports.{IsNew, IsAsked, IsAsking, IsJudged, Says, claims_in, report_numbers};
 
-use crate::desk::{Desk, Evidence, Last};
 use crate::grounds::Documents;
 use crate::report::FowReport;
+use crate::state::{Evidence, Last, State};
+use crate::status::{FOW_ASKS, FOW_OUT_OF_MEMORY};
 use jwt_jws::Signed;
 use jwt_keys::KeySet;
 use jwt_mac::{Budget, CountDown};
@@ -121,7 +123,7 @@ fn missing(alloc: Global, verdict: &Verdict<'_>) -> Result<Vec<u8>, AllocError>
     }
 }
 
-/// A verdict that speaks of nothing more, of which nothing is kept.
+/// A verdict that names nothing more. Nothing is kept of it.
 pub(crate) fn bare(alloc: Global, verdict: u32) -> Judging
     ensures numbers { report_numbers result.said ≡ bare verdict }
     ensures claims { claims_kept result.last ≡ None }
@@ -149,9 +151,9 @@ fn copied(
     }
 }
 
-/// The judging that asks, of which the tries and the question are kept.
+/// The judging that asks. Its tries and its question are kept.
 fn asking(alloc: Global, asks: Asking<'_>, keys: &KeySet) -> Result<Judging, AllocError>
-    ensures verdict { IfOk result (λ j. j.said.verdict ≡ 2) }
+    ensures verdict { IfOk result (λ j. j.said.verdict ≡ FOW_ASKS) }
     ensures signature { IfOk result (λ j. j.said.signature ≡ asks.entry.pair.signature) }
     ensures key { IfOk result (λ j. j.said.key ≡ asks.entry.pair.key) }
     ensures count { IfOk result (λ j. j.said.tries ≡ length asks.entry.tries.items) }
@@ -164,7 +166,7 @@ fn asking(alloc: Global, asks: Asking<'_>, keys: &KeySet) -> Result<Judging, All
 {
     let Asking { token, pair, tries } = asks;
     let asked = copied(alloc, pair, &token, keys)?;
-    let mut said = FowReport::bare(2);
+    let mut said = FowReport::bare(FOW_ASKS);
     said.signature = pair.signature;
     said.key = pair.key;
     said.tries = tries.len() as u64;
@@ -223,7 +225,7 @@ fn kept(report: Report<'_>, cost: u64, missing: Vec<u8>) -> Judging
     }
 }
 
-/// The judging whose evidence a memory shares, with its numbers but for those of the tries.
+/// The judging whose evidence a memory shares, with its numbers, those of the tries aside.
 fn shared(
     numbers: FowReport,
     basis: Arc<Basis>,
@@ -278,7 +280,7 @@ fn recalled(
     }
 }
 
-/// The judging that an outcome is, of which so many octets were paid.
+/// The judging that an outcome is. So many octets were paid for it.
 pub(crate) fn judging_of(
     alloc: Global,
     outcome: Outcome<'_>,
@@ -301,7 +303,7 @@ pub(crate) fn judging_of(
     }
 }
 
-/// The outcome of judging by what was told, or a question, over a memory where there is one.
+/// The outcome of judging by answers, or a question, over a memory where there is one.
 #[tactic(auto, unfolding(jwt_verify::specs::Table::work))]
 fn outcome_of<'a, 'p>(
     alloc: Global,
@@ -337,56 +339,55 @@ fn outcome_of<'a, 'p>(
     }
 }
 
-/// The judging of a desk on a token. It changes nothing of the desk but its memory of tokens, and the scratch, of which nothing depends on
-/// what it holds.
-fn report_on(alloc: Global, desk: &mut Desk, octets: &[u8], now: i64) -> Judging
-    ensures judged { result.said.verdict ≤ 1
-        → IsJudged desk.old now octets.now result.said result.last }
-    ensures asks { result.said.verdict ≡ 2
-        → IsAsked desk.old now octets.now result.said result.last }
-    ensures claims { result.said.verdict ≢ 0 → claims_kept result.last ≡ None }
-    ensures grounds { desk.new.grounds ≡ desk.old.grounds }
-    ensures told { told desk.new.answers ≡ told desk.old.answers }
-    ensures stays { StaysTrue (told desk.old.answers) (documents desk.old)
-        desk.old.memory desk.new.memory }
-    ensures room { HasSameRoom desk.new.memory desk.old.memory }
+/// The judging of a state on a token. It changes the state's memory of tokens and its scratch, whose contents affect nothing.
+fn report_on(alloc: Global, state: &mut State, octets: &[u8], now: i64) -> Judging
+    ensures judged { result.said.verdict ≤ FOW_REFUSED
+        → IsJudged state.old now octets.now result.said result.last }
+    ensures asks { result.said.verdict ≡ FOW_ASKS
+        → IsAsked state.old now octets.now result.said result.last }
+    ensures claims { result.said.verdict ≢ FOW_OK → claims_kept result.last ≡ None }
+    ensures grounds { state.new.grounds ≡ state.old.grounds }
+    ensures told { told state.new.answers ≡ told state.old.answers }
+    ensures stays { StaysTrue (told state.old.answers) (documents state.old)
+        state.old.memory state.new.memory }
+    ensures room { HasSameRoom state.new.memory state.old.memory }
 {
-    let documents = desk.grounds.documents();
+    let documents = state.grounds.documents();
     let mut budget = documents.policy.budget();
     match outcome_of(
         alloc,
-        &mut desk.memory,
+        &mut state.memory,
         octets,
         documents,
         now,
-        &desk.answers,
+        &state.answers,
         &mut budget,
-        &mut *desk.scratch,
+        &mut *state.scratch,
     ) {
         Ok(outcome) => match judging_of(alloc, outcome, budget.octets()) {
             Ok(judging) => judging,
-            Err(_) => bare(alloc, 3),
+            Err(_) => bare(alloc, FOW_OUT_OF_MEMORY),
         },
         Err(asks) => match asking(alloc, asks, &documents.keys) {
             Ok(judging) => judging,
-            Err(_) => bare(alloc, 3),
+            Err(_) => bare(alloc, FOW_OUT_OF_MEMORY),
         },
     }
 }
 
 /// Judges a token, and keeps the report.
-pub(crate) fn judge_desk(alloc: Global, desk: &mut Desk, octets: &[u8], now: i64) -> FowReport
-    ensures judged { result.verdict ≤ 1
-        → IsJudged desk.old now octets.now result desk.new.last }
-    ensures asks { result.verdict ≡ 2 → IsAsked desk.old now octets.now result desk.new.last }
-    ensures claims { result.verdict ≢ 0 → claims_kept desk.new.last ≡ None }
-    ensures grounds { desk.new.grounds ≡ desk.old.grounds }
-    ensures told { told desk.new.answers ≡ told desk.old.answers }
-    ensures stays { StaysTrue (told desk.old.answers) (documents desk.old)
-        desk.old.memory desk.new.memory }
-    ensures room { HasSameRoom desk.new.memory desk.old.memory }
+pub(crate) fn judge_state(alloc: Global, state: &mut State, octets: &[u8], now: i64) -> FowReport
+    ensures judged { result.verdict ≤ FOW_REFUSED
+        → IsJudged state.old now octets.now result state.new.last }
+    ensures asks { result.verdict ≡ FOW_ASKS → IsAsked state.old now octets.now result state.new.last }
+    ensures claims { result.verdict ≢ FOW_OK → claims_kept state.new.last ≡ None }
+    ensures grounds { state.new.grounds ≡ state.old.grounds }
+    ensures told { told state.new.answers ≡ told state.old.answers }
+    ensures stays { StaysTrue (told state.old.answers) (documents state.old)
+        state.old.memory state.new.memory }
+    ensures room { HasSameRoom state.new.memory state.old.memory }
 {
-    let Judging { said, last } = report_on(alloc, desk, octets, now);
-    desk.last = last;
+    let Judging { said, last } = report_on(alloc, state, octets, now);
+    state.last = last;
     said
 }

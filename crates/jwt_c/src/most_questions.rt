@@ -8,7 +8,7 @@ ghost use Rattle.jwt_keys.specs.Views.{key_parts};
 ghost use Rattle.jwt_c.specs.Documents.{documents};
 ghost use Rattle.jwt_c.specs.MostQuestions.{is_public_for, may_be_asked, most_questions};
 
-use crate::desk::Desk;
+use crate::state::State;
 use jwt_keys::{Key, KeySet};
 use jwt_mac::Alg;
 use jwt_policy::{Policy, is_for};
@@ -70,11 +70,11 @@ fn most_questions(policy: &Policy, keys: &KeySet) -> u32
     }
 }
 
-/// The same under the documents of a desk.
-pub(crate) fn most_of(desk: &Desk) -> u32
+/// The same under the documents of a state.
+pub(crate) fn most_of(state: &State) -> u32
     ensures { result
-        ≡ most_questions (documents desk.now).policy (key_set (documents desk.now).keys).keys }
+        ≡ most_questions (documents state.now).policy (key_set (documents state.now).keys).keys }
 {
-    let documents = desk.grounds.documents();
+    let documents = state.grounds.documents();
     most_questions(&documents.policy, &documents.keys)
 }

@@ -1,5 +1,6 @@
 //! A token judged by the proved verifiers.
 
+ghost use Rattle.jwt_c.specs.declared.status.TheConstants.{FOW_ASKS, FOW_OK, FOW_REFUSED};
 ghost use Rattle.std.specs.Prelude.{◌≡◌, ◌≢◌, ◌≤◌, map};
 ghost use Rattle.jwt_verify.specs.Reports.{IsReport, terms};
 ghost use Rattle.jwt_verify.specs.Table.{work};
@@ -11,10 +12,11 @@ ghost use Rattle.jwt_c.specs.ProvedKept.{AreProvedKept, HasSameRoom, proved_mean
 ghost use Rattle.jwt_c.specs.Proving.{IsProved};
 ghost use Rattle.jwt_c.specs.Remembering.{IsHeldIn};
 
-use crate::desk::Desk;
 use crate::grounds::Documents;
 use crate::judging::{Judging, bare, judging_of};
 use crate::report::FowReport;
+use crate::state::State;
+use crate::status::FOW_OUT_OF_MEMORY;
 use jwt_ecdsa::Ecdsa;
 use jwt_ed25519::Ed25519;
 use jwt_mac::{Budget, CountDown, Verifier};
@@ -75,10 +77,10 @@ fn judging_under(
 ) -> Judging
     requires meanings { map meaning verifiers.now ≡ proved_meanings }
     requires kept { AreProvedKept documents.now memory.old }
-    ensures judged { result.said.verdict ≤ 1
+    ensures judged { result.said.verdict ≤ FOW_REFUSED
         → IsProved (documents.now, memory.old) now octets.now result.said result.last }
-    ensures never_asks { result.said.verdict ≢ 2 }
-    ensures claims { result.said.verdict ≢ 0 → claims_kept result.last ≡ None }
+    ensures never_asks { result.said.verdict ≢ FOW_ASKS }
+    ensures claims { result.said.verdict ≢ FOW_OK → claims_kept result.last ≡ None }
     ensures kept { AreProvedKept documents.now memory.new }
     ensures room { HasSameRoom memory.new memory.old }
 {
@@ -95,7 +97,7 @@ fn judging_under(
     );
     match judging_of(alloc, outcome, budget.octets()) {
         Ok(judging) => judging,
-        Err(_) => bare(alloc, 3),
+        Err(_) => bare(alloc, FOW_OUT_OF_MEMORY),
     }
 }
 
@@ -109,38 +111,38 @@ pub(crate) fn judging_by_proof(
     scratch: &mut Scratch,
 ) -> Judging
     requires kept { AreProvedKept documents.now memory.old }
-    ensures judged { result.said.verdict ≤ 1
+    ensures judged { result.said.verdict ≤ FOW_REFUSED
         → IsProved (documents.now, memory.old) now octets.now result.said result.last }
-    ensures never_asks { result.said.verdict ≢ 2 }
-    ensures claims { result.said.verdict ≢ 0 → claims_kept result.last ≡ None }
+    ensures never_asks { result.said.verdict ≢ FOW_ASKS }
+    ensures claims { result.said.verdict ≢ FOW_OK → claims_kept result.last ≡ None }
     ensures kept { AreProvedKept documents.now memory.new }
     ensures room { HasSameRoom memory.new memory.old }
 {
     let Ok(rsa) = Box::new(alloc, Rsa) else {
-        return bare(alloc, 3);
+        return bare(alloc, FOW_OUT_OF_MEMORY);
     };
     let Ok(ecdsa) = Box::new(alloc, Ecdsa) else {
-        return bare(alloc, 3);
+        return bare(alloc, FOW_OUT_OF_MEMORY);
     };
     let Ok(ed25519) = Box::new(alloc, Ed25519) else {
-        return bare(alloc, 3);
+        return bare(alloc, FOW_OUT_OF_MEMORY);
     };
     let verifiers: [Box<dyn Verifier>; 3] = [rsa, ecdsa, ed25519];
     judging_under(alloc, memory, octets, documents, now, &verifiers, scratch)
 }
 
 /// Judges a token by the proved verifiers, and keeps the report.
-pub(crate) fn prove_desk(alloc: Global, desk: &mut Desk, octets: &[u8], now: i64) -> FowReport
-    ensures judged { result.verdict ≤ 1
-        → IsProved desk.old.grounds now octets.now result desk.new.last }
-    ensures never_asks { result.verdict ≢ 2 }
-    ensures claims { result.verdict ≢ 0 → claims_kept desk.new.last ≡ None }
-    ensures documents { documents desk.new ≡ documents desk.old }
-    ensures told { told desk.new.answers ≡ told desk.old.answers }
-    ensures memory { desk.new.memory ≡ desk.old.memory }
-    ensures room { HasSameRoom desk.new.grounds.1 desk.old.grounds.1 }
+pub(crate) fn prove_state(alloc: Global, state: &mut State, octets: &[u8], now: i64) -> FowReport
+    ensures judged { result.verdict ≤ FOW_REFUSED
+        → IsProved state.old.grounds now octets.now result state.new.last }
+    ensures never_asks { result.verdict ≢ FOW_ASKS }
+    ensures claims { result.verdict ≢ FOW_OK → claims_kept state.new.last ≡ None }
+    ensures documents { documents state.new ≡ documents state.old }
+    ensures told { told state.new.answers ≡ told state.old.answers }
+    ensures memory { state.new.memory ≡ state.old.memory }
+    ensures room { HasSameRoom state.new.grounds.1 state.old.grounds.1 }
 {
-    let Judging { said, last } = desk.grounds.judge(alloc, octets, now, &mut *desk.scratch);
-    desk.last = last;
+    let Judging { said, last } = state.grounds.judge(alloc, octets, now, &mut *state.scratch);
+    state.last = last;
     said
 }

@@ -1,9 +1,11 @@
 //! Memories of tokens.
 
+ghost use Rattle.jwt_c.specs.declared.status.TheConstants.{FOW_OK, FOW_OUT_OF_MEMORY};
 ghost use Rattle.std.specs.Prelude.{◌≡◌, ◌≢◌, IfOk};
 ghost use Rattle.jwt_c.specs.Remembering.{IsMemoryFor, IsRemembering};
 
-use crate::desk::Desk;
+use crate::state::State;
+use crate::status::{FOW_OK, FOW_OUT_OF_MEMORY};
 use jwt_memory::Memory;
 use std::alloc::{AllocError, Global};
 use std::num::NonZeroUsize;
@@ -18,19 +20,20 @@ fn memory_for(alloc: Global, tokens: usize, octets: usize) -> Result<Option<Memo
     }
 }
 
-/// Remembers from now on so many tokens of so many octets of each way of judging. 0; 3: memory was refused, and nothing has changed.
-pub(crate) fn remember_desk(alloc: Global, desk: &mut Desk, tokens: usize, octets: usize) -> u32
-    ensures remembers { result ≡ 0 → IsRemembering tokens octets desk.old desk.new }
-    ensures refused { result ≢ 0 → result ≡ 3 }
-    ensures same { result ≢ 0 → desk.new ≡ desk.old }
+/// Remembers from now on so many tokens of so many octets of each way of judging. `FOW_OK`; `FOW_OUT_OF_MEMORY`: memory was refused,
+/// and nothing has changed.
+pub(crate) fn remember_state(alloc: Global, state: &mut State, tokens: usize, octets: usize) -> u32
+    ensures remembers { result ≡ FOW_OK → IsRemembering tokens octets state.old state.new }
+    ensures refused { result ≢ FOW_OK → result ≡ FOW_OUT_OF_MEMORY }
+    ensures same { result ≢ FOW_OK → state.new ≡ state.old }
 {
     let Ok(told) = memory_for(alloc, tokens, octets) else {
-        return 3;
+        return FOW_OUT_OF_MEMORY;
     };
     let Ok(proved) = memory_for(alloc, tokens, octets) else {
-        return 3;
+        return FOW_OUT_OF_MEMORY;
     };
-    desk.memory = told;
-    desk.grounds.remember(proved);
-    0
+    state.memory = told;
+    state.grounds.remember(proved);
+    FOW_OK
 }

@@ -8,6 +8,7 @@ use crate::faults::{
     claim_fault_number, claim_of, form_number, form_part, form_signature, input_number,
     issue_number, issue_signature, sig_number,
 };
+use crate::status::{FOW_OK, FOW_OUT_OF_MEMORY, FOW_REFUSED};
 use jwt_issue::IssueFault;
 use jwt_jws::FormFault;
 use jwt_policy::ClaimFault;
@@ -103,7 +104,7 @@ impl FowReport {
         FowReport {
             work: 0,
             tries: 0,
-            verdict: 1,
+            verdict: FOW_REFUSED,
             fault,
             part,
             signature,
@@ -119,7 +120,7 @@ impl FowReport {
         FowReport {
             work: 0,
             tries: 0,
-            verdict: 0,
+            verdict: FOW_OK,
             fault: 0,
             part: 0,
             signature,
@@ -133,7 +134,7 @@ impl FowReport {
         ensures { report_numbers result ≡ form_numbers fault }
     {
         match fault {
-            FormFault::OutOfMemory => FowReport::bare(3),
+            FormFault::OutOfMemory => FowReport::bare(FOW_OUT_OF_MEMORY),
             _ => FowReport::refusal(
                 form_number(fault),
                 form_part(fault),
@@ -149,7 +150,7 @@ impl FowReport {
         ensures { report_numbers result ≡ claim_numbers fault.now }
     {
         match fault {
-            ClaimFault::OutOfMemory => FowReport::bare(3),
+            ClaimFault::OutOfMemory => FowReport::bare(FOW_OUT_OF_MEMORY),
             _ => FowReport::refusal(claim_fault_number(fault), 0, 0, 0, claim_of(fault)),
         }
     }
@@ -159,7 +160,7 @@ impl FowReport {
         ensures { report_numbers result ≡ issue_numbers fault }
     {
         match fault {
-            IssueFault::OutOfMemory => FowReport::bare(3),
+            IssueFault::OutOfMemory => FowReport::bare(FOW_OUT_OF_MEMORY),
             _ => FowReport::refusal(issue_number(fault), 0, issue_signature(fault), 0, 0),
         }
     }
@@ -169,14 +170,14 @@ impl FowReport {
         ensures { report_numbers result ≡ fault_numbers fault.now }
     {
         match fault {
-            Fault::OutOfMemory => FowReport::bare(3),
+            Fault::OutOfMemory => FowReport::bare(FOW_OUT_OF_MEMORY),
             Fault::Text(fault) => FowReport::refusal(input_number(*fault), 0, 0, 0, 0),
             Fault::Form(fault) => FowReport::of_form(*fault),
             Fault::WorkExceeded(i, j) => FowReport::refusal(501, 0, *i, *j, 0),
             Fault::CallsExceeded(i, j) => FowReport::refusal(502, 0, *i, *j, 0),
             Fault::Signature(i, fault) => FowReport::refusal(sig_number(*fault), 0, *i, 0, 0),
             Fault::Claim(fault) => FowReport::of_claims(fault),
-            Fault::VerifierMemory => FowReport::bare(3),
+            Fault::VerifierMemory => FowReport::bare(FOW_OUT_OF_MEMORY),
         }
     }
 

@@ -1,5 +1,6 @@
 //! The functions on access rules that C calls.
 
+ghost use Rattle.jwt_c.specs.declared.status.TheConstants.{FOW_NOT_OPEN, FOW_OK};
 ghost use Rattle.std.specs.Prelude.{◌≡◌, ◌≢◌, IfSome, None, slice_get};
 ghost use Rattle.jwt_access.specs.Document.{rule_of};
 ghost use Rattle.jwt_c.specs.Evidence.{claims_kept};
@@ -9,10 +10,11 @@ ghost use Rattle.jwt_c.specs.Written.{PutsSome};
 use crate::access::{hold, put_denied, put_refused, put_scope, rule_of};
 use crate::handle::{Handle, take};
 use crate::rule_handle::{RuleHandle, take_rule};
+use crate::status::{FOW_NOT_OPEN, FOW_OK};
 use std::alloc::Global;
 
-/// Reads an access rule. 0: it is held from now on; 1: it is refused, for the fault; 3: memory was refused. Where it isn't 0, what was
-/// held is held on.
+/// Reads an access rule. `FOW_OK`: it is held from now on; `FOW_REFUSED`: it is refused, for the fault; `FOW_OUT_OF_MEMORY`: memory
+/// was refused. On any other status the handle holds what it held.
 #[unsafe(no_mangle)]
 pub extern "C" fn fow_access_open(
     access: &mut RuleHandle,
@@ -20,25 +22,25 @@ pub extern "C" fn fow_access_open(
     rule: &[u8],
     fault: &mut u32,
 ) -> u32
-    ensures opened { result ≡ 0 → HoldsRule rule.now access.new.desk }
-    ensures refused { result ≢ 0 → IsRuleRefused rule.now result fault.new }
-    ensures same { result ≢ 0 → access.new.desk ≡ access.old.desk }
+    ensures opened { result ≡ FOW_OK → HoldsRule rule.now access.new.state }
+    ensures refused { result ≢ FOW_OK → IsRuleRefused rule.now result fault.new }
+    ensures same { result ≢ FOW_OK → access.new.state ≡ access.old.state }
 {
     *fault = 0;
     match rule_of(alloc, rule) {
-        Ok(desk) => {
-            *access = RuleHandle::of(desk);
-            0
+        Ok(state) => {
+            *access = RuleHandle::of(state);
+            FOW_OK
         }
-        Err((status, number)) => {
-            *fault = number;
-            status
+        Err(why) => {
+            *fault = why.fault;
+            why.status
         }
     }
 }
 
-/// Writes the name of the member, or of the claim, for which a rule is refused at the front of `out`. 0; 3: memory was refused; 5: `out`
-/// is too short; 6: the rule isn't refused for one.
+/// Writes the name of the member, or of the claim, for which a rule is refused at the front of `out`. `FOW_OK`; `FOW_OUT_OF_MEMORY`:
+/// memory was refused; `FOW_TOO_SHORT`: `out` is too short; `FOW_ABSENT`: the rule isn't refused for one.
 #[unsafe(no_mangle)]
 pub extern "C" fn fow_access_refused(
     alloc: Global,
@@ -54,13 +56,13 @@ pub extern "C" fn fow_access_refused(
 /// Frees what is held, if anything is.
 #[unsafe(no_mangle)]
 pub extern "C" fn fow_access_close(access: &mut RuleHandle, alloc: Global)
-    ensures { access.new.desk ≡ None }
+    ensures { access.new.state ≡ None }
 {
     *access = RuleHandle::empty(alloc);
 }
 
-/// Writes a scope that the rule asks for, from 0 in the order of its document, at the front of `out`. 0; 4: nothing is held; 5: `out` is too
-/// short; 6: there is no such scope.
+/// Writes a scope that the rule asks for, from 0 in the order of its document, at the front of `out`. `FOW_OK`; `FOW_NOT_OPEN`: nothing is
+/// held; `FOW_TOO_SHORT`: `out` is too short; `FOW_ABSENT`: there is no such scope.
 #[unsafe(no_mangle)]
 pub extern "C" fn fow_access_scope(
     access: &mut RuleHandle,
@@ -69,21 +71,21 @@ pub extern "C" fn fow_access_scope(
     out: &mut [u8],
     written: &mut usize,
 ) -> u32
-    ensures same { access.new.desk ≡ access.old.desk }
-    ensures none { access.old.desk ≡ None → result ≡ 4 }
-    ensures scope { IfSome access.old.desk (λ a. PutsSome
+    ensures same { access.new.state ≡ access.old.state }
+    ensures none { access.old.state ≡ None → result ≡ FOW_NOT_OPEN }
+    ensures scope { IfSome access.old.state (λ a. PutsSome
         (slice_get a.rule.scopes number) result written.new out.old out.new) }
 {
-    let Some(desk) = take_rule(access, alloc) else {
-        return 4;
+    let Some(state) = take_rule(access, alloc) else {
+        return FOW_NOT_OPEN;
     };
-    let status = put_scope(&desk.rule, number, out, written);
-    *access = RuleHandle::of(desk);
+    let status = put_scope(&state.rule, number, out, written);
+    *access = RuleHandle::of(state);
     status
 }
 
-/// Holds a rule against the claims of the token that was accepted last. 0: they meet it; 7: they don't, for the denial of the number; 4: the
-/// validator or the rule's handle holds nothing; 6: the last verdict was no acceptance.
+/// Holds a rule against the claims of the token that was accepted last. `FOW_OK`: they meet it; `FOW_DENIED`: they don't, for the denial of
+/// the number; `FOW_NOT_OPEN`: the validator or the rule's handle holds nothing; `FOW_ABSENT`: the last verdict was no acceptance.
 #[unsafe(no_mangle)]
 pub extern "C" fn fow_denied(
     validator: &mut Handle,
@@ -91,31 +93,31 @@ pub extern "C" fn fow_denied(
     access: &mut RuleHandle,
     denial: &mut u32,
 ) -> u32
-    ensures same { validator.new.desk ≡ validator.old.desk }
-    ensures same_rule { access.new.desk ≡ access.old.desk }
-    ensures none { validator.old.desk ≡ None → result ≡ 4 }
-    ensures no_rule { access.old.desk ≡ None → result ≡ 4 }
-    ensures denied { IfSome validator.old.desk (λ d. IfSome access.old.desk (λ a.
+    ensures same { validator.new.state ≡ validator.old.state }
+    ensures same_rule { access.new.state ≡ access.old.state }
+    ensures none { validator.old.state ≡ None → result ≡ FOW_NOT_OPEN }
+    ensures no_rule { access.old.state ≡ None → result ≡ FOW_NOT_OPEN }
+    ensures denied { IfSome validator.old.state (λ d. IfSome access.old.state (λ a.
         IsHeldAgainst a.rule (claims_kept d.last) result denial.new)) }
 {
     *denial = 0;
-    let Some(desk) = take(validator, alloc) else {
-        return 4;
+    let Some(state) = take(validator, alloc) else {
+        return FOW_NOT_OPEN;
     };
     let Some(held) = take_rule(access, alloc) else {
-        *validator = Handle::of(desk);
-        return 4;
+        *validator = Handle::of(state);
+        return FOW_NOT_OPEN;
     };
-    let (status, number) = hold(&held.rule, desk.last.claims());
+    let (status, number) = hold(&held.rule, state.last.claims());
     *denial = number;
     *access = RuleHandle::of(held);
-    *validator = Handle::of(desk);
+    *validator = Handle::of(state);
     status
 }
 
 /// Writes the scope or the name of the claim for which a rule denies the claims of the token that was accepted last at the front of `out`.
-/// 0; 4: the validator or the rule's handle holds nothing; 5: `out` is too short; 6: the claims meet the rule, or the last verdict was no
-/// acceptance.
+/// `FOW_OK`; `FOW_NOT_OPEN`: the validator or the rule's handle holds nothing; `FOW_TOO_SHORT`: `out` is too short; `FOW_ABSENT`: the
+/// claims meet the rule, or the last verdict was no acceptance.
 #[unsafe(no_mangle)]
 pub extern "C" fn fow_denied_name(
     validator: &mut Handle,
@@ -124,22 +126,22 @@ pub extern "C" fn fow_denied_name(
     out: &mut [u8],
     written: &mut usize,
 ) -> u32
-    ensures same { validator.new.desk ≡ validator.old.desk }
-    ensures same_rule { access.new.desk ≡ access.old.desk }
-    ensures none { validator.old.desk ≡ None → result ≡ 4 }
-    ensures no_rule { access.old.desk ≡ None → result ≡ 4 }
-    ensures name { IfSome validator.old.desk (λ d. IfSome access.old.desk (λ a.
+    ensures same { validator.new.state ≡ validator.old.state }
+    ensures same_rule { access.new.state ≡ access.old.state }
+    ensures none { validator.old.state ≡ None → result ≡ FOW_NOT_OPEN }
+    ensures no_rule { access.old.state ≡ None → result ≡ FOW_NOT_OPEN }
+    ensures name { IfSome validator.old.state (λ d. IfSome access.old.state (λ a.
         PutsDenied a.rule (claims_kept d.last) result written.new out.old out.new)) }
 {
-    let Some(desk) = take(validator, alloc) else {
-        return 4;
+    let Some(state) = take(validator, alloc) else {
+        return FOW_NOT_OPEN;
     };
     let Some(held) = take_rule(access, alloc) else {
-        *validator = Handle::of(desk);
-        return 4;
+        *validator = Handle::of(state);
+        return FOW_NOT_OPEN;
     };
-    let status = put_denied(&held.rule, desk.last.claims(), out, written);
+    let status = put_denied(&held.rule, state.last.claims(), out, written);
     *access = RuleHandle::of(held);
-    *validator = Handle::of(desk);
+    *validator = Handle::of(state);
     status
 }

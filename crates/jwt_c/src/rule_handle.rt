@@ -1,10 +1,10 @@
-//! The handle of an access rule: as that of a validator, over a desk of its own.
+//! The handle of an access rule: as that of a validator, over a state of its own.
 ghost use Rattle.std.specs.Prelude.{◌≡◌, Option, Some, None, MatchOption};
-ghost use Rattle.jwt_c.specs.declared.rule_desk.RuleDesk.{RuleDesk};
-ghost use Rattle.jwt_c.specs.RuleHandles.{rule_handle_owns, rule_desk_coded};
+ghost use Rattle.jwt_c.specs.declared.rule_state.RuleState.{RuleState};
+ghost use Rattle.jwt_c.specs.RuleHandles.{rule_handle_owns, rule_state_coded};
 
-use crate::loose::Loose;
-use crate::rule_desk::RuleDesk;
+use crate::raw_box::RawBox;
+use crate::rule_state::RuleState;
 use std::alloc::Global;
 use std::marker::Model;
 use std::mem::replace;
@@ -16,17 +16,17 @@ pub struct RuleHandle {
     at: *mut u8,
     held: bool,
     alloc: Global,
-    pub ghost desk: { Option RuleDesk } by { rule_desk_coded },
+    pub ghost state: { Option RuleState } by { rule_state_coded },
 }
 
 impl Model for RuleHandle {
-    ghost also_owns = { λ h. rule_handle_owns h.alloc h.held h.at h.desk };
+    ghost also_owns = { λ h. rule_handle_owns h.alloc h.held h.at h.state };
 }
 
 impl RuleHandle {
     /// An empty one.
     pub fn empty(alloc: Global) -> RuleHandle
-        ensures { result.desk ≡ None }
+        ensures { result.state ≡ None }
     {
         RuleHandle {
             at: null_mut(),
@@ -35,11 +35,11 @@ impl RuleHandle {
         }
     }
 
-    /// One that holds the desk.
-    pub fn of_loose(desk: Loose<RuleDesk, Global>) -> RuleHandle
-        ensures { result.desk ≡ Some desk.value }
+    /// One that holds the state.
+    pub fn of_raw_box(state: RawBox<RuleState, Global>) -> RuleHandle
+        ensures { result.state ≡ Some state.value }
     {
-        let Loose { at, alloc } = desk;
+        let RawBox { at, alloc } = state;
         RuleHandle {
             at: at as *mut u8,
             held: true,
@@ -47,14 +47,14 @@ impl RuleHandle {
         }
     }
 
-    /// The desk, where one is held.
-    pub fn into_loose(self) -> Option<Loose<RuleDesk, Global>>
-        ensures { MatchOption result (self.desk ≡ None) (λ b. self.desk ≡ Some b.value) }
+    /// The state, where one is held.
+    pub fn into_raw_box(self) -> Option<RawBox<RuleState, Global>>
+        ensures { MatchOption result (self.state ≡ None) (λ b. self.state ≡ Some b.value) }
     {
         let RuleHandle { at, held, alloc } = self;
         if held {
-            Some(Loose {
-                at: at as *mut RuleDesk,
+            Some(RawBox {
+                at: at as *mut RuleState,
                 alloc,
             })
         } else {
@@ -63,28 +63,28 @@ impl RuleHandle {
     }
 
     /// One that holds the box.
-    pub fn of(desk: Box<RuleDesk>) -> RuleHandle
-        ensures { result.desk ≡ Some desk.value }
+    pub fn of(state: Box<RuleState>) -> RuleHandle
+        ensures { result.state ≡ Some state.value }
     {
-        RuleHandle::of_loose(Loose::of(desk))
+        RuleHandle::of_raw_box(RawBox::of(state))
     }
 
     /// The box.
-    pub fn open(self) -> Option<Box<RuleDesk>>
-        ensures { MatchOption result (self.desk ≡ None) (λ b. self.desk ≡ Some b.value) }
+    pub fn open(self) -> Option<Box<RuleState>>
+        ensures { MatchOption result (self.state ≡ None) (λ b. self.state ≡ Some b.value) }
     {
-        match self.into_loose() {
-            Some(desk) => Some(desk.into_box()),
+        match self.into_raw_box() {
+            Some(state) => Some(state.into_box()),
             None => None,
         }
     }
 }
 
-/// Takes the desk out, where one is held, and leaves none.
-pub fn take_rule(access: &mut RuleHandle, alloc: Global) -> Option<Box<RuleDesk>>
-    ensures held { MatchOption result (access.old.desk ≡ None)
-        (λ b. access.old.desk ≡ Some b.value) }
-    ensures left { access.new.desk ≡ None }
+/// Takes the state out, where one is held, and leaves none.
+pub fn take_rule(access: &mut RuleHandle, alloc: Global) -> Option<Box<RuleState>>
+    ensures held { MatchOption result (access.old.state ≡ None)
+        (λ b. access.old.state ≡ Some b.value) }
+    ensures left { access.new.state ≡ None }
 {
     replace(access, RuleHandle::empty(alloc)).open()
 }

@@ -6,7 +6,7 @@
 //! [`run`](run::run) with none of these at hand.
 //! [`line`](input::line::line) takes one line of an input, and nothing behind it.
 //!
-//! What the words ask for is read in `jwt_words`, what is printed is written in `jwt_printing`; here stands what is answered.
+//! `jwt_words` reads the words, `jwt_printing` writes the output; the answers are made here.
 #![tactic(auto)]
 
 mod access;

@@ -16,7 +16,7 @@ use crate::jwk::{jwk, new_secret};
 use crate::keys::keys;
 use crate::mac::{mac, mac_in_hand};
 use crate::show::show;
-use crate::verify::verify;
+use crate::verify::{Manner, verify};
 use crate::verify_lines::{Clock, NoClock, run_lines};
 use jwt_issue::IssueOptions;
 use jwt_mac::Verifier;
@@ -291,8 +291,12 @@ fn reply_in_hand<R: Source>(
             public_keys,
             ..
         } => {
-            let verifiers = asked_for(public_keys, built_in);
-            verify(alloc, printing, verifiers, now, held, r)
+            let manner = Manner {
+                printing,
+                verifiers: asked_for(public_keys, built_in),
+                moment: now,
+            };
+            verify(alloc, &manner, held, r)
         }
         Order::Issue { alg, typ, form, .. } => {
             let options = IssueOptions {

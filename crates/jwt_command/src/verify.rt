@@ -1,8 +1,9 @@
 //! The command `verify`: the verdict on a token by a policy and a key set.
-ghost use Rattle.std.specs.Prelude.{◌≡◌, ◌≢◌, ◌+◌, ◌⊎◌, false, true, map, option_map, IfOk, IfSome};
+ghost use Rattle.std.specs.Prelude.{◌≡◌, ◌≢◌, ◌+◌, ◌⊎◌, false, true, map, IfOk, IfSome};
 ghost use Rattle.jwt_keys.specs.KeySets.{key_set};
+ghost use Rattle.jwt_verify.specs.TermsTable.{terms_meant};
 ghost use Rattle.jwt_verify.specs.declared.report.InputFault.TheVariants.{Read};
-ghost use Rattle.jwt_command.specs.Documents.{last_document, last_most};
+ghost use Rattle.jwt_command.specs.Documents.{last_document};
 ghost use Rattle.jwt_text.specs.Intake.{TakesAtMost};
 ghost use Rattle.jwt_command.specs.Access.{rule_in_hand, under_rule};
 ghost use Rattle.jwt_command.specs.Stops.{keys_most, token_most, verify_most};
@@ -27,37 +28,42 @@ use jwt_printing::{
 };
 use jwt_text::{Scratch, Source};
 use jwt_verify::laws::{tells_reports, tells_tokens};
-use jwt_verify::{judge, judge_signed, validate};
+use jwt_verify::{Terms, judge, judge_signed, validate};
 use jwt_words::{Held, Moment, Printing};
 use std::alloc::{AllocError, Global};
+
+/// How `jwt verify` prints, and by which verifiers and at which moment it judges.
+#[derive(Clone, Copy)]
+pub(crate) struct Manner<'a> {
+    pub(crate) printing: Printing,
+    pub(crate) verifiers: &'a [Box<dyn Verifier>],
+    pub(crate) moment: Moment,
+}
 
 /// The verdict on the token, which is all that is left of the input.
 fn on_token<R: Source>(
     alloc: Global,
-    verifiers: &[Box<dyn Verifier>],
-    now: Moment,
-    policy: &Policy,
-    keys: &KeySet,
+    terms: &Terms<'_, '_, '_>,
     rule: Option<&AccessRule>,
     r: &mut R,
 ) -> Result<Reply, AllocError>
     ensures line { IfSome (R.remaining r.old) (λ x. IfOk result (λ a. reply_view a
         ≡ unless_read_failed in_lines (R.failed r.new)
         (token_answer (rule_view rule.entry)
-        (terms_of_keys (map meaning verifiers.now) now.seconds policy.now (key_set keys.now)) x))) }
+        (terms_meant meaning terms.now) x))) }
     ensures stops { IfSome (R.remaining r.old) (λ x. (R.failed r.new ≡ true)
-        ⊎ TakesAtMost (policy.now.run.limit + 1) x (R.remaining r.new)) }
+        ⊎ TakesAtMost (terms.now.policy.now.run.limit + 1) x (R.remaining r.new)) }
     ensures failed { IfOk result (λ a. a.status ≡ 3 → R.failed r.new ≡ true) }
 {
-    let mut budget = CountDown::new(policy.work());
+    let mut budget = CountDown::new(terms.policy.work());
     tells_reports();
     let report = validate(
         alloc,
         r,
-        keys,
-        policy,
-        now.seconds as i64,
-        verifiers,
+        terms.keys,
+        terms.policy,
+        terms.moment,
+        terms.verifiers,
         &mut budget,
     );
     report_line(alloc, &report, rule, budget.octets())
@@ -66,28 +72,25 @@ fn on_token<R: Source>(
 /// The verdict on a token in hand, in lines.
 fn on_octets_in_lines(
     alloc: Global,
-    verifiers: &[Box<dyn Verifier>],
-    now: Moment,
-    policy: &Policy,
-    keys: &KeySet,
+    terms: &Terms<'_, '_, '_>,
     rule: Option<&AccessRule>,
     token: &[u8],
 ) -> Result<Reply, AllocError>
     ensures line { IfOk result (λ a. reply_view a
         ≡ token_answer (rule_view rule.entry)
-        (terms_of_keys (map meaning verifiers.now) now.seconds policy.now (key_set keys.now))
+        (terms_meant meaning terms.now)
         token.now) }
     ensures done { IfOk result (λ a. a.status ≢ 3) }
 {
-    let mut count = CountDown::new(policy.work());
+    let mut count = CountDown::new(terms.policy.work());
     tells_reports();
     let report = judge(
         alloc,
         token,
-        keys,
-        policy,
-        now.seconds as i64,
-        verifiers,
+        terms.keys,
+        terms.policy,
+        terms.moment,
+        terms.verifiers,
         &mut count,
     );
     report_line(alloc, &report, rule, count.octets())
@@ -106,30 +109,27 @@ fn payload_in<'t>(token: &'t Option<Signed<'_>>) -> &'t [u8]
 /// The verdict on a token in hand, in JSON.
 fn on_octets_in_json(
     alloc: Global,
-    verifiers: &[Box<dyn Verifier>],
-    now: Moment,
-    policy: &Policy,
-    keys: &KeySet,
+    terms: &Terms<'_, '_, '_>,
     rule: Option<&AccessRule>,
     token: &[u8],
 ) -> Result<Reply, AllocError>
     ensures line { IfOk result (λ a. reply_view a
         ≡ token_json (rule_view rule.entry)
-        (terms_of_keys (map meaning verifiers.now) now.seconds policy.now (key_set keys.now))
+        (terms_meant meaning terms.now)
         token.now) }
     ensures done { IfOk result (λ a. a.status ≢ 3) }
 {
-    let mut count = CountDown::new(policy.work());
+    let mut count = CountDown::new(terms.policy.work());
     let mut scratch = Scratch::new(alloc);
     tells_reports();
     tells_tokens();
     let judged = judge_signed(
         alloc,
         token,
-        keys,
-        policy,
-        now.seconds as i64,
-        verifiers,
+        terms.keys,
+        terms.policy,
+        terms.moment,
+        terms.verifiers,
         &mut count,
         &mut scratch,
     );
@@ -141,135 +141,123 @@ fn on_octets_in_json(
 pub(crate) fn on_octets(
     alloc: Global,
     printing: Printing,
-    verifiers: &[Box<dyn Verifier>],
-    now: Moment,
-    policy: &Policy,
-    keys: &KeySet,
+    terms: &Terms<'_, '_, '_>,
     rule: Option<&AccessRule>,
     token: &[u8],
 ) -> Result<Reply, AllocError>
     ensures line { IfOk result (λ a. reply_view a
         ≡ (printer printing).token (rule_view rule.entry)
-        (terms_of_keys (map meaning verifiers.now) now.seconds policy.now (key_set keys.now))
+        (terms_meant meaning terms.now)
         token.now) }
     ensures done { IfOk result (λ a. a.status ≢ 3) }
 {
     match printing {
-        Printing::Json => on_octets_in_json(alloc, verifiers, now, policy, keys, rule, token),
-        Printing::Lines => on_octets_in_lines(alloc, verifiers, now, policy, keys, rule, token),
+        Printing::Json => on_octets_in_json(alloc, terms, rule, token),
+        Printing::Lines => on_octets_in_lines(alloc, terms, rule, token),
     }
 }
 
 /// The verdict on the token, which is all that is left of the input, in JSON.
 fn on_token_json<R: Source>(
     alloc: Global,
-    verifiers: &[Box<dyn Verifier>],
-    now: Moment,
-    policy: &Policy,
-    keys: &KeySet,
+    terms: &Terms<'_, '_, '_>,
     rule: Option<&AccessRule>,
     r: &mut R,
 ) -> Result<Reply, AllocError>
     ensures line { IfSome (R.remaining r.old) (λ x. IfOk result (λ a. reply_view a
         ≡ unless_read_failed in_json (R.failed r.new)
         (token_json (rule_view rule.entry)
-        (terms_of_keys (map meaning verifiers.now) now.seconds policy.now (key_set keys.now)) x))) }
+        (terms_meant meaning terms.now) x))) }
     ensures stops { IfSome (R.remaining r.old) (λ x. (R.failed r.new ≡ true)
-        ⊎ TakesAtMost (policy.now.run.limit + 1) x (R.remaining r.new)) }
+        ⊎ TakesAtMost (terms.now.policy.now.run.limit + 1) x (R.remaining r.new)) }
     ensures failed { IfOk result (λ a. a.status ≡ 3 → R.failed r.new ≡ true) }
 {
-    match read_document(alloc, policy.limit(), r)? {
-        Some(token) => {
-            on_octets_in_json(alloc, verifiers, now, policy, keys, rule, token.octets())
-        }
+    match read_document(alloc, terms.policy.limit(), r)? {
+        Some(token) => { on_octets_in_json(alloc, terms, rule, token.octets()) }
         None => read_failed_json(alloc),
     }
 }
 
-/// The verdict on the token: in hand, or all that is left of the input.
-fn on_last<R: Source>(
+/// The verdict on the token, which is all that is left of the input, in JSON or in lines.
+fn on_input<R: Source>(
     alloc: Global,
     printing: Printing,
-    verifiers: &[Box<dyn Verifier>],
-    now: Moment,
-    policy: &Policy,
-    keys: &KeySet,
+    terms: &Terms<'_, '_, '_>,
     rule: Option<&AccessRule>,
-    token: Option<&[u8]>,
     r: &mut R,
 ) -> Result<Reply, AllocError>
-    requires { R.failed r.old ≡ false }
     ensures line { IfSome (R.remaining r.old) (λ x. IfOk result (λ a. reply_view a
         ≡ unless_read_failed (printer printing) (R.failed r.new)
-        ((printer printing).token (rule_view rule.entry)
-        (terms_of_keys (map meaning verifiers.now) now.seconds policy.now (key_set keys.now))
-        (last_document (option_map (λ t. t.now) token.entry) x)))) }
+        ((printer printing).token (rule_view rule.entry) (terms_meant meaning terms.now) x))) }
     ensures stops { IfSome (R.remaining r.old) (λ x. (R.failed r.new ≡ true)
-        ⊎ TakesAtMost (last_most (policy.now.run.limit + 1) (option_map (λ t. t.now) token.entry))
-        x (R.remaining r.new)) }
+        ⊎ TakesAtMost (terms.now.policy.now.run.limit + 1) x (R.remaining r.new)) }
     ensures failed { IfOk result (λ a. a.status ≡ 3 → R.failed r.new ≡ true) }
 {
-    match (token, printing) {
-        (Some(token), printing) => {
-            on_octets(alloc, printing, verifiers, now, policy, keys, rule, token)
-        }
-        (None, Printing::Json) => on_token_json(alloc, verifiers, now, policy, keys, rule, r),
-        (None, Printing::Lines) => on_token(alloc, verifiers, now, policy, keys, rule, r),
+    match printing {
+        Printing::Json => on_token_json(alloc, terms, rule, r),
+        Printing::Lines => on_token(alloc, terms, rule, r),
     }
 }
 
-/// The access rule, where one is in hand, and the token.
+/// The access rule, where one is in hand, and the token: in hand, or all that is left of the input.
 fn on_rule<R: Source>(
     alloc: Global,
     printing: Printing,
-    verifiers: &[Box<dyn Verifier>],
-    now: Moment,
+    terms: &Terms<'_, '_, '_>,
     held: Held<'_>,
-    policy: &Policy,
-    keys: &KeySet,
     r: &mut R,
 ) -> Result<Reply, AllocError>
     requires { R.failed r.old ≡ false }
     ensures line { IfSome (R.remaining r.old) (λ x. IfOk result (λ a. reply_view a
         ≡ unless_read_failed (printer printing) (R.failed r.new)
-        (under_rule (printer printing)
-        (terms_of_keys (map meaning verifiers.now) now.seconds policy.now (key_set keys.now))
+        (under_rule (printer printing) (terms_meant meaning terms.now)
         (rule_in_hand (held_view held.entry).access)
         (last_document (held_view held.entry).token x)))) }
     ensures stops { IfSome (R.remaining r.old) (λ x. (R.failed r.new ≡ true)
-        ⊎ TakesAtMost (token_most (held_view held.entry) policy.now) x (R.remaining r.new)) }
+        ⊎ TakesAtMost (token_most (held_view held.entry) terms.now.policy.now) x (R.remaining r.new)) }
     ensures failed { IfOk result (λ a. a.status ≡ 3 → R.failed r.new ≡ true) }
 {
-    match rule_in_hand(alloc, held.access) {
-        Ok(rule) => on_last(
-            alloc,
-            printing,
-            verifiers,
-            now,
-            policy,
-            keys,
-            rule.as_ref(),
-            held.token,
-            r,
-        ),
-        Err(AccessFault::OutOfMemory) => Err(AllocError),
-        Err(fault) => printed_access_fault(alloc, printing, &fault),
+    let rule = match rule_in_hand(alloc, held.access) {
+        Ok(rule) => rule,
+        Err(AccessFault::OutOfMemory) => return Err(AllocError),
+        Err(fault) => return printed_access_fault(alloc, printing, &fault),
+    };
+    match held.token {
+        Some(token) => on_octets(alloc, printing, terms, rule.as_ref(), token),
+        None => on_input(alloc, printing, terms, rule.as_ref(), r),
+    }
+}
+
+/// The terms of a verdict at a moment of the command's words.
+pub(crate) fn terms_at<'k, 'p, 'v>(
+    keys: &'k KeySet,
+    policy: &'p Policy,
+    now: Moment,
+    verifiers: &'v [Box<dyn Verifier>],
+) -> Terms<'k, 'p, 'v>
+    ensures terms { terms_meant meaning result
+        ≡ terms_of_keys (map meaning verifiers.now) now.seconds policy.now (key_set keys.now) }
+    ensures policy { result.policy.now ≡ policy.now }
+{
+    Terms {
+        keys,
+        policy,
+        moment: now.seconds as i64,
+        verifiers,
     }
 }
 
 /// The key set, in hand or a line, and what is behind it.
 fn on_keys<R: Source>(
     alloc: Global,
-    printing: Printing,
-    verifiers: &[Box<dyn Verifier>],
-    now: Moment,
+    manner: &Manner<'_>,
     held: Held<'_>,
     policy: &Policy,
     r: &mut R,
 ) -> Result<Reply, AllocError>
     ensures line { IfSome (R.remaining r.old) (λ x. IfOk result (λ a. reply_view a
-        ≡ unless_read_failed (printer printing) (R.failed r.new)
-        (keys_answer (printer printing) (map meaning verifiers.now) now.seconds
+        ≡ unless_read_failed (printer manner.now.printing) (R.failed r.new)
+        (keys_answer (printer manner.now.printing) (map meaning manner.now.verifiers.now) manner.now.moment.seconds
         (held_view held.entry) policy.now x))) }
     ensures stops { IfSome (R.remaining r.old) (λ x. (R.failed r.new ≡ true)
         ⊎ TakesAtMost (keys_most (token_most (held_view held.entry) policy.now)
@@ -278,14 +266,21 @@ fn on_keys<R: Source>(
 {
     let text = match document(alloc, held.keys, r, 4_194_304) {
         Ok(text) => text,
-        Err(LineFault::Read) => return printed_read_fault(alloc, printing),
-        Err(LineFault::TooLong) => return printed_keys_fault(alloc, printing, &KeysFault::TooLong),
+        Err(LineFault::Read) => return printed_read_fault(alloc, manner.printing),
+        Err(LineFault::TooLong) => return printed_keys_fault(
+            alloc,
+            manner.printing,
+            &KeysFault::TooLong,
+        ),
         Err(LineFault::OutOfMemory) => return Err(AllocError),
     };
     match KeySet::read(alloc, text.octets()) {
-        Ok(keys) => on_rule(alloc, printing, verifiers, now, held, policy, &keys, r),
+        Ok(keys) => {
+            let terms = terms_at(&keys, policy, manner.moment, manner.verifiers);
+            on_rule(alloc, manner.printing, &terms, held, r)
+        }
         Err(KeysFault::OutOfMemory) => Err(AllocError),
-        Err(fault) => printed_keys_fault(alloc, printing, &fault),
+        Err(fault) => printed_keys_fault(alloc, manner.printing, &fault),
     }
 }
 
@@ -294,14 +289,12 @@ fn on_keys<R: Source>(
 /// the key set is taken, and that before the rule is read, and the rule before the token is taken.
 pub(crate) fn verify<R: Source>(
     alloc: Global,
-    printing: Printing,
-    verifiers: &[Box<dyn Verifier>],
-    now: Moment,
+    manner: &Manner<'_>,
     held: Held<'_>,
     r: &mut R,
 ) -> Result<Reply, AllocError>
     ensures line { IfSome (R.remaining r.old) (λ x. IfOk result (λ a. reply_view a
-        ≡ verify_answer (printer printing) (map meaning verifiers.now) now.seconds
+        ≡ verify_answer (printer manner.now.printing) (map meaning manner.now.verifiers.now) manner.now.moment.seconds
         (held_view held.entry) (R.failed r.new) x)) }
     ensures stops { IfSome (R.remaining r.old) (λ x. (R.failed r.new ≡ true)
         ⊎ TakesAtMost (verify_most (held_view held.entry) x) x (R.remaining r.new)) }
@@ -309,17 +302,17 @@ pub(crate) fn verify<R: Source>(
 {
     let text = match document(alloc, held.policy, r, 65_536) {
         Ok(text) => text,
-        Err(LineFault::Read) => return printed_read_fault(alloc, printing),
+        Err(LineFault::Read) => return printed_read_fault(alloc, manner.printing),
         Err(LineFault::TooLong) => return printed_policy_fault(
             alloc,
-            printing,
+            manner.printing,
             &PolicyFault::TooLong,
         ),
         Err(LineFault::OutOfMemory) => return Err(AllocError),
     };
     match Policy::read(alloc, text.octets()) {
-        Ok(policy) => on_keys(alloc, printing, verifiers, now, held, &policy, r),
+        Ok(policy) => on_keys(alloc, manner, held, &policy, r),
         Err(PolicyFault::OutOfMemory) => Err(AllocError),
-        Err(fault) => printed_policy_fault(alloc, printing, &fault),
+        Err(fault) => printed_policy_fault(alloc, manner.printing, &fault),
     }
 }

@@ -17,7 +17,7 @@ use crate::access::rule_in_hand;
 use crate::input::buffered::Ahead;
 use crate::input::line::LineFault;
 use crate::run::asked_for;
-use crate::verify::on_octets;
+use crate::verify::{on_octets, terms_at};
 use jwt_access::{AccessFault, AccessRule};
 use jwt_keys::{KeySet, KeysFault};
 use jwt_mac::Verifier;
@@ -68,37 +68,47 @@ fn moment<C: Clock>(now: Option<Moment>, clock: &mut C, number: u64, line: &[u8]
     }
 }
 
-/// Puts the answer to the line of this number behind those that are ready. Refused with `Read` where the clock can't be read.
-fn answer_line<C: Clock>(
-    alloc: Global,
+/// How each line is judged: how the answers are printed, by which verifiers, at which moment where one is named, by which policy and
+/// keys, and under which access rule, if any.
+#[derive(Clone, Copy)]
+struct EachLine<'a> {
     printing: Printing,
-    verifiers: &[Box<dyn Verifier>],
-    now: Option<Moment>,
-    clock: &mut C,
-    policy: &Policy,
-    keys: &KeySet,
-    rule: Option<&AccessRule>,
-    number: u64,
-    line: &[u8],
-    ready: &mut Vec<u8>,
-) -> Result<(), LineFault>
-    ensures answered { OnOk result (LineAnswered
-        (λ m l. (printer printing).token (rule_view rule.entry)
-        (terms_of_keys (map meaning verifiers.now) m policy.now (key_set keys.now)) l)
-        (C.says number line.now) (seconds_of now) line.now
-        (Some ready.old.items) (Some ready.new.items)) }
-    ensures kept { OnErr result (ready.new.items ≡ ready.old.items) }
-    ensures read { result ≡ Err LineFault.Read → seconds_of now ≡ None }
-{
-    let Some(moment) = moment(now, clock, number, line) else {
-        return Err(LineFault::Read);
-    };
-    let Ok(reply) = on_octets(alloc, printing, verifiers, moment, policy, keys, rule, line) else {
-        return Err(LineFault::OutOfMemory);
-    };
-    match ready.extend_from_slice(reply.text.as_slice()) {
-        Ok(()) => Ok(()),
-        Err(_) => Err(LineFault::OutOfMemory),
+    verifiers: &'a [Box<dyn Verifier>],
+    moment: Option<Moment>,
+    policy: &'a Policy,
+    keys: &'a KeySet,
+    rule: Option<&'a AccessRule>,
+}
+
+impl EachLine<'_> {
+    /// Puts the answer to the line of this number behind those that are ready. Refused with `Read` where the clock can't be read.
+    fn answer_line<C: Clock>(
+        &self,
+        alloc: Global,
+        clock: &mut C,
+        number: u64,
+        line: &[u8],
+        ready: &mut Vec<u8>,
+    ) -> Result<(), LineFault>
+        ensures answered { OnOk result (LineAnswered
+            (λ m l. (printer self.now.printing).token (rule_view self.now.rule)
+            (terms_of_keys (map meaning self.now.verifiers.now) m self.now.policy.now (key_set self.now.keys.now)) l)
+            (C.says number line.now) (seconds_of self.now.moment) line.now
+            (Some ready.old.items) (Some ready.new.items)) }
+        ensures kept { OnErr result (ready.new.items ≡ ready.old.items) }
+        ensures read { result ≡ Err LineFault.Read → seconds_of self.now.moment ≡ None }
+    {
+        let Some(moment) = moment(self.moment, clock, number, line) else {
+            return Err(LineFault::Read);
+        };
+        let terms = terms_at(self.keys, self.policy, moment, self.verifiers);
+        let Ok(reply) = on_octets(alloc, self.printing, &terms, self.rule, line) else {
+            return Err(LineFault::OutOfMemory);
+        };
+        match ready.extend_from_slice(reply.text.as_slice()) {
+            Ok(()) => Ok(()),
+            Err(_) => Err(LineFault::OutOfMemory),
+        }
     }
 }
 
@@ -194,24 +204,19 @@ fn stop_lines<W: Sink>(
 /// the next octets are waited for.
 fn answer_lines<R: Source, W: Sink, C: Clock>(
     alloc: Global,
-    printing: Printing,
-    verifiers: &[Box<dyn Verifier>],
-    now: Option<Moment>,
+    each: &EachLine<'_>,
     clock: &mut C,
-    policy: &Policy,
-    keys: &KeySet,
-    rule: Option<&AccessRule>,
     r: &mut R,
     w: &mut W,
 ) -> u8
     ensures { IfSome (R.remaining r.old) (λ x. GivesLines
-        (λ m l. (printer printing).token (rule_view rule.entry)
-        (terms_of_keys (map meaning verifiers.now) m policy.now (key_set keys.now)) l)
-        (printer printing).read_failed (with_held policy.now.run.limit C.says) (seconds_of now) x
+        (λ m l. (printer each.now.printing).token (rule_view each.now.rule)
+        (terms_of_keys (map meaning each.now.verifiers.now) m each.now.policy.now (key_set each.now.keys.now)) l)
+        (printer each.now.printing).read_failed (with_held each.now.policy.now.run.limit C.says) (seconds_of each.now.moment) x
         (R.failed r.new)
         (W.contents w.old) (W.contents w.new) (W.failed w.new) result) }
 {
-    let limit = policy.limit();
+    let limit = each.policy.limit();
     let Ok(mut ahead) = Ahead::new(alloc) else {
         return lack_memory(w);
     };
@@ -223,27 +228,21 @@ fn answer_lines<R: Source, W: Sink, C: Clock>(
         }
         match take_line(&mut ahead, r, limit, &mut line) {
             Ok(true) => {
-                if let Err(fault) = answer_line(
+                if let Err(fault) = each.answer_line(
                     alloc,
-                    printing,
-                    verifiers,
-                    now,
                     clock,
-                    policy,
-                    keys,
-                    rule,
                     number,
                     line.as_slice(),
                     &mut ready,
                 ) {
-                    return stop_lines(alloc, printing, fault, &mut ready, w);
+                    return stop_lines(alloc, each.printing, fault, &mut ready, w);
                 }
             }
             Ok(false) => return end_lines(&mut ready, w),
-            Err(fault) => return stop_lines(alloc, printing, fault, &mut ready, w),
+            Err(fault) => return stop_lines(alloc, each.printing, fault, &mut ready, w),
         }
     }
-    stop_lines(alloc, printing, LineFault::OutOfMemory, &mut ready, w)
+    stop_lines(alloc, each.printing, LineFault::OutOfMemory, &mut ready, w)
 }
 
 /// Answers each line under a policy, a key set, and an access rule, which is read once, where one is in hand.
@@ -277,18 +276,17 @@ fn lines_by_rule<R: Source, W: Sink, C: Clock>(
         })) }
 {
     match rule_in_hand(alloc, access) {
-        Ok(rule) => answer_lines(
-            alloc,
-            printing,
-            verifiers,
-            now,
-            clock,
-            policy,
-            keys,
-            rule.as_ref(),
-            r,
-            w,
-        ),
+        Ok(rule) => {
+            let each = EachLine {
+                printing,
+                verifiers,
+                moment: now,
+                policy,
+                keys,
+                rule: rule.as_ref(),
+            };
+            answer_lines(alloc, &each, clock, r, w)
+        }
         Err(AccessFault::OutOfMemory) => lack_memory(w),
         Err(fault) => give(w, printed_access_fault(alloc, printing, &fault)),
     }

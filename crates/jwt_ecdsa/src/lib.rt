@@ -14,7 +14,7 @@
 //!
 //! A key is taken only with the algorithm of its curve, with coordinates below the prime, and where it is on the curve. The
 //! signature (r, n - s) is valid where (r, s) is, as the standards have it. Nothing here allocates, so the verifier never answers
-//! NoMemory. Verifying has no secret: of time nothing is promised.
+//! NoMemory. Verifying has no secret: nothing is promised of time.
 #![tactic(auto)]
 
 pub use verifier::Ecdsa;

@@ -13,7 +13,7 @@
 //! ```
 //!
 //! Keys of small order are refused, and those whose octets aren't canonical. A key of Ed448 is answered Invalid. Nothing here
-//! allocates, so the verifier never answers NoMemory. Verifying has no secret: of time nothing is promised.
+//! allocates, so the verifier never answers NoMemory. Verifying has no secret: nothing is promised of time.
 #![tactic(auto)]
 
 pub use verifier::Ed25519;

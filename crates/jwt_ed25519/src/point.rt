@@ -7,26 +7,26 @@ ghost use Rattle.jwt_ed25519.specs.Points.{base_x, base_y, d, point, neutral, ad
 ghost use Rattle.jwt_ed25519.specs.Field.{times};
 ghost use Rattle.jwt_ed25519.specs.Verifying.{is_small};
 
-use crate::field::Field;
+use crate::field::Residue;
 use crate::limbs::{Limbs, halve};
 
 // A point: x = X/Z, y = Y/Z, x * y = T/Z.
 #[derive(Clone, Copy, Debug)]
-pub struct Point {
-    pub x: Field,
-    pub y: Field,
-    pub z: Field,
-    pub t: Field,
+pub struct EdwardsPoint {
+    pub x: Residue,
+    pub y: Residue,
+    pub z: Residue,
+    pub t: Residue,
 }
 
 // The bits of the order of the base point.
 const ORDER_BITS: u32 = 253;
 
 /// d of the curve's equation.
-pub fn curve_d() -> Field
+pub fn curve_d() -> Residue
     ensures { element result ≡ d }
 {
-    Field {
+    Residue {
         limbs: Limbs {
             l0: 0x75eb_4dca_1359_78a3,
             l1: 0x0070_0a4d_4141_d8ab,
@@ -37,10 +37,10 @@ pub fn curve_d() -> Field
 }
 
 /// Twice d.
-fn twice_d() -> Field
+fn twice_d() -> Residue
     ensures { element result ≡ times 2 d }
 {
-    Field {
+    Residue {
         limbs: Limbs {
             l0: 0xebd6_9b94_26b2_f159,
             l1: 0x00e0_149a_8283_b156,
@@ -51,10 +51,10 @@ fn twice_d() -> Field
 }
 
 /// The base point's x.
-fn base_x_element() -> Field
+fn base_x_element() -> Residue
     ensures { element result ≡ base_x }
 {
-    Field {
+    Residue {
         limbs: Limbs {
             l0: 0xc956_2d60_8f25_d51a,
             l1: 0x692c_c760_9525_a7b2,
@@ -65,10 +65,10 @@ fn base_x_element() -> Field
 }
 
 /// The base point's y.
-fn base_y_element() -> Field
+fn base_y_element() -> Residue
     ensures { element result ≡ base_y }
 {
-    Field {
+    Residue {
         limbs: Limbs {
             l0: 0x6666_6666_6666_6658,
             l1: 0x6666_6666_6666_6666,
@@ -78,42 +78,42 @@ fn base_y_element() -> Field
     }
 }
 
-impl Point {
+impl EdwardsPoint {
     ghost use Rattle.jwt_ed25519.specs.Elements.{coordinates};
 
     /// The point of an x and a y.
-    pub fn of(x: Field, y: Field) -> Point
+    pub fn of(x: Residue, y: Residue) -> EdwardsPoint
         ensures { coordinates result ≡ point (element x) (element y) }
     {
-        Point {
+        EdwardsPoint {
             x,
             y,
-            z: Field::small(1),
+            z: Residue::small(1),
             t: x.times(y),
         }
     }
 
     /// The base point.
-    pub fn base() -> Point
+    pub fn base() -> EdwardsPoint
         ensures { coordinates result ≡ point base_x base_y }
     {
-        Point::of(base_x_element(), base_y_element())
+        EdwardsPoint::of(base_x_element(), base_y_element())
     }
 
     /// The neutral point.
-    fn neutral() -> Point
+    fn neutral() -> EdwardsPoint
         ensures { coordinates result ≡ neutral }
     {
-        Point {
-            x: Field::small(0),
-            y: Field::small(1),
-            z: Field::small(1),
-            t: Field::small(0),
+        EdwardsPoint {
+            x: Residue::small(0),
+            y: Residue::small(1),
+            z: Residue::small(1),
+            t: Residue::small(0),
         }
     }
 
     /// The sum of two points.
-    pub fn add(self, other: Point) -> Point
+    pub fn add(self, other: EdwardsPoint) -> EdwardsPoint
         ensures { coordinates result ≡ add (coordinates self) (coordinates other) }
     {
         let a = self.y.minus(self.x).times(other.y.minus(other.x));
@@ -124,7 +124,7 @@ impl Point {
         let f = d.minus(c);
         let g = d.plus(c);
         let h = b.plus(a);
-        Point {
+        EdwardsPoint {
             x: e.times(f),
             y: g.times(h),
             z: f.times(g),
@@ -133,7 +133,7 @@ impl Point {
     }
 
     /// The double of a point.
-    pub fn double(self) -> Point
+    pub fn double(self) -> EdwardsPoint
         ensures { coordinates result ≡ double (coordinates self) }
     {
         let a = self.x.square();
@@ -143,7 +143,7 @@ impl Point {
         let e = h.minus(self.x.plus(self.y).square());
         let g = a.minus(b);
         let f = c.plus(g);
-        Point {
+        EdwardsPoint {
             x: e.times(f),
             y: g.times(h),
             z: f.times(g),
@@ -152,22 +152,22 @@ impl Point {
     }
 
     /// The point with -x in place of x.
-    pub fn negated(self) -> Point
+    pub fn negated(self) -> EdwardsPoint
         ensures { coordinates result ≡ negated (coordinates self) }
     {
-        Point {
-            x: Field::small(0).minus(self.x),
+        EdwardsPoint {
+            x: Residue::small(0).minus(self.x),
             y: self.y,
             z: self.z,
-            t: Field::small(0).minus(self.t),
+            t: Residue::small(0).minus(self.t),
         }
     }
 
     /// The multiple, by the bits of the scalar from the lowest.
-    pub fn multiple(self, scalar: Limbs) -> Point
+    pub fn multiple(self, scalar: Limbs) -> EdwardsPoint
         ensures { coordinates result ≡ multiple (number scalar) (coordinates self) }
     {
-        let mut sum = Point::neutral();
+        let mut sum = EdwardsPoint::neutral();
         let mut doubled = self;
         let mut rest = scalar;
         'bits: for _bit in 0..ORDER_BITS {
@@ -186,6 +186,6 @@ impl Point {
         ensures { result ≡ is_small (coordinates self) }
     {
         let eight_times = self.double().double().double();
-        eight_times.x.is(Field::small(0)) && eight_times.y.is(eight_times.z)
+        eight_times.x.is(Residue::small(0)) && eight_times.y.is(eight_times.z)
     }
 }

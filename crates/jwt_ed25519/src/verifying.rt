@@ -9,7 +9,7 @@ ghost use Rattle.jwt_ed25519.specs.Verifying.{challenge, holds, verifies};
 use crate::decoding::decode;
 use crate::encoding::is_encoding;
 use crate::limbs::{Limbs, from_octets, is_less};
-use crate::point::Point;
+use crate::point::EdwardsPoint;
 use crate::scalar::{from_digest, order};
 use jwt_mac::sha512_behind;
 
@@ -23,11 +23,16 @@ fn challenge(r: &[u8], key: &[u8], parts: [&[u8]; 3]) -> Limbs
 
 /// Whether R is the encoding of [S]B - [k]A.
 #[tactic(auto, unfolding(crate::specs::Verifying::holds))]
-fn holds(a: Point, r: &[u8], s: Limbs, k: Limbs) -> bool
+fn holds(a: EdwardsPoint, r: &[u8], s: Limbs, k: Limbs) -> bool
     requires { length r.now ≡ 32 }
     ensures { result ≡ holds (coordinates a) r.now (number s) (number k) }
 {
-    is_encoding(Point::base().multiple(s).add(a.negated().multiple(k)), r)
+    is_encoding(
+        EdwardsPoint::base()
+            .multiple(s)
+            .add(a.negated().multiple(k)),
+        r,
+    )
 }
 
 /// Whether it is the signature of the message that the three parts make, joined, by the public key whose octets these are (RFC

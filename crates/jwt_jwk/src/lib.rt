@@ -7,7 +7,7 @@
 //! let set = jwk_set_of_pem(alloc, &file, Kid::Thumbprint, Some("RS256"))?;
 //! ```
 //!
-//! What is written is read, by `jwt_keys`, as exactly the key that stands in the file.
+//! `jwt_keys` reads each JWK as exactly the key that stands in the file.
 #![tactic(auto)]
 
 mod fault;

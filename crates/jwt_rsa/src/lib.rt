@@ -15,7 +15,7 @@
 //!
 //! Keys are taken whose modulus is odd and has 2,048 to 8,192 bits, and whose exponent is odd, at least 3 and of at most eight
 //! octets; with any other, no signature is valid. Nothing here allocates, so no verifier answers NoMemory. Verifying has no
-//! secret: of time nothing is promised.
+//! secret: nothing is promised of time.
 #![tactic(auto)]
 
 pub use verifier::{Pkcs1, Pss, Rsa};

@@ -252,11 +252,16 @@ fn judged_with(
     document: &str,
     policy: &str,
     ceiling: u64,
-    counts: Counts,
 ) -> Option<String> {
     let keys = KeySet::read(alloc, document.as_bytes()).ok()?;
     let policy = Policy::read(alloc, policy.as_bytes()).ok()?;
-    judged(alloc, token, &by_hmac(&keys, &policy), ceiling, counts)
+    judged(
+        alloc,
+        token,
+        &by_hmac(&keys, &policy),
+        ceiling,
+        Counts::Down,
+    )
 }
 
 /// What `judge` says of such a token with 1,024 keys of 32 zero octets.
@@ -265,14 +270,7 @@ fn judged_all_pairs(alloc: Global, count: usize, ceiling: u64) -> Option<String>
     let key = r#"{"kty":"oct","k":"<ZEROS>"}"#;
     let keys = key_set_of(alloc, key, key).ok()?;
     let token = equal_signatures(alloc, count).ok()?;
-    judged_with(
-        alloc,
-        token.as_bytes(),
-        &keys,
-        policy,
-        ceiling,
-        Counts::Down,
-    )
+    judged_with(alloc, token.as_bytes(), &keys, policy, ceiling)
 }
 
 /// How many equal signatures, the ceiling, how the report begins, and what it has.
@@ -329,7 +327,7 @@ static KIDS: [(&str, &str, &str); 2] = [
 fn judged_kids(alloc: Global, first: &str) -> Option<String> {
     let token = b"eyJhbGciOiJIUzI1NiIsImtpZCI6IngifQ.e30.";
     let keys = key_set_of(alloc, first, r#"{"kty":"oct","k":"<ZEROS>","kid":"x"}"#).ok()?;
-    judged_with(alloc, token, &keys, HS256, AMPLE, Counts::Up)
+    judged_with(alloc, token, &keys, HS256, AMPLE)
 }
 
 /// Where the signature has a `kid`, no key that doesn't answer to it is tried.

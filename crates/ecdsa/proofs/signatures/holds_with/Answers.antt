@@ -12,5 +12,5 @@ returns-in-Some g c =
     let E = domain c.args.curve.now in
     let w = value c.args.curve.now.order c.in-Some.w in
     c.holds_at.ensures
-    ∙ holds_by_reduced E ((2 ^ 64) ^ g.row.N) (number c.args.x) (number c.args.y) (number c.args.e) (number c.reduce-rest.result) (number c.args.r) w c.reduce-rest.ensures
-    ∙ ap (holds_by E (number c.args.x) (number c.args.y) (number c.args.e) (number c.args.r)) (c.in-Some.ensures.value ∙ ap (inverse E.n) c.form-form.ensures.value)
+    ∙ holds_by_reduced E ((2 ^ 64) ^ g.row.N) (number c.args.claimed.now.x) (number c.args.claimed.now.y) (number c.args.claimed.now.e) (number c.reduce-rest.result) (number c.args.claimed.now.r) w c.reduce-rest.ensures
+    ∙ ap (holds_by E (number c.args.claimed.now.x) (number c.args.claimed.now.y) (number c.args.claimed.now.e) (number c.args.claimed.now.r)) (c.in-Some.ensures.value ∙ ap (inverse E.n) c.form-form.ensures.value)

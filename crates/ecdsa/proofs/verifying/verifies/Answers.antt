@@ -6,20 +6,20 @@ use Rattle.ecdsa.proofs.OctetVerdicts.{last_part, other_x, other_y, other_signat
 use Rattle.ecdsa.proofs.verifying.verifies.Goals as goal
 
 pub returns-then-x-octets : goal.returns-then-x-octets
-returns-then-x-octets g c = other_x (domain c.args.curve.now) c.args.octets c.args.digest.now c.args.x.now c.args.y.now c.args.signature.now c.if-x-octets.true
+returns-then-x-octets g c = other_x (domain c.args.curve.now) c.args.octets c.args.asserted.now.digest.now c.args.asserted.now.x.now c.args.asserted.now.y.now c.args.asserted.now.signature.now c.if-x-octets.true
 
 pub returns-then-y-octets : goal.returns-then-y-octets
-returns-then-y-octets g c = other_y (domain c.args.curve.now) c.args.octets c.args.digest.now c.args.x.now c.args.y.now c.args.signature.now c.if-x-octets.false c.if-y-octets.true
+returns-then-y-octets g c = other_y (domain c.args.curve.now) c.args.octets c.args.asserted.now.digest.now c.args.asserted.now.x.now c.args.asserted.now.y.now c.args.asserted.now.signature.now c.if-x-octets.false c.if-y-octets.true
 
 pub returns-then-signature-octets : goal.returns-then-signature-octets
 returns-then-signature-octets g c =
-    other_signature (domain c.args.curve.now) c.args.octets c.args.digest.now c.args.x.now c.args.y.now c.args.signature.now c.if-x-octets.false c.if-y-octets.false c.if-signature-octets.true
+    other_signature (domain c.args.curve.now) c.args.octets c.args.asserted.now.digest.now c.args.asserted.now.x.now c.args.asserted.now.y.now c.args.asserted.now.signature.now c.if-x-octets.false c.if-y-octets.false c.if-signature-octets.true
 
 pub returns : goal.returns
 returns g c =
-    let signature = c.args.signature.now in
+    let signature = c.args.asserted.now.signature.now in
     c.holds.ensures
-    ∙ tested (domain c.args.curve.now) c.args.octets c.args.digest.now c.args.x.now c.args.y.now signature (number c.from_octets-key_x.result) (number c.from_octets-key_y.result)
+    ∙ tested (domain c.args.curve.now) c.args.octets c.args.asserted.now.digest.now c.args.asserted.now.x.now c.args.asserted.now.y.now signature (number c.from_octets-key_x.result) (number c.from_octets-key_y.result)
     (number c.from_octets-e.result) (number c.from_octets-r.result) (number c.from_octets-s.result) c.if-x-octets.false c.if-y-octets.false c.if-signature-octets.false
     c.from_octets-key_x.ensures.is c.from_octets-key_y.ensures.is c.from_octets-e.ensures.is c.from_octets-r.ensures.is
     (c.from_octets-s.ensures.is ∙ ap (number_from_digits 256) (last_part signature c.args.octets c.args.octets c.if-signature-octets.false))

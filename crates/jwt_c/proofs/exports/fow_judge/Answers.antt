@@ -6,23 +6,23 @@ use Rattle.jwt_c.proofs.exports.fow_judge.Goals as goal
 
 pub returns-clause-judged : goal.returns-clause-judged
 returns-clause-judged c =
-    let said = c.judge_desk-said.result in let x = c.args.token.now in let kept = c.judge_desk-said.new.desk in
-    subst (λ o. IfSome o (λ d. said.verdict ≤ 1 → IsJudgedBy d c.args.now x said c.of.result.desk)) (sym c.in-Some.ensures.held)
-    (λ small. subst (λ o. IsJudgedBy c.in-Some.desk.value c.args.now x said o) (sym c.of.ensures)
+    let said = c.judge_state-said.result in let x = c.args.token.now in let kept = c.judge_state-said.new.state in
+    subst (λ o. IfSome o (λ d. said.verdict ≤ 1 → IsJudgedBy d c.args.now x said c.of.result.state)) (sym c.in-Some.ensures.held)
+    (λ small. subst (λ o. IsJudgedBy c.in-Some.state.value c.args.now x said o) (sym c.of.ensures)
     (subst (λ d. IsJudged d c.args.now x said kept.last) c.deref_mut.ensures.value
-    (subst (λ n. IsJudged c.deref_mut.result.now n x said kept.last) (to_z-of_z c.ranges.now) (c.judge_desk-said.ensures.judged small))))
+    (subst (λ n. IsJudged c.deref_mut.result.now n x said kept.last) (to_z-of_z c.ranges.now) (c.judge_state-said.ensures.judged small))))
 
 pub returns-clause-asks : goal.returns-clause-asks
 returns-clause-asks c =
-    let said = c.judge_desk-said.result in let x = c.args.token.now in let kept = c.judge_desk-said.new.desk in
-    subst (λ o. IfSome o (λ d. said.verdict ≡ 2 → IsAskedBy d c.args.now x said c.of.result.desk)) (sym c.in-Some.ensures.held)
-    (λ asks. subst (λ o. IsAskedBy c.in-Some.desk.value c.args.now x said o) (sym c.of.ensures)
+    let said = c.judge_state-said.result in let x = c.args.token.now in let kept = c.judge_state-said.new.state in
+    subst (λ o. IfSome o (λ d. said.verdict ≡ 2 → IsAskedBy d c.args.now x said c.of.result.state)) (sym c.in-Some.ensures.held)
+    (λ asks. subst (λ o. IsAskedBy c.in-Some.state.value c.args.now x said o) (sym c.of.ensures)
     (subst (λ d. IsAsked d c.args.now x said kept.last) c.deref_mut.ensures.value
-    (subst (λ n. IsAsked c.deref_mut.result.now n x said kept.last) (to_z-of_z c.ranges.now) (c.judge_desk-said.ensures.asks asks))))
+    (subst (λ n. IsAsked c.deref_mut.result.now n x said kept.last) (to_z-of_z c.ranges.now) (c.judge_state-said.ensures.asks asks))))
 
 pub returns-clause-remembers : goal.returns-clause-remembers
 returns-clause-remembers c =
-    let kept = c.judge_desk-said.new.desk in let is = c.judge_desk-said.ensures in
-    subst (λ o. IfSome o (λ d. RemembersTold d c.of.result.desk)) (sym c.in-Some.ensures.held)
-    (subst (λ o. RemembersTold c.in-Some.desk.value o) (sym c.of.ensures)
+    let kept = c.judge_state-said.new.state in let is = c.judge_state-said.ensures in
+    subst (λ o. IfSome o (λ d. RemembersTold d c.of.result.state)) (sym c.in-Some.ensures.held)
+    (subst (λ o. RemembersTold c.in-Some.state.value o) (sym c.of.ensures)
     (subst (λ d. RemembersTold d (Some kept)) c.deref_mut.ensures.value (is.stays, is.room, is.grounds)))

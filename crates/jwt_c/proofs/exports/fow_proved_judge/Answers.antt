@@ -6,15 +6,15 @@ use Rattle.jwt_c.proofs.exports.fow_proved_judge.Goals as goal
 
 pub returns-clause-judged : goal.returns-clause-judged
 returns-clause-judged c =
-    let said = c.prove_desk-said.result in let x = c.args.token.now in let kept = c.prove_desk-said.new.desk in
-    subst (λ o. IfSome o (λ d. said.verdict ≤ 1 → IsProvedBy d c.args.now x said c.of.result.desk)) (sym c.in-Some.ensures.held)
-    (λ small. subst (λ o. IsProvedBy c.in-Some.desk.value c.args.now x said o) (sym c.of.ensures)
+    let said = c.prove_state-said.result in let x = c.args.token.now in let kept = c.prove_state-said.new.state in
+    subst (λ o. IfSome o (λ d. said.verdict ≤ 1 → IsProvedBy d c.args.now x said c.of.result.state)) (sym c.in-Some.ensures.held)
+    (λ small. subst (λ o. IsProvedBy c.in-Some.state.value c.args.now x said o) (sym c.of.ensures)
     (subst (λ d. IsProved d.grounds c.args.now x said kept.last) c.deref_mut.ensures.value
-    (subst (λ n. IsProved c.deref_mut.result.now.grounds n x said kept.last) (to_z-of_z c.ranges.now) (c.prove_desk-said.ensures.judged small))))
+    (subst (λ n. IsProved c.deref_mut.result.now.grounds n x said kept.last) (to_z-of_z c.ranges.now) (c.prove_state-said.ensures.judged small))))
 
 pub returns-clause-remembers : goal.returns-clause-remembers
 returns-clause-remembers c =
-    let kept = c.prove_desk-said.new.desk in let is = c.prove_desk-said.ensures in
-    subst (λ o. IfSome o (λ d. RemembersProved d c.of.result.desk)) (sym c.in-Some.ensures.held)
-    (subst (λ o. RemembersProved c.in-Some.desk.value o) (sym c.of.ensures)
+    let kept = c.prove_state-said.new.state in let is = c.prove_state-said.ensures in
+    subst (λ o. IfSome o (λ d. RemembersProved d c.of.result.state)) (sym c.in-Some.ensures.held)
+    (subst (λ o. RemembersProved c.in-Some.state.value o) (sym c.of.ensures)
     (subst (λ d. RemembersProved d (Some kept)) c.deref_mut.ensures.value (is.room, is.memory)))

@@ -16,7 +16,7 @@ use Rattle.jwt_c.proofs.judging.report_on.Goals as goal
 
 pub returns-in-Ok-judging_of-clause-judged : goal.returns-in-Ok-judging_of-clause-judged
 returns-in-Ok-judging_of-clause-judged c _ =
-    let d = c.args.desk.now in let x = c.args.octets.now in let o = c.in-Ok.outcome in let r = report_in o in let ts = told d.answers in
+    let d = c.args.state.now in let x = c.args.octets.now in let o = c.in-Ok.outcome in let r = report_in o in let ts = told d.answers in
     let lent = c.documents-documents.result.now in let is = c.in-Ok-judging_of.ensures in let last = c.in-Ok-judging_of.judging.last in
     let rests : RestsOn last.remembered ts d.memory (documents d) c.args.now x r =
     subst (λ b. RestsOn b ts d.memory (documents d) c.args.now x r) (sym is.remembered)
@@ -37,11 +37,11 @@ returns-in-Ok-judging_of-clause-claims c h =
 
 pub returns-in-Ok-judging_of-clause-stays : goal.returns-in-Ok-judging_of-clause-stays
 returns-in-Ok-judging_of-clause-stays c =
-    subst (λ it. StaysTrue (told c.args.desk.now.answers) it c.args.desk.now.memory c.outcome_of.new.memory) c.documents-documents.ensures c.outcome_of.ensures.stays
+    subst (λ it. StaysTrue (told c.args.state.now.answers) it c.args.state.now.memory c.outcome_of.new.memory) c.documents-documents.ensures c.outcome_of.ensures.stays
 
 pub returns-in-Ok-asking-clause-asks : goal.returns-in-Ok-asking-clause-asks
 returns-in-Ok-asking-clause-asks c _ =
-    let d = c.args.desk.now in let x = c.args.octets.now in let by : List Meaning = told_meaning (told d.answers) ∷ [] in
+    let d = c.args.state.now in let x = c.args.octets.now in let by : List Meaning = told_meaning (told d.answers) ∷ [] in
     let lent = c.documents-documents.result.now in
     let ts = told d.answers in let read = token_of lent.policy x in let keys = (key_set lent.keys).keys in
     let q = c.in-Err.asks in let said = c.in-Ok-asking.judging.said in let last = c.in-Ok-asking.judging.last in let es = tries_kept last in
@@ -66,12 +66,12 @@ returns-in-Ok-asking-clause-asks c _ =
 
 pub returns-in-Ok-asking-clause-stays : goal.returns-in-Ok-asking-clause-stays
 returns-in-Ok-asking-clause-stays c =
-    subst (λ it. StaysTrue (told c.args.desk.now.answers) it c.args.desk.now.memory c.outcome_of.new.memory) c.documents-documents.ensures c.outcome_of.ensures.stays
+    subst (λ it. StaysTrue (told c.args.state.now.answers) it c.args.state.now.memory c.outcome_of.new.memory) c.documents-documents.ensures c.outcome_of.ensures.stays
 
 pub returns-in-Err-judging_of-clause-stays : goal.returns-in-Err-judging_of-clause-stays
 returns-in-Err-judging_of-clause-stays c =
-    subst (λ it. StaysTrue (told c.args.desk.now.answers) it c.args.desk.now.memory c.outcome_of.new.memory) c.documents-documents.ensures c.outcome_of.ensures.stays
+    subst (λ it. StaysTrue (told c.args.state.now.answers) it c.args.state.now.memory c.outcome_of.new.memory) c.documents-documents.ensures c.outcome_of.ensures.stays
 
 pub returns-in-Err-asking-clause-stays : goal.returns-in-Err-asking-clause-stays
 returns-in-Err-asking-clause-stays c =
-    subst (λ it. StaysTrue (told c.args.desk.now.answers) it c.args.desk.now.memory c.outcome_of.new.memory) c.documents-documents.ensures c.outcome_of.ensures.stays
+    subst (λ it. StaysTrue (told c.args.state.now.answers) it c.args.state.now.memory c.outcome_of.new.memory) c.documents-documents.ensures c.outcome_of.ensures.stays

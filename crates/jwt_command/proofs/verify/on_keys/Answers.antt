@@ -14,7 +14,7 @@ pub returns-in-Err-TooLong-clause-line : goal.returns-in-Err-TooLong-clause-line
 returns-in-Err-TooLong-clause-line g c =
     IfSome_then (g.R.Source.remaining c.args.r.now) c.in-Err-TooLong.ensures.fails
     (λ x h. let long = rw c.in-Err-TooLong.field-0-is at h in
-    subst (λ (a : Answer). IfOk c.printed_keys_fault.result (λ r. reply_view r ≡ a)) (keys_line_too_long (printer c.args.printing) (map (λ b. (goal.Verifier-dyn g (b.vtable, b.value)).meaning b.value) c.args.verifiers.now) c.args.now.seconds (held_view c.args.held) c.args.policy.now x _ long.1 long.0) c.printed_keys_fault.ensures)
+    subst (λ (a : Answer). IfOk c.printed_keys_fault.result (λ r. reply_view r ≡ a)) (keys_line_too_long (printer c.args.manner.now.printing) (map (λ b. (goal.Verifier-dyn g (b.vtable, b.value)).meaning b.value) c.args.manner.now.verifiers.now) c.args.manner.now.moment.seconds (held_view c.args.held) c.args.policy.now x _ long.1 long.0) c.printed_keys_fault.ensures)
 
 pub returns-in-Err-TooLong-clause-stops : goal.returns-in-Err-TooLong-clause-stops
 returns-in-Err-TooLong-clause-stops g c = IfSome_then (g.R.Source.remaining c.args.r.now) c.in-Err-TooLong.ensures.taken (λ x h. document_stops 4194304 (behind_keys (token_most (held_view c.args.held) c.args.policy.now) (key_set_of (document (held_view c.args.held).keys x))) (held_view c.args.held).keys x _ _ h)

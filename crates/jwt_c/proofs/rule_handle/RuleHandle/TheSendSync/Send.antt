@@ -1,4 +1,4 @@
--- The handle of a rule may go to another thread, since its desk may.
+-- The handle of a rule may go to another thread, since its state may.
 use Rattle.std.specs.Prelude.{Bool, true, false, Option, Some, None}
 use mir.Raw.{raw}
 use base.Shift.{Keyless}
@@ -12,12 +12,12 @@ use Rattle.std.proofs.Crossing as heap
 use Rattle.std_alloc.proofs.SendSync.{quiet, lies}
 use Rattle.std_heap.proofs.Global.TheSendSync as global
 use Rattle.jwt_c.specs.RuleHandles.{rule_handle_owns}
-use Rattle.jwt_c.specs.contracts.rule_desk.RuleDesk as desk
-use Rattle.jwt_c.proofs.rule_desk.RuleDesk.TheSendSync.{the_send}
+use Rattle.jwt_c.specs.contracts.rule_state.RuleState as state
+use Rattle.jwt_c.proofs.rule_state.RuleState.TheSendSync.{the_send}
 use Rattle.jwt_c.specs.contracts.rule_handle.RuleHandle.{the_row, the_type}
 
-owned : (a : Global) (held : Bool) (p : Ptr) (d : Option desk.the_row.Denot) → Keyless (rule_handle_owns a held p d)
-owned a true p (Some x) = (lies desk.the_row the_send p x, heap.frees.frees a (raw (lone desk.the_row.mir)) p)
+owned : (a : Global) (held : Bool) (p : Ptr) (d : Option state.the_row.Denot) → Keyless (rule_handle_owns a held p d)
+owned a true p (Some x) = (lies state.the_row the_send p x, heap.frees.frees a (raw (lone state.the_row.mir)) p)
 owned a true p None = tt
 owned a false p (Some x) = tt
 owned a false p None = tt
@@ -25,5 +25,5 @@ owned a false p None = tt
 pub send : IsSend the_row
 send =
     let all : AllSend (fields the_type) = (search sendable, (search sendable, (global.the_field_send, tt))) in
-    owning_send the_type all (λ d. owned d.alloc d.held d.at d.desk)
+    owning_send the_type all (λ d. owned d.alloc d.held d.at d.state)
     (λ k. quiet (to the_type) (exits_of k (fields the_type)) ((struct_send (shape the_type) all).leaving k))

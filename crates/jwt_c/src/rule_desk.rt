@@ -1,9 +1,0 @@
-//! The state behind the handle of an access rule.
-
-use jwt_access::AccessRule;
-
-/// An access rule that was read.
-#[derive(Drop)]
-pub struct RuleDesk {
-    pub(crate) rule: AccessRule,
-}

@@ -1,0 +1,48 @@
+//! The state of a validator.
+
+use crate::grounds::Grounds;
+use jwt_memory::{Basis, Memory};
+use jwt_policy::Claims;
+use jwt_text::Scratch;
+use jwt_told::{Answers, OwnedQuestion};
+use jwt_verify::{SigState, Try};
+use std::sync::Arc;
+
+/// What a report has beside its numbers.
+#[derive(Drop)]
+pub enum Evidence {
+    /// It is the state's own, with the claims of an acceptance.
+    Own {
+        states: Vec<SigState>,
+        tries: Vec<Try>,
+        claims: Option<Claims>,
+    },
+    /// A memory shares it. The claims count where the token is accepted.
+    Shared {
+        basis: Arc<Basis>,
+        accepted: bool,
+    },
+}
+
+/// What is kept of the last judging.
+#[derive(Drop)]
+pub struct Last {
+    pub(crate) evidence: Evidence,
+    pub(crate) missing: Vec<u8>,
+    /// What it asks.
+    pub(crate) asked: Option<OwnedQuestion>,
+    /// Whether it came out of a memory: then nothing was tried in it.
+    pub(crate) remembered: bool,
+}
+
+/// What a validator holds: documents, which those beside it hold too, with the memory of tokens that the proved verifiers accepted; the
+/// answers; the memory of tokens that were accepted by answers; what is kept of the last judging; and scratch memory for reading, whose
+/// contents affect nothing. The scratch is large, and so in a box of its own: a state is moved over the stack.
+#[derive(Drop)]
+pub struct State {
+    pub(crate) grounds: Grounds,
+    pub(crate) answers: Answers,
+    pub(crate) memory: Option<Memory>,
+    pub(crate) last: Last,
+    pub(crate) scratch: Box<Scratch>,
+}

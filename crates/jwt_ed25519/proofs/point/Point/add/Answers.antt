@@ -1,6 +1,0 @@
-use Rattle.jwt_ed25519.specs.Points.{add}
-use Rattle.jwt_ed25519.proofs.point.Point.add.Goals as goal
-
-pub returns : goal.returns
-unfolding add
-returns c = cc
