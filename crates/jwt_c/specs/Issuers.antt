@@ -1,4 +1,4 @@
--- What is told of a validator's documents, and of the issuer that a token names: for keys by URL, and for several issuers.
+-- Public documents, and the issuer that a token names: for keys by URL, and for several issuers.
 use Rattle.std.specs.Prelude.{◌≡◌, ◌≢◌, ℕ, List, [], ◌∷◌, Bool, not, ◌&&◌, codes, Option, Some, None, Result, Ok, Err}
 use Rattle.std.specs.List.{list_any}
 use Rattle.serde_json.specs.Data.{Members}

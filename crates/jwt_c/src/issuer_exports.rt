@@ -1,4 +1,4 @@
-//! What C calls for keys by URL, and for several issuers.
+//! The functions that C calls for keys by URL, and for several issuers.
 
 ghost use Rattle.jwt_c.specs.declared.status.TheConstants.{FOW_ABSENT, FOW_NOT_OPEN, FOW_OK};
 ghost use Rattle.std.specs.Prelude.{◌≡◌, IfSome, IsUtf8, None, false};

@@ -1,4 +1,4 @@
-//! What is told of a validator's documents, and of the issuer that a token names.
+//! The documents of a validator as public ones, and the issuer that a token names.
 
 ghost use Rattle.jwt_c.specs.declared.status.TheConstants.{FOW_ABSENT};
 ghost use Rattle.std.specs.Prelude.{◌≡◌, IsUtf8, codes, false, map, option_map, slice_get, string_bytes};

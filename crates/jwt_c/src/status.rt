@@ -1,4 +1,4 @@
-//! What an exported function answers: `enum fow_status` of the header.
+//! The answers of the exported functions: `enum fow_status` of the header.
 
 /// Done. Of a verdict: the token is accepted.
 pub const FOW_OK: u32 = 0;
