@@ -12,7 +12,6 @@ pub mod Ecdsa
 pub mod Limbs
 -- the primes of P-256 and P-521 (NIST SP 800-186, sections 3.2.1.3 and 3.2.1.5)
 pub mod Primes
-
 -- ---- What laws alone cite
 
 -- congruence modulo m, and what has an inverse
@@ -25,7 +24,6 @@ pub mod Stands
 pub mod Domains
 -- the doubles of a curve's base point, as a table has them
 pub mod Doubles
-
 -- ---- What contracts of private functions alone cite, which nobody has to believe
 
 -- the invariant of Euclid's algorithm, of x and the modulus m

@@ -20,12 +20,10 @@ pub mod FaultNames
 pub mod Claims
 -- the table of rows of why claims don't meet a rule, which a law says in words
 pub mod Denials
-
 -- ---- What laws alone cite
 
 -- the document of a rule, in words
 pub mod RuleTexts
-
 -- ---- What contracts of private functions alone cite, which nobody has to believe
 
 -- the parts of a rule as contracts see them

@@ -26,7 +26,6 @@ pub mod RunLines
 pub mod Jwk
 -- the end of a run of the command
 pub mod Runs
-
 -- ---- What contracts of private functions alone cite, which nobody has to believe
 
 -- a command's input

@@ -14,7 +14,6 @@ pub mod Encoding
 pub mod Verifying
 -- the meaning of this crate's verifier
 pub mod Meanings
-
 -- ---- What contracts of private functions alone cite, which nobody has to believe
 
 -- numbers of 256 bits, as four limbs of 64

@@ -14,7 +14,6 @@ pub mod Paying
 pub mod Signed
 -- this crate's values as contracts see them
 pub mod Views
-
 -- ---- What contracts of private functions alone cite, which nobody has to believe
 
 -- tokens with one signature, in either form that has just one

@@ -6,7 +6,6 @@ pub mod Jwk
 pub mod Converted
 -- the names of faults, and the commands that make a public key of what is refused
 pub mod FaultNames
-
 -- ---- What contracts of private functions alone cite, which nobody has to believe
 
 -- the faults of a text that is no single block

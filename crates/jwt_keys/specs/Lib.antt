@@ -20,12 +20,10 @@ pub mod Views
 pub mod KeySets
 -- the names of faults and of reasons
 pub mod FaultNames
-
 -- ---- What laws alone cite
 
 -- laws over the definitions
 pub mod Laws
-
 -- ---- What contracts of private functions alone cite, which nobody has to believe
 
 -- the result of reading an entry of a key set, where memory suffices

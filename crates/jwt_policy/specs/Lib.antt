@@ -22,7 +22,6 @@ pub mod Document
 pub mod FaultNames
 -- the laws of the tables, in words
 pub mod Laws
-
 -- ---- What contracts of private functions alone cite, which nobody has to believe
 
 -- the ranges of a policy's numbers, and that it allows an algorithm

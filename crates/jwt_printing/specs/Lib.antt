@@ -28,7 +28,6 @@ pub mod Mac
 pub mod Printer
 -- this crate's own values as contracts see them
 pub mod Views
-
 -- ---- What contracts of private functions alone cite, which nobody has to believe
 
 -- the tokens of the objects that are printed, as they are written one by one

@@ -8,7 +8,6 @@ pub mod Words
 pub mod InHand
 -- the crate's own types as contracts see them
 pub mod Seen
-
 -- ---- What contracts of private functions alone cite, which nobody has to believe
 
 -- the requests of some examples of words
