@@ -52,8 +52,8 @@ def java(room):
     jar = next((BUILD / "java").glob("fowharimu-*.jar"))
     source = TOP / "bindings/java/test/RemoteCases.java"
     subprocess.run(["javac", "-Xlint:all", "-Werror", "-cp", str(jar), "-d", str(room / "java"), str(source)], check=True)
-    # (a heap that doesn't grow by itself)
-    return ["java", "-Xms64m", "-Xmx64m", "-XX:+UseSerialGC", "-XX:+AlwaysPreTouch", "-cp", f"{jar}:{room / 'java'}", "RemoteCases"], {}
+    # (with a heap that has its whole size at once, and by one of Java's two compilers: the other one takes memory for itself as it goes)
+    return ["java", "-Xms64m", "-Xmx64m", "-XX:+UseSerialGC", "-XX:+AlwaysPreTouch", "-XX:TieredStopAtLevel=1", "-cp", f"{jar}:{room / 'java'}", "RemoteCases"], {}
 
 
 def rust(room):

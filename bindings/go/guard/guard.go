@@ -23,7 +23,7 @@ const (
 // ErrForm says that what stands behind the scheme is no b64token (RFC 6750, section 2.1).
 var ErrForm = errors.New("guard: the credentials are no b64token")
 
-// Validator is what a guard asks: a *fowharimu.Validator, or *fowharimu.RemoteKeys.
+// Validator is what a guard asks: a *fowharimu.Validator, *fowharimu.RemoteKeys, or *fowharimu.Issuers.
 type Validator interface {
 	Validate(token string) (fowharimu.Claims, error)
 	ValidateFor(token string, access *fowharimu.Access) (fowharimu.Claims, error)

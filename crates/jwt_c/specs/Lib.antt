@@ -20,7 +20,7 @@ pub mod Access
 pub mod Asking
 -- the ownership of a validator's handle
 pub mod Handles
--- what is told of a validator's documents, and of the issuer that a token names
+-- public documents, and the issuer that a token names
 pub mod Issuers
 -- issuing by a validator, in the numbers of the header
 pub mod Issuing
