@@ -9,7 +9,7 @@ use Rattle.jwt_words.specs.Seen.{IsWrong, requested}
 use Rattle.jwt_words.specs.declared.words.Request.{Request as CodeRequest}
 use Rattle.jwt_words.specs.declared.words.WordsFault.{WordsFault}
 use Rattle.jwt_words.specs.declared.words.WordsFault.TheVariants.{OutOfMemory as NoMemory, Wrong}
-use Rattle.jwt_words.specs.Words.{EachLine, Jwk, NewSecret, Once, Request}
+use Rattle.jwt_words.specs.Words.{EachLine, Jwk, NewSecret, Once, Policy, Pretty, Request}
 
 pub gives_reply : {A E : Type 0} (view : A → Answer) (reply : Result A E) (a : Answer) (o : Outcome) → IfOk reply (λ r. view r ≡ a)
     → IfOk reply (λ r. Printed (view r) o) → IfErr reply (λ e. Printed out_of_memory o) → Gives a o.before o.after o.failed o.status
@@ -35,6 +35,11 @@ pub gives_known : {A E : Type 0} (view : A → Answer) (reply : Result A E) (kno
 gives_known view reply None answer o is printed lacks = tt
 gives_known view reply (Some x) answer o is printed lacks = gives_reply view reply (answer x) o is printed lacks
 
+-- what holds of every source
+pub whatever : (known : Option (List ℕ)) (P : Type 0) → P → IfSome known (λ x. P)
+whatever None P p = tt
+whatever (Some x) P p = p
+
 -- want of memory ends each run
 pub lacks_memory : (built_in : List Meaning) (says : ℕ → List ℕ → ℕ → Type 0) (held : Held) (q : Option Request) (x : List ℕ) (fails : Bool) (o : Outcome) → Printed out_of_memory o → Runs built_in says held q x fails o
 lacks_memory built_in says held None x fails o printed = inr printed
@@ -42,6 +47,8 @@ lacks_memory built_in says held (Some (Once printing order)) x fails o printed =
 lacks_memory built_in says held (Some (EachLine order)) x fails o printed = inl printed
 lacks_memory built_in says held (Some (Jwk order)) x fails o printed = inl printed
 lacks_memory built_in says held (Some (NewSecret order)) x fails o printed = inr printed
+lacks_memory built_in says held (Some (Policy order)) x fails o printed = inr printed
+lacks_memory built_in says held (Some (Pretty order)) x fails o printed = inl printed
 
 pub lacks_known : (built_in : List Meaning) (says : ℕ → List ℕ → ℕ → Type 0) (held : Held) (q : Option Request) (known : Option (List ℕ)) (fails : Bool) (o : Outcome) → Printed out_of_memory o
     → IfSome known (λ x. Runs built_in says held q x fails o)

@@ -1,15 +1,18 @@
-use Rattle.std.proofs.Common.{rules, ◌≡◌, ◌∙◌, ◌⊎◌, ap, sym, subst, map, Option, Some, IfSome, true}
-use Rattle.jwt_words.specs.Seen.{requested, seen, held_view, jwk_view, pretty_view, secret_view}
+use Rattle.std.proofs.Common.{rules, ◌≡◌, ◌∙◌, ◌⊎◌, ap, sym, subst, map, Option, Some, IfSome, [], true, false}
+use Rattle.jwt_command.specs.RunLines.{Outcome}
+use Rattle.jwt_words.specs.Seen.{requested, seen, held_view, jwk_view, policy_view, pretty_view, secret_view}
 use Rattle.jwt_command.specs.Jwk.{JwkAnswer, jwk_most}
+use Rattle.jwt_command.specs.Policy.{policy_answer}
 use Rattle.jwt_command.specs.Pretty.{PrettyAnswer, pretty_most}
 use Rattle.jwt_command.specs.Answered.{answer_of}
 use Rattle.jwt_words.specs.declared.words.Request.TheVariants as request
 use Rattle.jwt_text.specs.Intake.{TakesAtMost}
 use Rattle.jwt_command.specs.Runs.{Runs}
 use Rattle.jwt_command.specs.Stops.{most_taken}
+use Rattle.jwt_printing.specs.Printed.{Gives}
 use Rattle.jwt_printing.specs.Views.{reply_view}
-use Rattle.jwt_words.specs.Words.{Jwk, JwkOrder, NewSecret, Once, Order, Pretty, PrettyOrder, Request}
-use Rattle.jwt_command.proofs.Printing.{gives_known, gives_reply, some_known}
+use Rattle.jwt_words.specs.Words.{Jwk, JwkOrder, NewSecret, Once, Order, Policy, Pretty, PrettyOrder, Request}
+use Rattle.jwt_command.proofs.Printing.{gives_known, gives_reply, some_known, whatever}
 use Rattle.jwt_command.proofs.run.run_read.Goals as goal
 
 pub returns-in-Ok-Once-clause-answer : goal.returns-in-Ok-Once-clause-answer
@@ -59,3 +62,22 @@ returns-in-Ok-Pretty-clause-pretty_stops g c = λ order reading.
     let is : Some (Pretty order) ≡ Some (Pretty (pretty_view c.in-Ok-Pretty.order)) = read ∙ ap (λ q. Some (requested q)) whole in
     let same : pretty_view c.in-Ok-Pretty.order ≡ order = cc is in
     subst (λ (o : PrettyOrder). IfSome (g.R.Source.remaining c.args.r.now) (λ x. (g.R.Source.failed c.show_pretty.new.r ≡ true) ⊎ TakesAtMost (pretty_most o) x (g.R.Source.remaining c.show_pretty.new.r))) same c.show_pretty.ensures.taken
+
+pub returns-in-Ok-Policy-clause-answer : goal.returns-in-Ok-Policy-clause-answer
+returns-in-Ok-Policy-clause-answer g c = λ asked reading.
+    let vs = map (λ b. (goal.Verifier-dyn g (b.vtable, b.value)).meaning b.value) c.args.built_in.now in
+    let is : asked ≡ Some (Policy (policy_view c.in-Ok-Policy.order)) = search rules in
+    let outcome : Outcome = record { before = g.W.Sink.contents c.args.w.now; after = g.W.Sink.contents c.give-in-Ok-Policy.new.w; failed = g.W.Sink.failed c.give-in-Ok-Policy.new.w; status = c.give-in-Ok-Policy.result } in
+    let answer = policy_answer vs (policy_view c.in-Ok-Policy.order) (held_view c.args.held) in
+    let gives = gives_reply reply_view c.policy.result answer outcome c.policy.ensures c.give-in-Ok-Policy.ensures.ok c.give-in-Ok-Policy.ensures.err in
+    subst (λ (q : Option Request). IfSome (g.R.Source.remaining c.args.r.now) (λ x. Runs vs g.C.Clock.says (held_view c.args.held) q x (g.R.Source.failed c.args.r.now) outcome)) (sym is)
+    (whatever (g.R.Source.remaining c.args.r.now) (Gives answer outcome.before outcome.after outcome.failed outcome.status) gives)
+
+pub returns-in-Ok-Policy-clause-known : goal.returns-in-Ok-Policy-clause-known
+returns-in-Ok-Policy-clause-known g c = λ asked reading unread.
+    let vs = map (λ b. (goal.Verifier-dyn g (b.vtable, b.value)).meaning b.value) c.args.built_in.now in
+    let is : asked ≡ Some (Policy (policy_view c.in-Ok-Policy.order)) = search rules in
+    let outcome : Outcome = record { before = g.W.Sink.contents c.args.w.now; after = g.W.Sink.contents c.give-in-Ok-Policy.new.w; failed = g.W.Sink.failed c.give-in-Ok-Policy.new.w; status = c.give-in-Ok-Policy.result } in
+    let answer = policy_answer vs (policy_view c.in-Ok-Policy.order) (held_view c.args.held) in
+    let gives = gives_reply reply_view c.policy.result answer outcome c.policy.ensures c.give-in-Ok-Policy.ensures.ok c.give-in-Ok-Policy.ensures.err in
+    subst (λ (q : Option Request). Runs vs g.C.Clock.says (held_view c.args.held) q [] false outcome) (sym is) gives
