@@ -74,12 +74,7 @@ fn put_notes(
 }
 
 /// Whether this is to be advised of the policy, or of the policy with its keys.
-fn is_whole(
-    advice: Advice,
-    policy: &Policy,
-    keys: &KeySet,
-    verifiers: &[Box<dyn Verifier>],
-) -> bool
+fn is_whole(advice: Advice, policy: &Policy, keys: &KeySet, verifiers: &[Box<dyn Verifier>]) -> bool
     ensures { result ≡ (policy_advises advice policy.now
         || set_advises advice policy.now (map meaning verifiers.now) (key_set keys.now).keys) }
 {

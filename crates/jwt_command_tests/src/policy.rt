@@ -38,7 +38,15 @@ fn ran_policy(
         ..Held::none()
     };
     let mut r = Reader::new(&b"unread"[..]);
-    ran_with(alloc, words, verifiers.as_slice(), None, &mut NoClock, held, &mut r)
+    ran_with(
+        alloc,
+        words,
+        verifiers.as_slice(),
+        None,
+        &mut NoClock,
+        held,
+        &mut r,
+    )
 }
 
 /// Words, a policy, a key set, what `policy` prints of the two, and its status. Names in angle brackets are those of [`filled`].
@@ -422,10 +430,21 @@ fn policy_prints_what_is_advised(rt: HostRuntime) -> Result<(), Fail> {
 /// In JSON the algorithms, the bounds and what is advised stand beside the members.
 #[test]
 fn policy_prints_json(rt: HostRuntime) -> Result<(), Fail> {
-    let keys = filled(rt.alloc(), r#"{"keys":[{"kty":"oct","k":"<KEY_A>","kid":"a"},{"kty":"RSA","n":"<RSA_N>","e":"AQAB","d":"AQAB","kid":"b"}]}"#)?;
-    let found = ran_policy(rt.alloc(), KEYS_IN_JSON, Some(r#"{"version":2,"algs":["HS256"],"need_kid":true,"max_calls":0}"#), Some(keys.as_str()))?;
+    let keys = filled(
+        rt.alloc(),
+        r#"{"keys":[{"kty":"oct","k":"<KEY_A>","kid":"a"},{"kty":"RSA","n":"<RSA_N>","e":"AQAB","d":"AQAB","kid":"b"}]}"#,
+    )?;
+    let found = ran_policy(
+        rt.alloc(),
+        KEYS_IN_JSON,
+        Some(r#"{"version":2,"algs":["HS256"],"need_kid":true,"max_calls":0}"#),
+        Some(keys.as_str()),
+    )?;
     let (_, behind) = found.out.split_once("}},").ok_or("no members")?;
-    assert_eq!(rt; behind, "\"algorithms\":[{\"alg\":\"HS256\",\"keys\":1}],\"unused\":[1],\"bounds\":{\"work\":66816,\"calls\":8,\"work_ceiling\":1048576,\"calls_ceiling\":0},\"advice\":[{\"name\":\"NoExp\"},{\"name\":\"NoIssuers\"},{\"name\":\"NoAudiences\"},{\"name\":\"NoTyp\"},{\"name\":\"UncheckedSignatures\"},{\"name\":\"LowCalls\"},{\"name\":\"UnusedKey\",\"key\":1},{\"name\":\"PrivateMember\",\"entry\":1}]}\n");
+    assert_eq!(rt;
+        behind,
+        "\"algorithms\":[{\"alg\":\"HS256\",\"keys\":1}],\"unused\":[1],\"bounds\":{\"work\":66816,\"calls\":8,\"work_ceiling\":1048576,\"calls_ceiling\":0},\"advice\":[{\"name\":\"NoExp\"},{\"name\":\"NoIssuers\"},{\"name\":\"NoAudiences\"},{\"name\":\"NoTyp\"},{\"name\":\"UncheckedSignatures\"},{\"name\":\"LowCalls\"},{\"name\":\"UnusedKey\",\"key\":1},{\"name\":\"PrivateMember\",\"entry\":1}]}\n"
+    );
     assert_eq!(rt; found.status, 1);
     Ok(())
 }

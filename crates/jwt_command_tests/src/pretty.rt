@@ -110,7 +110,9 @@ static SHOWN: [Row; 11] = [
     // Characters of Cc, Cf, Zl and Zp, and above U+FFFF, in the payload and in the header.
     Row {
         words: PRETTY,
-        input: &["eyJhbGciOiJIU-KAjjI1NiIsInR5cCI6IkpXVCJ9.eyJzdWIiOiJhwoXigI7igK7igKjigKnzoICBf8Kt2JzDpPCfmIBcdTAwMWJcIlxcL1x0IiwiZXhwIjoxMzAwODE5MzgwLCJuIjpbMS41MCwtMCx0cnVlLGZhbHNlLG51bGwse31dLCJvIjp7IuKAi2siOltdfX0.AQAB"],
+        input: &[
+            "eyJhbGciOiJIU-KAjjI1NiIsInR5cCI6IkpXVCJ9.eyJzdWIiOiJhwoXigI7igK7igKjigKnzoICBf8Kt2JzDpPCfmIBcdTAwMWJcIlxcL1x0IiwiZXhwIjoxMzAwODE5MzgwLCJuIjpbMS41MCwtMCx0cnVlLGZhbHNlLG51bGwse31dLCJvIjp7IuKAi2siOltdfX0.AQAB",
+        ],
         prints: &[
             "unverified compact",
             r#"sig=0 alg="HS\u200e256" octets=3"#,
@@ -143,7 +145,9 @@ static SHOWN: [Row; 11] = [
     },
     Row {
         words: PRETTY,
-        input: &[r#"{"payload":"e30","signatures":[{"signature":"AQAB"},{"protected":"eyJhbGciOjd9","header":{"kid":"k","x":[1]},"signature":""}]}"#],
+        input: &[
+            r#"{"payload":"e30","signatures":[{"signature":"AQAB"},{"protected":"eyJhbGciOjd9","header":{"kid":"k","x":[1]},"signature":""}]}"#,
+        ],
         prints: &[
             "unverified json",
             "sig=0 alg=- octets=3",
@@ -186,7 +190,9 @@ static SHOWN: [Row; 11] = [
     // A year before 0 and one past 9999 have no date.
     Row {
         words: BEFORE,
-        input: &["e30.eyJleHAiOi02MjE2NzIxOTIwMSwiaWF0IjotNjIxNjcyMTkyMDAsIm5iZiI6MjUzNDAyMzAwODAwfQ."],
+        input: &[
+            "e30.eyJleHAiOi02MjE2NzIxOTIwMSwiaWF0IjotNjIxNjcyMTkyMDAsIm5iZiI6MjUzNDAyMzAwODAwfQ.",
+        ],
         prints: &[
             "unverified compact",
             "sig=0 alg=- octets=0",
@@ -233,17 +239,13 @@ static SHOWN: [Row; 11] = [
     Row {
         words: PRETTY,
         input: &["a.b"],
-        prints: &[
-            "refused Segments",
-        ],
+        prints: &["refused Segments"],
         status: 1,
     },
     Row {
         words: &["jwt", "show", "--pretty", "--limit", "3"],
         input: &["e30.."],
-        prints: &[
-            "refused TooLong",
-        ],
+        prints: &["refused TooLong"],
         status: 1,
     },
 ];

@@ -9,30 +9,72 @@ static POLICIES: [(&str, &str); 12] = [
     (r#"{"algs":["HS256"]}"#, ""),
     ("", "line 1, column 1: no JSON text goes on so"),
     ("[]", "it is no JSON object"),
-    ("{\n  \"algs\": [\"HS256\"],\n  \"limit\": 07\n}", "line 3, column 12: no JSON text goes on so"),
-    ("{\"algs\":[\"HS256\"]}\n{}", "line 2, column 1: no JSON text goes on so"),
-    ("{\"algs\":[\"HS256\"],\n\"mode\":\"any\",\"mode\":\"any\"}", "line 2, column 14: this name stands twice in its object"),
-    (r#"{"algs":["HS256"],"leeway":86401}"#, r#""leeway" is a whole number from 0 to 86,400 seconds"#),
-    (r#"{"algs":["HS256"],"need_kid":1}"#, r#""need_kid" is true or false"#),
-    (r#"{"algs":[]}"#, r#""algs" is a list of names of algorithms, with at least one"#),
-    (r#"{"algs":["HS256"],"max_calls":1}"#, r#""max_calls" is a whole number from 0 to 32,768, in version 2 alone"#),
-    (r#"{"algs":["HS256"],"lim\u200eit":1}"#, r#""lim\u200eit" is no member of a policy"#),
-    (r#"{"algs":["HS256"],"mode":"some"}"#, r#""mode" is "any" or "all""#),
+    (
+        "{\n  \"algs\": [\"HS256\"],\n  \"limit\": 07\n}",
+        "line 3, column 12: no JSON text goes on so",
+    ),
+    (
+        "{\"algs\":[\"HS256\"]}\n{}",
+        "line 2, column 1: no JSON text goes on so",
+    ),
+    (
+        "{\"algs\":[\"HS256\"],\n\"mode\":\"any\",\"mode\":\"any\"}",
+        "line 2, column 14: this name stands twice in its object",
+    ),
+    (
+        r#"{"algs":["HS256"],"leeway":86401}"#,
+        r#""leeway" is a whole number from 0 to 86,400 seconds"#,
+    ),
+    (
+        r#"{"algs":["HS256"],"need_kid":1}"#,
+        r#""need_kid" is true or false"#,
+    ),
+    (
+        r#"{"algs":[]}"#,
+        r#""algs" is a list of names of algorithms, with at least one"#,
+    ),
+    (
+        r#"{"algs":["HS256"],"max_calls":1}"#,
+        r#""max_calls" is a whole number from 0 to 32,768, in version 2 alone"#,
+    ),
+    (
+        r#"{"algs":["HS256"],"lim\u200eit":1}"#,
+        r#""lim\u200eit" is no member of a policy"#,
+    ),
+    (
+        r#"{"algs":["HS256"],"mode":"some"}"#,
+        r#""mode" is "any" or "all""#,
+    ),
 ];
 
 static KEY_SETS: [(&str, &str); 6] = [
     (r#"{"keys":[]}"#, ""),
     (r#"{"keys":7}"#, r#"it is no object with a list "keys""#),
-    ("{\"keys\":[\n{\"kty\":\"oct\",\"k\":\"AA\" \"x\":1}]}", "line 2, column 23: no JSON text goes on so"),
-    ("{\"keys\":[{\"k\":\"AA\"},\n{\"a\":{\"k\":1},\"k\":\"AA\",\"k\":\"AA\"}]}", "line 2, column 23: this name stands twice in its object"),
-    ("{\"keys\":[\"\t\"]}", "line 1, column 10: no JSON text goes on so"),
+    (
+        "{\"keys\":[\n{\"kty\":\"oct\",\"k\":\"AA\" \"x\":1}]}",
+        "line 2, column 23: no JSON text goes on so",
+    ),
+    (
+        "{\"keys\":[{\"k\":\"AA\"},\n{\"a\":{\"k\":1},\"k\":\"AA\",\"k\":\"AA\"}]}",
+        "line 2, column 23: this name stands twice in its object",
+    ),
+    (
+        "{\"keys\":[\"\t\"]}",
+        "line 1, column 10: no JSON text goes on so",
+    ),
     ("{\"keys\":[}", "line 1, column 10: no JSON text goes on so"),
 ];
 
 static RULES: [(&str, &str); 3] = [
     ("{}", ""),
-    (r#"{"scope":["a"]}"#, r#""scope" is no member of an access rule, or is of another kind"#),
-    (r#"{"scopes":[],"scopes":[]}"#, "line 1, column 14: this name stands twice in its object"),
+    (
+        r#"{"scope":["a"]}"#,
+        r#""scope" is no member of an access rule, or is of another kind"#,
+    ),
+    (
+        r#"{"scopes":[],"scopes":[]}"#,
+        "line 1, column 14: this name stands twice in its object",
+    ),
 ];
 
 /// Why a document of this kind is refused, and an empty text where it isn't.

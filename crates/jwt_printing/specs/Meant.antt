@@ -148,9 +148,12 @@ policy_lines document policy found =
 -- ---- in JSON
 
 abbrev pub member_json : Members → Settings → Member → Named
-member_json document policy m = (member_name m, object_of_members (
-    (codes "given", boolean (has (member_name m) document)) ∷ (codes "value", member_value policy m) ∷ []
-    ))
+member_json document policy m = (
+  member_name m,
+  object_of_members (
+      (codes "given", boolean (has (member_name m) document)) ∷ (codes "value", member_value policy m) ∷ []
+      ),
+)
 
 abbrev pub alg_json : AlgKeys → Json
 alg_json counted = object_of_members (text (codes "alg") (name_of counted.alg) ∷ count (codes "keys") counted.keys ∷ [])
@@ -159,10 +162,13 @@ abbrev pub number_json : ℕ → Json
 number_json n = number (decimal n)
 
 abbrev pub bounds_json : Settings → Facts → Named
-bounds_json policy facts = (codes "bounds", object_of_members (
-    count (codes "work") facts.work ∷ count (codes "calls") facts.calls ∷ count (codes "work_ceiling") policy.run.work
-    ∷ (codes "calls_ceiling", number_or_null policy.max_calls) ∷ []
-    ))
+bounds_json policy facts = (
+  codes "bounds",
+  object_of_members (
+      count (codes "work") facts.work ∷ count (codes "calls") facts.calls ∷ count (codes "work_ceiling") policy.run.work
+      ∷ (codes "calls_ceiling", number_or_null policy.max_calls) ∷ []
+      ),
+)
 
 abbrev pub keys_json : Settings → Facts → List Named
 keys_json policy facts =

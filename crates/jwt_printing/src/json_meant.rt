@@ -25,11 +25,7 @@ fn put_given(out: &mut JsonOut, is_given: bool) -> Result<(), AllocError>
 }
 
 /// The value of a member.
-fn put_member_value(
-    out: &mut JsonOut,
-    policy: &Policy,
-    member: Member,
-) -> Result<(), AllocError>
+fn put_member_value(out: &mut JsonOut, policy: &Policy, member: Member) -> Result<(), AllocError>
     ensures { OnOk result (out.new
         ≡ out.old ++ named_tokens ((codes "value", member_value policy.now member) ∷ [])) }
 {
@@ -70,11 +66,7 @@ fn put_members(
 }
 
 /// The object of the members.
-fn put_all(
-    out: &mut JsonOut,
-    document: &ObjectRef<'_>,
-    policy: &Policy,
-) -> Result<(), AllocError>
+fn put_all(out: &mut JsonOut, document: &ObjectRef<'_>, policy: &Policy) -> Result<(), AllocError>
     ensures { OnOk result (out.new
         ≡ out.old ++ named_tokens (members_json document.now policy.now ∷ [])) }
 {
@@ -152,11 +144,7 @@ fn put_keys(out: &mut JsonOut, policy: &Policy, facts: &KeyFacts) -> Result<(), 
 }
 
 /// The same, where the keys are known.
-fn put_facts(
-    out: &mut JsonOut,
-    policy: &Policy,
-    facts: &Option<KeyFacts>,
-) -> Result<(), AllocError>
+fn put_facts(out: &mut JsonOut, policy: &Policy, facts: &Option<KeyFacts>) -> Result<(), AllocError>
     ensures { OnOk result (out.new
         ≡ out.old ++ named_tokens (facts_json policy.now (option_map facts_view facts.now))) }
 {

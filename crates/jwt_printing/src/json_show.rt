@@ -77,7 +77,11 @@ fn signature_at<'d, 'a>(form: Form, document: &'d Value<'a>, i: u32) -> Option<&
 }
 
 // Its unprotected header.
-pub(crate) fn header_at<'d, 'a>(form: Form, document: &'d Value<'a>, i: u32) -> Option<&'d Value<'a>>
+pub(crate) fn header_at<'d, 'a>(
+    form: Form,
+    document: &'d Value<'a>,
+    i: u32,
+) -> Option<&'d Value<'a>>
     requires { HasNumbers (value_view document.now) }
     ensures value { option_map (λ v. value_view v.now) result
         ≡ header_at form (value_view document.now) i }

@@ -32,11 +32,11 @@ pub use jwk::{jwk_line, random_failed, refused_jwk};
 pub use keys::printed_set;
 pub use mac::{Digest, digest_line, refused_key};
 pub use meant::printed_policy;
+pub use pretty::pretty_token;
 pub use refusals::{
     printed_access_fault, printed_file_fault, printed_keys_fault, printed_policy_fault,
     printed_read_fault, refused_claims,
 };
-pub use pretty::pretty_token;
 pub use reply::Reply;
 pub use sending::{give, lack_memory, send};
 pub use show::{printed_form_fault, printed_token, printed_too_long};

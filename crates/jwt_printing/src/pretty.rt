@@ -78,11 +78,7 @@ fn put_value(alloc: Global, out: &mut String, header: &Value<'_>) -> Result<(), 
 }
 
 /// The unprotected header, where there is one.
-fn put_header(
-    alloc: Global,
-    out: &mut String,
-    header: Option<&Value<'_>>,
-) -> Result<(), AllocError>
+fn put_header(alloc: Global, out: &mut String, header: Option<&Value<'_>>) -> Result<(), AllocError>
     requires { IfSome header (λ v. HasNumbers (value_view v.now)) }
     ensures { OnOk result (string_bytes out.new ≡ string_bytes out.old
         ++ header_lines (option_map (λ v. value_view v.now) header.entry)) }
@@ -298,11 +294,7 @@ fn put_claims(
 }
 
 /// The line of claims that are refused before any policy is looked at.
-fn put_refused(
-    alloc: Global,
-    out: &mut Vec<u8>,
-    fault: &ClaimFault<'_>,
-) -> Result<(), AllocError>
+fn put_refused(alloc: Global, out: &mut Vec<u8>, fault: &ClaimFault<'_>) -> Result<(), AllocError>
     ensures { IfOk result (λ _. (now : Option ℕ) → (dates : Dates) × AreDates (Err fault.now) dates
         × (out.new.items ≡ out.old.items ++ pretty_claims now dates (Err fault.now))) }
 {

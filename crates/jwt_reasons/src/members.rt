@@ -17,7 +17,9 @@ pub fn member_words(name: &str) -> Option<&'static str>
         "typ" => Some("is a text that isn't empty"),
         "need_kid" => Some("is true or false"),
         "thumb_kid" => Some("is true or false"),
-        "understood" => Some("is a list of texts, none of them b64 or a header name of RFC 7515, section 4.1"),
+        "understood" => Some(
+            "is a list of texts, none of them b64 or a header name of RFC 7515, section 4.1",
+        ),
         "issuers" => Some("is a list of texts"),
         "audiences" => Some("is a list of texts"),
         "required" => Some("is a list of texts"),

@@ -35,7 +35,12 @@ fn of_json(alloc: Global, octets: &[u8]) -> Result<String, AllocError> {
 /// Where a name stands twice.
 fn of_doubled(alloc: Global, octets: &[u8]) -> Result<String, AllocError> {
     let offset = doubled_name(alloc, octets)?;
-    at(alloc, octets, offset, "this name stands twice in its object")
+    at(
+        alloc,
+        octets,
+        offset,
+        "this name stands twice in its object",
+    )
 }
 
 /// A member by its name, and what it is.
@@ -66,9 +71,7 @@ pub fn policy_reason(alloc: Global, document: &[u8]) -> Result<Option<String>, A
         Err(PolicyFault::Member(name)) => of_member(alloc, name.text())?,
         Err(PolicyFault::Range(name)) => of_member(alloc, name.text())?,
         Err(PolicyFault::NoAlgorithm) => of_member(alloc, "algs")?,
-        Err(PolicyFault::TooLong) => {
-            String::from_str(alloc, "it has more than 65,536 octets")?
-        }
+        Err(PolicyFault::TooLong) => { String::from_str(alloc, "it has more than 65,536 octets")? }
     };
     Ok(Some(reason))
 }
@@ -87,9 +90,7 @@ pub fn keys_reason(alloc: Global, document: &[u8]) -> Result<Option<String>, All
             String::from_str(alloc, "it is no object with a list \"keys\"")?
         }
         Err(KeysFault::TooManyKeys) => String::from_str(alloc, "it has more than 1,024 entries")?,
-        Err(KeysFault::TooLong) => {
-            String::from_str(alloc, "it has more than 4,194,304 octets")?
-        }
+        Err(KeysFault::TooLong) => { String::from_str(alloc, "it has more than 4,194,304 octets")? }
     };
     Ok(Some(reason))
 }
@@ -104,9 +105,7 @@ pub fn access_reason(alloc: Global, document: &[u8]) -> Result<Option<String>, A
         Err(AccessFault::OutOfMemory) => return Err(AllocError),
         Err(AccessFault::Json) => of_json(alloc, document)?,
         Err(AccessFault::NameTwice) => of_doubled(alloc, document)?,
-        Err(AccessFault::TooLong) => {
-            String::from_str(alloc, "it has more than 65,536 octets")?
-        }
+        Err(AccessFault::TooLong) => { String::from_str(alloc, "it has more than 65,536 octets")? }
         Err(fault) => of_rule(alloc, &fault)?,
     };
     Ok(Some(reason))

@@ -15,12 +15,12 @@ use jwt_rsa::Rsa;
 use jwt_shown::push_quoted;
 use jwt_text::{GREATEST_LIMIT, Intake, Reader, Sink, Source, Writer};
 use jwt_words::Order;
+use std::alloc::AllocError;
 use std::fs::{self, File};
 use std::io::IsTerminal;
 use std::process::ExitCode;
 use std::random::RandomSource;
 use std::time::{SystemTime, UNIX_EPOCH};
-use std::alloc::AllocError;
 use std::{env, io};
 
 // The clock is read once, before anything else, and by `verify --lines` for each line. Standard input is read without a buffer, so
@@ -132,10 +132,12 @@ fn say_why(rt: &HostRuntime, held: Held<'_>) {
 
 // Says on standard error what is waited for, where `verify` waits for a policy at a terminal.
 fn say_what_is_waited_for(rt: &HostRuntime, request: &Result<Request<'_>, WordsFault>) {
-    if let Ok(Request::Once {
-        order: Order::Verify { files, .. },
-        ..
-    }) = request
+    if let Ok(
+        Request::Once {
+            order: Order::Verify { files, .. },
+            ..
+        },
+    ) = request
     {
         if files.policy.is_none() && rt.stdin().is_terminal() {
             let _ = eprintln!(rt;

@@ -36,7 +36,9 @@ pub(crate) fn policy_command<'a>(alloc: Global) -> Result<Command<'a>, AllocErro
 {
     let keys = "The file of the key set that goes with it";
     Command::new(alloc, "policy")
-        .about("Says what a policy means, alone or with its keys, and what ought to be written otherwise")
+        .about(
+            "Says what a policy means, alone or with its keys, and what ought to be written otherwise",
+        )
         .arg(policy_option(alloc))?
         .arg(option(alloc, "keys", "FILE", keys))?
         .arg(json_option(alloc))

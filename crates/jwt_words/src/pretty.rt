@@ -33,10 +33,7 @@ fn chosen_shown_moment(options: &ArgMatches<'_>, clock: Option<Moment>) -> Optio
 }
 
 /// What `show --pretty` asks for: it has no JSON on one line.
-pub(crate) fn chosen_pretty(
-    options: &ArgMatches<'_>,
-    clock: Option<Moment>,
-) -> Option<PrettyOrder>
+pub(crate) fn chosen_pretty(options: &ArgMatches<'_>, clock: Option<Moment>) -> Option<PrettyOrder>
     ensures limits { IfSome result (λ o. (1 ≤ o.limit) × (o.limit ≤ 1048576)) }
     ensures order { option_map pretty_view result
         ≡ pretty_order (seconds_of clock) (rows_of (found_of options.now)) }
