@@ -6,7 +6,7 @@ mod recorded;
 
 ghost use Rattle.std.specs.Prelude.{◌≤◌};
 
-use crate::documents::{ReadDocuments, asked_of, documents_of};
+use crate::documents::{Asked, ReadDocuments, asked_of, documents_of};
 use crate::recorded::Recorded;
 use jwt_command::documents::{Held, read_document};
 use jwt_command::run::{lack_memory, run_read};
@@ -148,6 +148,22 @@ fn say_why(rt: &HostRuntime, printing: Printing, documents: ReadDocuments<'_>) {
     }
 }
 
+/// Says on standard error why a document is refused, where the status is that of a refusal: those in hand, and those of standard input.
+fn say_why_refused(
+    rt: &HostRuntime,
+    status: u8,
+    asked: Option<Asked>,
+    held: Held<'_>,
+    input: &[u8],
+) {
+    if status != 1 {
+        return;
+    }
+    if let Some(asked) = asked {
+        say_why(rt, asked.printing, documents_of(asked, held, input));
+    }
+}
+
 /// Says on standard error what is waited for, where `verify` waits for a policy at a terminal.
 fn say_what_is_waited_for(rt: &HostRuntime, request: &Result<Request<'_>, WordsFault>) {
     if let Ok(
@@ -264,12 +280,6 @@ fn run_words<R: Source, W: Sink>(
     let asked = asked_of(&request);
     r.keeps = asked.is_some();
     let status = run_read(rt.alloc(), request, &built_in, &mut moments, held, r, w);
-    if let (1, Some(asked)) = (status, asked) {
-        say_why(
-            rt,
-            asked.printing,
-            documents_of(asked, held, r.kept.as_slice()),
-        );
-    }
+    say_why_refused(rt, status, asked, held, r.kept.as_slice());
     Ok(status)
 }

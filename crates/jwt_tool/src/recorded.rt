@@ -1,4 +1,6 @@
 //! A source that keeps what it gave.
+ghost use Rattle.std.specs.Prelude.{◌≡◌};
+
 use jwt_text::Source;
 use std::alloc::Global;
 
