@@ -68,17 +68,11 @@ fn octets_of(alloc: Global, text: &[u8]) -> Result<Vec<u8>, RunFault>
     }
 }
 
-/// An input, with the policy and the keys that it gives.
-#[derive(Clone, Copy)]
-struct ReadInput<'a> {
+/// What a run over a signed token takes; `claims` and `header` are read from it before.
+fn ready_over<'a>(
     given: Given<'a>,
     policy: &'a Policy,
     keys: &'a KeySet,
-}
-
-/// What a run over a signed token takes; `claims` and `header` are read from it before.
-fn ready_over<'a>(
-    read: &ReadInput<'a>,
     signed: &'a Signed<'_>,
     claims: &'a ClaimSet,
     header: &'a [u8],
@@ -87,19 +81,19 @@ fn ready_over<'a>(
     requires header { IfSome (slice_get (token signed.now).signatures 0)
         (λ s. spelled s.protected_text ≡ Ok header.now) }
     ensures { IfOk result
-        (λ r. IsReadyOver (given_view read.now.given) read.now.policy.now
-        (key_set read.now.keys.now).keys (token signed.now) (ready_view r)) }
+        (λ r. IsReadyOver (given_view given.entry) policy.now (key_set keys.now).keys
+        (token signed.now) (ready_view r)) }
 {
-    let last = read.keys.len().saturating_sub(1);
-    let key = read.keys.key(last).ok_or(RunFault::Input)?;
+    let last = keys.len().saturating_sub(1);
+    let key = keys.key(last).ok_or(RunFault::Input)?;
     let signature = signed.signature(0).ok_or(RunFault::Input)?;
     let message = signed.message(0).ok_or(RunFault::Input)?;
     let name = signature.alg_text().ok_or(RunFault::Input)?;
     let alg = Alg::from_text(name).ok_or(RunFault::Input)?;
     Ok(Ready {
-        given: read.given,
-        policy: read.policy,
-        keys: read.keys,
+        given,
+        policy,
+        keys,
         claims,
         key,
         alg,
@@ -125,19 +119,21 @@ fn header_of(alloc: Global, signed: &Signed<'_>) -> Result<Vec<u8>, RunFault>
 fn on_signed(
     alloc: Global,
     order: Order,
-    read: &ReadInput<'_>,
+    given: Given<'_>,
+    policy: &Policy,
+    keys: &KeySet,
     signed: &Signed<'_>,
     built_in: &[Box<dyn Verifier>],
 ) -> Result<Totals, RunFault>
     requires { order.count ≤ 10000000 }
     ensures { IfOk result (λ t. (b : ReadyParts)
-        × IsReadyOver (given_view read.now.given) read.now.policy.now (key_set read.now.keys.now).keys
+        × IsReadyOver (given_view given.entry) policy.now (key_set keys.now).keys
         (token signed.now) b
         × (t ≡ times order.count (ran_of (map meaning built_in.now) order.workload b))) }
 {
     let claims = claims(alloc, signed)?;
     let header = header_of(alloc, signed)?;
-    let ready = ready_over(read, signed, &claims, header.as_slice())?;
+    let ready = ready_over(given, policy, keys, signed, &claims, header.as_slice())?;
     repeat(alloc, order, &ready, built_in)
 }
 
@@ -178,14 +174,7 @@ fn on_given(
     let policy = policy_in(alloc, given.policy)?;
     let keys = keys_in(alloc, given.keys)?;
     match parse(alloc, given.token, policy.max_signatures()) {
-        Ok(signed) => {
-            let read = ReadInput {
-                given,
-                policy: &policy,
-                keys: &keys,
-            };
-            on_signed(alloc, order, &read, &signed, built_in)
-        }
+        Ok(signed) => on_signed(alloc, order, given, &policy, &keys, &signed, built_in),
         Err(FormFault::OutOfMemory) => Err(RunFault::OutOfMemory),
         Err(_) => Err(RunFault::Input),
     }
