@@ -32,6 +32,7 @@ libraries: $(LIBRARIES) $(PACKAGES)
 $(ARCHIVE): $(CRATES)
 	mkdir -p $(BUILD)
 	cd crates/jwt_c && python3 ../../gate/progress.py $(abspath $(BUILD))/archive.log rt lib || { tail $(abspath $(BUILD))/archive.log; false; }
+	touch $@
 
 $(BUILD)/fault_name.o: bindings/c/fault_name.c include/fowharimu.h
 	mkdir -p $(BUILD)
@@ -72,10 +73,11 @@ $(BUILD)/%.pc: bindings/c/%.pc.in FORCE
 
 $(PROGRAM): $(CRATES)
 	./jwt --build-program
+	touch $@
 
 $(BUILD)/fowharimu.1: docs/jwt.1
 	mkdir -p $(BUILD)
-	sed 's/^\(\.Nm\|\.Dt\) jwt/\1 fowharimu/I; s/\bjwt \(verify\|issue\|mac\|show\|keys\)/fowharimu \1/g' docs/jwt.1 > $@
+	sed 's/^\(\.Nm\|\.Dt\) jwt/\1 fowharimu/I; s/\bjwt \(verify\|issue\|mac\|show\|keys\|jwk\|policy\)/fowharimu \1/g' docs/jwt.1 > $@
 
 install: all $(PROGRAM) $(BUILD)/fowharimu.1
 	install -d $(DESTDIR)$(LIBDIR)/pkgconfig $(DESTDIR)$(PREFIX)/include $(DESTDIR)$(PREFIX)/bin $(DESTDIR)$(PREFIX)/share/man/man1

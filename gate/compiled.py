@@ -10,7 +10,7 @@ import pathlib, subprocess, sys, tempfile
 
 sys.dont_write_bytecode = True
 sys.path.insert(0, str(pathlib.Path(__file__).resolve().parent))
-import wrong_bodies
+import progress, wrong_bodies
 
 TOP = pathlib.Path(__file__).resolve().parent.parent
 OBJECT = TOP / "crates/jwt_tool/out/jwt_tool.o"
@@ -31,8 +31,8 @@ def archive():
 
 
 def is_object_there():
-    """Whether the program's object is there, and no file of the crates is newer."""
-    files = [TOP / "crates.txt", *(it for part in ("src", "specs", "proofs") for it in TOP.glob(f"crates/*/{part}/**/*"))]
+    """Whether the program's object is there, and no file of the crates on which it stands is newer."""
+    files = [it for crate in progress.crates_below("jwt_tool") for part in ("src", "specs", "proofs") for it in TOP.glob(f"crates/{crate}/{part}/**/*")]
     return OBJECT.is_file() and max(it.stat().st_mtime for it in files) <= OBJECT.stat().st_mtime
 
 
