@@ -13,7 +13,7 @@ static long count;
 static int is_refused(void) {
     const char *number = getenv("REFUSED_GROWTH");
     if (!number || ++count != atol(number)) return 0;
-    return write(2, "refused\n", 8) == 8;
+    return write(2, "refused growth\n", 15) == 15;
 }
 
 void *malloc(size octets) { return is_refused() ? 0 : __libc_malloc(octets); }
