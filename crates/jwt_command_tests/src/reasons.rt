@@ -77,8 +77,9 @@ static RULES: [(&str, &str); 3] = [
     ),
 ];
 
-/// Tokens; of those that aren't in JSON form, and of those that are refused for what they hold, no reason is given.
-static TOKENS: [(&str, &str); 5] = [
+/// Tokens; of those that aren't in JSON form, of those that are refused for what they hold, and of those of more than 64 octets, no reason
+/// is given.
+static TOKENS: [(&str, &str); 6] = [
     ("", ""),
     ("e30.e30.", ""),
     (
@@ -90,6 +91,10 @@ static TOKENS: [(&str, &str); 5] = [
         "line 1, column 18: this name stands twice in its object",
     ),
     ("{\"payload\":7,\"signature\":\"\"}", ""),
+    (
+        "{\"payload\":\"e30\",\"header\":{\"kid\":\"longer than 64 octets\"},\"signatures\":[}",
+        "",
+    ),
 ];
 
 /// Policies, and why they are refused, as a JSON object.
@@ -111,7 +116,7 @@ fn reason(alloc: Global, kind: &str, document: &str) -> Result<String, Fail> {
     let found = match kind {
         "policy" => policy_reason(alloc, octets)?,
         "keys" => keys_reason(alloc, octets)?,
-        "token" => token_reason(alloc, octets)?,
+        "token" => token_reason(alloc, octets, 64)?,
         _ => access_reason(alloc, octets)?,
     };
     match found {

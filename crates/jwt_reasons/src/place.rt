@@ -4,7 +4,7 @@ ghost use Rattle.jwt_reasons.specs.Places.{further, place_behind};
 
 /// A place in a text: its line, and its column in octets, each from 1.
 #[derive(Clone, Copy, Debug, PartialEq, Eq)]
-pub struct Place {
+pub struct Position {
     /// The line.
     pub line: u64,
 
@@ -14,18 +14,18 @@ pub struct Place {
 
 /// The place behind these octets.
 #[tactic(auto, using(std::proofs::lemmas::List::at_drop_more, std::proofs::lemmas::List::at_drop_all))]
-pub fn place_behind(octets: &[u8]) -> Place
+pub fn place_behind(octets: &[u8]) -> Position
     ensures { result ≡ place_behind octets.now }
 {
-    let mut place = Place { line: 1, column: 1 };
+    let mut place = Position { line: 1, column: 1 };
     for octet in octets {
         if *octet == b'\n' {
-            place = Place {
+            place = Position {
                 line: place.line + 1,
                 column: 1,
             };
         } else {
-            place = Place {
+            place = Position {
                 line: place.line,
                 column: place.column + 1,
             };

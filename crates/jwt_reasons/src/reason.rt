@@ -1,5 +1,5 @@
 //! A reason, in words and as JSON.
-use crate::place::Place;
+use crate::place::Position;
 use jwt_shown::push_quoted;
 use std::alloc::{AllocError, Global};
 
@@ -7,7 +7,7 @@ use std::alloc::{AllocError, Global};
 #[derive(Debug, Drop)]
 pub struct Reason {
     /// Where, if it is about a place.
-    pub place: Option<Place>,
+    pub place: Option<Position>,
 
     /// What is wrong, in words.
     pub words: String,
@@ -21,7 +21,7 @@ impl Reason {
     pub fn text(&self, alloc: Global) -> Result<String, AllocError> {
         let words = self.words.as_str();
         match self.place {
-            Some(Place { line, column }) => {
+            Some(Position { line, column }) => {
                 format!(in alloc; "line {line}, column {column}: {words}")
             }
             None => String::from_str(alloc, words),
@@ -38,7 +38,7 @@ impl Reason {
         let mut words = String::new(alloc);
         push_quoted(&mut words, self.words.as_str())?;
         match self.place {
-            Some(Place { line, column }) => {
+            Some(Position { line, column }) => {
                 format!(in alloc;
                     "{{\"document\":{name},\"line\":{line},\"column\":{column},\"reason\":{words}}}"
                 )

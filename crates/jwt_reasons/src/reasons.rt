@@ -160,12 +160,31 @@ fn of_rule(alloc: Global, fault: &AccessFault) -> Result<Reason, AllocError> {
     Ok(Reason { place: None, words })
 }
 
-/// Why octets in JSON form are no token: the place at which their text can't be JSON, or at which a name stands twice; none of any other
-/// fault. No octet of them is in what is said.
+/// The most octets of a token that this policy takes; none where it is refused.
 ///
 /// # Errors
 /// `AllocError`, where an allocation was refused.
-pub fn token_reason(alloc: Global, octets: &[u8]) -> Result<Option<Reason>, AllocError> {
+pub fn token_limit(alloc: Global, policy: &[u8]) -> Result<Option<u64>, AllocError> {
+    match Policy::read(alloc, policy) {
+        Ok(policy) => Ok(Some(u64::from(policy.limit()))),
+        Err(PolicyFault::OutOfMemory) => Err(AllocError),
+        Err(_) => Ok(None),
+    }
+}
+
+/// Why octets in JSON form are no token: the place at which their text can't be JSON, or at which a name stands twice; none of any other
+/// fault, and none of more octets than the limit, which weren't all read. No octet of them is in what is said.
+///
+/// # Errors
+/// `AllocError`, where an allocation was refused.
+pub fn token_reason(
+    alloc: Global,
+    octets: &[u8],
+    limit: u64,
+) -> Result<Option<Reason>, AllocError> {
+    if octets.len() as u64 > limit {
+        return Ok(None);
+    }
     match parse(alloc, octets, 32) {
         Err(FormFault::OutOfMemory) => Err(AllocError),
         Err(FormFault::Json) => Ok(Some(of_json(alloc, octets)?)),

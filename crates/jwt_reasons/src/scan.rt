@@ -1,19 +1,11 @@
 //! The place where a text can't be JSON, or where a name stands twice.
-ghost use Rattle.std.specs.Prelude.{◌≤◌, length};
-
 use json::{Reader, Scratch, Token};
 use std::alloc::{AllocError, Global};
+use std::collections::BTreeSet;
 use std::str;
 
 /// How deep arrays and objects may nest.
 const DEPTH: usize = 128;
-
-/// The name of a member, and how deep its object is.
-#[derive(Clone, Copy)]
-struct Name<'a> {
-    text: &'a str,
-    depth: usize,
-}
 
 /// How many octets were read where a closing bracket of the other kind stands behind an opening one, or behind none; none where none does.
 fn behind_wrong_bracket(alloc: Global, text: &str) -> Result<Option<usize>, AllocError> {
@@ -74,60 +66,35 @@ fn quote_from(octets: &[u8], offset: usize) -> usize {
     at
 }
 
-/// Whether the name stands among those of its object, which are the last.
-fn stands(names: &[Name<'_>], text: &str, depth: usize) -> bool {
-    for name in names.iter().rev() {
-        if name.depth != depth {
-            return false;
-        }
-        if name.text == text {
-            return true;
-        }
-    }
-    false
-}
-
-/// How many names stand before those of the object at this depth, which are the last.
-fn before(names: &[Name<'_>], depth: usize) -> usize
-    ensures { result ≤ length names.now }
-{
-    let mut count = names.len();
-    for name in names.iter().rev() {
-        if name.depth != depth {
-            return count;
-        }
-        count = count.saturating_sub(1);
-    }
-    count
-}
-
-/// Forgets the names of the object that ends.
-fn forget(names: &mut Vec<Name<'_>>, depth: usize) {
-    names.truncate(before(names.as_slice(), depth));
-}
-
-/// How many octets stand before the first name that stands twice in one object; none where none does, or the octets aren't JSON.
+/// How many octets stand before the first name that stands twice in one object; none where none does, or the octets aren't JSON. A name is
+/// looked up with the number of its object, so that this takes n log n steps.
 pub(crate) fn doubled_name(alloc: Global, octets: &[u8]) -> Result<Option<usize>, AllocError> {
     let Ok(text) = str::from_utf8(octets) else {
         return Ok(None);
     };
     let mut scratch = Scratch::new(alloc);
     let mut reader = Reader::new(text, &mut scratch)?;
-    let mut names: Vec<Name<'_>> = Vec::new(alloc);
-    let mut depth: usize = 0;
+    let mut names: BTreeSet<(usize, &str)> = BTreeSet::new(alloc);
+    let mut open: Vec<usize> = Vec::new(alloc);
+    let mut objects: usize = 0;
     let mut from = reader.offset();
     'tokens: while let Some(token) = reader.next() {
         match token {
-            Token::BeginObject => depth = depth.saturating_add(1),
-            Token::EndObject => {
-                forget(&mut names, depth);
-                depth = depth.saturating_sub(1);
+            Token::BeginObject => {
+                open.push(objects)?;
+                objects = objects.saturating_add(1);
             }
-            Token::Key(text) => {
-                if stands(names.as_slice(), text, depth) {
+            Token::EndObject => {
+                open.pop();
+            }
+            Token::Key(name) => {
+                let object = open.last().copied().unwrap_or(0);
+                let Ok(is_new) = names.insert((object, name)) else {
+                    return Err(AllocError);
+                };
+                if !is_new {
                     return Ok(Some(quote_from(octets, from)));
                 }
-                names.push(Name { text, depth })?;
             }
             _ => {}
         }

@@ -16,13 +16,13 @@ use Rattle.std.proofs.lemmas.Bool.{and_parts, cases_Bool}
 use Rattle.std.proofs.lemmas.Str.{IsUtf8-from_is_utf8, is_utf8-from_IsUtf8}
 use Rattle.json.proofs.Printed.Numbers.{lex-number, in_word-ended}
 use Rattle.jwt_shown.specs.Strings.{inner_text, quoted_text}
-use Rattle.jwt_shown.specs.Shown.{IsText, shown, shown_from, shown_json, shown_piece, shown_token}
+use Rattle.jwt_shown.specs.Shown.{HasUtf8, shown, shown_from, shown_json, shown_piece, shown_token}
 use Rattle.jwt_shown.proofs.Quoted.{inner_read, inner_lexed}
 
 -- the tokens can be written, and their texts are UTF-8
 abbrev pub AreShowable : List Token → Type 0
 AreShowable [] = Unit {0}
-AreShowable (t ∷ ts) = (IsPrintable t × IsText t) × AreShowable ts
+AreShowable (t ∷ ts) = (IsPrintable t × HasUtf8 t) × AreShowable ts
 
 abbrev token_lexemes : Token → List Lexeme
 token_lexemes begin_object = token begin_object ∷ []
@@ -46,7 +46,7 @@ lex-quoted s r utf8 =
     let e = append_assoc (inner_text s) (34 ∷ []) r in
     ap (λ l. lex between (34 ∷ l)) e ∙ ap₂ (λ o l. token (string_token o) ∷ l) (inner_read s utf8 r) (inner_lexed s utf8 r)
 
-lex-token : (t : Token) (r : List ℕ) → IsPrintable t → IsText t → (ends t ≡ true → ends_word r ≡ true) → lex between (shown_token t ++ r) ≡ token_lexemes t ++ lex between r
+lex-token : (t : Token) (r : List ℕ) → IsPrintable t → HasUtf8 t → (ends t ≡ true → ends_word r ≡ true) → lex between (shown_token t ++ r) ≡ token_lexemes t ++ lex between r
 unfolding lex word
 lex-token begin_object r h u ended = refl
 lex-token end_object r h u ended = refl
@@ -196,7 +196,7 @@ tokens-shown ts h = ap (punctuate fresh) (lex-shown (layout.nothing, 0) ts h) �
 
 -- ---- one token more
 
-pub showable_push : (ts : List Token) (t : Token) → AreShowable ts → IsPrintable t → IsText t → AreShowable (ts ++ t ∷ [])
+pub showable_push : (ts : List Token) (t : Token) → AreShowable ts → IsPrintable t → HasUtf8 t → AreShowable (ts ++ t ∷ [])
 showable_push [] t h p u = ((p, u), tt)
 showable_push (x ∷ ts) t h p u = (h.0, showable_push ts t h.1 p u)
 

@@ -37,7 +37,7 @@ shown_json octets = if is_json octets then Some (shown (tokens octets)) else Non
 -- ---- Cited by contracts of private functions alone
 
 -- the text of a token is UTF-8
-abbrev pub IsText : Token → Type 0
-IsText (key name) = IsUtf8 name
-IsText (string text) = IsUtf8 text
-IsText token = Unit {0}
+abbrev pub HasUtf8 : Token → Type 0
+HasUtf8 (key name) = IsUtf8 name
+HasUtf8 (string text) = IsUtf8 text
+HasUtf8 token = Unit {0}

@@ -10,7 +10,7 @@ use std::alloc::AllocError;
 
 /// What was written last.
 #[derive(Clone, Copy)]
-pub(crate) enum Last {
+pub(crate) enum LastToken {
     Nothing,
     Bracket,
     Name,
@@ -19,8 +19,8 @@ pub(crate) enum Last {
 
 /// What was written last, and how deep the next token is.
 #[derive(Clone, Copy)]
-pub(crate) struct Place {
-    pub(crate) last: Last,
+pub(crate) struct ShownPlace {
+    pub(crate) last: LastToken,
     pub(crate) depth: usize,
 }
 
@@ -43,38 +43,38 @@ pub(crate) fn depth_at(depth: usize, token: Token<'_>) -> usize
 }
 
 /// The place after a token at that depth.
-fn after(token: Token<'_>, depth: usize) -> Place
+fn after(token: Token<'_>, depth: usize) -> ShownPlace
     ensures { state_of result ≡ after (token_of token.entry) depth }
 {
     match token {
-        Token::BeginObject | Token::BeginArray => Place {
-            last: Last::Bracket,
+        Token::BeginObject | Token::BeginArray => ShownPlace {
+            last: LastToken::Bracket,
             depth: depth.saturating_add(1),
         },
-        Token::Key(_) => Place {
-            last: Last::Name,
+        Token::Key(_) => ShownPlace {
+            last: LastToken::Name,
             depth,
         },
-        _ => Place {
-            last: Last::Value,
+        _ => ShownPlace {
+            last: LastToken::Value,
             depth,
         },
     }
 }
 
-impl Place {
+impl ShownPlace {
     /// Before the first token.
-    pub(crate) fn first() -> Place
+    pub(crate) fn first() -> ShownPlace
         ensures { state_of result ≡ (nothing, 0) }
     {
-        Place {
-            last: Last::Nothing,
+        ShownPlace {
+            last: LastToken::Nothing,
             depth: 0,
         }
     }
 
     /// After the token.
-    pub(crate) fn step(self, token: Token<'_>) -> Place
+    pub(crate) fn step(self, token: Token<'_>) -> ShownPlace
         ensures { state_of result ≡ step (state_of self) (token_of token.entry) }
     {
         after(token, depth_at(self.depth, token))
@@ -102,7 +102,7 @@ fn push_line(out: &mut String, depth: usize) -> Result<(), AllocError>
 /// What stands before a token, behind its comma.
 pub(crate) fn push_gap(
     out: &mut String,
-    last: Last,
+    last: LastToken,
     opens: bool,
     depth: usize,
 ) -> Result<(), AllocError>
@@ -110,20 +110,24 @@ pub(crate) fn push_gap(
         ≡ string_bytes out.old ++ gap (last_of last) opens depth) }
 {
     match last {
-        Last::Nothing => Ok(()),
-        Last::Name => out.push(' '),
-        Last::Bracket if !opens => Ok(()),
+        LastToken::Nothing => Ok(()),
+        LastToken::Name => out.push(' '),
+        LastToken::Bracket if !opens => Ok(()),
         _ => push_line(out, depth),
     }
 }
 
 /// The comma between two values.
-pub(crate) fn push_comma(out: &mut String, last: Last, token: Token<'_>) -> Result<(), AllocError>
+pub(crate) fn push_comma(
+    out: &mut String,
+    last: LastToken,
+    token: Token<'_>,
+) -> Result<(), AllocError>
     ensures { OnOk result (string_bytes out.new
         ≡ string_bytes out.old ++ separator (is_value (last_of last)) (token_of token.entry)) }
 {
     match last {
-        Last::Value if begins(token) => out.push(','),
+        LastToken::Value if begins(token) => out.push(','),
         _ => Ok(()),
     }
 }

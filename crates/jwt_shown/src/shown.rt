@@ -6,11 +6,11 @@ ghost use Rattle.json.specs.Json.{document};
 ghost use Rattle.json.specs.Lex.{tokens};
 ghost use Rattle.json.specs.Reads.{token_of};
 ghost use Rattle.std.specs.Str.{IsUtf8};
-ghost use Rattle.jwt_shown.specs.Shown.{IsText, shown, shown_json, shown_piece, shown_token};
+ghost use Rattle.jwt_shown.specs.Shown.{HasUtf8, shown, shown_json, shown_piece, shown_token};
 ghost use Rattle.jwt_shown.specs.Strings.{quoted_text};
 ghost use Rattle.jwt_shown.specs.Views.{state_of};
 
-use crate::layout::{Place, begins, depth_at, push_comma, push_gap};
+use crate::layout::{ShownPlace, begins, depth_at, push_comma, push_gap};
 use crate::strings::push_quoted;
 use json::{Reader, Scratch, Token, is_valid};
 use std::alloc::{AllocError, Global};
@@ -28,7 +28,7 @@ fn push_key(out: &mut String, name: &str) -> Result<(), AllocError>
 
 /// The text of a token.
 fn push_token(out: &mut String, token: Token<'_>) -> Result<(), AllocError>
-    ensures utf8 { IsText (token_of token.entry) }
+    ensures utf8 { HasUtf8 (token_of token.entry) }
     ensures written { OnOk result (string_bytes out.new
         ≡ string_bytes out.old ++ shown_token (token_of token.entry)) }
 {
@@ -48,8 +48,8 @@ fn push_token(out: &mut String, token: Token<'_>) -> Result<(), AllocError>
 }
 
 /// A token, with what stands before it.
-fn push_piece(out: &mut String, place: Place, token: Token<'_>) -> Result<(), AllocError>
-    ensures utf8 { OnOk result (IsText (token_of token.entry)) }
+fn push_piece(out: &mut String, place: ShownPlace, token: Token<'_>) -> Result<(), AllocError>
+    ensures utf8 { OnOk result (HasUtf8 (token_of token.entry)) }
     ensures written { OnOk result (string_bytes out.new
         ≡ string_bytes out.old ++ shown_piece (state_of place) (token_of token.entry)) }
 {
@@ -71,7 +71,7 @@ fn shown_tokens(
 {
     let mut reader = Reader::new(text, scratch)?;
     let mut out = String::new(alloc);
-    let mut place = Place::first();
+    let mut place = ShownPlace::first();
     'tokens: while let Some(token) = reader.next() {
         if matches!(token, Token::Bad) {
             return Ok(None);

@@ -10,6 +10,8 @@ pub struct ReadDocuments<'a> {
     pub keys: Option<&'a [u8]>,
     pub access: Option<&'a [u8]>,
     pub token: Option<&'a [u8]>,
+    /// The most octets of a token, where the command says it; none where the policy does.
+    pub limit: Option<u64>,
 }
 
 /// Which documents a command reads from standard input, where no file is named for them.
@@ -21,8 +23,8 @@ enum Inputs {
     KeySet,
     /// A line with a key set.
     KeyLine,
-    /// A token.
-    Token,
+    /// A token of at most so many octets.
+    Token(u64),
     /// None: all are in files.
     Nothing,
 }
@@ -40,7 +42,7 @@ fn read_by(order: &Order<'_>) -> Option<Inputs> {
         Order::Verify { .. } => Some(Inputs::Verified),
         Order::Keys => Some(Inputs::KeySet),
         Order::Issue { .. } => Some(Inputs::KeyLine),
-        Order::Show { .. } => Some(Inputs::Token),
+        Order::Show { limit } => Some(Inputs::Token(*limit)),
         Order::Mac { .. } | Order::MacFile { .. } | Order::Version => None,
     }
 }
@@ -60,9 +62,9 @@ pub fn asked_of(request: &Result<Request<'_>, WordsFault>) -> Option<Asked> {
             printing: order.printing,
             reads: Inputs::Nothing,
         }),
-        Ok(Request::Pretty(_)) => Some(Asked {
+        Ok(Request::Pretty(order)) => Some(Asked {
             printing: Printing::Lines,
-            reads: Inputs::Token,
+            reads: Inputs::Token(order.limit),
         }),
         _ => None,
     }
@@ -96,6 +98,7 @@ fn verified<'a>(held: Held<'a>, input: &'a [u8]) -> ReadDocuments<'a> {
         keys: Some(keys),
         access: held.access,
         token: Some(held.token.unwrap_or(rest)),
+        limit: None,
     }
 }
 
@@ -108,24 +111,28 @@ pub fn documents_of<'a>(asked: Asked, held: Held<'a>, input: &'a [u8]) -> ReadDo
             keys: Some(input),
             access: None,
             token: None,
+            limit: None,
         },
         Inputs::KeyLine => ReadDocuments {
             policy: None,
             keys: Some(in_hand_or_line(held.keys, input).0),
             access: None,
             token: None,
+            limit: None,
         },
-        Inputs::Token => ReadDocuments {
+        Inputs::Token(limit) => ReadDocuments {
             policy: None,
             keys: None,
             access: None,
             token: Some(input),
+            limit: Some(limit),
         },
         Inputs::Nothing => ReadDocuments {
             policy: held.policy,
             keys: held.keys,
             access: held.access,
             token: None,
+            limit: None,
         },
     }
 }

@@ -15,12 +15,12 @@ use jwt_command::{Files, Moment, Request, WordsFault, files_in_request, octets_a
 use jwt_ecdsa::Ecdsa;
 use jwt_ed25519::Ed25519;
 use jwt_mac::Verifier;
-use jwt_reasons::{Reason, access_reason, keys_reason, policy_reason, token_reason};
+use jwt_reasons::{Reason, access_reason, keys_reason, policy_reason, token_limit, token_reason};
 use jwt_rsa::Rsa;
 use jwt_shown::push_quoted;
 use jwt_text::{GREATEST_LIMIT, Intake, Reader, Sink, Source, Writer};
 use jwt_words::{Order, Printing};
-use std::alloc::AllocError;
+use std::alloc::{AllocError, Global};
 use std::fs::{self, File};
 use std::io::IsTerminal;
 use std::process::ExitCode;
@@ -104,7 +104,8 @@ fn octets_of(rt: &HostRuntime, name: &str, file: File, limit: u32) -> io::Result
     Ok(document)
 }
 
-/// Says on standard error why a document is refused, if it is, in words or as a JSON object. What becomes of that changes nothing.
+/// Says on standard error why a document is refused, if it is, in words or as a JSON object, and answers whether there is a reason. What
+/// becomes of that line changes nothing.
 fn say_reason(
     rt: &HostRuntime,
     printing: Printing,
@@ -125,6 +126,24 @@ fn say_reason(
     true
 }
 
+/// Why the token is refused, as far as its text says it: none of a token that is longer than the command or the policy allows.
+fn reason_of_token(
+    alloc: Global,
+    documents: ReadDocuments<'_>,
+) -> Result<Option<Reason>, AllocError> {
+    let Some(token) = documents.token else {
+        return Ok(None);
+    };
+    let limit = match (documents.limit, documents.policy) {
+        (None, Some(policy)) => token_limit(alloc, policy)?,
+        (limit, _) => limit,
+    };
+    match limit {
+        Some(limit) => token_reason(alloc, token, limit),
+        None => Ok(None),
+    }
+}
+
 /// Says on standard error why the first document that is refused is: the policy, the key set, the access rule or the token.
 fn say_why(rt: &HostRuntime, printing: Printing, documents: ReadDocuments<'_>) {
     let alloc = rt.alloc();
@@ -143,9 +162,7 @@ fn say_why(rt: &HostRuntime, printing: Printing, documents: ReadDocuments<'_>) {
             return;
         }
     }
-    if let Some(token) = documents.token {
-        say_reason(rt, printing, "token", token_reason(alloc, token));
-    }
+    say_reason(rt, printing, "token", reason_of_token(alloc, documents));
 }
 
 /// Says on standard error why a document is refused, where the status is that of a refusal: those in hand, and those of standard input.
