@@ -2,7 +2,7 @@
 use Rattle.std.proofs.Common.{◌≡◌, ℕ, true, false, cond, List, [], ◌∷◌, ◌++◌, Option, Some, None, refl, sym, ◌∙◌}
 use Rattle.std.specs.Prelude.{MatchResult, Result, Ok, Err, is_none, option_and_then}
 use Rattle.serde_json.specs.Data.{Members}
-use Rattle.jwt_text.specs.Answers.{◌>>=◌, unless, some_or}
+use Rattle.jwt_text.specs.Answers.{unless, some_or}
 use Rattle.jwt_text.specs.Rows.{Row, first_row, NoRow, IsFirstRow}
 use Rattle.jwt_keys.specs.Keys.{KeyParts}
 use Rattle.jwt_keys.specs.Kinds.{kind_at}

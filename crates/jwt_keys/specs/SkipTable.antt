@@ -107,8 +107,8 @@ skip_rows entry = (is_no_object entry ⇒ NotObject) ∷ object_rows (unwrap_or 
 -- ---- Cited by contracts of private functions alone
 
 -- those octets, or the reason that there are none
-abbrev pub spelled : List ℕ → Members → Result (List ℕ) SkipReason
-spelled name ms = some_or Base64 (octets_at name ms)
+abbrev pub spelled_member : List ℕ → Members → Result (List ℕ) SkipReason
+spelled_member name ms = some_or Base64 (octets_at name ms)
 
 -- the first of rows 2 to 7 that holds
 unfoldable pub shape_skip_of : Members → Option SkipReason

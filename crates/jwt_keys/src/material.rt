@@ -3,7 +3,7 @@
 ghost use Rattle.std.specs.Prelude.{◌≡◌, ◌≤◌, IfOk, Ok};
 ghost use Rattle.jwt_text.specs.Answers.{unless};
 ghost use Rattle.jwt_keys.specs.Answers.{ReadsAs};
-ghost use Rattle.jwt_keys.specs.SkipTable.{spelled, octet_skip_of};
+ghost use Rattle.jwt_keys.specs.SkipTable.{spelled_member, octet_skip_of};
 ghost use Rattle.jwt_keys.specs.Entries.{octets_in};
 ghost use Rattle.jwt_keys.specs.Keys.{secret_length};
 ghost use Rattle.jwt_keys.specs.Materials.{material_octets};
@@ -17,7 +17,7 @@ use std::alloc::Global;
 
 /// The octets that the member of this name spells.
 fn octets(alloc: Global, members: &ObjectRef<'_>, name: &str) -> Result<Vec<u8>, EntryFault>
-    ensures { ReadsAs (λ v. v.items) result (spelled name.now members.now) }
+    ensures { ReadsAs (λ v. v.items) result (spelled_member name.now members.now) }
 {
     let Some(text) = members.text(name) else {
         return Err(EntryFault::Skipped(SkipReason::Base64));

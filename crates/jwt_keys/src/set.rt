@@ -1,6 +1,6 @@
 //! A key set: its readable keys in order, found by number and by name.
 
-ghost use Rattle.std.specs.Prelude.{◌≡◌, ◌≤◌, ◌<◌, ◌&&◌, ◌↔◌, [], length, map, Err, IfOk, IfSome, IsTrue, slice_get, option_map};
+ghost use Rattle.std.specs.Prelude.{◌≡◌, ◌≤◌, ◌<◌, ◌&&◌, ◌↔◌, [], length, map, Err, IfOk, IfSome, IsTrue, Some, slice_get, option_map};
 ghost use Rattle.std.specs.Slice.Iter.{iter_rest};
 ghost use Rattle.jwt_keys.specs.Keys.{has_thumbprint, has_name, secret_length};
 ghost use Rattle.jwt_keys.specs.Numbers.{IsLeastFrom};
@@ -163,6 +163,17 @@ impl KeySet {
         } else {
             None
         }
+    }
+
+    /// The key that [`KeySet::with_kid`] finds, with its number; `None` where there is none. It takes no memory.
+    pub fn named(&self, kid: &str, thumb: bool, from: u32) -> Option<(u32, &Key)>
+        ensures number { IsLeastFrom (has_name kid.now thumb) (key_set self.now).keys from
+            (option_map (λ found. found.0) result) }
+        ensures key { IfSome result (λ found. slice_get (key_set self.now).keys found.0
+            ≡ Some (key_parts found.1.now)) }
+    {
+        let number = self.with_kid(kid, thumb, from)?;
+        Some((number, &self.keys[number as usize]))
     }
 
     /// What [`KeySet::with_kid`] answers, by a plain search over the keys in order.

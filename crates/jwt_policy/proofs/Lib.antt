@@ -1,3 +1,5 @@
+-- ---- For algorithm.rt
+pub mod ServedLemmas
 -- ---- For checks.rt
 pub mod RowsLemmas
 -- ---- For document.rt

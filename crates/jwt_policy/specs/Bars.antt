@@ -1,5 +1,5 @@
 -- The bars of a signature, under a policy and the verifiers that were handed in.
-use Rattle.std.specs.Prelude.{ℕ, List, [], ◌∷◌, Bool, not, ◌||◌, ◌&&◌, codes, length, nat_lt, Option, is_some, is_none, option_and_then}
+use Rattle.std.specs.Prelude.{◌≡◌, ℕ, List, [], ◌∷◌, Bool, false, not, ◌||◌, ◌&&◌, codes, length, nat_lt, Option, Some, is_some, is_none, option_and_then}
 use Rattle.std.specs.List.{list_any}
 use Rattle.std.specs.Str.{bytes_eq}
 use Rattle.serde_json.specs.Data.{Data}
@@ -125,3 +125,14 @@ bar_rows policy signature verifiers =
 -- the bar of a signature: the first row that holds, if any
 unfoldable pub bar_of : Settings → SignatureParts → List Meaning → Option SigFault
 bar_of policy signature verifiers = first_row (bar_rows policy signature verifiers)
+
+-- ---- Cited by contracts of private functions alone
+
+-- the protected header names this algorithm, and none of the rows on `alg` holds
+pub record IsServed (policy : Settings) (signature : SignatureParts) (verifiers : List Meaning) (algorithm : Alg) : Type 0 where
+  pub named : alg signature ≡ Some algorithm
+  pub there : lacks_alg signature ≡ false
+  pub not_none : is_alg_none signature ≡ false
+  pub known : is_alg_unknown signature ≡ false
+  pub allowed : is_alg_not_allowed policy signature ≡ false
+  pub verified : lacks_verifier verifiers signature ≡ false

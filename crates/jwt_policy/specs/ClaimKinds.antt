@@ -1,5 +1,5 @@
 -- The kinds of the registered claims (RFC 7519, section 4.1), and the claims of a payload.
-use Rattle.std.specs.Prelude.{ℕ, List, [], ◌∷◌, codes, Bool, not, ◌&&◌, is_none, option_and_then, Option, Some, None, Result, Ok, Err}
+use Rattle.std.specs.Prelude.{ℕ, List, [], ◌∷◌, codes, Bool, not, ◌&&◌, is_none, option_and_then, Option, Result, Ok}
 use Rattle.serde_json.specs.Data.{Members}
 use Rattle.serde_json.specs.Find.{get_member, as_number}
 use Rattle.jwt_text.specs.Answers.{or_fault, ◌>>=◌, unless}

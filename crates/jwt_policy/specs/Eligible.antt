@@ -1,5 +1,5 @@
 -- The eligible pairs of a signature and a key.
-use Rattle.std.specs.Prelude.{ℕ, List, Bool, true, false, ◌&&◌, codes, nat_le, length, is_none}
+use Rattle.std.specs.Prelude.{List, Bool, true, false, ◌&&◌, codes, nat_le, length, is_none}
 use Rattle.std.specs.Option.{option_map_or}
 use Rattle.std.specs.Str.{bytes_eq}
 use Rattle.jwt_mac.specs.declared.algorithm.Alg.{Alg}

@@ -1,14 +1,15 @@
 //! The algorithm of a signature (RFC 7515, section 4.1.1).
 
-ghost use Rattle.std.specs.Prelude.{◌≡◌, map};
+ghost use Rattle.std.specs.Prelude.{◌≡◌, Some, map, MatchResult};
 ghost use Rattle.std.specs.List.{list_any};
 ghost use Rattle.std.specs.Str.{bytes_eq};
 ghost use Rattle.jwt_mac.specs.Algorithm.{name_of};
 ghost use Rattle.jwt_mac.specs.Verifying.{Meaning};
 ghost use Rattle.jwt_jws.specs.Views.{parts};
-ghost use Rattle.jwt_policy.specs.Bars.{alg, can_verify, lacks_alg, is_alg_none, is_alg_unknown, is_alg_not_allowed, lacks_verifier};
+ghost use Rattle.jwt_policy.specs.Bars.{alg, bar_of, can_verify, IsServed};
 
 use crate::policy::Policy;
+use crate::sig_fault::SigFault;
 use jwt_jws::Signature;
 use jwt_mac::{Alg, Verifier, first_for};
 
@@ -20,30 +21,6 @@ pub fn known_alg(signature: &Signature<'_>) -> Option<Alg>
         Some(text) => Alg::from_text(text),
         None => None,
     }
-}
-
-/// Whether the protected header has no text `alg`.
-pub(crate) fn lacks_alg(signature: &Signature<'_>) -> bool
-    ensures { result ≡ lacks_alg (parts signature.now) }
-{
-    signature.alg_text().is_none()
-}
-
-/// Whether `alg` is `none`.
-pub(crate) fn is_alg_none(signature: &Signature<'_>) -> bool
-    ensures { result ≡ is_alg_none (parts signature.now) }
-{
-    match signature.alg_text() {
-        Some(text) => text == "none",
-        None => false,
-    }
-}
-
-/// Whether `alg` isn't known.
-pub(crate) fn is_alg_unknown(signature: &Signature<'_>) -> bool
-    ensures { result ≡ is_alg_unknown (parts signature.now) }
-{
-    known_alg(signature).is_none()
 }
 
 /// Whether the algorithm is among these.
@@ -59,16 +36,6 @@ fn is_allowed(algs: &[Alg], alg: Alg) -> bool
     false
 }
 
-/// Whether the policy doesn't allow the algorithm.
-pub(crate) fn is_alg_not_allowed(policy: &Policy, signature: &Signature<'_>) -> bool
-    ensures { result ≡ is_alg_not_allowed policy.now (parts signature.now) }
-{
-    match known_alg(signature) {
-        Some(alg) => !is_allowed(policy.algs(), alg),
-        None => true,
-    }
-}
-
 /// Whether signatures by the algorithm can be verified: it is HMAC, or a verifier names it. It takes no memory.
 pub fn can_verify(verifiers: &[Box<dyn Verifier>], alg: Alg) -> bool
     ensures { result ≡ can_verify (map meaning verifiers.now) alg }
@@ -76,12 +43,32 @@ pub fn can_verify(verifiers: &[Box<dyn Verifier>], alg: Alg) -> bool
     alg.is_hmac() || first_for(verifiers, alg).is_some()
 }
 
-/// Whether nothing here verifies by the algorithm.
-pub(crate) fn lacks_verifier(verifiers: &[Box<dyn Verifier>], signature: &Signature<'_>) -> bool
-    ensures { result ≡ lacks_verifier (map meaning verifiers.now) (parts signature.now) }
+/// The algorithm of a signature, or the bar that its `alg` is. The text of `alg` is read once.
+#[tactic(auto, unfolding(crate::specs::Bars::bar_of))]
+pub(crate) fn served_alg(
+    policy: &Policy,
+    signature: &Signature<'_>,
+    verifiers: &[Box<dyn Verifier>],
+) -> Result<Alg, SigFault>
+    ensures { MatchResult result
+        (IsServed policy.now (parts signature.now) (map meaning verifiers.now))
+        (λ fault. bar_of policy.now (parts signature.now) (map meaning verifiers.now)
+        ≡ Some fault) }
 {
-    match known_alg(signature) {
-        Some(alg) => !can_verify(verifiers, alg),
-        None => true,
+    let Some(text) = signature.alg_text() else {
+        return Err(SigFault::AlgMissing);
+    };
+    if text == "none" {
+        return Err(SigFault::AlgNone);
     }
+    let Some(named) = Alg::from_text(text) else {
+        return Err(SigFault::AlgUnknown);
+    };
+    if !is_allowed(policy.algs(), named) {
+        return Err(SigFault::AlgNotAllowed);
+    }
+    if !can_verify(verifiers, named) {
+        return Err(SigFault::NoVerifier);
+    }
+    Ok(named)
 }

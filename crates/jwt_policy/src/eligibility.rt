@@ -7,8 +7,7 @@ ghost use Rattle.jwt_keys.specs.Views.{key_parts};
 ghost use Rattle.jwt_policy.specs.Bars.{alg};
 ghost use Rattle.jwt_policy.specs.Eligible.{suits, is_for, answers_to, fits, eligible_for};
 
-use crate::algorithm::known_alg;
-use crate::bars::bar;
+use crate::bars::alg_or_bar;
 use crate::policy::Policy;
 use jwt_jws::Signature;
 use jwt_keys::Key;
@@ -68,8 +67,8 @@ fn answers_to(policy: &Policy, signature: &Signature<'_>, key: &Key) -> bool
     }
 }
 
-/// What [`eligible`] asks of the pair, the bar of the signature aside. A run computes [`bar`] and [`known_alg`] once for a
-/// signature and this once for each of its keys. It takes no memory.
+/// What [`eligible`] asks of the pair, the bar of the signature aside. A run computes [`alg_or_bar`] once for a signature and this
+/// once for each of its keys. It takes no memory.
 ///
 /// The condition: `named` is the algorithm that the signature's protected header names.
 pub fn fits(policy: &Policy, signature: &Signature<'_>, named: Alg, key: &Key) -> bool
@@ -101,11 +100,8 @@ pub fn eligible(
         ≡ eligible_for policy.now (parts signature.now) (key_parts key.now)
         (map meaning verifiers.now) }
 {
-    if bar(policy, signature, verifiers).is_some() {
-        return false;
-    }
-    match known_alg(signature) {
-        Some(named) => fits(policy, signature, named, key),
-        None => false,
+    match alg_or_bar(policy, signature, verifiers) {
+        Ok(named) => fits(policy, signature, named, key),
+        Err(_) => false,
     }
 }

@@ -34,7 +34,7 @@ mod sig_fault;
 mod texts;
 
 pub use algorithm::{can_verify, known_alg};
-pub use bars::bar;
+pub use bars::{alg_or_bar, bar};
 pub use checks::check;
 pub use claim_fault::{Claim, ClaimFault, ClaimName};
 pub use claims::{Audience, Claims};

@@ -302,11 +302,20 @@ static SEARCHES: [(&str, bool, u32, Option<u32>); 11] = [
     (OCT_THUMBPRINT, true, 0, None),
 ];
 
+/// The number of the key that is found, where it goes by the name.
+fn found_number(keys: &KeySet, kid: &str, thumb: bool, from: u32) -> Option<u32> {
+    match keys.named(kid, thumb, from) {
+        Some((number, key)) if key.is_named(kid, thumb) => Some(number),
+        _ => None,
+    }
+}
+
 /// The first row that a search in the keys doesn't meet, by the index or without it.
 fn unmet_search(keys: &KeySet) -> Option<(&'static str, bool, u32)> {
     for &(kid, thumb, from, number) in &SEARCHES {
         if keys.with_kid(kid, thumb, from) != number
             || keys.search_kid(kid, thumb, from) != number
+            || found_number(keys, kid, thumb, from) != number
         {
             return Some((kid, thumb, from));
         }

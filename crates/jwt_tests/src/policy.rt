@@ -3,8 +3,8 @@ use jwt_jws::parse;
 use jwt_keys::Key;
 use jwt_mac::{Alg, Verifier};
 use jwt_policy::{
-    Audience, ClaimFault, Claims, Mode, Policy, PolicyFault, SigFault, bar, check, eligible, fits,
-    known_alg,
+    Audience, ClaimFault, Claims, Mode, Policy, PolicyFault, SigFault, alg_or_bar, bar, check,
+    eligible, fits, known_alg,
 };
 use jwt_support::examples::{HS256, key_set};
 use jwt_support::texts::nested;
@@ -260,7 +260,15 @@ fn bar_in(alloc: Global, policy: &Policy, token: &str) -> Result<Option<SigFault
     let signed = parse(alloc, token.as_bytes(), 1).ok().ok_or("no token")?;
     let signature = signed.signature(0).ok_or("no signature")?;
     let verifiers: [Box<dyn Verifier>; 0] = [];
-    Ok(bar(policy, signature, &verifiers))
+    let found = bar(policy, signature, &verifiers);
+    let same = match alg_or_bar(policy, signature, &verifiers) {
+        Ok(alg) => found.is_none() && known_alg(signature) == Some(alg),
+        Err(fault) => found == Some(fault),
+    };
+    if !same {
+        return Err("the bar by one call, and another or none by the other".into());
+    }
+    Ok(found)
 }
 
 /// The bar of a signature with these headers.

@@ -8,6 +8,8 @@ use Rattle.jwt_keys.specs.Views.{key_parts}
 use Rattle.std.proofs.lemmas.Option.{slice_get_within}
 use Rattle.jwt_mac.specs.declared.algorithm.Alg.{Alg}
 use Rattle.jwt_mac.specs.declared.algorithm.Alg.TheVariants.{HS256, HS384, HS512}
+use Rattle.jwt_mac.specs.declared.key_view.EcCurve.{EcCurve}
+use Rattle.jwt_mac.specs.declared.key_view.EdCurve.{EdCurve}
 use Rattle.jwt_mac.specs.Algorithm.{is_hmac_alg}
 use Rattle.jwt_mac.specs.Verifying.{Meaning, KeyOctets, OctKey, RsaKey, EcKey, OkpKey, MessageOctets, first_naming, message_octets}
 use Rattle.jwt_text.specs.Rows.{NoRow}
@@ -29,7 +31,7 @@ use Rattle.jwt_verify.specs.declared.pair.Way.{Way}
 use Rattle.jwt_verify.specs.declared.pair.Way.TheVariants as way
 use Rattle.jwt_verify.specs.declared.pair.Pair.{Pair}
 use Rattle.jwt_verify.specs.TermsTable.{Means, terms_table}
-use Rattle.jwt_verify.specs.Pairs.{IsVerifier, IsLive, IsFor, IsWay, IsLiveOf, way_accepts, way_may_lack, way_cost, IsNextPair}
+use Rattle.jwt_verify.specs.Pairs.{IsVerifier, IsLive, IsFor, IsSecret, IsWay, IsLiveOf, way_accepts, way_may_lack, way_cost, IsNextPair}
 use Rattle.jwt_verify.specs.Trying.{at_pair, table_of, valid_under, may_lack_under, cost_under, valid_by, may_lack_by, cost_by}
 use Rattle.jwt_verify.specs.Table.{Table}
 use Rattle.jwt_verify.specs.Walk.{NoneEligible, IsNextKey, goes_on}
@@ -65,10 +67,6 @@ next_is p v ks t i from s (Some j) e b h = record {
 
 -- ---- a signature that nothing bars
 
--- it names an algorithm
-pub named_alg : (p : Settings) (v : List Meaning) (s : SignatureParts) → NoRow (bar_rows p s v) → alg s ≡ None → ⊥
-named_alg p v s h e = let q = rw e at (h 2 _ refl) in cc
-
 passes : (p : Alg → Bool) (o : Option Alg) (a : Alg) → o ≡ Some a → not (some_passes p o) ≡ false → p a ≡ true
 passes p o a e h = let q = rw e at h in go (p a) q
   where
@@ -76,7 +74,7 @@ passes p o a e h = let q = rw e at h in go (p a) q
     go true h = refl
     go false h = cc
 
--- by which a verifier is found, or it is HMAC
+-- a verifier is found for its algorithm, or it is HMAC
 pub named_verified : (p : Settings) (v : List Meaning) (s : SignatureParts) (a : Alg) → NoRow (bar_rows p s v) → alg s ≡ Some a → can_verify v a ≡ true
 named_verified p v s a h e = passes (can_verify v) (alg s) a e (h 4 _ refl)
 
@@ -138,25 +136,25 @@ cost_none a (EcKey curve x y) m h o = refl
 cost_none a (OkpKey curve x) m h o = refl
 
 module _ {V : Type 0} {D : V → Type 0} (means : Means V D) (v : List Meaning) (a : Alg) (k : KeyOctets) (m : MessageOctets) (x : List ℕ) where
-  way_is_for : (o : Option Meaning) (w : Way V D) → IsVerifier v a o → IsWay means o k (Some w) → IsFor a w
+  way_is_for : (o : Option Meaning) (w : Way V D) → IsVerifier v a o → IsWay means o k w → IsFor a w
   way_is_for None (way.Tag s) h i = h
   way_is_for (Some n) (way.Tag s) h i = let q = i.0 in cc
   way_is_for None (way.ByVerifier b view) h i = let q = i.0 in cc
   way_is_for (Some n) (way.ByVerifier b view) h i = h.0
 
-  way_valid : (o : Option Meaning) (w : Way V D) → IsVerifier v a o → IsWay means o k (Some w) → valid_under v a k m x ≡ way_accepts means a m x w
+  way_valid : (o : Option Meaning) (w : Way V D) → IsVerifier v a o → IsWay means o k w → valid_under v a k m x ≡ way_accepts means a m x w
   way_valid None (way.Tag s) h i = rw (h, i.1) refl
   way_valid (Some n) (way.Tag s) h i = let q = i.0 in cc
   way_valid None (way.ByVerifier b view) h i = let q = i.0 in cc
   way_valid (Some n) (way.ByVerifier b view) h i = rw (h.0, h.1 ∙ i.0, i.1) refl
 
-  way_lacks : (o : Option Meaning) (w : Way V D) → IsVerifier v a o → IsWay means o k (Some w) → may_lack_under v a k m x ≡ way_may_lack means a m x w
+  way_lacks : (o : Option Meaning) (w : Way V D) → IsVerifier v a o → IsWay means o k w → may_lack_under v a k m x ≡ way_may_lack means a m x w
   way_lacks None (way.Tag s) h i = rw h refl
   way_lacks (Some n) (way.Tag s) h i = let q = i.0 in cc
   way_lacks None (way.ByVerifier b view) h i = let q = i.0 in cc
   way_lacks (Some n) (way.ByVerifier b view) h i = rw (h.0, h.1 ∙ i.0, i.1) refl
 
-  way_costs : (o : Option Meaning) (w : Way V D) → suits a k ≡ true → IsVerifier v a o → IsWay means o k (Some w) → cost_under a k m ≡ way_cost a m w
+  way_costs : (o : Option Meaning) (w : Way V D) → suits a k ≡ true → IsVerifier v a o → IsWay means o k w → cost_under a k m ≡ way_cost a m w
   way_costs None (way.Tag s) f h i = rw i.1 refl
   way_costs (Some n) (way.Tag s) f h i = let q = i.0 in cc
   way_costs None (way.ByVerifier b view) f h i = let q = i.0 in cc
@@ -188,10 +186,42 @@ key_fits f ks j k h e = rw e at h
 key_suits : (p : Settings) (s : SignatureParts) (ks : List KeyParts) (from j : ℕ) (k : KeyParts) (a : Alg) → alg s ≡ Some a → IsLeastFrom (fits p s) ks from (Some j) → slice_get ks j ≡ Some k → suits a k.octets ≡ true
 key_suits p s ks from j k a n h e = fits_suits p s k a n (key_fits (fits p s) ks j k h.1 e)
 
+rsa_is_public : (a : Alg) (n e : List ℕ) → suits a (RsaKey n e) ≡ true → is_hmac_alg a ≡ true → ⊥
+rsa_is_public HS256 n e h m = cc
+rsa_is_public HS384 n e h m = cc
+rsa_is_public HS512 n e h m = cc
+rsa_is_public _ n e h m = cc
+
+ec_is_public : (a : Alg) (curve : EcCurve) (x y : List ℕ) → suits a (EcKey curve x y) ≡ true → is_hmac_alg a ≡ true → ⊥
+ec_is_public HS256 curve x y h m = cc
+ec_is_public HS384 curve x y h m = cc
+ec_is_public HS512 curve x y h m = cc
+ec_is_public _ curve x y h m = cc
+
+okp_is_public : (a : Alg) (curve : EdCurve) (x : List ℕ) → suits a (OkpKey curve x) ≡ true → is_hmac_alg a ≡ true → ⊥
+okp_is_public HS256 curve x h m = cc
+okp_is_public HS384 curve x h m = cc
+okp_is_public HS512 curve x h m = cc
+okp_is_public _ curve x h m = cc
+
+suits_secret : (a : Alg) (k : KeyOctets) → suits a k ≡ true → is_hmac_alg a ≡ true → IsSecret k
+suits_secret a (OctKey s) h m = (s, refl)
+suits_secret a (RsaKey n e) h m = absurd (rsa_is_public a n e h m)
+suits_secret a (EcKey curve x y) h m = absurd (ec_is_public a curve x y h m)
+suits_secret a (OkpKey curve x) h m = absurd (okp_is_public a curve x h m)
+
+-- a key that fits a signature by HMAC is a secret
+pub live_secret : {V : Type 0} {D : V → Type 0} (means : Means V D) (a : CodeTerms V D) (u : LiveSignature V D) (from j : ℕ) (k : KeyParts) → IsLive means a u
+    → IsLeastFrom (fits a.policy.now (parts u.signature.now)) (key_set a.keys.now).keys from (Some j)
+    → slice_get (key_set a.keys.now).keys j ≡ Some k → u.verifier ≡ None → IsSecret k.octets
+live_secret means a u from j k o h e none =
+    let hmac : is_hmac_alg u.alg ≡ true = rw none at o.verifier in
+    suits_secret u.alg k.octets (key_suits a.policy.now (parts u.signature.now) (key_set a.keys.now).keys from j k u.alg o.named h e) hmac
+
 pub some_next : {V : Type 0} {D : V → Type 0} (means : Means V D) (a : CodeTerms V D) (u : LiveSignature V D) (from : ℕ) (p : Pair V D) (k : KeyParts) (view : KeyOctets) → IsLive means a u
     → IsLeastFrom (fits a.policy.now (parts u.signature.now)) (key_set a.keys.now).keys from (Some p.key)
     → slice_get (key_set a.keys.now).keys p.key ≡ Some k
-    → view ≡ k.octets → IsWay means (option_map (λ v. means v.now) u.verifier) view (Some p.way)
+    → view ≡ k.octets → IsWay means (option_map (λ v. means v.now) u.verifier) view p.way
     → p.signature ≡ u.number → p.alg ≡ u.alg → message_octets p.message ≡ message_of (token u.signed.now) (parts u.signature.now) → p.octets.now ≡ (parts u.signature.now).octets
     → IsNextPair means (terms_table means a u.signed.now) u.number from p
 unfolding terms_table
@@ -204,7 +234,7 @@ some_next means a u from p k view o h e same way number named message octets =
     let z = option_map (λ v. means v.now) u.verifier in
     let n : alg s ≡ Some p.alg = o.named ∙ ap Some (sym named) in
     let is_verifier : IsVerifier v p.alg z = rw named o.verifier in
-    let w : IsWay means z k.octets (Some p.way) = subst (λ k. IsWay means z k (Some p.way)) same way in
+    let w : IsWay means z k.octets p.way = subst (λ k. IsWay means z k p.way) same way in
     record {
       next = next_is a.policy.now v ks t u.number from s (Some p.key) o.signature o.unbarred h;
       signature = number;

@@ -1,5 +1,5 @@
 -- A signature that is tried, and the pairs that are tried of it.
-use Rattle.std.specs.Prelude.{ℕ, ◌+◌, ◌<◌, ◌≡◌, ◌≢◌, Bool, true, false, List, [], ◌∷◌, ◌++◌, length, map, slice_get, Option, Some, None, option_map}
+use Rattle.std.specs.Prelude.{ℕ, ◌+◌, ◌<◌, ◌≡◌, Bool, true, false, List, [], ◌∷◌, ◌++◌, length, map, slice_get, Option, Some, None, option_map}
 use Rattle.std.specs.Str.{bytes_eq}
 use Rattle.jwt_mac.specs.declared.algorithm.Alg.{Alg}
 use Rattle.jwt_mac.specs.Algorithm.{is_hmac_alg, tag_of, try_cost}
@@ -54,11 +54,14 @@ abbrev pub IsFor : {V : Type 0} {D : V → Type 0} → Alg → Way V D → Type 
 IsFor algorithm (way.Tag secret) = is_hmac_alg algorithm ≡ true
 IsFor algorithm (way.ByVerifier verifier key) = is_hmac_alg algorithm ≡ false
 
+-- the key is a secret
+abbrev pub IsSecret : KeyOctets → Type 0
+IsSecret key = (secret : List ℕ) × (key ≡ OctKey secret)
+
 -- by the algorithm and the key: a secret gives a tag, and the verifier is asked about the key
-abbrev pub IsWay : {V : Type 0} {D : V → Type 0} → Means V D → Option Meaning → KeyOctets → Option (Way V D) → Type 0
-IsWay means verifier key None = (verifier ≡ None) × ((secret : List ℕ) → key ≢ OctKey secret)
-IsWay means verifier key (Some (way.Tag secret)) = (verifier ≡ None) × (key ≡ OctKey secret.now)
-IsWay means verifier key (Some (way.ByVerifier asked view)) = (verifier ≡ Some (means asked.now)) × (key ≡ key_octets view)
+abbrev pub IsWay : {V : Type 0} {D : V → Type 0} → Means V D → Option Meaning → KeyOctets → Way V D → Type 0
+IsWay means verifier key (way.Tag secret) = (verifier ≡ None) × (key ≡ OctKey secret.now)
+IsWay means verifier key (way.ByVerifier asked view) = (verifier ≡ Some (means asked.now)) × (key ≡ key_octets view)
 
 -- the signature is the tag, or the verifier accepts it
 abbrev pub way_accepts : {V : Type 0} {D : V → Type 0} → Means V D → Alg → MessageOctets → List ℕ → Way V D → Bool

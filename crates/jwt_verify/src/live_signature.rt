@@ -11,7 +11,7 @@ use crate::terms::Terms;
 use jwt_jws::{Signature, Signed};
 use jwt_mac::{Alg, Message, Verifier, first_for};
 use jwt_policy::laws::bar_is_first_row;
-use jwt_policy::{SigFault, bar, known_alg};
+use jwt_policy::{SigFault, alg_or_bar};
 
 /// A signature of a token, with its number, from 0.
 #[derive(Clone, Copy)]
@@ -51,11 +51,9 @@ impl<'s, 't, 'v> LiveSignature<'s, 't, 'v> {
             number,
             signature,
         } = *numbered;
-        if let Some(fault) = bar(terms.policy, signature, terms.verifiers) {
-            return Err(fault);
-        }
-        let Some(alg) = known_alg(signature) else {
-            return Err(SigFault::AlgUnknown);
+        let alg = match alg_or_bar(terms.policy, signature, terms.verifiers) {
+            Ok(alg) => alg,
+            Err(fault) => return Err(fault),
         };
         let verifier = if alg.is_hmac() {
             None

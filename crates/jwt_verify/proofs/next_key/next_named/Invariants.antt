@@ -8,8 +8,8 @@ use Rattle.jwt_verify.proofs.next_key.next_named.Given as goal
 abbrev pub invariant-named : goal.invariant-named
 invariant-named g l = record {
   start : l.from ≤ l.start;
-  none : (i : ℕ) → l.from ≤ i → i < l.start → PassesAt (fits l.policy (parts l.live.signature.now)) (key_set l.keys).keys i → ⊥;
+  none : (i : ℕ) → l.from ≤ i → i < l.start → PassesAt (fits l.terms.policy.now (parts l.live.signature.now)) (key_set l.terms.keys.now).keys i → ⊥;
 }
 
 abbrev pub decreases-named : goal.decreases-named
-decreases-named g l = length (key_set l.keys).keys - l.start
+decreases-named g l = length (key_set l.terms.keys.now).keys - l.start

@@ -1,4 +1,4 @@
-use Rattle.std.proofs.Common.{ℕ, ◌≤◌, ◌<◌}
+use Rattle.std.proofs.Common.{ℕ, ◌≤◌, ◌<◌, ◌-◌, length}
 use Rattle.jwt_jws.specs.Views.{parts}
 use Rattle.jwt_keys.specs.Numbers.{PassesAt}
 use Rattle.jwt_keys.specs.KeySets.{key_set}
@@ -6,4 +6,10 @@ use Rattle.jwt_policy.specs.Eligible.{fits}
 use Rattle.jwt_verify.proofs.next_key.next_of_all.Given as goal
 
 abbrev pub invariant-keys : goal.invariant-keys
-invariant-keys g l = (i : ℕ) → l.from ≤ i → i < l.j → PassesAt (fits l.policy (parts l.live.signature.now)) (key_set l.keys).keys i → ⊥
+invariant-keys g l = record {
+  start : l.from ≤ l.number;
+  none : (i : ℕ) → l.from ≤ i → i < l.number → PassesAt (fits l.terms.policy.now (parts l.live.signature.now)) (key_set l.terms.keys.now).keys i → ⊥;
+}
+
+abbrev pub decreases-keys : goal.decreases-keys
+decreases-keys g l = length (key_set l.terms.keys.now).keys - l.number

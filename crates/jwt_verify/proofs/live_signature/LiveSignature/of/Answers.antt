@@ -1,30 +1,23 @@
 use Rattle.std.proofs.Common.{sym, ◌∙◌, refl, map}
 use Rattle.std.specs.Prelude.{option_map}
 use Rattle.jwt_jws.specs.Views.{parts}
-use Rattle.jwt_verify.proofs.Pairs.{terms_bar, named_alg, named_verified, verifier_hmac, verifier_first}
+use Rattle.jwt_verify.proofs.Pairs.{terms_bar, named_verified, verifier_hmac, verifier_first}
 use Rattle.jwt_verify.specs.Pairs.{IsVerifier}
 use Rattle.jwt_verify.proofs.live_signature.LiveSignature.of.Goals.{then-is_hmac, else-is_hmac}
 use Rattle.jwt_verify.proofs.live_signature.LiveSignature.of.Goals as goal
 
-pub returns-in-Some : goal.returns-in-Some
-returns-in-Some g c =
-    terms_bar (λ b. (goal.Verifier-dyn g (b.vtable, b.value)).meaning b.value) c.args.terms.now c.args.numbered.now.signed.now c.args.numbered.now.number (parts c.args.numbered.now.signature.now) _ c.requires (sym c.in-Some.is ∙ c.bar.ensures)
-
-pub returns-in_default-known_alg : goal.returns-in_default-known_alg
-returns-in_default-known_alg g c =
-    let v = map (λ b. (goal.Verifier-dyn g (b.vtable, b.value)).meaning b.value) c.args.terms.now.verifiers.now in
-    let s = parts c.args.numbered.now.signature.now in
-    let unbarred = (c.bar_is_first_row.ensures.none c.args.terms.now.policy.now s v).0 (sym c.bar.ensures ∙ c.in_default.is) in
-    absurd (named_alg c.args.terms.now.policy.now v s unbarred (sym c.known_alg.ensures ∙ c.in_default-known_alg.is))
+pub returns-in-Err : goal.returns-in-Err
+returns-in-Err g c =
+    terms_bar (λ b. (goal.Verifier-dyn g (b.vtable, b.value)).meaning b.value) c.args.terms.now c.args.numbered.now.signed.now c.args.numbered.now.number (parts c.args.numbered.now.signature.now) _ c.requires (sym c.in-Err.ensures)
 
 pub returns : goal.returns
 returns g c =
     let v = map (λ b. (goal.Verifier-dyn g (b.vtable, b.value)).meaning b.value) c.args.terms.now.verifiers.now in
     let s = parts c.args.numbered.now.signature.now in
     let p = c.args.terms.now.policy.now in
-    let a = c.in-Some-known_alg.alg in
-    let bar = sym c.bar.ensures ∙ c.in_default.is in
-    let named = sym c.known_alg.ensures ∙ c.in-Some-known_alg.is in
+    let a = c.in-Ok.alg in
+    let named = c.in-Ok.ensures.0 in
+    let bar = c.in-Ok.ensures.1 in
     let unbarred = (c.bar_is_first_row.ensures.none p s v).0 bar in
     let verifier : IsVerifier v a (option_map (λ b. (goal.Verifier-dyn g (b.now.vtable, b.now.value)).meaning b.now.value) c.if-is_hmac.verifier) = elim c.if-is_hmac.branch [
       | then-is_hmac w ↦ verifier_hmac v a _ (sym c.is_hmac.ensures ∙ w.if-is_hmac.true) (rw w.verifier-is refl)
