@@ -15,11 +15,11 @@ allowed (Flag wanted) = flag wanted
 allowed (Whole wanted) = whole wanted
 
 -- the name of a claim, as it stands in the rule
-abbrev pub name_of : ClaimPlace → List ℕ
-name_of place = string_bytes place.name
+abbrev pub named_claim : ClaimPlace → List ℕ
+named_claim place = string_bytes place.name
 
 abbrev pub demand : ClaimRule → Demand
-demand rule = record { name = name_of rule.place; allowed = map allowed rule.allowed.items }
+demand rule = record { name = named_claim rule.place; allowed = map allowed rule.allowed.items }
 
 -- the claim that stands at a spot, if any
 abbrev pub found : Spot → Option Data

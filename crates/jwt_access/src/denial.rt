@@ -8,7 +8,7 @@ ghost use Rattle.jwt_access.specs.Denials.{scope_row, demands_rows, denial_of};
 ghost use Rattle.jwt_access.specs.Granted.{HasScope, IsGranted};
 ghost use Rattle.jwt_access.specs.Pointers.{claim_at};
 ghost use Rattle.jwt_access.specs.Scopes.{grants};
-ghost use Rattle.jwt_access.specs.Views.{demand, name_of};
+ghost use Rattle.jwt_access.specs.Views.{demand, named_claim};
 
 use crate::claim_rule::ClaimRule;
 use crate::place::ClaimPlace;
@@ -90,7 +90,7 @@ impl<'a> Denial<'a> {
 /// Whether the claim at this place grants the scope.
 fn is_granted(place: &ClaimPlace, claims: &Claims, scope: &str) -> bool
     ensures { result
-        ≡ some_passes (grants scope.now) (claim_at (name_of place.now) claims.now) }
+        ≡ some_passes (grants scope.now) (claim_at (named_claim place.now) claims.now) }
 {
     match place.spot(claims) {
         Some(spot) => spot.grants(scope),
@@ -104,7 +104,7 @@ fn first_scope_missing<'a>(
     scopes: &'a [String],
     claims: &Claims,
 ) -> Option<Denial<'a>>
-    ensures { result ≡ first_row (map (scope_row (name_of place.now) claims.now)
+    ensures { result ≡ first_row (map (scope_row (named_claim place.now) claims.now)
         (map string_bytes scopes.entry.now)) }
 {
     for scope in scopes {

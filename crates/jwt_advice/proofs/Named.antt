@@ -10,7 +10,7 @@ use Rattle.jwt_keys.specs.Keys.{KeyParts, has_name}
 use Rattle.jwt_keys.specs.Numbers.{PassesAt, IsLeastFrom}
 use Rattle.jwt_policy.specs.Settings.{Settings}
 use Rattle.jwt_advice.specs.Uses.{serves}
-use Rattle.jwt_advice.specs.Costs.{key_cost}
+use Rattle.jwt_advice.specs.Costs.{key_try_cost}
 use Rattle.jwt_advice.specs.declared.costs.Cost.{Cost}
 use Rattle.jwt_advice.specs.declared.costs.Cost.TheVariants.{Work, Calls}
 use Rattle.jwt_advice.proofs.Walks.{sum_more, passes_at, value_at}
@@ -47,6 +47,6 @@ if_unnamed n true name e = rw e refl
 if_unnamed n false name e = refl
 
 pub unnamed : (cost : Cost) (policy : Settings) (verifiers : List Meaning) (name : List ℕ) (alg : Alg) (key : KeyParts) → has_name name policy.header.thumb_kid key ≡ false →
-    key_cost cost policy verifiers (Some name) alg key ≡ 0
+    key_try_cost cost policy verifiers (Some name) alg key ≡ 0
 unnamed Work policy verifiers name alg key e = if_unnamed _ (serves verifiers key alg) _ e
 unnamed Calls policy verifiers name alg key e = if_unnamed 1 (serves verifiers key alg) _ e

@@ -11,7 +11,7 @@ use Rattle.jwt_policy.specs.declared.mode.Mode.TheVariants as mode
 use Rattle.jwt_policy.specs.Settings.{Settings}
 use Rattle.jwt_policy.specs.Texts.{is_among, some_passes}
 use Rattle.jwt_advice.specs.Uses.{key_count, is_unused}
-use Rattle.jwt_advice.specs.Costs.{most}
+use Rattle.jwt_advice.specs.Costs.{greatest_cost}
 use Rattle.jwt_advice.specs.RsaKeys.{is_refused_rsa}
 use Rattle.jwt_advice.specs.Secrets.{is_uniform, is_printable}
 use Rattle.jwt_advice.specs.declared.costs.Cost.TheVariants.{Work, Calls}
@@ -46,9 +46,9 @@ lacks_key algs verifiers keys = list_any (λ algorithm. key_count verifiers keys
 abbrev pub set_advises : Advice → Settings → List Meaning → List KeyParts → Bool
 set_advises AlgWithoutKey policy verifiers keys = lacks_key policy.run.algs verifiers keys
 set_advises NoKid policy verifiers keys = nat_lt 1 (length keys) && not policy.header.need_kid
-set_advises LowWork policy verifiers keys = nat_lt policy.run.work (most Work policy verifiers keys)
-set_advises LowCalls policy verifiers keys = some_passes (λ ceiling. nat_lt ceiling (most Calls policy verifiers keys)) policy.max_calls
-set_advises ManyCalls policy verifiers keys = option_map_or (λ ceiling. nat_lt 32 ceiling) policy.max_calls true && nat_lt 32 (most Calls policy verifiers keys)
+set_advises LowWork policy verifiers keys = nat_lt policy.run.work (greatest_cost Work policy verifiers keys)
+set_advises LowCalls policy verifiers keys = some_passes (λ ceiling. nat_lt ceiling (greatest_cost Calls policy verifiers keys)) policy.max_calls
+set_advises ManyCalls policy verifiers keys = option_map_or (λ ceiling. nat_lt 32 ceiling) policy.max_calls true && nat_lt 32 (greatest_cost Calls policy verifiers keys)
 set_advises _ policy verifiers keys = false
 
 -- ---- of one key

@@ -24,13 +24,13 @@ may_try policy verifiers kid algorithm key = serves verifiers key algorithm && o
 
 -- what a try of the key costs, if there is one: the octets that it feeds to HMAC, where the signing input is as long as a token may
 -- be (RFC 2104, section 2), or one call
-abbrev pub key_cost : Cost → Settings → List Meaning → Option (List ℕ) → Alg → KeyParts → ℕ
-key_cost Work policy verifiers kid algorithm key = if may_try policy verifiers kid algorithm key then try_cost algorithm (secret_length key.octets) policy.run.limit else 0
-key_cost Calls policy verifiers kid algorithm key = if may_try policy verifiers kid algorithm key then 1 else 0
+abbrev pub key_try_cost : Cost → Settings → List Meaning → Option (List ℕ) → Alg → KeyParts → ℕ
+key_try_cost Work policy verifiers kid algorithm key = if may_try policy verifiers kid algorithm key then try_cost algorithm (secret_length key.octets) policy.run.limit else 0
+key_try_cost Calls policy verifiers kid algorithm key = if may_try policy verifiers kid algorithm key then 1 else 0
 
 -- what a signature by the algorithm with this `kid` costs, where each key that may be is tried
 abbrev pub signature_cost : Cost → Settings → List Meaning → List KeyParts → Option (List ℕ) → Alg → ℕ
-signature_cost cost policy verifiers keys kid algorithm = sum_by (key_cost cost policy verifiers kid algorithm) keys
+signature_cost cost policy verifiers keys kid algorithm = sum_by (key_try_cost cost policy verifiers kid algorithm) keys
 
 -- the greatest cost of a signature with this `kid`, by the algorithms of the policy
 abbrev pub most_by_kid : Cost → Settings → List Meaning → List KeyParts → Option (List ℕ) → ℕ
@@ -49,17 +49,17 @@ abbrev pub most_of_signature : Cost → Settings → List Meaning → List KeyPa
 most_of_signature cost policy verifiers keys = if policy.header.need_kid then most_by_names cost policy verifiers keys else most_by_kid cost policy verifiers keys None
 
 -- the greatest cost of a token: it has as many signatures as are allowed
-abbrev pub most : Cost → Settings → List Meaning → List KeyParts → ℕ
-most cost policy verifiers keys = policy.run.max_signatures * most_of_signature cost policy verifiers keys
+abbrev pub greatest_cost : Cost → Settings → List Meaning → List KeyParts → ℕ
+greatest_cost cost policy verifiers keys = policy.run.max_signatures * most_of_signature cost policy verifiers keys
 
 -- ---- Cited by laws alone
 
 -- no token costs more
 abbrev pub CostsAreBounded : Type 0
 CostsAreBounded = (terms : Terms) (octets : List ℕ) (token : Token) (table : Table) → IsTokenWithTable terms octets token table → 0 < terms.policy.run.max_signatures
-    → (work (tries table) ≤ most Work terms.policy terms.verifiers terms.keys) × (length (tries table) ≤ most Calls terms.policy terms.verifiers terms.keys)
+    → (work (tries table) ≤ greatest_cost Work terms.policy terms.verifiers terms.keys) × (length (tries table) ≤ greatest_cost Calls terms.policy terms.verifiers terms.keys)
 
 -- ceilings of as much stop no run
 abbrev pub CeilingsSuffice : Type 0
-CeilingsSuffice = (terms : Terms) (octets : List ℕ) (ceiling : ℕ) → 0 < terms.policy.run.max_signatures → most Work terms.policy terms.verifiers terms.keys ≤ ceiling
-    → IsWithin terms.policy.max_calls (most Calls terms.policy terms.verifiers terms.keys) → IsUnstopped terms octets ceiling
+CeilingsSuffice = (terms : Terms) (octets : List ℕ) (ceiling : ℕ) → 0 < terms.policy.run.max_signatures → greatest_cost Work terms.policy terms.verifiers terms.keys ≤ ceiling
+    → IsWithin terms.policy.max_calls (greatest_cost Calls terms.policy terms.verifiers terms.keys) → IsUnstopped terms octets ceiling

@@ -7,7 +7,7 @@ use Rattle.jwt_keys.specs.Keys.{KeyParts}
 use Rattle.jwt_keys.specs.Numbers.{numbers}
 use Rattle.jwt_policy.specs.Settings.{Settings}
 use Rattle.jwt_advice.specs.Uses.{key_count, is_unused}
-use Rattle.jwt_advice.specs.Costs.{most}
+use Rattle.jwt_advice.specs.Costs.{greatest_cost}
 use Rattle.jwt_advice.specs.declared.costs.Cost.TheVariants.{Work, Calls}
 use Rattle.jwt_advice.specs.Advised.{policy_advises, set_advises, concerns, every_advice}
 use Rattle.jwt_advice.specs.declared.advice.Advice.{Advice}
@@ -55,8 +55,8 @@ abbrev pub facts : Settings → List Meaning → List KeyParts → Facts
 facts policy verifiers keys = record {
   algs = map (counted verifiers keys) policy.run.algs;
   unused = numbers (is_unused policy verifiers) 0 keys;
-  work = most Work policy verifiers keys;
-  calls = most Calls policy verifiers keys;
+  work = greatest_cost Work policy verifiers keys;
+  calls = greatest_cost Calls policy verifiers keys;
 }
 
 -- ---- all

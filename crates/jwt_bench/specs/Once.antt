@@ -17,7 +17,7 @@ use Rattle.jwt_verify.specs.Verdict.{Terms, table, verdict_of}
 use Rattle.jwt_verify.specs.declared.report.Try.{Try}
 use Rattle.jwt_verify.specs.declared.report.Verdict.{Verdict}
 use Rattle.jwt_verify.specs.declared.report.Verdict.TheVariants.{Accepted, Refused}
-use Rattle.jwt_issue.specs.Issued.{PairParts, compact_of, pair_cost, secret_in}
+use Rattle.jwt_issue.specs.Issued.{PairParts, issued_compact, pair_signing_cost, secret_in}
 use Rattle.jwt_bench.specs.Given.{GivenParts}
 use Rattle.jwt_bench.specs.declared.totals.Ran.{Ran}
 use Rattle.jwt_bench.specs.declared.workload.Workload.{Workload}
@@ -52,13 +52,13 @@ is_accepted (Refused fault) = false
 abbrev pub terms_of : List Meaning → ReadyParts → Terms
 terms_of verifiers b = record { policy = b.policy; keys = b.keys; now = pos 1300819379; verifiers = verifiers }
 
-abbrev pub paid_tries : List Meaning → ReadyParts → List Try
-paid_tries verifiers b = paid (table (terms_of verifiers b) b.given.token) b.policy.run.work b.policy.max_calls
+abbrev pub ready_tries : List Meaning → ReadyParts → List Try
+ready_tries verifiers b = paid (table (terms_of verifiers b) b.given.token) b.policy.run.work b.policy.max_calls
 
 -- under these verifiers for public keys
 abbrev pub judged_by : List Meaning → ReadyParts → Ran
 judged_by verifiers b =
-    let tries = paid_tries verifiers b in
+    let tries = ready_tries verifiers b in
     ran (is_accepted (verdict_of (terms_of verifiers b) b.given.token b.policy.run.work)) (work tries) (length tries)
 
 -- without verifiers
@@ -70,12 +70,12 @@ judged = judged_by []
 abbrev pub pair : ReadyParts → PairParts
 pair b = record { alg = b.alg; key = b.key }
 
-abbrev pub issued_by : ℕ → Bool → Ran
-issued_by cost true = ran true cost 1
-issued_by cost false = ran false 0 0
+abbrev pub ran_issuing : ℕ → Bool → Ran
+ran_issuing cost true = ran true cost 1
+ran_issuing cost false = ran false 0 0
 
 abbrev pub issued : ReadyParts → Ran
-issued b = issued_by (pair_cost None b.claims (pair b)) (is_ok (compact_of b.policy.run.work None b.claims (pair b)))
+issued b = ran_issuing (pair_signing_cost None b.claims (pair b)) (is_ok (issued_compact b.policy.run.work None b.claims (pair b)))
 
 abbrev pub hashed : ReadyParts → List ℕ → Ran
 hashed b secret =

@@ -33,5 +33,5 @@ IsReadyOf given b = (policy : Settings) × (set : KeyList) × (t : Token)
     × IsReadyOver given policy set.keys t b
 
 -- of the whole input
-abbrev pub IsReady : List ℕ → ReadyParts → Type 0
-IsReady x b = (given : GivenParts) × (given_of x ≡ Some given) × IsReadyOf given b
+abbrev pub IsReadyInput : List ℕ → ReadyParts → Type 0
+IsReadyInput x b = (given : GivenParts) × (given_of x ≡ Some given) × IsReadyOf given b

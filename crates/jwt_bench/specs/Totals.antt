@@ -13,8 +13,8 @@ abbrev pub after : Totals → Ran → Totals
 after t ran = record { accepted = t.accepted + accepted_number ran.accepted; octets = t.octets + ran.octets; calls = t.calls + ran.calls }
 
 -- so many runs that each come to the same
-abbrev pub times : ℕ → Ran → Totals
-times count ran = record { accepted = count * accepted_number ran.accepted; octets = count * ran.octets; calls = count * ran.calls }
+abbrev pub repeated : ℕ → Ran → Totals
+repeated count ran = record { accepted = count * accepted_number ran.accepted; octets = count * ran.octets; calls = count * ran.calls }
 
 -- the line that is printed
 abbrev pub line_of : Totals → List ℕ

@@ -7,8 +7,8 @@ ghost use Rattle.jwt_keys.specs.KeySets.{key_set, key_set_of};
 ghost use Rattle.jwt_policy.specs.Document.{policy_of};
 ghost use Rattle.jwt_issue.specs.ClaimSets.{claim_set_of};
 ghost use Rattle.jwt_bench.specs.Once.{ReadyParts, ran_of};
-ghost use Rattle.jwt_bench.specs.Ready.{IsReady, IsReadyOf, IsReadyOver};
-ghost use Rattle.jwt_bench.specs.Totals.{times};
+ghost use Rattle.jwt_bench.specs.Ready.{IsReadyInput, IsReadyOf, IsReadyOver};
+ghost use Rattle.jwt_bench.specs.Totals.{repeated};
 ghost use Rattle.jwt_bench.specs.Views.{given_view, ready_view};
 
 use crate::fault::RunFault;
@@ -33,7 +33,7 @@ fn repeat(
 ) -> Result<Totals, RunFault>
     requires { order.count ≤ 10000000 }
     ensures { IfOk result
-        (λ t. t ≡ times order.count
+        (λ t. t ≡ repeated order.count
         (ran_of (map meaning built_in.now) order.workload (ready_view ready.now))) }
 {
     let mut totals = Totals::none();
@@ -129,7 +129,7 @@ fn on_signed(
     ensures { IfOk result (λ t. (b : ReadyParts)
         × IsReadyOver (given_view given.entry) policy.now (key_set keys.now).keys
         (token signed.now) b
-        × (t ≡ times order.count (ran_of (map meaning built_in.now) order.workload b))) }
+        × (t ≡ repeated order.count (ran_of (map meaning built_in.now) order.workload b))) }
 {
     let claims = claims(alloc, signed)?;
     let header = header_of(alloc, signed)?;
@@ -169,7 +169,7 @@ fn on_given(
     requires { order.count ≤ 10000000 }
     ensures { IfOk result
         (λ t. (b : ReadyParts) × IsReadyOf (given_view given.entry) b
-        × (t ≡ times order.count (ran_of (map meaning built_in.now) order.workload b))) }
+        × (t ≡ repeated order.count (ran_of (map meaning built_in.now) order.workload b))) }
 {
     let policy = policy_in(alloc, given.policy)?;
     let keys = keys_in(alloc, given.keys)?;
@@ -189,8 +189,8 @@ fn on_octets(
 ) -> Result<Totals, RunFault>
     requires { order.count ≤ 10000000 }
     ensures { IfOk result
-        (λ t. (b : ReadyParts) × IsReady octets.now b
-        × (t ≡ times order.count (ran_of (map meaning built_in.now) order.workload b))) }
+        (λ t. (b : ReadyParts) × IsReadyInput octets.now b
+        × (t ≡ repeated order.count (ran_of (map meaning built_in.now) order.workload b))) }
 {
     match split(octets) {
         Some(given) => on_given(alloc, order, given, built_in),
@@ -208,8 +208,8 @@ pub(crate) fn totals<R: Source>(
     requires { order.count ≤ 10000000 }
     ensures { IfSome (R.remaining r.old)
         (λ x. IfOk result
-        (λ t. (b : ReadyParts) × IsReady x b
-        × (t ≡ times order.count (ran_of (map meaning built_in.now) order.workload b)))) }
+        (λ t. (b : ReadyParts) × IsReadyInput x b
+        × (t ≡ repeated order.count (ran_of (map meaning built_in.now) order.workload b)))) }
 {
     let mut intake = Intake::new(alloc, GREATEST_LIMIT);
     match intake.read_from(r) {

@@ -23,9 +23,9 @@ claims_where true claims = Some claims
 claims_where false claims = None
 
 -- the claims of an acceptance
-abbrev pub claims_of : Evidence → Option Members
-claims_of (Own states tries claims) = claims
-claims_of (Shared basis accepted) = claims_where accepted (arc_value basis).claims
+abbrev pub evidence_claims : Evidence → Option Members
+evidence_claims (Own states tries claims) = claims
+evidence_claims (Shared basis accepted) = claims_where accepted (arc_value basis).claims
 
 -- the same of what is kept of the last judging
 abbrev pub states_kept : Last → List SigState
@@ -35,4 +35,4 @@ abbrev pub tries_kept : Last → List Try
 tries_kept last = tries_of last.evidence
 
 abbrev pub claims_kept : Last → Option Members
-claims_kept last = claims_of last.evidence
+claims_kept last = evidence_claims last.evidence

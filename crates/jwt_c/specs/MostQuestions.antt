@@ -18,10 +18,10 @@ abbrev pub may_be_asked : Settings → KeyParts → Bool
 may_be_asked policy key = permits_of (codes "verify") key && list_any (is_public_for key) policy.run.algs
 
 -- the lesser of a number and a ceiling, where there is one
-abbrev pub within : Option ℕ → ℕ → ℕ
-within None number = number
-within (Some ceiling) number = if nat_lt ceiling number then ceiling else number
+abbrev pub lesser_of : Option ℕ → ℕ → ℕ
+lesser_of None number = number
+lesser_of (Some ceiling) number = if nat_lt ceiling number then ceiling else number
 
 -- the most questions that one token can raise: as many signatures as the policy allows, each with each such key; and no more than `max_calls`
 abbrev pub most_questions : Settings → List KeyParts → ℕ
-most_questions policy keys = within policy.max_calls (policy.run.max_signatures * count_by (may_be_asked policy) keys)
+most_questions policy keys = lesser_of policy.max_calls (policy.run.max_signatures * count_by (may_be_asked policy) keys)

@@ -32,9 +32,9 @@ PutsPayload (Err fault) status size old out = IsAbsent status
 PutsPayload (Ok signed) status size old out = status ≢ 3 → Puts signed.payload status size old out
 
 -- the octets of the protected header of the signature of this index; none where the octets are no token, or it has no such signature
-abbrev pub header_at : Result Token Fault → ℕ → Option (List ℕ)
-header_at (Ok signed) index = option_and_then (λ signature. octets_of signature.protected_text) (slice_get signed.signatures index)
-header_at (Err fault) index = None
+abbrev pub header_octets_at : Result Token Fault → ℕ → Option (List ℕ)
+header_octets_at (Ok signed) index = option_and_then (λ signature. octets_of signature.protected_text) (slice_get signed.signatures index)
+header_octets_at (Err fault) index = None
 
 -- the member for which a policy is refused
 abbrev pub refused_member : Result Settings PolicyFault → Option (List ℕ)
@@ -58,9 +58,9 @@ IsTry None status written = status ≡ 6
 IsTry (Some known) status written = (status ≡ 0) × (try_of written ≡ try_parts known)
 
 -- the compact JSON text of a claim, a text or a list of texts, of the claims that are kept
-abbrev pub claim_at : Option Members → List ℕ → Option (List ℕ)
-claim_at None name = None
-claim_at (Some claims) name = compact_at name claims
+abbrev pub claim_text_at : Option Members → List ℕ → Option (List ℕ)
+claim_text_at None name = None
+claim_text_at (Some claims) name = compact_at name claims
 
 -- a whole number of 64 signed bits, of the claims that are kept
 abbrev pub number_at : Option Members → List ℕ → Option ℤ

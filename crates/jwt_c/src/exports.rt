@@ -12,7 +12,7 @@ ghost use Rattle.jwt_c.specs.Reports.{asked_at, IsBeside, IsFresh, IsOpened, IsR
 ghost use Rattle.jwt_c.specs.Evidence.{states_kept, tries_kept, claims_kept};
 ghost use Rattle.jwt_c.specs.Faults.{bare};
 ghost use Rattle.jwt_c.specs.Remembering.{Remembers, RemembersAlike, RemembersProved, RemembersTold};
-ghost use Rattle.jwt_c.specs.Written.{PutsPayload, PutsName, IsState, IsTry, PutsSome, PutsNumber, claim_at, header_at, number_at, refused_member};
+ghost use Rattle.jwt_c.specs.Written.{PutsPayload, PutsName, IsState, IsTry, PutsSome, PutsNumber, claim_text_at, header_octets_at, number_at, refused_member};
 ghost use Rattle.jwt_c.specs.Asking.{PutsQuestion, IsTold, public_asked, rsa_asked, rsa_says, ed25519_asked, ed25519_says, proved_asked, proved_says};
 ghost use Rattle.jwt_c.specs.MostQuestions.{most_questions};
 ghost use Rattle.jwt_c.specs.Proving.{IsProvedBy};
@@ -520,7 +520,7 @@ pub extern "C" fn fow_unverified_header(
     ensures same { validator.new.state ≡ validator.old.state }
     ensures none { validator.old.state ≡ None → result ≡ FOW_NOT_OPEN }
     ensures header { IfSome validator.old.state (λ d. PutsSome
-        (header_at (token_of (documents d).policy token.now) signature) result written.new out.old out.new) }
+        (header_octets_at (token_of (documents d).policy token.now) signature) result written.new out.old out.new) }
 {
     let Some(state) = take(validator, alloc) else {
         return FOW_NOT_OPEN;
@@ -721,7 +721,7 @@ pub extern "C" fn fow_claim(
     ensures same { validator.new.state ≡ validator.old.state }
     ensures none { validator.old.state ≡ None → result ≡ FOW_NOT_OPEN }
     ensures claim { IfSome validator.old.state (λ d. IsUtf8 name.now
-        → PutsSome (claim_at (claims_kept d.last) name.now) result written.new out.old out.new) }
+        → PutsSome (claim_text_at (claims_kept d.last) name.now) result written.new out.old out.new) }
     ensures other { IfSome validator.old.state (λ d. ¬ IsUtf8 name.now → result ≡ FOW_ABSENT) }
 {
     let Some(state) = take(validator, alloc) else {

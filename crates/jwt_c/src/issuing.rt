@@ -5,7 +5,7 @@ ghost use Rattle.std.specs.Prelude.{◌≡◌, None, IfSome};
 ghost use Rattle.jwt_keys.specs.KeySets.{key_set};
 ghost use Rattle.jwt_issue.specs.ClaimSets.{claim_set_of};
 ghost use Rattle.jwt_issue.specs.Options.{issued_by};
-ghost use Rattle.jwt_issue.specs.Views.{options_parts, text_of};
+ghost use Rattle.jwt_issue.specs.Views.{options_parts, optional_text};
 ghost use Rattle.jwt_c.specs.Issuing.{hmac_at, form_at, typ_of, PutsToken, PutsIssued};
 
 use crate::report::FowReport;
@@ -50,7 +50,7 @@ fn form_at(number: u32) -> Option<Form>
 
 /// The type that is asked for: none where it has no octets.
 fn typ_of(typ: &str) -> Option<&str>
-    ensures { text_of result ≡ typ_of typ.now }
+    ensures { optional_text result ≡ typ_of typ.now }
 {
     if typ.is_empty() { None } else { Some(typ) }
 }

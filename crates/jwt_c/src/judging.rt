@@ -12,7 +12,7 @@ ghost use Rattle.jwt_told.specs.Told.{told};
 ghost use Rattle.jwt_memory.specs.Outcomes.{report_in, report_of, paid_in, is_remembered};
 ghost use Rattle.jwt_c.specs.Documents.{documents};
 ghost use Rattle.jwt_c.specs.declared.state.Evidence.TheVariants.{Shared};
-ghost use Rattle.jwt_c.specs.Evidence.{states_of, tries_of, claims_of, states_kept, tries_kept, claims_kept};
+ghost use Rattle.jwt_c.specs.Evidence.{states_of, tries_of, evidence_claims, states_kept, tries_kept, claims_kept};
 ghost use Rattle.jwt_c.specs.Faults.{missing_in, missing_name, bare, verdict_numbers};
 ghost use Rattle.jwt_c.specs.ProvedKept.{HasSameRoom};
 ghost use Rattle.jwt_c.specs.Remembering.{RestsOn, IsHeldIn, StaysTrue};
@@ -38,7 +38,7 @@ impl Evidence {
     pub(crate) fn none(alloc: Global) -> Evidence
         ensures states { states_of result ≡ [] }
         ensures tries { tries_of result ≡ [] }
-        ensures claims { claims_of result ≡ None }
+        ensures claims { evidence_claims result ≡ None }
     {
         Evidence::Own {
             states: Vec::new(alloc),

@@ -5,7 +5,7 @@ ghost use Rattle.std.specs.Prelude.{◌≡◌, IsUtf8, None, option_map};
 ghost use Rattle.jwt_text.specs.Base64url.{octets_of};
 ghost use Rattle.jwt_verify.specs.Verdict.{token_of};
 ghost use Rattle.jwt_c.specs.Documents.{documents};
-ghost use Rattle.jwt_c.specs.Written.{Puts, PutsPayload, PutsSome, claim_at, header_at, number_at};
+ghost use Rattle.jwt_c.specs.Written.{Puts, PutsPayload, PutsSome, claim_text_at, header_octets_at, number_at};
 
 use crate::state::State;
 use crate::status::{FOW_ABSENT, FOW_OK, FOW_OUT_OF_MEMORY, FOW_TOO_SHORT};
@@ -57,7 +57,7 @@ impl State {
         out: &mut [u8],
         written: &mut usize,
     ) -> u32
-        ensures { PutsSome (header_at (token_of (documents self.now).policy token.now) signature)
+        ensures { PutsSome (header_octets_at (token_of (documents self.now).policy token.now) signature)
             result written.new out.old out.new }
     {
         match read_token(alloc, token, &self.grounds.documents().policy) {
@@ -93,7 +93,7 @@ pub(crate) fn put_claim(
     written: &mut usize,
 ) -> u32
     ensures claim { IsUtf8 name.now
-        → PutsSome (claim_at (option_map (λ c. c.now) claims.entry) name.now) result written.new out.old out.new }
+        → PutsSome (claim_text_at (option_map (λ c. c.now) claims.entry) name.now) result written.new out.old out.new }
     ensures other { ¬ IsUtf8 name.now → result ≡ FOW_ABSENT }
 {
     let Ok(name) = from_utf8(name) else {

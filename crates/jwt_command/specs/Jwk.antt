@@ -92,8 +92,8 @@ RunsJwk order held x failed o = Printed out_of_memory o ⊎ ((a : Answer) × Jwk
 abbrev pub whole_secret : ℕ → List ℕ → Option (List ℕ)
 whole_secret size octets = if length octets == size then Some octets else None
 
-abbrev pub secret_in : Alg → Option (List ℕ) → Option (List ℕ)
-secret_in alg random = option_and_then (whole_secret (digest_size alg)) random
+abbrev pub fresh_secret : Alg → Option (List ℕ) → Option (List ℕ)
+fresh_secret alg random = option_and_then (whole_secret (digest_size alg)) random
 
 -- the JWK of a secret, with its thumbprint as `kid`, for this algorithm alone
 abbrev pub secret_jwk : Alg → List ℕ → List ℕ
@@ -104,7 +104,7 @@ secret_line order (Some k) = jwk_line (bare_or_set order.bare (secret_jwk order.
 secret_line order None = random_failed order.printing
 
 abbrev pub secret_answer : SecretOrder → Held → Answer
-secret_answer order held = secret_line order (secret_in order.alg held.random)
+secret_answer order held = secret_line order (fresh_secret order.alg held.random)
 
 -- ---- Cited by contracts of private functions alone
 

@@ -50,27 +50,27 @@ texts_digest key t = do
   Ok (digest_by key t signature alg)
 
 -- the digest of a token in compact form under a key, or the first cause why it has none
-unfoldable pub digest_of : List ℕ → List ℕ → Result Digest MacFault
-digest_of key z = some_or Segments (compact_texts z) >>= texts_digest key
+unfoldable pub compact_digest : List ℕ → List ℕ → Result Digest MacFault
+compact_digest key z = some_or Segments (compact_texts z) >>= texts_digest key
 
 -- ---- the line
 
-abbrev pub fault_name : MacFault → List ℕ
-fault_name Segments = codes "Segments"
-fault_name Base64 = codes "Base64"
-fault_name Header = codes "Header"
-fault_name AlgMissing = codes "AlgMissing"
-fault_name AlgNotAllowed = codes "AlgNotAllowed"
-fault_name OutOfMemory = codes "OutOfMemory"
+abbrev pub mac_fault_name : MacFault → List ℕ
+mac_fault_name Segments = codes "Segments"
+mac_fault_name Base64 = codes "Base64"
+mac_fault_name Header = codes "Header"
+mac_fault_name AlgMissing = codes "AlgMissing"
+mac_fault_name AlgNotAllowed = codes "AlgNotAllowed"
+mac_fault_name OutOfMemory = codes "OutOfMemory"
 
 abbrev pub mac_line : Result Digest MacFault → Answer
 mac_line (Ok d) = digest_line d
-mac_line (Err fault) = refused (fault_name fault)
+mac_line (Err fault) = refused (mac_fault_name fault)
 
 -- of an input, by a reader that has failed or not; the limit is compared with the whole input
 abbrev pub mac_on : List ℕ → ℕ → Bool → List ℕ → Answer
 mac_on key limit true input = read_failed
-mac_on key limit false input = if nat_lt limit (length input) then refused (codes "TooLong") else mac_line (digest_of key (without_line_feed true input))
+mac_on key limit false input = if nat_lt limit (length input) then refused (codes "TooLong") else mac_line (compact_digest key (without_line_feed true input))
 
 abbrev pub mac_under : Option (List ℕ) → ℕ → Bool → List ℕ → Answer
 mac_under None limit failed input = key_refused

@@ -25,15 +25,15 @@ members_or_none (Ok members) = members
 members_or_none (Err fault) = no_members
 
 -- a policy with the key set of a document
-abbrev pub with_keys : Printing → List Meaning → List ℕ → Settings → List ℕ → Result KeyList KeysFault → Answer
-with_keys printing verifiers document policy octets (Ok set) =
+abbrev pub policy_with_keys : Printing → List Meaning → List ℕ → Settings → List ℕ → Result KeyList KeysFault → Answer
+policy_with_keys printing verifiers document policy octets (Ok set) =
     printed_policy printing (members_or_none (object_of document)) policy (found_with policy verifiers set.keys (numbers is_private 0 (entries_of octets)))
-with_keys printing verifiers document policy octets (Err fault) = (printer printing).keys_refused fault
+policy_with_keys printing verifiers document policy octets (Err fault) = (printer printing).keys_refused fault
 
 -- a policy, with the document of a key set, if any
 abbrev pub meaning_of : Printing → List Meaning → List ℕ → Settings → Option (List ℕ) → Answer
 meaning_of printing verifiers document policy None = printed_policy printing (members_or_none (object_of document)) policy (found_alone policy)
-meaning_of printing verifiers document policy (Some octets) = with_keys printing verifiers document policy octets (key_set_of octets)
+meaning_of printing verifiers document policy (Some octets) = policy_with_keys printing verifiers document policy octets (key_set_of octets)
 
 -- the policy is looked at first
 abbrev pub policy_or_fault : Printing → List Meaning → List ℕ → Option (List ℕ) → Result Settings PolicyFault → Answer

@@ -4,14 +4,14 @@ ghost use Rattle.serde_json.specs.Data.{object};
 ghost use Rattle.jwt_text.specs.Intake.{TakesAtMost};
 ghost use Rattle.jwt_mac.specs.Algorithm.{digest_size, is_hmac_alg};
 ghost use Rattle.jwt_jwk.specs.Converted.{kid_of};
-ghost use Rattle.jwt_jwk.specs.Jwk.{text_of};
+ghost use Rattle.jwt_jwk.specs.Jwk.{optional_text};
 ghost use Rattle.jwt_words.specs.InHand.{unread};
 ghost use Rattle.jwt_words.specs.Seen.{held_view, jwk_view, kid_view, secret_view};
 ghost use Rattle.jwt_jwk.specs.FaultNames.{jwk_fault_name, remedy};
 ghost use Rattle.jwt_printing.specs.Jwk.{jwk_refused};
 ghost use Rattle.jwt_printing.specs.Views.{reply_view};
 ghost use Rattle.jwt_command.specs.Documents.{last_most};
-ghost use Rattle.jwt_command.specs.Jwk.{AreKeys, AreKeysAs, IsPrinted, IsPrintedAs, JwkAnswer, JwkInHand, JwkOfInput, JwkOfKeys, JwkOfOctets, bare_or_set, jwk_most, kid_by, secret_answer, secret_jwk, secret_line, secret_in};
+ghost use Rattle.jwt_command.specs.Jwk.{AreKeys, AreKeysAs, IsPrinted, IsPrintedAs, JwkAnswer, JwkInHand, JwkOfInput, JwkOfKeys, JwkOfOctets, bare_or_set, jwk_most, kid_by, secret_answer, secret_jwk, secret_line, fresh_secret};
 
 use crate::input::whole::read_input;
 use jwt_jwk::{
@@ -55,7 +55,7 @@ fn of_der(
     alg: Option<&str>,
     octets: &[u8],
 ) -> Result<Vec<u8>, JwkFault>
-    ensures ok { IfOk result (λ v. IsPrintedAs true bare (kid_of kid.entry) (text_of alg.entry) octets.now v.items) }
+    ensures ok { IfOk result (λ v. IsPrintedAs true bare (kid_of kid.entry) (optional_text alg.entry) octets.now v.items) }
     ensures only { AreKeysAs true bare octets.now → IsOkUnless result JwkFault.OutOfMemory }
 {
     match jwk_of_der(alloc, octets, kid, alg) {
@@ -75,7 +75,7 @@ fn of_pem(
     alg: Option<&str>,
     octets: &[u8],
 ) -> Result<Vec<u8>, JwkFault>
-    ensures ok { IfOk result (λ v. IsPrintedAs false bare (kid_of kid.entry) (text_of alg.entry) octets.now v.items) }
+    ensures ok { IfOk result (λ v. IsPrintedAs false bare (kid_of kid.entry) (optional_text alg.entry) octets.now v.items) }
     ensures only { AreKeysAs false bare octets.now → IsOkUnless result JwkFault.OutOfMemory }
 {
     if bare {
@@ -220,7 +220,7 @@ fn secret_line(alloc: Global, order: SecretOrder, k: &[u8]) -> Result<Reply, All
 
 /// The octets of a secret, where there are just as many as a digest of its algorithm has.
 fn secret_in(alg: Alg, random: Option<&[u8]>) -> Option<&[u8]>
-    ensures is { option_map (λ t. t.now) result ≡ secret_in alg (option_map (λ t. t.now) random.entry) }
+    ensures is { option_map (λ t. t.now) result ≡ fresh_secret alg (option_map (λ t. t.now) random.entry) }
     ensures size { IfSome result (λ k. length k.now ≡ digest_size alg) }
 {
     let octets = random?;

@@ -6,7 +6,7 @@ ghost use Rattle.jwt_text.specs.Base64url.{spelled};
 ghost use Rattle.jwt_mac.specs.Algorithm.{is_hmac_alg};
 ghost use Rattle.jwt_jws.specs.Views.{texts_view};
 ghost use Rattle.jwt_command.specs.declared.mac.MacFault.TheVariants.{Base64};
-ghost use Rattle.jwt_command.specs.Mac.{algorithm_of, behind_key, digest_by, digest_of, fault_name, key_spelled, mac_answer, mac_in_hand, mac_line, mac_most, texts_digest};
+ghost use Rattle.jwt_command.specs.Mac.{algorithm_of, behind_key, digest_by, compact_digest, mac_fault_name, key_spelled, mac_answer, mac_in_hand, mac_line, mac_most, texts_digest};
 ghost use Rattle.jwt_printing.specs.Mac.{digest_line, key_refused};
 ghost use Rattle.jwt_text.specs.Intake.{TakesAtMost};
 ghost use Rattle.jwt_printing.specs.Views.{digest_view, reply_view};
@@ -111,11 +111,11 @@ fn texts_digest(alloc: Global, key: &[u8], texts: &CompactTexts<'_>) -> Result<D
 }
 
 /// The digest of a token.
-#[tactic(auto, unfolding(crate::specs::Mac::digest_of))]
+#[tactic(auto, unfolding(crate::specs::Mac::compact_digest))]
 fn token_digest(alloc: Global, key: &[u8], token: &[u8]) -> Result<Digest, MacFault>
     requires key { length key.now ≤ 4096 }
     requires token { length token.now ≤ 1048576 }
-    ensures { Answers MacFault.OutOfMemory digest_view result (digest_of key.now token.now) }
+    ensures { Answers MacFault.OutOfMemory digest_view result (compact_digest key.now token.now) }
 {
     match compact_texts(token) {
         Some(texts) => texts_digest(alloc, key, &texts),
@@ -125,7 +125,7 @@ fn token_digest(alloc: Global, key: &[u8], token: &[u8]) -> Result<Digest, MacFa
 
 /// The name of a fault.
 fn fault_name(fault: MacFault) -> &'static str
-    ensures { result.now ≡ fault_name fault }
+    ensures { result.now ≡ mac_fault_name fault }
 {
     match fault {
         MacFault::OutOfMemory => "OutOfMemory",
@@ -141,7 +141,7 @@ fn fault_name(fault: MacFault) -> &'static str
 fn token_line(alloc: Global, key: &[u8], token: &[u8]) -> Result<Reply, AllocError>
     requires key { length key.now ≤ 4096 }
     requires token { length token.now ≤ 1048576 }
-    ensures line { IfOk result (λ r. reply_view r ≡ mac_line (digest_of key.now token.now)) }
+    ensures line { IfOk result (λ r. reply_view r ≡ mac_line (compact_digest key.now token.now)) }
     ensures done { IfOk result (λ r. r.status ≢ 3) }
 {
     match token_digest(alloc, key, token) {

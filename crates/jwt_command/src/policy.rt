@@ -6,7 +6,7 @@ ghost use Rattle.jwt_keys.specs.Numbers.{numbers};
 ghost use Rattle.jwt_advice.specs.Findings.{found_alone, found_with};
 ghost use Rattle.jwt_advice.specs.Private.{entries_of, is_private};
 ghost use Rattle.jwt_printing.specs.Meant.{printed_policy};
-ghost use Rattle.jwt_command.specs.Policy.{document_answer, meaning_of, members_or_none, policy_answer, with_keys};
+ghost use Rattle.jwt_command.specs.Policy.{document_answer, meaning_of, members_or_none, policy_answer, policy_with_keys};
 ghost use Rattle.jwt_words.specs.Seen.{held_view, policy_view};
 ghost use Rattle.jwt_printing.specs.Views.{reply_view};
 
@@ -32,20 +32,24 @@ fn members_in(alloc: Global, document: &[u8]) -> Result<Object, AllocError>
     }
 }
 
+/// A policy that was read.
+#[derive(Clone, Copy)]
+struct ReadPolicy<'p> {
+    /// The octets of its document.
+    document: &'p [u8],
+    /// What it asks.
+    policy: &'p Policy,
+}
+
 /// A policy alone.
-fn alone(
-    alloc: Global,
-    printing: Printing,
-    document: &[u8],
-    policy: &Policy,
-) -> Result<Reply, AllocError>
+fn alone(alloc: Global, printing: Printing, read: &ReadPolicy<'_>) -> Result<Reply, AllocError>
     ensures { IfOk result (λ a. reply_view a
-        ≡ printed_policy printing (members_or_none (object_of document.now)) policy.now
-        (found_alone policy.now)) }
+        ≡ printed_policy printing (members_or_none (object_of read.now.document.now))
+        read.now.policy.now (found_alone read.now.policy.now)) }
 {
-    let found = Findings::alone(alloc, policy)?;
-    let members = members_in(alloc, document)?;
-    printed_policy(alloc, printing, &members.lend(), policy, &found)
+    let found = Findings::alone(alloc, read.policy)?;
+    let members = members_in(alloc, read.document)?;
+    printed_policy(alloc, printing, &members.lend(), read.policy, &found)
 }
 
 /// The places of the entries of a key set document that have a private member.
@@ -58,11 +62,13 @@ fn private_places(alloc: Global, octets: &[u8]) -> Result<Vec<usize>, AllocError
     }
 }
 
-/// The documents of a policy and of its key set.
+/// A key set that was read.
 #[derive(Clone, Copy)]
-struct Documents<'a> {
-    policy: &'a [u8],
-    keys: &'a [u8],
+struct ReadKeys<'k> {
+    /// The octets of its document.
+    document: &'k [u8],
+    /// Its keys.
+    keys: &'k KeySet,
 }
 
 /// A policy with a key set that was read.
@@ -70,19 +76,19 @@ fn with_set(
     alloc: Global,
     printing: Printing,
     verifiers: &[Box<dyn Verifier>],
-    documents: Documents<'_>,
-    policy: &Policy,
-    keys: &KeySet,
+    read: &ReadPolicy<'_>,
+    set: &ReadKeys<'_>,
 ) -> Result<Reply, AllocError>
     ensures { IfOk result (λ a. reply_view a
-        ≡ printed_policy printing (members_or_none (object_of documents.entry.policy.now)) policy.now
-        (found_with policy.now (map meaning verifiers.now) (key_set keys.now).keys
-        (numbers is_private 0 (entries_of documents.entry.keys.now)))) }
+        ≡ printed_policy printing (members_or_none (object_of read.now.document.now))
+        read.now.policy.now
+        (found_with read.now.policy.now (map meaning verifiers.now) (key_set set.now.keys.now).keys
+        (numbers is_private 0 (entries_of set.now.document.now)))) }
 {
-    let places = private_places(alloc, documents.keys)?;
-    let found = Findings::with_keys(alloc, policy, keys, verifiers, places.as_slice())?;
-    let members = members_in(alloc, documents.policy)?;
-    printed_policy(alloc, printing, &members.lend(), policy, &found)
+    let places = private_places(alloc, set.document)?;
+    let found = Findings::with_keys(alloc, read.policy, set.keys, verifiers, places.as_slice())?;
+    let members = members_in(alloc, read.document)?;
+    printed_policy(alloc, printing, &members.lend(), read.policy, &found)
 }
 
 /// A policy with the document of its key set.
@@ -90,15 +96,21 @@ fn with_keys(
     alloc: Global,
     printing: Printing,
     verifiers: &[Box<dyn Verifier>],
-    documents: Documents<'_>,
-    policy: &Policy,
+    read: &ReadPolicy<'_>,
+    document: &[u8],
 ) -> Result<Reply, AllocError>
     ensures { IfOk result (λ a. reply_view a
-        ≡ with_keys printing (map meaning verifiers.now) documents.entry.policy.now policy.now
-        documents.entry.keys.now (key_set_of documents.entry.keys.now)) }
+        ≡ policy_with_keys printing (map meaning verifiers.now) read.now.document.now read.now.policy.now
+        document.now (key_set_of document.now)) }
 {
-    match KeySet::read(alloc, documents.keys) {
-        Ok(keys) => with_set(alloc, printing, verifiers, documents, policy, &keys),
+    match KeySet::read(alloc, document) {
+        Ok(keys) => {
+            let set = ReadKeys {
+                document,
+                keys: &keys,
+            };
+            with_set(alloc, printing, verifiers, read, &set)
+        }
         Err(KeysFault::OutOfMemory) => Err(AllocError),
         Err(fault) => printed_keys_fault(alloc, printing, &fault),
     }
@@ -109,23 +121,16 @@ fn meaning_of(
     alloc: Global,
     printing: Printing,
     verifiers: &[Box<dyn Verifier>],
-    document: &[u8],
-    policy: &Policy,
+    read: &ReadPolicy<'_>,
     keys: Option<&[u8]>,
 ) -> Result<Reply, AllocError>
     ensures { IfOk result (λ a. reply_view a
-        ≡ meaning_of printing (map meaning verifiers.now) document.now policy.now
+        ≡ meaning_of printing (map meaning verifiers.now) read.now.document.now read.now.policy.now
         (option_map (λ t. t.now) keys.entry)) }
 {
     match keys {
-        Some(keys) => {
-            let documents = Documents {
-                policy: document,
-                keys,
-            };
-            with_keys(alloc, printing, verifiers, documents, policy)
-        }
-        None => alone(alloc, printing, document, policy),
+        Some(keys) => with_keys(alloc, printing, verifiers, read, keys),
+        None => alone(alloc, printing, read),
     }
 }
 
@@ -142,7 +147,13 @@ fn on_documents(
         (option_map (λ t. t.now) keys.entry)) }
 {
     match Policy::read(alloc, document) {
-        Ok(policy) => meaning_of(alloc, printing, verifiers, document, &policy, keys),
+        Ok(policy) => {
+            let read = ReadPolicy {
+                document,
+                policy: &policy,
+            };
+            meaning_of(alloc, printing, verifiers, &read, keys)
+        }
         Err(PolicyFault::OutOfMemory) => Err(AllocError),
         Err(fault) => printed_policy_fault(alloc, printing, &fault),
     }

@@ -19,8 +19,8 @@ use crate::mac::{mac, mac_in_hand};
 use crate::policy::policy;
 use crate::pretty::show_pretty;
 use crate::show::show;
-use crate::verify::verify;
-use crate::verify_lines::{Clock, NoClock, run_lines};
+use crate::verify::{VerifyOptions, verify};
+use crate::verify_lines::{Clock, LinesAsked, NoClock, run_lines};
 use jwt_issue::IssueOptions;
 use jwt_mac::Verifier;
 pub use jwt_printing::lack_memory;
@@ -30,6 +30,15 @@ use jwt_words::{
     Held, Moment, Order, Printing, Request, WordsFault, files_in_order, read_words, unread,
 };
 use std::alloc::{AllocError, Global};
+
+/// What a program has at hand for an answer, beside its clock.
+#[derive(Clone, Copy)]
+pub(crate) struct AtHand<'a> {
+    /// The verifiers for public keys.
+    pub(crate) built_in: &'a [Box<dyn Verifier>],
+    /// The documents that were read from files.
+    pub(crate) held: Held<'a>,
+}
 
 /// Runs the command that `words` ask for on `r`, prints its answer to `w`, and answers its status. The first word is the
 /// program's name. No verifiers and no documents are at hand: with `--public-keys` the answer is as without, and a file that is named
@@ -241,11 +250,15 @@ pub fn run_read<R: Source, W: Sink, C: Clock>(
     ensures pretty_failed { (order : PrettyOrder) → IsReading words.entry (Some (Pretty order))
         → result ≡ 3 → (R.failed r.new ≡ true) ⊎ (W.failed w.new ≡ true) }
 {
+    let at_hand = AtHand { built_in, held };
     match words {
         Ok(Request::Once { printing, order }) => {
-            give(w, reply_of(alloc, printing, order, built_in, held, r))
+            give(w, reply_of(alloc, printing, order, &at_hand, r))
         }
-        Ok(Request::EachLine(order)) => run_lines(alloc, order, built_in, moments, held, r, w),
+        Ok(Request::EachLine(order)) => {
+            let asked = LinesAsked { order, at_hand };
+            run_lines(alloc, &asked, moments, r, w)
+        }
         Ok(Request::Jwk(order)) => give(w, jwk(alloc, order, held, r)),
         Ok(Request::NewSecret(order)) => give(w, new_secret(alloc, order, held)),
         Ok(Request::Policy(order)) => give(w, policy(alloc, order, built_in, held)),
@@ -282,27 +295,27 @@ fn reply_in_hand<R: Source>(
     alloc: Global,
     printing: Printing,
     order: Order<'_>,
-    built_in: &[Box<dyn Verifier>],
-    held: Held<'_>,
+    at_hand: &AtHand<'_>,
     r: &mut R,
 ) -> Result<Reply, AllocError>
     requires { HasLimits (seen order) }
     ensures answer { IfSome (R.remaining r.old) (λ x. IfOk result (λ a. reply_view a
-        ≡ answer_in_hand printing (map meaning built_in.now) (held_view held.entry)
+        ≡ answer_in_hand printing (map meaning at_hand.now.built_in.now) (held_view at_hand.now.held)
         (seen order.entry)
         (R.failed r.new) x)) }
     ensures stops { IfSome (R.remaining r.old) (λ x. (R.failed r.new ≡ true)
-        ⊎ TakesAtMost (most_in_hand (held_view held.entry) (seen order.entry) x) x
+        ⊎ TakesAtMost (most_in_hand (held_view at_hand.now.held) (seen order.entry) x) x
         (R.remaining r.new)) }
     ensures unread { reads_nothing (Some (Once printing (seen order.entry))) ≡ true
         → r.new ≡ r.old }
     ensures known { reads_nothing (Some (Once printing (seen order.entry))) ≡ true
         → IfOk result (λ a. reply_view a
-        ≡ answer_in_hand printing (map meaning built_in.now) (held_view held.entry)
+        ≡ answer_in_hand printing (map meaning at_hand.now.built_in.now) (held_view at_hand.now.held)
         (seen order.entry)
         false []) }
     ensures failed { IfOk result (λ a. a.status ≡ 3 → R.failed r.new ≡ true) }
 {
+    let held = at_hand.held;
     match order {
         Order::Mac { key, limit } => mac(alloc, key.as_bytes(), limit, r),
         Order::MacFile { limit, .. } => mac_in_hand(alloc, held.key, limit, r),
@@ -313,8 +326,12 @@ fn reply_in_hand<R: Source>(
             public_keys,
             ..
         } => {
-            let verifiers = asked_for(public_keys, built_in);
-            verify(alloc, printing, verifiers, now, held, r)
+            let options = VerifyOptions {
+                printing,
+                moment: now,
+                verifiers: asked_for(public_keys, at_hand.built_in),
+            };
+            verify(alloc, &options, held, r)
         }
         Order::Issue { alg, typ, form, .. } => {
             let options = IssueOptions {
@@ -334,28 +351,27 @@ fn reply_of<R: Source>(
     alloc: Global,
     printing: Printing,
     order: Order<'_>,
-    built_in: &[Box<dyn Verifier>],
-    held: Held<'_>,
+    at_hand: &AtHand<'_>,
     r: &mut R,
 ) -> Result<Reply, AllocError>
     requires { HasLimits (seen order) }
     ensures answer { IfSome (R.remaining r.old) (λ x. IfOk result (λ a. reply_view a
-        ≡ answer_of printing (map meaning built_in.now) (held_view held.entry) (seen order.entry)
+        ≡ answer_of printing (map meaning at_hand.now.built_in.now) (held_view at_hand.now.held) (seen order.entry)
         (R.failed r.new) x)) }
     ensures stops { IfSome (R.remaining r.old) (λ x. (R.failed r.new ≡ true)
-        ⊎ TakesAtMost (most_taken (held_view held.entry) (seen order.entry) x) x
+        ⊎ TakesAtMost (most_taken (held_view at_hand.now.held) (seen order.entry) x) x
         (R.remaining r.new)) }
     ensures unread { reads_nothing (Some (Once printing (seen order.entry))) ≡ true
         → r.new ≡ r.old }
     ensures known { reads_nothing (Some (Once printing (seen order.entry))) ≡ true
         → IfOk result (λ a. reply_view a
-        ≡ answer_of printing (map meaning built_in.now) (held_view held.entry)
+        ≡ answer_of printing (map meaning at_hand.now.built_in.now) (held_view at_hand.now.held)
         (seen order.entry) false []) }
     ensures failed { IfOk result (λ a. a.status ≡ 3 → (R.failed r.new ≡ true)
-        ⊎ (is_some (unread (files_in_order (seen order.entry)) (held_view held.entry)) ≡ true)) }
+        ⊎ (is_some (unread (files_in_order (seen order.entry)) (held_view at_hand.now.held)) ≡ true)) }
 {
-    match unread(files_in_order(order), held) {
+    match unread(files_in_order(order), at_hand.held) {
         Some(name) => printed_file_fault(alloc, printing, name),
-        None => reply_in_hand(alloc, printing, order, built_in, held, r),
+        None => reply_in_hand(alloc, printing, order, at_hand, r),
     }
 }

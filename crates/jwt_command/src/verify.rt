@@ -1,6 +1,7 @@
 //! The command `verify`: the verdict on a token by a policy and a key set.
 ghost use Rattle.std.specs.Prelude.{◌≡◌, ◌≢◌, ◌+◌, ◌⊎◌, false, true, map, option_map, IfOk, IfSome};
 ghost use Rattle.jwt_keys.specs.KeySets.{key_set};
+ghost use Rattle.jwt_verify.specs.TermsTable.{terms_meant};
 ghost use Rattle.jwt_verify.specs.declared.report.InputFault.TheVariants.{Read};
 ghost use Rattle.jwt_command.specs.Documents.{last_document, last_most};
 ghost use Rattle.jwt_text.specs.Intake.{TakesAtMost};
@@ -27,37 +28,72 @@ use jwt_printing::{
 };
 use jwt_text::{Scratch, Source};
 use jwt_verify::laws::{tells_reports, tells_tokens};
-use jwt_verify::{judge, judge_signed, validate};
+use jwt_verify::{Terms, judge_under, validate};
 use jwt_words::{Held, Moment, Printing};
 use std::alloc::{AllocError, Global};
+
+/// What is asked of `verify`, beside the documents, and the verifiers for it.
+#[derive(Clone, Copy)]
+pub(crate) struct VerifyOptions<'v> {
+    /// How the answer is told.
+    pub(crate) printing: Printing,
+    /// The moment at which the claims are held against the policy.
+    pub(crate) moment: Moment,
+    /// The verifiers for public keys, where they are asked for.
+    pub(crate) verifiers: &'v [Box<dyn Verifier>],
+}
+
+/// What the answer to a token needs beside the verdict.
+#[derive(Clone, Copy)]
+pub(crate) struct Telling<'r> {
+    /// How the answer is told.
+    pub(crate) printing: Printing,
+    /// The access rule that the claims of an accepted token are held against, where one is in hand.
+    pub(crate) rule: Option<&'r AccessRule>,
+}
+
+/// The terms of a verdict at a moment.
+pub(crate) fn terms_at<'k, 'p, 'v>(
+    moment: Moment,
+    verifiers: &'v [Box<dyn Verifier>],
+    policy: &'p Policy,
+    keys: &'k KeySet,
+) -> Terms<'k, 'p, 'v>
+    ensures meant { terms_meant meaning result
+        ≡ terms_of_keys (map meaning verifiers.now) moment.seconds policy.now (key_set keys.now) }
+    ensures policy { result.policy.now ≡ policy.now }
+{
+    Terms {
+        keys,
+        policy,
+        moment: moment.seconds as i64,
+        verifiers,
+    }
+}
 
 /// The verdict on the token, which is all that is left of the input.
 fn on_token<R: Source>(
     alloc: Global,
-    verifiers: &[Box<dyn Verifier>],
-    now: Moment,
-    policy: &Policy,
-    keys: &KeySet,
+    terms: &Terms<'_, '_, '_>,
     rule: Option<&AccessRule>,
     r: &mut R,
 ) -> Result<Reply, AllocError>
     ensures line { IfSome (R.remaining r.old) (λ x. IfOk result (λ a. reply_view a
         ≡ unless_read_failed in_lines (R.failed r.new)
-        (token_answer (rule_view rule.entry)
-        (terms_of_keys (map meaning verifiers.now) now.seconds policy.now (key_set keys.now)) x))) }
+        (token_answer (rule_view rule.entry) (terms_meant (λ b. meaning (b.vtable, b.value)) terms.now) x))) }
     ensures stops { IfSome (R.remaining r.old) (λ x. (R.failed r.new ≡ true)
-        ⊎ TakesAtMost (policy.now.run.limit + 1) x (R.remaining r.new)) }
+        ⊎ TakesAtMost (terms.now.policy.now.run.limit + 1) x (R.remaining r.new)) }
     ensures failed { IfOk result (λ a. a.status ≡ 3 → R.failed r.new ≡ true) }
 {
-    let mut budget = CountDown::new(policy.work());
+    let mut budget = CountDown::new(terms.policy.work());
     tells_reports();
     let report = validate(
         alloc,
         r,
-        keys,
-        policy,
-        now.seconds as i64,
-        verifiers,
+        terms.keys,
+        terms.policy,
+        terms.moment,
+        terms.verifiers,
         &mut budget,
     );
     report_line(alloc, &report, rule, budget.octets())
@@ -66,31 +102,19 @@ fn on_token<R: Source>(
 /// The verdict on a token in hand, in lines.
 fn on_octets_in_lines(
     alloc: Global,
-    verifiers: &[Box<dyn Verifier>],
-    now: Moment,
-    policy: &Policy,
-    keys: &KeySet,
+    terms: &Terms<'_, '_, '_>,
     rule: Option<&AccessRule>,
     token: &[u8],
 ) -> Result<Reply, AllocError>
     ensures line { IfOk result (λ a. reply_view a
-        ≡ token_answer (rule_view rule.entry)
-        (terms_of_keys (map meaning verifiers.now) now.seconds policy.now (key_set keys.now))
-        token.now) }
+        ≡ token_answer (rule_view rule.entry) (terms_meant (λ b. meaning (b.vtable, b.value)) terms.now) token.now) }
     ensures done { IfOk result (λ a. a.status ≢ 3) }
 {
-    let mut count = CountDown::new(policy.work());
+    let mut count = CountDown::new(terms.policy.work());
+    let mut scratch = Scratch::new(alloc);
     tells_reports();
-    let report = judge(
-        alloc,
-        token,
-        keys,
-        policy,
-        now.seconds as i64,
-        verifiers,
-        &mut count,
-    );
-    report_line(alloc, &report, rule, count.octets())
+    let judged = judge_under(alloc, token, terms, &mut count, &mut scratch);
+    report_line(alloc, &judged.report, rule, count.octets())
 }
 
 /// The payload of the token that was read; no octets where none was.
@@ -106,33 +130,19 @@ fn payload_in<'t>(token: &'t Option<Signed<'_>>) -> &'t [u8]
 /// The verdict on a token in hand, in JSON.
 fn on_octets_in_json(
     alloc: Global,
-    verifiers: &[Box<dyn Verifier>],
-    now: Moment,
-    policy: &Policy,
-    keys: &KeySet,
+    terms: &Terms<'_, '_, '_>,
     rule: Option<&AccessRule>,
     token: &[u8],
 ) -> Result<Reply, AllocError>
     ensures line { IfOk result (λ a. reply_view a
-        ≡ token_json (rule_view rule.entry)
-        (terms_of_keys (map meaning verifiers.now) now.seconds policy.now (key_set keys.now))
-        token.now) }
+        ≡ token_json (rule_view rule.entry) (terms_meant (λ b. meaning (b.vtable, b.value)) terms.now) token.now) }
     ensures done { IfOk result (λ a. a.status ≢ 3) }
 {
-    let mut count = CountDown::new(policy.work());
+    let mut count = CountDown::new(terms.policy.work());
     let mut scratch = Scratch::new(alloc);
     tells_reports();
     tells_tokens();
-    let judged = judge_signed(
-        alloc,
-        token,
-        keys,
-        policy,
-        now.seconds as i64,
-        verifiers,
-        &mut count,
-        &mut scratch,
-    );
+    let judged = judge_under(alloc, token, terms, &mut count, &mut scratch);
     let payload = payload_in(&judged.token);
     report_json(alloc, &judged.report, rule, payload, count.octets())
 }
@@ -140,48 +150,38 @@ fn on_octets_in_json(
 /// The verdict on a token in hand, in JSON or in lines.
 pub(crate) fn on_octets(
     alloc: Global,
-    printing: Printing,
-    verifiers: &[Box<dyn Verifier>],
-    now: Moment,
-    policy: &Policy,
-    keys: &KeySet,
-    rule: Option<&AccessRule>,
+    terms: &Terms<'_, '_, '_>,
+    telling: &Telling<'_>,
     token: &[u8],
 ) -> Result<Reply, AllocError>
     ensures line { IfOk result (λ a. reply_view a
-        ≡ (printer printing).token (rule_view rule.entry)
-        (terms_of_keys (map meaning verifiers.now) now.seconds policy.now (key_set keys.now))
-        token.now) }
+        ≡ (printer telling.now.printing).token (rule_view telling.now.rule)
+        (terms_meant (λ b. meaning (b.vtable, b.value)) terms.now) token.now) }
     ensures done { IfOk result (λ a. a.status ≢ 3) }
 {
+    let Telling { printing, rule } = *telling;
     match printing {
-        Printing::Json => on_octets_in_json(alloc, verifiers, now, policy, keys, rule, token),
-        Printing::Lines => on_octets_in_lines(alloc, verifiers, now, policy, keys, rule, token),
+        Printing::Json => on_octets_in_json(alloc, terms, rule, token),
+        Printing::Lines => on_octets_in_lines(alloc, terms, rule, token),
     }
 }
 
 /// The verdict on the token, which is all that is left of the input, in JSON.
 fn on_token_json<R: Source>(
     alloc: Global,
-    verifiers: &[Box<dyn Verifier>],
-    now: Moment,
-    policy: &Policy,
-    keys: &KeySet,
+    terms: &Terms<'_, '_, '_>,
     rule: Option<&AccessRule>,
     r: &mut R,
 ) -> Result<Reply, AllocError>
     ensures line { IfSome (R.remaining r.old) (λ x. IfOk result (λ a. reply_view a
         ≡ unless_read_failed in_json (R.failed r.new)
-        (token_json (rule_view rule.entry)
-        (terms_of_keys (map meaning verifiers.now) now.seconds policy.now (key_set keys.now)) x))) }
+        (token_json (rule_view rule.entry) (terms_meant (λ b. meaning (b.vtable, b.value)) terms.now) x))) }
     ensures stops { IfSome (R.remaining r.old) (λ x. (R.failed r.new ≡ true)
-        ⊎ TakesAtMost (policy.now.run.limit + 1) x (R.remaining r.new)) }
+        ⊎ TakesAtMost (terms.now.policy.now.run.limit + 1) x (R.remaining r.new)) }
     ensures failed { IfOk result (λ a. a.status ≡ 3 → R.failed r.new ≡ true) }
 {
-    match read_document(alloc, policy.limit(), r)? {
-        Some(token) => {
-            on_octets_in_json(alloc, verifiers, now, policy, keys, rule, token.octets())
-        }
+    match read_document(alloc, terms.policy.limit(), r)? {
+        Some(token) => on_octets_in_json(alloc, terms, rule, token.octets()),
         None => read_failed_json(alloc),
     }
 }
@@ -189,32 +189,28 @@ fn on_token_json<R: Source>(
 /// The verdict on the token: in hand, or all that is left of the input.
 fn on_last<R: Source>(
     alloc: Global,
-    printing: Printing,
-    verifiers: &[Box<dyn Verifier>],
-    now: Moment,
-    policy: &Policy,
-    keys: &KeySet,
-    rule: Option<&AccessRule>,
+    terms: &Terms<'_, '_, '_>,
+    telling: &Telling<'_>,
     token: Option<&[u8]>,
     r: &mut R,
 ) -> Result<Reply, AllocError>
     requires { R.failed r.old ≡ false }
     ensures line { IfSome (R.remaining r.old) (λ x. IfOk result (λ a. reply_view a
-        ≡ unless_read_failed (printer printing) (R.failed r.new)
-        ((printer printing).token (rule_view rule.entry)
-        (terms_of_keys (map meaning verifiers.now) now.seconds policy.now (key_set keys.now))
+        ≡ unless_read_failed (printer telling.now.printing) (R.failed r.new)
+        ((printer telling.now.printing).token (rule_view telling.now.rule)
+        (terms_meant (λ b. meaning (b.vtable, b.value)) terms.now)
         (last_document (option_map (λ t. t.now) token.entry) x)))) }
     ensures stops { IfSome (R.remaining r.old) (λ x. (R.failed r.new ≡ true)
-        ⊎ TakesAtMost (last_most (policy.now.run.limit + 1) (option_map (λ t. t.now) token.entry))
+        ⊎ TakesAtMost (last_most (terms.now.policy.now.run.limit + 1)
+        (option_map (λ t. t.now) token.entry))
         x (R.remaining r.new)) }
     ensures failed { IfOk result (λ a. a.status ≡ 3 → R.failed r.new ≡ true) }
 {
+    let Telling { printing, rule } = *telling;
     match (token, printing) {
-        (Some(token), printing) => {
-            on_octets(alloc, printing, verifiers, now, policy, keys, rule, token)
-        }
-        (None, Printing::Json) => on_token_json(alloc, verifiers, now, policy, keys, rule, r),
-        (None, Printing::Lines) => on_token(alloc, verifiers, now, policy, keys, rule, r),
+        (Some(token), _) => on_octets(alloc, terms, telling, token),
+        (None, Printing::Json) => on_token_json(alloc, terms, rule, r),
+        (None, Printing::Lines) => on_token(alloc, terms, rule, r),
     }
 }
 
@@ -222,36 +218,27 @@ fn on_last<R: Source>(
 fn on_rule<R: Source>(
     alloc: Global,
     printing: Printing,
-    verifiers: &[Box<dyn Verifier>],
-    now: Moment,
+    terms: &Terms<'_, '_, '_>,
     held: Held<'_>,
-    policy: &Policy,
-    keys: &KeySet,
     r: &mut R,
 ) -> Result<Reply, AllocError>
     requires { R.failed r.old ≡ false }
     ensures line { IfSome (R.remaining r.old) (λ x. IfOk result (λ a. reply_view a
         ≡ unless_read_failed (printer printing) (R.failed r.new)
-        (under_rule (printer printing)
-        (terms_of_keys (map meaning verifiers.now) now.seconds policy.now (key_set keys.now))
+        (under_rule (printer printing) (terms_meant (λ b. meaning (b.vtable, b.value)) terms.now)
         (rule_in_hand (held_view held.entry).access)
         (last_document (held_view held.entry).token x)))) }
     ensures stops { IfSome (R.remaining r.old) (λ x. (R.failed r.new ≡ true)
-        ⊎ TakesAtMost (token_most (held_view held.entry) policy.now) x (R.remaining r.new)) }
+        ⊎ TakesAtMost (token_most (held_view held.entry) terms.now.policy.now) x
+        (R.remaining r.new)) }
     ensures failed { IfOk result (λ a. a.status ≡ 3 → R.failed r.new ≡ true) }
 {
     match rule_in_hand(alloc, held.access) {
-        Ok(rule) => on_last(
-            alloc,
-            printing,
-            verifiers,
-            now,
-            policy,
-            keys,
-            rule.as_ref(),
-            held.token,
-            r,
-        ),
+        Ok(rule) => {
+            let rule = rule.as_ref();
+            let telling = Telling { printing, rule };
+            on_last(alloc, terms, &telling, held.token, r)
+        }
         Err(AccessFault::OutOfMemory) => Err(AllocError),
         Err(fault) => printed_access_fault(alloc, printing, &fault),
     }
@@ -260,22 +247,21 @@ fn on_rule<R: Source>(
 /// The key set, in hand or a line, and what is behind it.
 fn on_keys<R: Source>(
     alloc: Global,
-    printing: Printing,
-    verifiers: &[Box<dyn Verifier>],
-    now: Moment,
+    options: &VerifyOptions<'_>,
     held: Held<'_>,
     policy: &Policy,
     r: &mut R,
 ) -> Result<Reply, AllocError>
     ensures line { IfSome (R.remaining r.old) (λ x. IfOk result (λ a. reply_view a
-        ≡ unless_read_failed (printer printing) (R.failed r.new)
-        (keys_answer (printer printing) (map meaning verifiers.now) now.seconds
-        (held_view held.entry) policy.now x))) }
+        ≡ unless_read_failed (printer options.now.printing) (R.failed r.new)
+        (keys_answer (printer options.now.printing) (map meaning options.now.verifiers.now)
+        options.now.moment.seconds (held_view held.entry) policy.now x))) }
     ensures stops { IfSome (R.remaining r.old) (λ x. (R.failed r.new ≡ true)
         ⊎ TakesAtMost (keys_most (token_most (held_view held.entry) policy.now)
         (held_view held.entry).keys x) x (R.remaining r.new)) }
     ensures failed { IfOk result (λ a. a.status ≡ 3 → R.failed r.new ≡ true) }
 {
+    let printing = options.printing;
     let text = match document(alloc, held.keys, r, 4_194_304) {
         Ok(text) => text,
         Err(LineFault::Read) => return printed_read_fault(alloc, printing),
@@ -283,7 +269,10 @@ fn on_keys<R: Source>(
         Err(LineFault::OutOfMemory) => return Err(AllocError),
     };
     match KeySet::read(alloc, text.octets()) {
-        Ok(keys) => on_rule(alloc, printing, verifiers, now, held, policy, &keys, r),
+        Ok(keys) => {
+            let terms = terms_at(options.moment, options.verifiers, policy, &keys);
+            on_rule(alloc, printing, &terms, held, r)
+        }
         Err(KeysFault::OutOfMemory) => Err(AllocError),
         Err(fault) => printed_keys_fault(alloc, printing, &fault),
     }
@@ -294,19 +283,18 @@ fn on_keys<R: Source>(
 /// the key set is taken, and that before the rule is read, and the rule before the token is taken.
 pub(crate) fn verify<R: Source>(
     alloc: Global,
-    printing: Printing,
-    verifiers: &[Box<dyn Verifier>],
-    now: Moment,
+    options: &VerifyOptions<'_>,
     held: Held<'_>,
     r: &mut R,
 ) -> Result<Reply, AllocError>
     ensures line { IfSome (R.remaining r.old) (λ x. IfOk result (λ a. reply_view a
-        ≡ verify_answer (printer printing) (map meaning verifiers.now) now.seconds
-        (held_view held.entry) (R.failed r.new) x)) }
+        ≡ verify_answer (printer options.now.printing) (map meaning options.now.verifiers.now)
+        options.now.moment.seconds (held_view held.entry) (R.failed r.new) x)) }
     ensures stops { IfSome (R.remaining r.old) (λ x. (R.failed r.new ≡ true)
         ⊎ TakesAtMost (verify_most (held_view held.entry) x) x (R.remaining r.new)) }
     ensures failed { IfOk result (λ a. a.status ≡ 3 → R.failed r.new ≡ true) }
 {
+    let printing = options.printing;
     let text = match document(alloc, held.policy, r, 65_536) {
         Ok(text) => text,
         Err(LineFault::Read) => return printed_read_fault(alloc, printing),
@@ -318,7 +306,7 @@ pub(crate) fn verify<R: Source>(
         Err(LineFault::OutOfMemory) => return Err(AllocError),
     };
     match Policy::read(alloc, text.octets()) {
-        Ok(policy) => on_keys(alloc, printing, verifiers, now, held, &policy, r),
+        Ok(policy) => on_keys(alloc, options, held, &policy, r),
         Err(PolicyFault::OutOfMemory) => Err(AllocError),
         Err(fault) => printed_policy_fault(alloc, printing, &fault),
     }

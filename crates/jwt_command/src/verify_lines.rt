@@ -6,7 +6,7 @@ ghost use Rattle.jwt_policy.specs.Document.{policy_of};
 ghost use Rattle.jwt_command.specs.Access.{rule_in_hand};
 ghost use Rattle.jwt_command.specs.Lines.{CutReady, GivesLines, IsMoment, LineAnswered, MayHaveSent, SendsReady, StopsBy, with_held};
 ghost use Rattle.jwt_printing.specs.Printed.{out_of_memory};
-ghost use Rattle.jwt_command.specs.RunLines.{LinesByPolicy, LinesByRule, Printed, RunsLines};
+ghost use Rattle.jwt_command.specs.RunLines.{LinesByPolicy, Printed, RunsLines};
 ghost use Rattle.jwt_words.specs.Seen.{lines_view, held_view, seconds_of};
 ghost use Rattle.jwt_command.specs.TakenLines.{after_line, first_line};
 ghost use Rattle.jwt_printing.specs.Printer.{printer};
@@ -16,8 +16,8 @@ ghost use Rattle.jwt_command.specs.Verify.{terms_of_keys};
 use crate::access::rule_in_hand;
 use crate::input::buffered::Ahead;
 use crate::input::line::LineFault;
-use crate::run::asked_for;
-use crate::verify::on_octets;
+use crate::run::{AtHand, asked_for};
+use crate::verify::{Telling, on_octets, terms_at};
 use jwt_access::{AccessFault, AccessRule};
 use jwt_keys::{KeySet, KeysFault};
 use jwt_mac::Verifier;
@@ -27,7 +27,7 @@ use jwt_printing::{
     printed_policy_fault, printed_read_fault,
 };
 use jwt_text::{Sink, Source, write_out};
-use jwt_words::{Held, LinesOrder, Moment, Printing, unread};
+use jwt_words::{LinesOrder, Moment, Printing, unread};
 use std::alloc::Global;
 
 // From how many octets on the answers that are ready are sent, where more lines are in hand.
@@ -68,32 +68,59 @@ fn moment<C: Clock>(now: Option<Moment>, clock: &mut C, number: u64, line: &[u8]
     }
 }
 
-/// Puts the answer to the line of this number behind those that are ready. Refused with `Read` where the clock can't be read.
+/// What the answers to all lines share.
+#[derive(Clone, Copy)]
+struct Shared<'t> {
+    /// How the answers are told.
+    printing: Printing,
+    /// The moment that `--now` names, if it does.
+    moment: Option<Moment>,
+    /// The verifiers for public keys, where they are asked for.
+    verifiers: &'t [Box<dyn Verifier>],
+    /// The policy.
+    policy: &'t Policy,
+    /// The key set.
+    keys: &'t KeySet,
+    /// The access rule, where one is in hand.
+    rule: Option<&'t AccessRule>,
+}
+
+/// A line of the input.
+#[derive(Clone, Copy)]
+struct NumberedLine<'l> {
+    /// Its number, from 0.
+    number: u64,
+    /// Its octets, of which one past the limit is held at most.
+    octets: &'l [u8],
+}
+
+/// Puts the answer to the line behind those that are ready. Refused with `Read` where the clock can't be read.
 fn answer_line<C: Clock>(
     alloc: Global,
-    printing: Printing,
-    verifiers: &[Box<dyn Verifier>],
-    now: Option<Moment>,
+    shared: &Shared<'_>,
     clock: &mut C,
-    policy: &Policy,
-    keys: &KeySet,
-    rule: Option<&AccessRule>,
-    number: u64,
-    line: &[u8],
+    line: &NumberedLine<'_>,
     ready: &mut Vec<u8>,
 ) -> Result<(), LineFault>
     ensures answered { OnOk result (LineAnswered
-        (λ m l. (printer printing).token (rule_view rule.entry)
-        (terms_of_keys (map meaning verifiers.now) m policy.now (key_set keys.now)) l)
-        (C.says number line.now) (seconds_of now) line.now
+        (λ m l. (printer shared.now.printing).token (rule_view shared.now.rule)
+        (terms_of_keys (map meaning shared.now.verifiers.now) m shared.now.policy.now
+        (key_set shared.now.keys.now)) l)
+        (C.says line.now.number line.now.octets.now) (seconds_of shared.now.moment)
+        line.now.octets.now
         (Some ready.old.items) (Some ready.new.items)) }
     ensures kept { OnErr result (ready.new.items ≡ ready.old.items) }
-    ensures read { result ≡ Err LineFault.Read → seconds_of now ≡ None }
+    ensures read { result ≡ Err LineFault.Read → seconds_of shared.now.moment ≡ None }
 {
-    let Some(moment) = moment(now, clock, number, line) else {
+    let Some(moment) = moment(shared.moment, clock, line.number, line.octets) else {
         return Err(LineFault::Read);
     };
-    let Ok(reply) = on_octets(alloc, printing, verifiers, moment, policy, keys, rule, line) else {
+    let terms = terms_at(moment, shared.verifiers, shared.policy, shared.keys);
+    let telling = Telling {
+        printing: shared.printing,
+        rule: shared.rule,
+    };
+    let Ok(reply) = on_octets(alloc, &terms, &telling, line.octets) else {
         return Err(LineFault::OutOfMemory);
     };
     match ready.extend_from_slice(reply.text.as_slice()) {
@@ -194,24 +221,22 @@ fn stop_lines<W: Sink>(
 /// the next octets are waited for.
 fn answer_lines<R: Source, W: Sink, C: Clock>(
     alloc: Global,
-    printing: Printing,
-    verifiers: &[Box<dyn Verifier>],
-    now: Option<Moment>,
+    shared: &Shared<'_>,
     clock: &mut C,
-    policy: &Policy,
-    keys: &KeySet,
-    rule: Option<&AccessRule>,
     r: &mut R,
     w: &mut W,
 ) -> u8
     ensures { IfSome (R.remaining r.old) (λ x. GivesLines
-        (λ m l. (printer printing).token (rule_view rule.entry)
-        (terms_of_keys (map meaning verifiers.now) m policy.now (key_set keys.now)) l)
-        (printer printing).read_failed (with_held policy.now.run.limit C.says) (seconds_of now) x
+        (λ m l. (printer shared.now.printing).token (rule_view shared.now.rule)
+        (terms_of_keys (map meaning shared.now.verifiers.now) m shared.now.policy.now
+        (key_set shared.now.keys.now)) l)
+        (printer shared.now.printing).read_failed
+        (with_held shared.now.policy.now.run.limit C.says) (seconds_of shared.now.moment) x
         (R.failed r.new)
         (W.contents w.old) (W.contents w.new) (W.failed w.new) result) }
 {
-    let limit = policy.limit();
+    let printing = shared.printing;
+    let limit = shared.policy.limit();
     let Ok(mut ahead) = Ahead::new(alloc) else {
         return lack_memory(w);
     };
@@ -223,19 +248,11 @@ fn answer_lines<R: Source, W: Sink, C: Clock>(
         }
         match take_line(&mut ahead, r, limit, &mut line) {
             Ok(true) => {
-                if let Err(fault) = answer_line(
-                    alloc,
-                    printing,
-                    verifiers,
-                    now,
-                    clock,
-                    policy,
-                    keys,
-                    rule,
+                let numbered = NumberedLine {
                     number,
-                    line.as_slice(),
-                    &mut ready,
-                ) {
+                    octets: line.as_slice(),
+                };
+                if let Err(fault) = answer_line(alloc, shared, clock, &numbered, &mut ready) {
                     return stop_lines(alloc, printing, fault, &mut ready, w);
                 }
             }
@@ -246,64 +263,29 @@ fn answer_lines<R: Source, W: Sink, C: Clock>(
     stop_lines(alloc, printing, LineFault::OutOfMemory, &mut ready, w)
 }
 
-/// Answers each line under a policy, a key set, and an access rule, which is read once, where one is in hand.
-fn lines_by_rule<R: Source, W: Sink, C: Clock>(
-    alloc: Global,
+/// What the answers to all lines rest on, with the documents in hand.
+#[derive(Clone, Copy)]
+struct LinesInHand<'a> {
+    /// How the answers are told.
     printing: Printing,
-    verifiers: &[Box<dyn Verifier>],
-    now: Option<Moment>,
-    clock: &mut C,
-    policy: &Policy,
-    keys: &KeySet,
-    access: Option<&[u8]>,
-    r: &mut R,
-    w: &mut W,
-) -> u8
-    ensures { IfSome (R.remaining r.old) (λ x.
-        Printed out_of_memory
-        (record {
-          before = W.contents w.old;
-          after = W.contents w.new;
-          failed = W.failed w.new;
-          status = result;
-        })
-        ⊎ LinesByRule printing (map meaning verifiers.now) C.says (seconds_of now) policy.now
-        (key_set keys.now) (rule_in_hand (option_map (λ t. t.now) access.entry)) x (R.failed r.new)
-        (record {
-          before = W.contents w.old;
-          after = W.contents w.new;
-          failed = W.failed w.new;
-          status = result;
-        })) }
-{
-    match rule_in_hand(alloc, access) {
-        Ok(rule) => answer_lines(
-            alloc,
-            printing,
-            verifiers,
-            now,
-            clock,
-            policy,
-            keys,
-            rule.as_ref(),
-            r,
-            w,
-        ),
-        Err(AccessFault::OutOfMemory) => lack_memory(w),
-        Err(fault) => give(w, printed_access_fault(alloc, printing, &fault)),
-    }
+    /// The moment that `--now` names, if it does.
+    moment: Option<Moment>,
+    /// The verifiers for public keys, where they are asked for.
+    verifiers: &'a [Box<dyn Verifier>],
+    /// The document of the policy.
+    policy: &'a [u8],
+    /// The document of the key set.
+    keys: &'a [u8],
+    /// The document of the access rule, if there is one.
+    access: Option<&'a [u8]>,
 }
 
-/// Answers each line under a policy and a key set in hand.
+/// Answers each line under the documents in hand, each of which is read once: the policy, the key set, and the access rule, where
+/// one is in hand.
 fn lines_in_hand<R: Source, W: Sink, C: Clock>(
     alloc: Global,
-    printing: Printing,
-    verifiers: &[Box<dyn Verifier>],
-    now: Option<Moment>,
+    lines: &LinesInHand<'_>,
     clock: &mut C,
-    policy: &[u8],
-    keys: &[u8],
-    access: Option<&[u8]>,
     r: &mut R,
     w: &mut W,
 ) -> u8
@@ -315,9 +297,10 @@ fn lines_in_hand<R: Source, W: Sink, C: Clock>(
           failed = W.failed w.new;
           status = result;
         })
-        ⊎ LinesByPolicy printing (map meaning verifiers.now) C.says (seconds_of now)
-        (policy_of policy.now)
-        (key_set_of keys.now) (rule_in_hand (option_map (λ t. t.now) access.entry)) x
+        ⊎ LinesByPolicy lines.now.printing (map meaning lines.now.verifiers.now) C.says
+        (seconds_of lines.now.moment) (policy_of lines.now.policy.now)
+        (key_set_of lines.now.keys.now)
+        (rule_in_hand (option_map (λ t. t.now) lines.now.access)) x
         (R.failed r.new)
         (record {
           before = W.contents w.old;
@@ -326,33 +309,55 @@ fn lines_in_hand<R: Source, W: Sink, C: Clock>(
           status = result;
         })) }
 {
-    let policy = match Policy::read(alloc, policy) {
+    let printing = lines.printing;
+    let policy = match Policy::read(alloc, lines.policy) {
         Ok(policy) => policy,
         Err(PolicyFault::OutOfMemory) => return lack_memory(w),
         Err(fault) => return give(w, printed_policy_fault(alloc, printing, &fault)),
     };
-    match KeySet::read(alloc, keys) {
-        Ok(keys) => lines_by_rule(
-            alloc, printing, verifiers, now, clock, &policy, &keys, access, r, w,
-        ),
-        Err(KeysFault::OutOfMemory) => lack_memory(w),
-        Err(fault) => give(w, printed_keys_fault(alloc, printing, &fault)),
+    let keys = match KeySet::read(alloc, lines.keys) {
+        Ok(keys) => keys,
+        Err(KeysFault::OutOfMemory) => return lack_memory(w),
+        Err(fault) => return give(w, printed_keys_fault(alloc, printing, &fault)),
+    };
+    match rule_in_hand(alloc, lines.access) {
+        Ok(rule) => {
+            let rule = rule.as_ref();
+            let shared = Shared {
+                printing,
+                moment: lines.moment,
+                verifiers: lines.verifiers,
+                policy: &policy,
+                keys: &keys,
+                rule,
+            };
+            answer_lines(alloc, &shared, clock, r, w)
+        }
+        Err(AccessFault::OutOfMemory) => lack_memory(w),
+        Err(fault) => give(w, printed_access_fault(alloc, printing, &fault)),
     }
+}
+
+/// What is asked of `verify --lines`, and what is at hand for it.
+#[derive(Clone, Copy)]
+pub(crate) struct LinesAsked<'a> {
+    /// What the words ask for.
+    pub(crate) order: LinesOrder<'a>,
+    /// The verifiers and the documents at hand.
+    pub(crate) at_hand: AtHand<'a>,
 }
 
 /// Runs `jwt verify --lines`, where each document that a file is named for is in hand.
 pub(crate) fn run_lines<R: Source, W: Sink, C: Clock>(
     alloc: Global,
-    order: LinesOrder<'_>,
-    verifiers: &[Box<dyn Verifier>],
+    asked: &LinesAsked<'_>,
     clock: &mut C,
-    held: Held<'_>,
     r: &mut R,
     w: &mut W,
 ) -> u8
     ensures { IfSome (R.remaining r.old)
-        (λ x. RunsLines (map meaning verifiers.now) C.says (lines_view order.entry)
-        (held_view held.entry) x (R.failed r.new)
+        (λ x. RunsLines (map meaning asked.now.at_hand.built_in.now) C.says
+        (lines_view asked.now.order) (held_view asked.now.at_hand.held) x (R.failed r.new)
         (record {
           before = W.contents w.old;
           after = W.contents w.new;
@@ -360,23 +365,24 @@ pub(crate) fn run_lines<R: Source, W: Sink, C: Clock>(
           status = result;
         })) }
 {
+    let LinesAsked { order, at_hand } = *asked;
+    let held = at_hand.held;
     if let Some(name) = unread(order.files, held) {
         return give(w, printed_file_fault(alloc, order.printing, name));
     }
     match held.policy {
         Some(policy) => match held.keys {
-            Some(keys) => lines_in_hand(
-                alloc,
-                order.printing,
-                asked_for(order.public_keys, verifiers),
-                order.now,
-                clock,
-                policy,
-                keys,
-                held.access,
-                r,
-                w,
-            ),
+            Some(keys) => {
+                let lines = LinesInHand {
+                    printing: order.printing,
+                    moment: order.now,
+                    verifiers: asked_for(order.public_keys, at_hand.built_in),
+                    policy,
+                    keys,
+                    access: held.access,
+                };
+                lines_in_hand(alloc, &lines, clock, r, w)
+            }
             None => give(w, printed_read_fault(alloc, order.printing)),
         },
         None => give(w, printed_read_fault(alloc, order.printing)),

@@ -1,6 +1,6 @@
 //! The command `verify --lines`.
 use crate::examples::{ACCEPTED, MOMENT};
-use crate::runs::{Printed, assert_ran, ended, ran_with, status_with};
+use crate::runs::{AtHand, Printed, assert_ran, ended, ran_with, status_with};
 use jwt_command::Moment;
 use jwt_command::documents::Held;
 use jwt_command::verify_lines::{Clock, NoClock};
@@ -76,7 +76,13 @@ fn ran_lines(alloc: Global, words: &[&str], lines: &[&str]) -> Result<Printed, F
         lines: &[TOKEN_A, "", "none", TOKEN_A],
     };
     let mut r = Reader::new(input.as_bytes());
-    ran_with(alloc, words, &[], Some(0), &mut moments, held, &mut r)
+    let at_hand = AtHand {
+        verifiers: &[],
+        clock: Some(0),
+        moments: &mut moments,
+        held,
+    };
+    ran_with(alloc, words, at_hand, &mut r)
 }
 
 /// Each line has its answer, by the moment that is named or by the clock's at that line.
@@ -105,7 +111,13 @@ fn status_of_lines<R: Source, W: Sink>(alloc: Global, r: &mut R, w: &mut W) -> R
         keys: Some(keys.as_bytes()),
         ..Held::none()
     };
-    Ok(status_with(alloc, LINES_NOW, &[], Some(0), &mut NoClock, held, r, w))
+    let at_hand = AtHand {
+        verifiers: &[],
+        clock: Some(0),
+        moments: &mut NoClock,
+        held,
+    };
+    Ok(status_with(alloc, LINES_NOW, at_hand, r, w))
 }
 
 /// What is printed, and the status, where reads fail after so many octets.

@@ -1,5 +1,5 @@
 //! The command `policy`.
-use crate::runs::{Printed, assert_ran, ended, ran_with};
+use crate::runs::{AtHand, Printed, assert_ran, ended, ran_with};
 use jwt_command::documents::Held;
 use jwt_command::verify_lines::NoClock;
 use jwt_mac::Verifier;
@@ -38,15 +38,13 @@ fn ran_policy(
         ..Held::none()
     };
     let mut r = Reader::new(&b"unread"[..]);
-    ran_with(
-        alloc,
-        words,
-        verifiers.as_slice(),
-        None,
-        &mut NoClock,
+    let at_hand = AtHand {
+        verifiers: verifiers.as_slice(),
+        clock: None,
+        moments: &mut NoClock,
         held,
-        &mut r,
-    )
+    };
+    ran_with(alloc, words, at_hand, &mut r)
 }
 
 /// Words, a policy, a key set, what `policy` prints of the two, and its status. Names in angle brackets are those of [`filled`].

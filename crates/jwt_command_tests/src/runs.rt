@@ -28,6 +28,19 @@ pub(crate) struct Row {
     pub(crate) status: u8,
 }
 
+/// What a run has at hand.
+#[derive(Drop)]
+pub(crate) struct AtHand<'a, C> {
+    /// The verifiers for public keys.
+    pub(crate) verifiers: &'a [Box<dyn Verifier>],
+    /// The seconds that the clock says, if it can be read.
+    pub(crate) clock: Option<u32>,
+    /// The clock of lines.
+    pub(crate) moments: &'a mut C,
+    /// The documents that were read from files.
+    pub(crate) held: Held<'a>,
+}
+
 /// The status of a run with nothing at hand.
 pub(crate) fn status_of<R: Source, W: Sink>(
     alloc: Global,
@@ -38,17 +51,20 @@ pub(crate) fn status_of<R: Source, W: Sink>(
     run(alloc, words, r, w)
 }
 
-/// The status of a run with documents, a clock of lines and a clock at hand, and with these verifiers.
+/// The status of a run with this at hand.
 pub(crate) fn status_with<R: Source, W: Sink, C: Clock>(
     alloc: Global,
     words: &[&str],
-    verifiers: &[Box<dyn Verifier>],
-    clock: Option<u32>,
-    moments: &mut C,
-    held: Held<'_>,
+    at_hand: AtHand<'_, C>,
     r: &mut R,
     w: &mut W,
 ) -> u8 {
+    let AtHand {
+        verifiers,
+        clock,
+        moments,
+        held,
+    } = at_hand;
     let clock = match clock {
         Some(moment) => Moment::new(moment as u64),
         None => None,
@@ -74,19 +90,16 @@ pub(crate) fn ran(alloc: Global, words: &[&str], input: &str) -> Result<Printed,
     ran_on(alloc, words, &mut Reader::new(input.as_bytes()))
 }
 
-/// A run on a source, with documents, a clock of lines and a clock at hand, and with these verifiers.
+/// A run on a source, with this at hand.
 pub(crate) fn ran_with<R: Source, C: Clock>(
     alloc: Global,
     words: &[&str],
-    verifiers: &[Box<dyn Verifier>],
-    clock: Option<u32>,
-    moments: &mut C,
-    held: Held<'_>,
+    at_hand: AtHand<'_, C>,
     r: &mut R,
 ) -> Result<Printed, Fail> {
     let mut out: Vec<u8> = Vec::new(alloc);
     let mut w = Writer::new(&mut out);
-    let status = status_with(alloc, words, verifiers, clock, moments, held, r, &mut w);
+    let status = status_with(alloc, words, at_hand, r, &mut w);
     text_of(out, status)
 }
 
@@ -97,7 +110,13 @@ pub(crate) fn ran_holding<R: Source>(
     held: Held<'_>,
     r: &mut R,
 ) -> Result<Printed, Fail> {
-    ran_with(alloc, words, &[], None, &mut NoClock, held, r)
+    let at_hand = AtHand {
+        verifiers: &[],
+        clock: None,
+        moments: &mut NoClock,
+        held,
+    };
+    ran_with(alloc, words, at_hand, r)
 }
 
 /// These lines with a line feed between two, and the names in angle brackets filled in.

@@ -1,6 +1,8 @@
 //! The command `verify`, on one token.
 use crate::examples::{ACCEPTED, MOMENT, VERIFY, VERIFY_JSON};
-use crate::runs::{Printed, Row, assert_ran, assert_rows, joined, ran, ran_holding, ran_with};
+use crate::runs::{
+    AtHand, Printed, Row, assert_ran, assert_rows, joined, ran, ran_holding, ran_with,
+};
 use jwt_command::documents::Held;
 use jwt_command::verify_lines::NoClock;
 use jwt_mac::Verifier;
@@ -125,15 +127,13 @@ fn ran_by(
     let mut built_in: Vec<Box<dyn Verifier>> = Vec::new(alloc);
     built_in.push(Box::new(alloc, Rsa)?)?;
     let mut r = Reader::new(input.as_bytes());
-    ran_with(
-        alloc,
-        words,
-        &built_in,
+    let at_hand = AtHand {
+        verifiers: &built_in,
         clock,
-        &mut NoClock,
-        Held::none(),
-        &mut r,
-    )
+        moments: &mut NoClock,
+        held: Held::none(),
+    };
+    ran_with(alloc, words, at_hand, &mut r)
 }
 
 /// The words of `verify` with public keys, without a moment, and with both a second later.

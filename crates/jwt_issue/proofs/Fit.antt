@@ -7,7 +7,7 @@ use Rattle.serde_json.specs.Data.{object}
 use Rattle.serde_json.specs.Written.{compact_text}
 use Rattle.jwt_text.specs.Answers.{Answers, unless}
 use Rattle.jwt_text.specs.Base64url.{spelling}
-use Rattle.jwt_issue.specs.Issued.{PairParts, SignerParts, header, may_sign, or_else, unfit, first_unfit, first_spent, within, signer_of, signing_cost, pair_cost, pair_costs}
+use Rattle.jwt_issue.specs.Issued.{PairParts, SignerParts, header, may_sign, or_else, unfit, first_unfit, first_spent, within, signer_of, signing_cost, pair_signing_cost, pair_costs}
 use Rattle.jwt_mac.specs.Algorithm.{is_hmac_alg}
 use Rattle.jwt_issue.specs.declared.fault.IssueFault.{IssueFault}
 use Rattle.jwt_issue.specs.declared.fault.IssueFault.TheVariants.{OutOfMemory, NoKey, TooManySignatures, AlgNotHmac, KeyUnfit, TooLong, Spent}
@@ -21,13 +21,13 @@ fit_answer (Some f) s t e = absurd (cc e)
 
 pub same_cost : (typ : Option (List ℕ)) (claims : List ℕ) (pair : PairParts) (payload : List ℕ) (s : SignerParts)
     → unless (unfit 0 pair) (Ok (signer_of typ pair)) ≡ Ok s → spelling claims ≡ payload
-    → signing_cost payload s ≡ pair_cost typ claims pair
+    → signing_cost payload s ≡ pair_signing_cost typ claims pair
 same_cost typ claims pair payload s e p = sym (ap₂ signing_cost p (fit_answer (unfit 0 pair) (signer_of typ pair) s e).1)
 
 pub same_answer : (token : List ℕ → SignerParts → List ℕ) (left : ℕ) (typ : Option (List ℕ)) (claims : List ℕ) (pair : PairParts) (payload : List ℕ) (s : SignerParts)
     → unless (unfit 0 pair) (Ok (signer_of typ pair)) ≡ Ok s → spelling claims ≡ payload
     → within left (signing_cost payload s ∷ []) (token payload s)
-    ≡ unless (unfit 0 pair) (within left (pair_cost typ claims pair ∷ []) (token (spelling claims) (signer_of typ pair)))
+    ≡ unless (unfit 0 pair) (within left (pair_signing_cost typ claims pair ∷ []) (token (spelling claims) (signer_of typ pair)))
 same_answer token left typ claims pair payload s e p =
     let fit = fit_answer (unfit 0 pair) (signer_of typ pair) s e in
     let answer : List ℕ → SignerParts → Result (List ℕ) IssueFault = λ q t. within left (signing_cost q t ∷ []) (token q t) in
@@ -55,7 +55,7 @@ answered P (Err e) fault left costs token a p = tt
 pub same_costs : (typ : Option (List ℕ)) (claims : List ℕ) (pairs : List PairParts)
     → map (signing_cost (spelling claims)) (map (signer_of typ) pairs) ≡ pair_costs typ claims pairs
 same_costs typ claims [] = refl
-same_costs typ claims (pair ∷ pairs) = ap (λ (costs : List ℕ). pair_cost typ claims pair ∷ costs) (same_costs typ claims pairs)
+same_costs typ claims (pair ∷ pairs) = ap (λ (costs : List ℕ). pair_signing_cost typ claims pair ∷ costs) (same_costs typ claims pairs)
 
 pub signers_costs : (typ : Option (List ℕ)) (claims : List ℕ) (pairs : List PairParts) (payload : List ℕ) (ss : List SignerParts)
     → map (signer_of typ) pairs ≡ ss → spelling claims ≡ payload → map (signing_cost payload) ss ≡ pair_costs typ claims pairs

@@ -18,7 +18,7 @@ use Rattle.jwt_text.specs.ObjectText.{colons, items_entries, IsObjectText}
 use Rattle.jwt_jws.specs.Forms.{Spelled}
 use Rattle.jwt_jws.specs.SignedToken.{IsSpelledIn, IsSignature, IsSignedToken}
 use Rattle.jwt_jws.specs.declared.fault.Form.TheVariants.{General}
-use Rattle.jwt_issue.specs.Issued.{PairParts, header, signer_of, element, general_token, text_members}
+use Rattle.jwt_issue.specs.Issued.{PairParts, header, signer_of, signature_element, general_token, text_members}
 use Rattle.jwt_issue.specs.Signed.{tag_over, signature_over, general_signed}
 use Rattle.jwt_issue.proofs.Characters.{escape_spelling, utf8_spelling}
 use Rattle.jwt_issue.proofs.HeaderTexts.{header_text, reads, one}
@@ -46,19 +46,19 @@ whole typ claims pairs = member (codes "payload") (string (spelling claims)) (me
 -- ---- its text
 
 abbrev texts : Option (List ℕ) → List ℕ → List PairParts → List (List ℕ)
-texts typ claims pairs = map (element (spelling claims)) (map (signer_of typ) pairs)
+texts typ claims pairs = map (signature_element (spelling claims)) (map (signer_of typ) pairs)
 
 plain_element : (w : Spelled) → IsPlain w → codes "{" ++ text_members w.protected w.signature ≡ compact_text (one_signature w)
 plain_element w plain = ap (λ (t : List ℕ). 123 ∷ t) (members_plain w plain)
 
-element_text : (typ : Option (List ℕ)) (claims : List ℕ) (pair : PairParts) → element (spelling claims) (signer_of typ pair) ≡ compact_text (data_of typ claims pair)
+element_text : (typ : Option (List ℕ)) (claims : List ℕ) (pair : PairParts) → signature_element (spelling claims) (signer_of typ pair) ≡ compact_text (data_of typ claims pair)
 element_text typ claims pair = plain_element (texts_of typ claims pair) (plain_texts typ claims pair)
 
 listed_text : (typ : Option (List ℕ)) (claims : List ℕ) (pair : PairParts) (pairs : List PairParts)
     → join_with_byte 44 (texts typ claims (pair ∷ pairs)) ++ 93 ∷ [] ≡ items_text false (listed typ claims (pair ∷ pairs))
 listed_text typ claims pair [] = ap (λ (t : List ℕ). t ++ 93 ∷ []) (element_text typ claims pair)
 listed_text typ claims pair (next ∷ pairs) =
-    append_assoc (element (spelling claims) (signer_of typ pair)) (44 ∷ join_with_byte 44 (texts typ claims (next ∷ pairs))) (93 ∷ [])
+    append_assoc (signature_element (spelling claims) (signer_of typ pair)) (44 ∷ join_with_byte 44 (texts typ claims (next ∷ pairs))) (93 ∷ [])
     ∙ ap₂ (λ (s t : List ℕ). s ++ 44 ∷ t) (element_text typ claims pair) (listed_text typ claims next pairs)
 
 around : (p list read : List ℕ) → escape p ≡ p → list ++ 93 ∷ [] ≡ read
@@ -79,7 +79,7 @@ general_text typ claims pair pairs = around (spelling claims) _ _ (escape_spelli
 
 -- ---- which is UTF-8
 
-element_utf8 : (typ : Option (List ℕ)) (claims : List ℕ) (pair : PairParts) → IsUtf8 (element (spelling claims) (signer_of typ pair))
+element_utf8 : (typ : Option (List ℕ)) (claims : List ℕ) (pair : PairParts) → IsUtf8 (signature_element (spelling claims) (signer_of typ pair))
 element_utf8 typ claims pair =
     let utf8 = utf8_texts typ claims pair in
     IsUtf8-append (codes "{") _ (IsUtf8-are_ascii _ refl) (members_utf8 _ _ utf8.0 utf8.1)

@@ -7,7 +7,7 @@ use Rattle.std.proofs.lemmas.List.Sums.{sum_by-cons, sum_by_more, sum_by_more_le
 use Rattle.jwt_text.specs.Base64url.{digits, spelling}
 use Rattle.jwt_mac.specs.Algorithm.{digest_size, tag_of}
 use Rattle.jwt_mac.specs.declared.algorithm.Alg.{Alg}
-use Rattle.jwt_issue.specs.Issued.{SignerParts, signature_text, input_of, element, general_token}
+use Rattle.jwt_issue.specs.Issued.{SignerParts, signature_text, input_of, signature_element, general_token}
 
 length-digits : (k n : ℕ) → length (digits k n) ≡ k
 unfolding digits
@@ -35,7 +35,7 @@ length_signature size payload s =
 
 -- an element of `signatures`, and the comma or bracket after it
 unfoldable pub share : List ℕ → SignerParts → ℕ
-share payload s = length (element payload s) + 1
+share payload s = length (signature_element payload s) + 1
 
 pub length_share : (payload : List ℕ) (s : SignerParts) → share payload s ≡ 32 + length s.protected + length (signature_text payload s)
 unfolding share
@@ -64,10 +64,10 @@ pub length_general : (payload : List ℕ) (ss : List SignerParts) → 0 < length
     → length (general_token payload ss) ≡ 29 + length payload + sum_by (share payload) ss
 unfolding share
 length_general payload ss some =
-    let joined = join_with_byte 44 (map (element payload) ss) in
-    let same = length-map ss (element payload) in
-    let elements = length_joined (map (element payload) ss) (omega arith) in
-    let shares = sum_by_map (λ (x : List ℕ). length x + 1) (element payload) ss in
+    let joined = join_with_byte 44 (map (signature_element payload) ss) in
+    let same = length-map ss (signature_element payload) in
+    let elements = length_joined (map (signature_element payload) ss) (omega arith) in
+    let shares = sum_by_map (λ (x : List ℕ). length x + 1) (signature_element payload) ss in
     let between = codes "\",\"signatures\":[" in
     let first = length-append payload between in
     let second = length-append (payload ++ between) joined in

@@ -15,7 +15,7 @@ use Rattle.jwt_jws.specs.Forms.{Spelled, is_period, opens_object, compact_token 
 use Rattle.jwt_jws.specs.SignedToken.{IsProtected, IsSignature, IsSignedToken}
 use Rattle.jwt_jws.specs.declared.fault.Form.{Form}
 use Rattle.jwt_jws.specs.declared.fault.Form.TheVariants.{Compact, General, Flattened}
-use Rattle.jwt_issue.specs.Issued.{PairParts, header, protected_text, signer_of, compact_token, signature_text, text_members}
+use Rattle.jwt_issue.specs.Issued.{PairParts, header, header_spelling, signer_of, in_compact_form, signature_text, text_members}
 use Rattle.jwt_issue.specs.Signed.{tag_over, signature_over, compact_signed}
 use Rattle.jwt_issue.proofs.Lengths.{length_spelling}
 use Rattle.jwt_issue.proofs.Characters.{spelling_passes, escape_spelling, utf8_spelling, utf8_octets}
@@ -38,18 +38,18 @@ protected_in Flattened (c ∷ cs) ms some is = is
 
 -- the texts of a pair's signature
 abbrev pub texts_of : Option (List ℕ) → List ℕ → PairParts → Spelled
-texts_of typ claims pair = record { protected = protected_text typ pair; header = None; signature = signature_text (spelling claims) (signer_of typ pair) }
+texts_of typ claims pair = record { protected = header_spelling typ pair; header = None; signature = signature_text (spelling claims) (signer_of typ pair) }
 
 -- JSON escapes no character of them, and they are UTF-8
 abbrev pub IsPlain : Spelled → Type 0
 IsPlain w = (escape w.protected ≡ w.protected) × (escape w.signature ≡ w.signature)
 
 pub plain_texts : (typ : Option (List ℕ)) (claims : List ℕ) (pair : PairParts) → IsPlain (texts_of typ claims pair)
-unfolding protected_text signature_text
+unfolding header_spelling signature_text
 plain_texts typ claims pair = (escape_spelling _, escape_spelling _)
 
 pub utf8_texts : (typ : Option (List ℕ)) (claims : List ℕ) (pair : PairParts) → IsUtf8 (texts_of typ claims pair).protected × IsUtf8 (texts_of typ claims pair).signature
-unfolding protected_text signature_text
+unfolding header_spelling signature_text
 utf8_texts typ claims pair = (utf8_spelling _, utf8_spelling _)
 
 pub members_utf8 : (h g : List ℕ) → IsUtf8 h → IsUtf8 g → IsUtf8 (text_members h g)
@@ -76,14 +76,14 @@ members_plain w plain =
     let first = sym (quoted_plain h (44 ∷ (codes "\"signature\":" ++ (quoted g ++ 125 ∷ []))) plain.0) in
     ap (λ (t : List ℕ). codes "\"protected\":" ++ t) (ap (λ (t : List ℕ). 34 ∷ t) (grouped ∙ last) ∙ first)
 
-some_text : (typ : Option (List ℕ)) (pair : PairParts) → 0 < length (protected_text typ pair)
-unfolding protected_text
+some_text : (typ : Option (List ℕ)) (pair : PairParts) → 0 < length (header_spelling typ pair)
+unfolding header_spelling
 some_text typ pair = omega (arith, length_spelling (compact_text (object (header typ pair))))
 
 protected_spells : (typ : Option (List ℕ)) (pair : PairParts)
     → IsUtf8 (compact_text (object (header typ pair))) → IsObjectText (compact_text (object (header typ pair))) (header typ pair)
-    → IsProtectedText (protected_text typ pair) (header typ pair)
-unfolding protected_text
+    → IsProtectedText (header_spelling typ pair) (header typ pair)
+unfolding header_spelling
 protected_spells typ pair utf8 text = (compact_text (object (header typ pair)), (utf8_octets _ utf8, refl), text)
 
 -- they stand for it in each form
@@ -94,7 +94,7 @@ pub signature_is : (form : Form) (typ : Option (List ℕ)) (claims : List ℕ) (
 unfolding signature_text
 signature_is form typ claims pair utf8 text tag = record {
   protected_text = refl;
-  protected = protected_in form (protected_text typ pair) (header typ pair) (some_text typ pair) (protected_spells typ pair utf8 text);
+  protected = protected_in form (header_spelling typ pair) (header typ pair) (some_text typ pair) (protected_spells typ pair utf8 text);
   unprotected = refl;
   disjoint = refl;
   octets = (tag, refl);
@@ -116,8 +116,8 @@ opens_none (c ∷ t) rest no_space no_brace some =
     let braceless = (and_parts (not (c == 123)) (list_all (λ c. not (c == 123)) t) no_brace).0 in
     rw spaceless (not-true (c == 123) braceless)
 
-opens_no_object : (typ : Option (List ℕ)) (pair : PairParts) (rest : List ℕ) → opens_object (protected_text typ pair ++ rest) ≡ false
-unfolding protected_text
+opens_no_object : (typ : Option (List ℕ)) (pair : PairParts) (rest : List ℕ) → opens_object (header_spelling typ pair ++ rest) ≡ false
+unfolding header_spelling
 opens_no_object typ pair rest =
     let octets = compact_text (object (header typ pair)) in
     opens_none (spelling octets) rest (spelling_passes is_no_space refl octets) (spelling_passes (λ c. not (c == 123)) refl octets) (some_text typ pair)
@@ -126,17 +126,17 @@ regroup : (h p g : List ℕ) → h ++ 46 ∷ [] ++ p ++ 46 ∷ [] ++ g ≡ h ++ 
 regroup h p g = simp append_assoc
 
 three_texts : (typ : Option (List ℕ)) (claims : List ℕ) (pair : PairParts)
-    → HasNoPeriod (protected_text typ pair) × HasNoPeriod (spelling claims) × HasNoPeriod (signature_text (spelling claims) (signer_of typ pair))
-unfolding protected_text signature_text
+    → HasNoPeriod (header_spelling typ pair) × HasNoPeriod (spelling claims) × HasNoPeriod (signature_text (spelling claims) (signer_of typ pair))
+unfolding header_spelling signature_text
 three_texts typ claims pair = (no_period _, no_period claims, no_period _)
 
 -- what is issued in compact form is a signed token with these claims
 pub compact_is_signed : (most : ℕ) (typ : Option (List ℕ)) (claims : List ℕ) (pair : PairParts)
     → IsUtf8 (compact_text (object (header typ pair))) → IsObjectText (compact_text (object (header typ pair))) (header typ pair)
     → AreOctets claims → AreOctets (tag_over typ claims pair)
-    → IsSignedToken most (compact_token (spelling claims) (signer_of typ pair)) (compact_signed typ claims pair)
+    → IsSignedToken most (in_compact_form (spelling claims) (signer_of typ pair)) (compact_signed typ claims pair)
 compact_is_signed most typ claims pair utf8 text payload tag =
-    let h = protected_text typ pair in
+    let h = header_spelling typ pair in
     let p = spelling claims in
     let g = signature_text p (signer_of typ pair) in
     let apart = three_texts typ claims pair in

@@ -35,8 +35,8 @@ header typ pair =
     (put (codes "alg") (string (name_of pair.alg)) no_members))
 
 -- its text: what spells the compact JSON text of the header, whose names are in ascending byte order
-unfoldable pub protected_text : Option (List ℕ) → PairParts → List ℕ
-protected_text typ pair = spelling (compact_text (object (header typ pair)))
+unfoldable pub header_spelling : Option (List ℕ) → PairParts → List ℕ
+header_spelling typ pair = spelling (compact_text (object (header typ pair)))
 
 -- the secret of a key, if it is one (RFC 7518, section 6.4)
 abbrev pub secret_in : KeyOctets → Option (List ℕ)
@@ -59,7 +59,7 @@ abbrev pub signer_of : Option (List ℕ) → PairParts → SignerParts
 signer_of typ pair = record {
   alg = pair.alg;
   secret = octets_or_none (secret_in pair.key.octets);
-  protected = protected_text typ pair;
+  protected = header_spelling typ pair;
 }
 
 -- what it signs: the protected text, a period, the payload text (RFC 7515, section 5.1)
@@ -77,8 +77,8 @@ signing_cost payload s = cost_of s.alg s.secret (input_of payload s)
 -- ---- the token
 
 -- compact form (RFC 7515, section 7.1)
-abbrev pub compact_token : List ℕ → SignerParts → List ℕ
-compact_token payload s = input_of payload s ++ 46 ∷ [] ++ signature_text payload s
+abbrev pub in_compact_form : List ℕ → SignerParts → List ℕ
+in_compact_form payload s = input_of payload s ++ 46 ∷ [] ++ signature_text payload s
 
 -- the members of one signature in JSON form (RFC 7515, section 7.2.1), of these two texts, with the closing brace
 abbrev pub text_members : List ℕ → List ℕ → List ℕ
@@ -92,21 +92,21 @@ abbrev pub flattened_token : List ℕ → SignerParts → List ℕ
 flattened_token payload s = codes "{\"payload\":\"" ++ payload ++ codes "\"," ++ signature_members payload s
 
 -- one element of the list `signatures`
-abbrev pub element : List ℕ → SignerParts → List ℕ
-element payload s = codes "{" ++ signature_members payload s
+abbrev pub signature_element : List ℕ → SignerParts → List ℕ
+signature_element payload s = codes "{" ++ signature_members payload s
 
 -- general JSON form (RFC 7515, section 7.2.1), with no white space
 abbrev pub general_token : List ℕ → List SignerParts → List ℕ
 general_token payload ss =
     codes "{\"payload\":\"" ++ payload
-    ++ codes "\",\"signatures\":[" ++ join_with_byte 44 (map (element payload) ss) ++ codes "]}"
+    ++ codes "\",\"signatures\":[" ++ join_with_byte 44 (map (signature_element payload) ss) ++ codes "]}"
 
 -- ---- why a pair may not sign
 
 -- the key's `alg`, where present, is the algorithm (RFC 7517, section 4.4)
-abbrev pub is_for : Alg → Option (List ℕ) → Bool
-is_for alg None = true
-is_for alg (Some text) = bytes_eq text (name_of alg)
+abbrev pub alg_agrees : Alg → Option (List ℕ) → Bool
+alg_agrees alg None = true
+alg_agrees alg (Some text) = bytes_eq text (name_of alg)
 
 -- the secret has at least as many octets as a digest of the algorithm (RFC 7518, section 3.2)
 abbrev pub is_long_enough : Alg → Option (List ℕ) → Bool
@@ -117,7 +117,7 @@ is_long_enough alg (Some secret) = nat_le (digest_size alg) (length secret)
 abbrev pub may_sign : PairParts → Bool
 may_sign pair =
     is_long_enough pair.alg (secret_in pair.key.octets)
-    && is_for pair.alg pair.key.alg
+    && alg_agrees pair.alg pair.key.alg
     && permits_of (codes "sign") pair.key
 
 -- why pair i may not sign, if so
@@ -150,21 +150,21 @@ within left costs token =
     else unless (first_spent 0 left costs) (Ok token)
 
 -- what a pair's signature over these claims costs
-abbrev pub pair_cost : Option (List ℕ) → List ℕ → PairParts → ℕ
-pair_cost typ claims pair = signing_cost (spelling claims) (signer_of typ pair)
+abbrev pub pair_signing_cost : Option (List ℕ) → List ℕ → PairParts → ℕ
+pair_signing_cost typ claims pair = signing_cost (spelling claims) (signer_of typ pair)
 
 abbrev pub pair_costs : Option (List ℕ) → List ℕ → List PairParts → List ℕ
-pair_costs typ claims pairs = map (pair_cost typ claims) pairs
+pair_costs typ claims pairs = map (pair_signing_cost typ claims) pairs
 
 -- what is issued in each form where so many octets are left, or the first refusal
 
-unfoldable pub compact_of : ℕ → Option (List ℕ) → List ℕ → PairParts → Result (List ℕ) IssueFault
-compact_of left typ claims pair =
-    unless (unfit 0 pair) (within left (pair_cost typ claims pair ∷ []) (compact_token (spelling claims) (signer_of typ pair)))
+unfoldable pub issued_compact : ℕ → Option (List ℕ) → List ℕ → PairParts → Result (List ℕ) IssueFault
+issued_compact left typ claims pair =
+    unless (unfit 0 pair) (within left (pair_signing_cost typ claims pair ∷ []) (in_compact_form (spelling claims) (signer_of typ pair)))
 
 unfoldable pub flattened_of : ℕ → Option (List ℕ) → List ℕ → PairParts → Result (List ℕ) IssueFault
 flattened_of left typ claims pair =
-    unless (unfit 0 pair) (within left (pair_cost typ claims pair ∷ []) (flattened_token (spelling claims) (signer_of typ pair)))
+    unless (unfit 0 pair) (within left (pair_signing_cost typ claims pair ∷ []) (flattened_token (spelling claims) (signer_of typ pair)))
 
 unfoldable pub general_of : ℕ → Option (List ℕ) → List ℕ → List PairParts → Result (List ℕ) IssueFault
 general_of left typ claims pairs =

@@ -5,7 +5,7 @@ use Rattle.jwt_mac.specs.declared.algorithm.Alg.{Alg}
 use Rattle.jwt_jws.specs.declared.fault.Form.{Form}
 use Rattle.jwt_jws.specs.declared.fault.Form.TheVariants.{Compact, Flattened, General}
 use Rattle.jwt_keys.specs.Keys.{KeyParts}
-use Rattle.jwt_issue.specs.Issued.{PairParts, pair, compact_of, flattened_of, general_of}
+use Rattle.jwt_issue.specs.Issued.{PairParts, pair, issued_compact, flattened_of, general_of}
 use Rattle.jwt_issue.specs.declared.fault.IssueFault.{IssueFault}
 use Rattle.jwt_issue.specs.declared.fault.IssueFault.TheVariants.{NoKey}
 
@@ -26,7 +26,7 @@ issued_with token alg key = option_map_or (λ key. token (pair alg key)) key (Er
 
 -- the token of some claims: in compact and flattened form one key signs, in general form each does
 abbrev pub issued_in : Form → OptionParts → List KeyParts → List ℕ → Result (List ℕ) IssueFault
-issued_in Compact options keys claims = issued_with (compact_of budget options.typ claims) options.alg (slice_get keys options.key)
+issued_in Compact options keys claims = issued_with (issued_compact budget options.typ claims) options.alg (slice_get keys options.key)
 issued_in Flattened options keys claims = issued_with (flattened_of budget options.typ claims) options.alg (slice_get keys options.key)
 issued_in General options keys claims = general_of budget options.typ claims (map (pair options.alg) keys)
 

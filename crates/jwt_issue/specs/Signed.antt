@@ -5,7 +5,7 @@ use Rattle.jwt_jws.specs.Token.{SignatureParts, Token}
 use Rattle.jwt_jws.specs.declared.fault.Form.{Form}
 use Rattle.jwt_jws.specs.declared.fault.Form.TheVariants.{Compact, General, Flattened}
 use Rattle.jwt_text.specs.Base64url.{spelling}
-use Rattle.jwt_issue.specs.Issued.{PairParts, header, protected_text, signer_of, input_of}
+use Rattle.jwt_issue.specs.Issued.{PairParts, header, header_spelling, signer_of, input_of}
 
 -- the octets of a pair's signature: the HMAC of its own key and its signing input (RFC 7518, section 3.2)
 abbrev pub tag_over : Option (List ℕ) → List ℕ → PairParts → List ℕ
@@ -13,7 +13,7 @@ tag_over typ claims pair = tag_of pair.alg (signer_of typ pair).secret (input_of
 
 abbrev pub signature_over : Option (List ℕ) → List ℕ → PairParts → SignatureParts
 signature_over typ claims pair = record {
-  protected_text = protected_text typ pair;
+  protected_text = header_spelling typ pair;
   protected = header typ pair;
   unprotected = None;
   octets = tag_over typ claims pair;

@@ -16,11 +16,11 @@ abbrev pub pair_parts : Alg × Bor Key → PairParts
 pair_parts pair = pair_of pair.0 pair.1.now
 
 -- a text that may be absent
-abbrev pub text_of : Option (Bor (List ℕ)) → Option (List ℕ)
-text_of text = option_map (λ s. s.now) text
+abbrev pub optional_text : Option (Bor (List ℕ)) → Option (List ℕ)
+optional_text text = option_map (λ s. s.now) text
 
 abbrev pub options_parts : IssueOptions → OptionParts
-options_parts options = record { alg = options.alg; typ = text_of options.typ; form = options.form; key = options.key }
+options_parts options = record { alg = options.alg; typ = optional_text options.typ; form = options.form; key = options.key }
 
 -- ---- Cited by contracts of private functions alone
 

@@ -1,7 +1,7 @@
 //! The pairs of an algorithm and a key that may sign.
 ghost use Rattle.std.specs.Prelude.{◌≡◌, option_map};
 ghost use Rattle.jwt_keys.specs.Views.{key_parts};
-ghost use Rattle.jwt_issue.specs.Issued.{secret_in, is_for, may_sign, unfit};
+ghost use Rattle.jwt_issue.specs.Issued.{secret_in, alg_agrees, may_sign, unfit};
 ghost use Rattle.jwt_issue.specs.Views.{pair_of};
 
 use crate::fault::IssueFault;
@@ -20,7 +20,7 @@ pub(crate) fn secret<'a>(key: &'a Key) -> Option<&'a [u8]>
 
 /// Whether the key's `alg`, where present, is the algorithm.
 fn is_for(alg: Alg, key: &Key) -> bool
-    ensures { result ≡ is_for alg (key_parts key.now).alg }
+    ensures { result ≡ alg_agrees alg (key_parts key.now).alg }
 {
     match key.alg_text() {
         Some(text) => text == alg.text(),

@@ -5,10 +5,10 @@ ghost use Rattle.serde_json.specs.Data.{object};
 ghost use Rattle.serde_json.specs.Written.{compact_text};
 ghost use Rattle.jwt_text.specs.Answers.{Answers, unless};
 ghost use Rattle.jwt_jws.specs.SignedToken.{IsSignedToken};
-ghost use Rattle.jwt_issue.specs.Issued.{header, general_of, general_token, within, pair_costs, first_unfit, first_spent, signer_of, signing_cost, text_members, element};
-ghost use Rattle.jwt_issue.specs.Paying.{Pays, PaysOnce, due};
+ghost use Rattle.jwt_issue.specs.Issued.{header, general_of, general_token, within, pair_costs, first_unfit, first_spent, signer_of, signing_cost, text_members, signature_element};
+ghost use Rattle.jwt_issue.specs.Paying.{Pays, due};
 ghost use Rattle.jwt_issue.specs.Signed.{general_signed};
-ghost use Rattle.jwt_issue.specs.Views.{pair_parts, text_of, signer_parts};
+ghost use Rattle.jwt_issue.specs.Views.{pair_parts, optional_text, signer_parts};
 
 use crate::claim_set::ClaimSet;
 use crate::fault::IssueFault;
@@ -33,9 +33,9 @@ fn signers<'a>(
     requires { length pairs.now ≤ 32 }
     ensures answer { Answers IssueFault.OutOfMemory (λ v. map signer_parts v.items) result
         (unless (first_unfit 0 (map pair_parts pairs.now))
-        (Ok (map (signer_of (text_of typ.entry)) (map pair_parts pairs.now)))) }
+        (Ok (map (signer_of (optional_text typ.entry)) (map pair_parts pairs.now)))) }
     ensures utf8 { OnOk result
-        (All (λ pair. IsUtf8 (compact_text (object (header (text_of typ.entry) pair))))
+        (All (λ pair. IsUtf8 (compact_text (object (header (optional_text typ.entry) pair))))
         (map pair_parts pairs.now)) }
 {
     let mut signers = Vec::with_capacity(alloc, pairs.len())?;
@@ -66,42 +66,6 @@ fn add_element(
     add_signature(token, protected, signature)
 }
 
-/// Signs as number `i`, and adds the element.
-#[tactic(auto, unfolding(crate::specs::Issued::signature_text))]
-fn add_signed<B: Budget>(
-    alloc: Global,
-    budget: &mut B,
-    i: u32,
-    signer: &Signer<'_>,
-    payload: &[u8],
-    token: &mut Vec<u8>,
-) -> Result<(), IssueFault>
-    requires { B.calls budget.old + 1 < 2 ^ 32 }
-    ensures text { OnOk result
-        (token.new.items
-        ≡ token.old.items
-        ++ ((if nat_lt 0 i then 44 ∷ [] else [])
-        ++ element payload.now (signer_parts signer.now))) }
-    ensures fault { IfErr result (λ e. e ≢ IssueFault.OutOfMemory → e ≡ IssueFault.Spent i) }
-    ensures afforded { OnOk result
-        (B.octets budget.old + signing_cost payload.now (signer_parts signer.now) ≤ B.ceiling
-        budget.old) }
-    ensures spent { IfErr result
-        (λ e. e ≢ IssueFault.OutOfMemory
-        → B.ceiling budget.old < B.octets budget.old + signing_cost payload.now
-        (signer_parts signer.now)) }
-    ensures unchanged { IfErr result (λ e. e ≢ IssueFault.OutOfMemory → budget.new ≡ budget.old) }
-    ensures paid { PaysOnce result
-        (λ n. (B.octets budget.new
-        ≡ B.octets budget.old + n * signing_cost payload.now (signer_parts signer.now))
-        × (B.calls budget.new ≡ B.calls budget.old + n)) }
-    ensures ceiling { B.ceiling budget.new ≡ B.ceiling budget.old }
-{
-    let signature = signer.sign(alloc, budget, i, payload)?;
-    add_element(token, i > 0, &signer.protected, &signature)?;
-    Ok(())
-}
-
 /// Adds the elements of `signatures`, each signed when those before it are paid.
 fn add_elements<B: Budget>(
     alloc: Global,
@@ -115,7 +79,7 @@ fn add_elements<B: Budget>(
     ensures text { OnOk result
         (token.new.items
         ≡ token.old.items
-        ++ join_with_byte 44 (map (element payload.now) (map signer_parts signers.now))) }
+        ++ join_with_byte 44 (map (signature_element payload.now) (map signer_parts signers.now))) }
     ensures afforded { OnOk result
         (first_spent 0 (B.ceiling budget.old - B.octets budget.old)
         (map (signing_cost payload.now) (map signer_parts signers.now)) ≡ None) }
@@ -137,7 +101,9 @@ fn add_elements<B: Budget>(
     ensures ceiling { B.ceiling budget.new ≡ B.ceiling budget.old }
 {
     for i in 0..signers.len() {
-        add_signed(alloc, budget, i as u32, &signers[i], payload, token)?;
+        let signer = &signers[i];
+        let signature = signer.sign(alloc, budget, i as u32, payload)?;
+        add_element(token, i > 0, &signer.protected, &signature)?;
     }
     Ok(())
 }
@@ -206,20 +172,20 @@ pub fn issue_json<B: Budget>(
 ) -> Result<Vec<u8>, IssueFault>
     requires { B.calls budget.old + 32 < 2 ^ 32 }
     ensures answer { Answers IssueFault.OutOfMemory (λ v. v.items) result
-        (general_of (B.ceiling budget.old - B.octets budget.old) (text_of typ.entry) claims.now
+        (general_of (B.ceiling budget.old - B.octets budget.old) (optional_text typ.entry) claims.now
         (map pair_parts pairs.now)) }
     ensures signed { IfOk result (λ v. (most : ℕ) → length pairs.now ≤ most
         → IsSignedToken most v.items
-        (general_signed (text_of typ.entry) claims.now (map pair_parts pairs.now))) }
+        (general_signed (optional_text typ.entry) claims.now (map pair_parts pairs.now))) }
 
     // What the budget counts.
     ensures paid { Pays result
         (due (length pairs.now)
-        (general_of (B.ceiling budget.old - B.octets budget.old) (text_of typ.entry) claims.now
+        (general_of (B.ceiling budget.old - B.octets budget.old) (optional_text typ.entry) claims.now
         (map pair_parts pairs.now)))
         (λ n. (B.octets budget.new
         ≡ B.octets budget.old + sum
-        (take n (pair_costs (text_of typ.entry) claims.now (map pair_parts pairs.now))))
+        (take n (pair_costs (optional_text typ.entry) claims.now (map pair_parts pairs.now))))
         × (B.calls budget.new ≡ B.calls budget.old + n)) }
     ensures unchanged { IfErr result
         (λ e. e ≢ IssueFault.OutOfMemory → ((i : ℕ) → e ≢ IssueFault.Spent (i + 1))

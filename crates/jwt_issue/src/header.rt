@@ -3,8 +3,8 @@ ghost use Rattle.std.specs.Prelude.{◌≡◌, IfOk, OnOk, IsOkUnless, IsUtf8};
 ghost use Rattle.serde_json.specs.Data.{object};
 ghost use Rattle.serde_json.specs.Written.{compact_text};
 ghost use Rattle.jwt_text.specs.Base64url.{AreOctets, spelling};
-ghost use Rattle.jwt_issue.specs.Issued.{header, protected_text};
-ghost use Rattle.jwt_issue.specs.Views.{pair_of, text_of};
+ghost use Rattle.jwt_issue.specs.Issued.{header, header_spelling};
+ghost use Rattle.jwt_issue.specs.Views.{pair_of, optional_text};
 
 use crate::fault::IssueFault;
 use jwt_keys::Key;
@@ -15,7 +15,7 @@ use std::alloc::Global;
 /// The compact text of the protected header.
 fn header_text(alloc: Global, alg: Alg, key: &Key, typ: Option<&str>) -> Result<Vec<u8>, IssueFault>
     ensures ok { IfOk result
-        (λ v. v.items ≡ compact_text (object (header (text_of typ.entry) (pair_of alg key.now)))) }
+        (λ v. v.items ≡ compact_text (object (header (optional_text typ.entry) (pair_of alg key.now)))) }
     ensures utf8 { IfOk result (λ v. IsUtf8 v.items) }
     ensures err { IsOkUnless result IssueFault.OutOfMemory }
 {
@@ -52,7 +52,7 @@ pub(crate) fn spell(alloc: Global, octets: &[u8]) -> Result<Vec<u8>, IssueFault>
 }
 
 /// The text of the protected header (RFC 7515, section 5.1).
-#[tactic(auto, unfolding(crate::specs::Issued::protected_text))]
+#[tactic(auto, unfolding(crate::specs::Issued::header_spelling))]
 pub(crate) fn protected_text(
     alloc: Global,
     alg: Alg,
@@ -60,9 +60,9 @@ pub(crate) fn protected_text(
     typ: Option<&str>,
 ) -> Result<Vec<u8>, IssueFault>
     ensures ok { IfOk result
-        (λ v. v.items ≡ protected_text (text_of typ.entry) (pair_of alg key.now)) }
+        (λ v. v.items ≡ header_spelling (optional_text typ.entry) (pair_of alg key.now)) }
     ensures utf8 { OnOk result
-        (IsUtf8 (compact_text (object (header (text_of typ.entry) (pair_of alg key.now))))) }
+        (IsUtf8 (compact_text (object (header (optional_text typ.entry) (pair_of alg key.now))))) }
     ensures err { IsOkUnless result IssueFault.OutOfMemory }
 {
     let text = header_text(alloc, alg, key, typ)?;

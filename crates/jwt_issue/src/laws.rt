@@ -5,7 +5,7 @@ ghost use Rattle.serde_json.specs.Data.{object};
 ghost use Rattle.serde_json.specs.Written.{compact_text};
 ghost use Rattle.jwt_text.specs.Base64url.{AreOctets, spelling};
 ghost use Rattle.jwt_jws.specs.SignedToken.{IsSignedToken};
-ghost use Rattle.jwt_issue.specs.Issued.{PairParts, header, signer_of, compact_token, flattened_token, general_token, first_spent};
+ghost use Rattle.jwt_issue.specs.Issued.{PairParts, header, signer_of, in_compact_form, flattened_token, general_token, first_spent};
 ghost use Rattle.jwt_issue.specs.Signed.{compact_signed, flattened_signed, general_signed};
 
 use crate::fault::IssueFault;
@@ -27,7 +27,7 @@ pub fn spent_is_the_first_beyond()
 pub fn compact_tokens_are_signed()
     ensures { (most : ℕ) (typ : Option (List ℕ)) (claims : List ℕ) (pair : PairParts)
         → IsUtf8 (compact_text (object (header typ pair))) → AreOctets claims
-        → IsSignedToken most (compact_token (spelling claims) (signer_of typ pair))
+        → IsSignedToken most (in_compact_form (spelling claims) (signer_of typ pair))
         (compact_signed typ claims pair) }
 {
     quoted_texts();

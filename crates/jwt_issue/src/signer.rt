@@ -25,7 +25,7 @@ impl<'a> Signer<'a> {
     ghost use Rattle.jwt_text.specs.Answers.{Answers, some_or, unless};
     ghost use Rattle.jwt_issue.specs.Issued.{unfit, header, signer_of, signature_text, signing_cost};
     ghost use Rattle.jwt_issue.specs.Paying.{PaysOnce};
-    ghost use Rattle.jwt_issue.specs.Views.{pair_of, text_of, signer_parts};
+    ghost use Rattle.jwt_issue.specs.Views.{pair_of, optional_text, signer_parts};
 
     /// What pair `i` signs with, or why it may not.
     #[tactic(auto, unfolding(crate::specs::Issued::unfit))]
@@ -38,10 +38,10 @@ impl<'a> Signer<'a> {
     ) -> Result<Signer<'a>, IssueFault>
         ensures answer { Answers IssueFault.OutOfMemory signer_parts result
             (unless (unfit i (pair_of alg key.entry.now))
-            (Ok (signer_of (text_of typ.entry) (pair_of alg key.entry.now)))) }
+            (Ok (signer_of (optional_text typ.entry) (pair_of alg key.entry.now)))) }
         ensures utf8 { OnOk result
             (IsUtf8 (compact_text
-            (object (header (text_of typ.entry) (pair_of alg key.entry.now))))) }
+            (object (header (optional_text typ.entry) (pair_of alg key.entry.now))))) }
     {
         if let Some(fault) = unfit(i, alg, key) {
             return Err(fault);

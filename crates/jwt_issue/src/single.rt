@@ -6,11 +6,11 @@ ghost use Rattle.jwt_text.specs.Answers.{Answers};
 ghost use Rattle.jwt_jws.specs.SignedToken.{IsSignedToken};
 ghost use Rattle.jwt_mac.specs.Verifying.{signing_input};
 ghost use Rattle.jwt_text.specs.Base64url.{AreOctets, spelling};
-ghost use Rattle.jwt_issue.specs.Issued.{PairParts, header, signer_of, compact_of, flattened_of, within, signing_cost, pair_cost, text_members};
+ghost use Rattle.jwt_issue.specs.Issued.{PairParts, header, signer_of, issued_compact, flattened_of, within, signing_cost, pair_signing_cost, text_members};
 ghost use Rattle.jwt_issue.specs.Paying.{Pays, due};
 ghost use Rattle.jwt_issue.specs.Signed.{compact_signed, flattened_signed};
 ghost use Rattle.jwt_issue.specs.Single.{token_of_texts, single_token, single_of, single_signed};
-ghost use Rattle.jwt_issue.specs.Views.{pair_of, pair_parts, text_of, signer_parts};
+ghost use Rattle.jwt_issue.specs.Views.{pair_of, optional_text, signer_parts};
 
 use crate::claim_set::ClaimSet;
 use crate::fault::IssueFault;
@@ -28,6 +28,22 @@ use std::alloc::{AllocError, Global};
 enum Single {
     Compact,
     Flattened,
+}
+
+/// How a token with one signature is to be issued.
+#[derive(Clone, Copy)]
+struct SingleOptions<'a> {
+    /// The form of the token.
+    form: Single,
+
+    /// The algorithm of the signature.
+    alg: Alg,
+
+    /// The key that signs.
+    key: &'a Key,
+
+    /// `typ` of the protected header, where it is given.
+    typ: Option<&'a str>,
 }
 
 /// Adds the three texts, joined by periods (RFC 7515, section 7.1).
@@ -138,38 +154,36 @@ fn tokens_are_signed()
     flattened_tokens_are_signed();
 }
 
-/// What is issued in this form for a pair of an algorithm and a key.
+/// The token with one signature that these options ask for, over these claims.
 #[tactic(auto, unfolding(crate::specs::Single::single_of))]
 fn issue_single<B: Budget>(
     alloc: Global,
     budget: &mut B,
-    form: Single,
-    pair: (Alg, &Key),
-    typ: Option<&str>,
+    options: SingleOptions<'_>,
     claims: &ClaimSet,
 ) -> Result<Vec<u8>, IssueFault>
     requires { B.calls budget.old + 32 < 2 ^ 32 }
     ensures answer { Answers IssueFault.OutOfMemory (λ v. v.items) result
-        (single_of form (B.ceiling budget.old - B.octets budget.old) (text_of typ.entry)
-        claims.now (pair_parts pair.entry)) }
+        (single_of options.entry.form (B.ceiling budget.old - B.octets budget.old)
+        (optional_text options.entry.typ) claims.now (pair_of options.entry.alg options.entry.key.now)) }
     ensures signed { IfOk result
         (λ v. (most : ℕ)
         → IsSignedToken most v.items
-        (single_signed form (text_of typ.entry) claims.now (pair_parts pair.entry))) }
+        (single_signed options.entry.form (optional_text options.entry.typ) claims.now
+        (pair_of options.entry.alg options.entry.key.now))) }
     ensures paid { Pays result
-        (due 1 (single_of form (B.ceiling budget.old - B.octets budget.old) (text_of typ.entry)
-        claims.now (pair_parts pair.entry)))
+        (due 1 (single_of options.entry.form (B.ceiling budget.old - B.octets budget.old)
+        (optional_text options.entry.typ) claims.now (pair_of options.entry.alg options.entry.key.now)))
         (λ n. (B.octets budget.new
-        ≡ B.octets budget.old + n * pair_cost (text_of typ.entry) claims.now (pair_parts pair.entry))
+        ≡ B.octets budget.old + n * pair_signing_cost (optional_text options.entry.typ) claims.now (pair_of options.entry.alg options.entry.key.now))
         × (B.calls budget.new ≡ B.calls budget.old + n)) }
     ensures ceiling { B.ceiling budget.new ≡ B.ceiling budget.old }
     ensures unchanged { IfErr result (λ e. e ≢ IssueFault.OutOfMemory → budget.new ≡ budget.old) }
 {
     tokens_are_signed();
-    let (alg, key) = pair;
-    let signer = Signer::new(alloc, 0, alg, key, typ)?;
+    let signer = Signer::new(alloc, 0, options.alg, options.key, options.typ)?;
     let payload = spell(alloc, claims.octets())?;
-    signed_token(alloc, budget, form, &signer, &payload)
+    signed_token(alloc, budget, options.form, &signer, &payload)
 }
 
 /// A signed token in compact form (RFC 7515, section 7.1): the protected text, the payload text and the signature text, joined by
@@ -185,7 +199,7 @@ fn issue_single<B: Budget>(
 /// 1,048,576 octets; `Spent(0)`, the HMAC costs more than the budget has left. `OutOfMemory` comes where an allocation was
 /// refused, in place of any other answer. The budget is as before after each but `OutOfMemory`, and after that it is as before,
 /// or has the HMAC paid where a token was due.
-#[tactic(auto, unfolding(crate::specs::Issued::compact_of, crate::specs::Single::single_of))]
+#[tactic(auto, unfolding(crate::specs::Issued::issued_compact, crate::specs::Single::single_of))]
 pub fn issue_compact<B: Budget>(
     alloc: Global,
     budget: &mut B,
@@ -196,24 +210,30 @@ pub fn issue_compact<B: Budget>(
 ) -> Result<Vec<u8>, IssueFault>
     requires { B.calls budget.old + 32 < 2 ^ 32 }
     ensures answer { Answers IssueFault.OutOfMemory (λ v. v.items) result
-        (compact_of (B.ceiling budget.old - B.octets budget.old) (text_of typ.entry) claims.now
+        (issued_compact (B.ceiling budget.old - B.octets budget.old) (optional_text typ.entry) claims.now
         (pair_of alg key.now)) }
     ensures signed { IfOk result
         (λ v. (most : ℕ)
         → IsSignedToken most v.items
-        (compact_signed (text_of typ.entry) claims.now (pair_of alg key.now))) }
+        (compact_signed (optional_text typ.entry) claims.now (pair_of alg key.now))) }
 
     // What the budget counts.
     ensures paid { Pays result
-        (due 1 (compact_of (B.ceiling budget.old - B.octets budget.old) (text_of typ.entry)
+        (due 1 (issued_compact (B.ceiling budget.old - B.octets budget.old) (optional_text typ.entry)
         claims.now (pair_of alg key.now)))
         (λ n. (B.octets budget.new
-        ≡ B.octets budget.old + n * pair_cost (text_of typ.entry) claims.now (pair_of alg key.now))
+        ≡ B.octets budget.old + n * pair_signing_cost (optional_text typ.entry) claims.now (pair_of alg key.now))
         × (B.calls budget.new ≡ B.calls budget.old + n)) }
     ensures ceiling { B.ceiling budget.new ≡ B.ceiling budget.old }
     ensures unchanged { IfErr result (λ e. e ≢ IssueFault.OutOfMemory → budget.new ≡ budget.old) }
 {
-    issue_single(alloc, budget, Single::Compact, (alg, key), typ, claims)
+    let options = SingleOptions {
+        form: Single::Compact,
+        alg,
+        key,
+        typ,
+    };
+    issue_single(alloc, budget, options, claims)
 }
 
 /// A signed token in flattened JSON form (RFC 7515, section 7.2.2): an object with the texts `payload`, `protected` and
@@ -240,22 +260,28 @@ pub fn issue_flat<B: Budget>(
 ) -> Result<Vec<u8>, IssueFault>
     requires { B.calls budget.old + 32 < 2 ^ 32 }
     ensures answer { Answers IssueFault.OutOfMemory (λ v. v.items) result
-        (flattened_of (B.ceiling budget.old - B.octets budget.old) (text_of typ.entry) claims.now
+        (flattened_of (B.ceiling budget.old - B.octets budget.old) (optional_text typ.entry) claims.now
         (pair_of alg key.now)) }
     ensures signed { IfOk result
         (λ v. (most : ℕ)
         → IsSignedToken most v.items
-        (flattened_signed (text_of typ.entry) claims.now (pair_of alg key.now))) }
+        (flattened_signed (optional_text typ.entry) claims.now (pair_of alg key.now))) }
 
     // What the budget counts.
     ensures paid { Pays result
-        (due 1 (flattened_of (B.ceiling budget.old - B.octets budget.old) (text_of typ.entry)
+        (due 1 (flattened_of (B.ceiling budget.old - B.octets budget.old) (optional_text typ.entry)
         claims.now (pair_of alg key.now)))
         (λ n. (B.octets budget.new
-        ≡ B.octets budget.old + n * pair_cost (text_of typ.entry) claims.now (pair_of alg key.now))
+        ≡ B.octets budget.old + n * pair_signing_cost (optional_text typ.entry) claims.now (pair_of alg key.now))
         × (B.calls budget.new ≡ B.calls budget.old + n)) }
     ensures ceiling { B.ceiling budget.new ≡ B.ceiling budget.old }
     ensures unchanged { IfErr result (λ e. e ≢ IssueFault.OutOfMemory → budget.new ≡ budget.old) }
 {
-    issue_single(alloc, budget, Single::Flattened, (alg, key), typ, claims)
+    let options = SingleOptions {
+        form: Single::Flattened,
+        alg,
+        key,
+        typ,
+    };
+    issue_single(alloc, budget, options, claims)
 }

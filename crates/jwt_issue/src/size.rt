@@ -1,6 +1,6 @@
 //! The size of a token before it is signed, in octets.
 ghost use Rattle.std.specs.Prelude.{◌≡◌, ◌≤◌, ◌<◌, ℕ, List, SomeIff, length, map};
-ghost use Rattle.jwt_issue.specs.Issued.{signature_text, compact_token, flattened_token, general_token};
+ghost use Rattle.jwt_issue.specs.Issued.{signature_text, in_compact_form, flattened_token, general_token};
 ghost use Rattle.jwt_issue.specs.Views.{signer_parts};
 
 use crate::signer::Signer;
@@ -29,8 +29,8 @@ fn at_most(len: usize) -> Option<usize>
 /// The octets of the token in compact form, `None` where they are too many.
 pub(crate) fn compact_len(signer: &Signer<'_>, payload: &[u8]) -> Option<usize>
     ensures { SomeIff result
-        (length (compact_token payload.now (signer_parts signer.now)) ≤ 1048576)
-        (length (compact_token payload.now (signer_parts signer.now))) }
+        (length (in_compact_form payload.now (signer_parts signer.now)) ≤ 1048576)
+        (length (in_compact_form payload.now (signer_parts signer.now))) }
 {
     if signer.protected.len() > MOST || payload.len() > MOST {
         return None;

@@ -5,7 +5,7 @@ use Rattle.key_der.specs.Der.{AreOctets, IsPublicKey, IsRsaText, spki}
 use Rattle.key_pem.specs.Pem.{IsBlock, IsOneBlock, trimmed}
 use Rattle.key_pem.specs.declared.label.Label.{Label}
 use Rattle.key_pem.specs.declared.label.Label.TheVariants.{PublicKey, RsaPublicKey}
-use Rattle.jwt_jwk.specs.Jwk.{ReadsBack, thumbprint_of_key}
+use Rattle.jwt_jwk.specs.Jwk.{ReadsAsKey, thumbprint_of_key}
 use Rattle.jwt_jwk.specs.declared.kid.Kid.{Kid}
 use Rattle.jwt_jwk.specs.declared.kid.Kid.TheVariants.{Absent, Name, Thumbprint}
 
@@ -25,7 +25,7 @@ pub record IsJwkOfBlock (label : Label) (octets : List ℕ) (kid : KeyOctets →
   pub key : KeyOctets
   pub public : IsPublicKey key
   pub encoded : IsEncoding label key octets
-  pub read : ReadsBack (kid key) alg key text
+  pub read : ReadsAsKey (kid key) alg key text
 
 -- the octets are an encoding of a public key, and the text is read as that key
 pub record IsJwkOf (octets : List ℕ) (kid : KeyOctets → Option (List ℕ)) (alg : Option (List ℕ)) (text : List ℕ) : Type 0 where
@@ -45,7 +45,7 @@ pub record IsPemOf (k : KeyOctets) (text : List ℕ) : Type 0 where
 pub record IsJwkOfPem (pem : List ℕ) (kid : KeyOctets → Option (List ℕ)) (alg : Option (List ℕ)) (text : List ℕ) : Type 0 where
   pub key : KeyOctets
   pub written : IsPemOf key pem
-  pub read : ReadsBack (kid key) alg key text
+  pub read : ReadsAsKey (kid key) alg key text
 
 -- ---- several keys
 
@@ -72,7 +72,7 @@ comma false = []
 abbrev pub AreJwks : Bool → (KeyOctets → Option (List ℕ)) → Option (List ℕ) → List KeyOctets → List ℕ → Type 0
 AreJwks later kid alg [] text = text ≡ []
 AreJwks later kid alg (key ∷ keys) text =
-    (jwk rest : List ℕ) × ReadsBack (kid key) alg key jwk × AreJwks true kid alg keys rest × (text ≡ comma later ++ (jwk ++ rest))
+    (jwk rest : List ℕ) × ReadsAsKey (kid key) alg key jwk × AreJwks true kid alg keys rest × (text ≡ comma later ++ (jwk ++ rest))
 
 -- a key set around the texts of its JWKs (RFC 7517, section 5)
 abbrev pub set_text : List ℕ → List ℕ

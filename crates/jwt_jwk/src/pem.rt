@@ -3,7 +3,7 @@
 ghost use Rattle.std.specs.Prelude.{◌≡◌, IfOk, IsOkAnd, IsOkUnless};
 ghost use Rattle.jwt_mac.specs.Verifying.{KeyOctets, key_octets};
 ghost use Rattle.key_der.specs.Der.{IsPublicKey};
-ghost use Rattle.jwt_jwk.specs.Jwk.{text_of};
+ghost use Rattle.jwt_jwk.specs.Jwk.{optional_text};
 ghost use Rattle.jwt_jwk.specs.Faults.{pem_fault};
 ghost use Rattle.jwt_jwk.specs.Converted.{IsEncoding, IsJwkOfBlock, IsPemOf, IsJwkOfPem, kid_of};
 
@@ -48,7 +48,7 @@ pub(crate) fn jwk_of_block(
     kid: Kid<'_>,
     alg: Option<&str>,
 ) -> Result<Vec<u8>, JwkFault>
-    ensures ok { IfOk result (λ v. IsJwkOfBlock label octets.now (kid_of kid.entry) (text_of alg.entry) v.items) }
+    ensures ok { IfOk result (λ v. IsJwkOfBlock label octets.now (kid_of kid.entry) (optional_text alg.entry) v.items) }
     ensures only { (key : KeyOctets) → IsPublicKey key → IsEncoding label key octets.now
         → IsOkUnless result JwkFault.OutOfMemory }
 {
@@ -72,7 +72,7 @@ pub fn jwk_of_pem(
     alg: Option<&str>,
 ) -> Result<Vec<u8>, JwkFault>
     // What is printed is read as exactly the key that the file has.
-    ensures ok { IfOk result (λ v. IsJwkOfPem text.now (kid_of kid.entry) (text_of alg.entry) v.items) }
+    ensures ok { IfOk result (λ v. IsJwkOfPem text.now (kid_of kid.entry) (optional_text alg.entry) v.items) }
     // A PEM file of one public key is refused for want of memory alone.
     ensures only { (key : KeyOctets) → IsPemOf key text.now → IsOkUnless result JwkFault.OutOfMemory }
 {

@@ -3,7 +3,7 @@
 ghost use Rattle.std.specs.Prelude.{◌≡◌, IfOk, IsOkUnless};
 ghost use Rattle.jwt_mac.specs.Verifying.{KeyOctets};
 ghost use Rattle.key_der.specs.Der.{IsPublicKey};
-ghost use Rattle.jwt_jwk.specs.Jwk.{text_of};
+ghost use Rattle.jwt_jwk.specs.Jwk.{optional_text};
 ghost use Rattle.jwt_jwk.specs.Converted.{IsEncoding, IsJwkOf, kid_of};
 ghost use Rattle.jwt_jwk.specs.Faults.{of_both};
 ghost use Rattle.key_pem.specs.declared.label.Label.{Label as AnyLabel};
@@ -36,7 +36,7 @@ pub fn jwk_of_der(
     alg: Option<&str>,
 ) -> Result<Vec<u8>, JwkFault>
     // What is printed is read as exactly the key whose encoding the octets are.
-    ensures ok { IfOk result (λ v. IsJwkOf octets.now (kid_of kid.entry) (text_of alg.entry) v.items) }
+    ensures ok { IfOk result (λ v. IsJwkOf octets.now (kid_of kid.entry) (optional_text alg.entry) v.items) }
     // The encoding of a key is refused for want of memory alone.
     ensures only { (label : AnyLabel) (key : KeyOctets) → IsPublicKey key → IsEncoding label key octets.now
         → IsOkUnless result JwkFault.OutOfMemory }

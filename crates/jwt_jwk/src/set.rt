@@ -2,7 +2,7 @@
 
 ghost use Rattle.std.specs.Prelude.{◌≡◌, ◌≤◌, ◌∷◌, ◌++◌, List, codes, length, IfOk, OnOk, IsOkUnless};
 ghost use Rattle.jwt_mac.specs.Verifying.{KeyOctets};
-ghost use Rattle.jwt_jwk.specs.Jwk.{text_of};
+ghost use Rattle.jwt_jwk.specs.Jwk.{optional_text};
 ghost use Rattle.jwt_jwk.specs.Converted.{Adds, IsFileOf, IsSetOf, comma, set_text, kid_of};
 
 use crate::fault::JwkFault;
@@ -31,7 +31,7 @@ fn add_jwks(
     left: u32,
     set: &mut Vec<u8>,
 ) -> Result<(), JwkFault>
-    ensures ok { OnOk result (Adds later (kid_of kid.entry) (text_of alg.entry) text.now set.old.items set.new.items) }
+    ensures ok { OnOk result (Adds later (kid_of kid.entry) (optional_text alg.entry) text.now set.old.items set.new.items) }
     ensures only { (keys : List KeyOctets) → IsFileOf keys text.now → length keys ≤ left
         → IsOkUnless result JwkFault.OutOfMemory }
 {
@@ -67,7 +67,7 @@ pub fn jwk_set_of_pem(
     alg: Option<&str>,
 ) -> Result<Vec<u8>, JwkFault>
     // What is printed has, one by one, what is read as exactly the keys that the file has.
-    ensures ok { IfOk result (λ v. IsSetOf text.now (kid_of kid.entry) (text_of alg.entry) v.items) }
+    ensures ok { IfOk result (λ v. IsSetOf text.now (kid_of kid.entry) (optional_text alg.entry) v.items) }
     // A PEM file of at most 1,024 public keys is refused for want of memory alone.
     ensures only { (key : KeyOctets) (keys : List KeyOctets) → IsFileOf (key ∷ keys) text.now → length keys ≤ 1023
         → IsOkUnless result JwkFault.OutOfMemory }

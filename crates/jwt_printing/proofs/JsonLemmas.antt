@@ -13,7 +13,7 @@ use Rattle.json.specs.Value.{value_view}
 use Rattle.json.specs.declared.value.Value.{Null, the_lemmas}
 use Rattle.std.specs.Global.{Global}
 use Rattle.json.specs.Tree.{HasNumbers, ItemsHaveNumbers, MembersHaveNumbers, items_tokens, json_tokens, members_tokens}
-use Rattle.jwt_printing.specs.Json.{Named, items_in, json_line, list, members_in, object_of_members, value_of}
+use Rattle.jwt_printing.specs.Json.{Named, items_in, json_line, list, members_in, object_of_members, json_value}
 use Rattle.jwt_printing.specs.JsonTokens.{named_tokens}
 use Rattle.jwt_printing.specs.Printed.{Answer}
 use Rattle.jwt_printing.proofs.Listing.{rest_at}
@@ -84,13 +84,13 @@ line_put ms status start done s d a is =
 
 -- ---- the value of a text
 
-pub value_is : (t : List ℕ) (j : Json) → IsUtf8 t → document t ≡ Some j → value_of t ≡ j
+pub value_is : (t : List ℕ) (j : Json) → IsUtf8 t → document t ≡ Some j → json_value t ≡ j
 value_is t j utf8 is = rw (is_utf8-from_IsUtf8 t utf8, is) refl
 
-pub value_none : (t : List ℕ) → (IsUtf8 t → document t ≡ None) → value_of t ≡ null
+pub value_none : (t : List ℕ) → (IsUtf8 t → document t ≡ None) → json_value t ≡ null
 value_none t none = go (is_utf8 t) refl
   where
-    go : (b : Bool) → is_utf8 t ≡ b → value_of t ≡ null
+    go : (b : Bool) → is_utf8 t ≡ b → json_value t ≡ null
     go true utf8 = rw (utf8, none (IsUtf8-from_is_utf8 t utf8)) refl
     go false utf8 = rw utf8 refl
 

@@ -8,7 +8,7 @@ use Rattle.json.specs.Tree.{items_tokens, json_tokens}
 use Rattle.jwt_jws.specs.Token.{SignatureParts}
 use Rattle.jwt_jws.specs.declared.fault.Form.{Form}
 use Rattle.jwt_text.specs.Answers.{some_or}
-use Rattle.jwt_printing.specs.Json.{items_in, list, value_of}
+use Rattle.jwt_printing.specs.Json.{items_in, list, json_value}
 use Rattle.jwt_printing.specs.JsonTokens.{named_tokens}
 use Rattle.jwt_printing.specs.ShownJson.{protected_json, signature_json, signatures_json, spelled_octets}
 use Rattle.jwt_printing.proofs.Listing.{rest_at}
@@ -41,9 +41,9 @@ signatures_put form doc i ss name old start done new s all d n =
 -- ---- what a text spells
 
 pub protected_put : (text octets : List ℕ) (old new : List Token) → 0 < length text → octets ≡ spelled_octets text
-    → new ≡ old ++ named_tokens ((codes "protected", value_of octets) ∷ []) → new ≡ old ++ named_tokens (protected_json text)
+    → new ≡ old ++ named_tokens ((codes "protected", json_value octets) ∷ []) → new ≡ old ++ named_tokens (protected_json text)
 protected_put [] octets old new some is n = absurd (omega (arith, some))
-protected_put (c ∷ cs) octets old new some is n = n ∙ ap (λ o. old ++ named_tokens ((codes "protected", value_of o) ∷ [])) is
+protected_put (c ∷ cs) octets old new some is n = n ∙ ap (λ o. old ++ named_tokens ((codes "protected", json_value o) ∷ [])) is
 
 pub some_spelled : {A F : Type 0} (fault : F) (o : Option (List A)) (octets : List A) → some_or fault o ≡ Ok octets → octets ≡ unwrap_or o []
 some_spelled fault None octets is = absurd (cc is)

@@ -139,13 +139,13 @@ abbrev pub evidence : List SigState → List Try → ℕ → List Named
 evidence sts es octets = list (codes "signatures") (map state_json sts) ∷ list (codes "tries") (map try_json es) ∷ count (codes "work") octets ∷ []
 
 -- the JSON value of a text: as it stands there, member by member and digit by digit
-abbrev pub value_of : List ℕ → Json
-value_of t = if is_utf8 t then unwrap_or (document t) null else null
+abbrev pub json_value : List ℕ → Json
+json_value t = if is_utf8 t then unwrap_or (document t) null else null
 
 -- of a token that is accepted and lacks nothing alone, its claims
 abbrev pub accepted_members : Option Denial → (i j : ℕ) → List ℕ → List Named
 accepted_members None i j payload =
-    text (codes "verdict") (codes "accepted") ∷ count (codes "signature") i ∷ count (codes "key") j ∷ (codes "claims", value_of payload) ∷ []
+    text (codes "verdict") (codes "accepted") ∷ count (codes "signature") i ∷ count (codes "key") j ∷ (codes "claims", json_value payload) ∷ []
 accepted_members (Some denial) i j payload =
     text (codes "verdict") (codes "denied") ∷ text (codes "denial") (denial_name denial) ∷ lacked denial ∷ count (codes "signature") i ∷ count (codes "key") j ∷ []
 

@@ -14,7 +14,7 @@ use Rattle.jwt_policy.specs.declared.claim_fault.ClaimFault.{ClaimFault}
 use Rattle.jwt_shown.specs.Dates.{IsDateOf}
 use Rattle.jwt_shown.specs.Shown.{shown_json}
 use Rattle.jwt_shown.specs.Strings.{quoted_text}
-use Rattle.jwt_printing.specs.Json.{value_of}
+use Rattle.jwt_printing.specs.Json.{json_value}
 use Rattle.jwt_printing.specs.Printed.{Answer, line_text}
 use Rattle.jwt_printing.specs.Shown.{claims_line, form_name}
 use Rattle.jwt_printing.specs.ShownJson.{header_at, spelled_octets}
@@ -112,4 +112,4 @@ pretty_text now doc dates t =
 
 -- a token in these octets, at a moment where there is one
 abbrev pub IsPretty : Option ℕ → List ℕ → Token → Answer → Type 0
-IsPretty now x t a = (dates : Dates) × AreDates (claims_of t.payload) dates × (a ≡ record { text = pretty_text now (value_of x) dates t; status = 0 })
+IsPretty now x t a = (dates : Dates) × AreDates (claims_of t.payload) dates × (a ≡ record { text = pretty_text now (json_value x) dates t; status = 0 })

@@ -13,7 +13,7 @@ use Rattle.jwt_policy.specs.ClaimKinds.{claims_of}
 use Rattle.jwt_policy.specs.FaultNames.{claim_fault_name}
 use Rattle.jwt_policy.specs.declared.claim_fault.ClaimFault.{ClaimFault}
 use Rattle.jwt_printing.specs.Faults.{form_fault_parts, joined_parts}
-use Rattle.jwt_printing.specs.Json.{Named, claim_place, count, form_place, json_line, list, object_of_members, text, value_of}
+use Rattle.jwt_printing.specs.Json.{Named, claim_place, count, form_place, json_line, list, object_of_members, text, json_value}
 use Rattle.jwt_printing.specs.Printed.{Answer, refused}
 use Rattle.jwt_printing.specs.Shown.{form_name, token_lines}
 use Rattle.jwt_words.specs.declared.printing.Printing.{Printing}
@@ -28,7 +28,7 @@ spelled_octets t = unwrap_or (octets_of t) []
 -- the protected header as its text spells it; in JSON form the text may be empty, and then there is none
 abbrev pub protected_json : List ℕ → List Named
 protected_json [] = []
-protected_json (c ∷ cs) = (codes "protected", value_of (spelled_octets (c ∷ cs))) ∷ []
+protected_json (c ∷ cs) = (codes "protected", json_value (spelled_octets (c ∷ cs))) ∷ []
 
 -- the object that signature i stands in, of a token in JSON form
 abbrev pub signature_at : Form → Json → ℕ → Option Json
@@ -45,13 +45,13 @@ header_json None = []
 header_json (Some header) = (codes "header", header) ∷ []
 
 -- the headers, and how many octets the signature has
-abbrev pub signature_members : Option Json → SignatureParts → List Named
-signature_members header s =
+abbrev pub shown_signature : Option Json → SignatureParts → List Named
+shown_signature header s =
     protected_json s.protected_text
     ++ (header_json header ++ count (codes "octets") (length s.octets) ∷ [])
 
 abbrev pub signature_json : Form → Json → ℕ → SignatureParts → Json
-signature_json form doc i s = object_of_members (signature_members (header_at form doc i) s)
+signature_json form doc i s = object_of_members (shown_signature (header_at form doc i) s)
 
 -- the signatures, the first of which is number i
 abbrev pub signatures_json : Form → Json → ℕ → List SignatureParts → List Json
@@ -72,14 +72,14 @@ claims_refused (Err fault) = (codes "claims_refused", object_of_members (claim_f
 
 -- ---- a token
 
-abbrev pub unverified : Json → Token → List Named
-unverified doc t =
-    (text (codes "form") (form_name t.form) ∷ (codes "payload", value_of t.payload)
+abbrev pub unverified_members : Json → Token → List Named
+unverified_members doc t =
+    (text (codes "form") (form_name t.form) ∷ (codes "payload", json_value t.payload)
     ∷ list (codes "signatures") (signatures_json t.form doc 0 t.signatures) ∷ []) ++ claims_refused (claims_of t.payload)
 
 -- the token that stands in a document, where it has JSON form
 abbrev pub token_json : Json → Token → Answer
-token_json doc t = json_line ((codes "unverified", object_of_members (unverified doc t)) ∷ []) 0
+token_json doc t = json_line ((codes "unverified", object_of_members (unverified_members doc t)) ∷ []) 0
 
 abbrev pub token_refused_json : List ℕ → List Named → Answer
 token_refused_json reason more = json_line (
@@ -89,7 +89,7 @@ token_refused_json reason more = json_line (
 -- ---- the answers
 
 abbrev pub printed_token : Printing → List ℕ → Token → Answer
-printed_token printing.Json x t = token_json (value_of x) t
+printed_token printing.Json x t = token_json (json_value x) t
 printed_token printing.Lines x t = record { text = token_lines t; status = 0 }
 
 abbrev pub printed_form_fault : Printing → FormFault → Answer

@@ -6,7 +6,7 @@ ghost use Rattle.json.specs.Print.{print};
 ghost use Rattle.json.specs.Token.{begin_array, begin_object, end_array, end_object, key};
 ghost use Rattle.json.specs.Tree.{HasNumbers, json_tokens};
 ghost use Rattle.json.specs.Value.{value_view};
-ghost use Rattle.jwt_printing.specs.Json.{count, some_text, text, value_of};
+ghost use Rattle.jwt_printing.specs.Json.{count, some_text, text, json_value};
 ghost use Rattle.jwt_printing.specs.JsonTokens.{named_tokens};
 ghost use Rattle.jwt_printing.specs.Views.{reply_view};
 
@@ -178,7 +178,7 @@ impl JsonOut {
     /// A name with the JSON value that a text is; null where it is none.
     pub(crate) fn value(&mut self, alloc: Global, name: &str, text: &[u8]) -> Result<(), AllocError>
         ensures { OnOk result
-            (self.new ≡ self.old ++ named_tokens ((name.now, value_of text.now) ∷ [])) }
+            (self.new ≡ self.old ++ named_tokens ((name.now, json_value text.now) ∷ [])) }
     {
         let mut scratch = Scratch::new(alloc);
         let value = value_in(alloc, text, &mut scratch)?;
@@ -204,7 +204,7 @@ pub(crate) fn value_in<'a>(
     text: &'a [u8],
     scratch: &'a mut Scratch,
 ) -> Result<Value<'a>, AllocError>
-    ensures value { IfOk result (λ v. value_view v ≡ value_of text.now) }
+    ensures value { IfOk result (λ v. value_view v ≡ json_value text.now) }
     ensures writable { IfOk result (λ v. HasNumbers (value_view v)) }
 {
     match Value::from_slice(alloc, text, scratch) {

@@ -6,9 +6,9 @@ ghost use Rattle.json.specs.Value.{value_view};
 ghost use Rattle.jwt_jws.specs.FaultNames.{form_fault_name};
 ghost use Rattle.jwt_jws.specs.Views.{parts, token};
 ghost use Rattle.jwt_policy.specs.ClaimKinds.{claims_of};
-ghost use Rattle.jwt_printing.specs.Json.{form_place, list, object_of_members, value_of};
+ghost use Rattle.jwt_printing.specs.Json.{form_place, list, object_of_members, json_value};
 ghost use Rattle.jwt_printing.specs.JsonTokens.{named_tokens};
-ghost use Rattle.jwt_printing.specs.ShownJson.{claim_fault_members, claims_refused, header_at, header_json, protected_json, signature_at, signature_members, signatures_json, spelled_octets, token_json, token_refused_json, unverified};
+ghost use Rattle.jwt_printing.specs.ShownJson.{claim_fault_members, claims_refused, header_at, header_json, protected_json, signature_at, shown_signature, signatures_json, spelled_octets, token_json, token_refused_json, unverified_members};
 ghost use Rattle.jwt_printing.specs.Views.{reply_view};
 
 use crate::json_out::{JsonOut, value_in};
@@ -110,7 +110,7 @@ fn put_members(
     header: Option<&Value<'_>>,
 ) -> Result<(), AllocError>
     requires { IfSome header (λ v. HasNumbers (value_view v.now)) }
-    ensures { OnOk result (out.new ≡ out.old ++ named_tokens (signature_members
+    ensures { OnOk result (out.new ≡ out.old ++ named_tokens (shown_signature
         (option_map (λ v. value_view v.now) header.entry) (parts signature.now))) }
 {
     put_protected(alloc, out, signature.protected_text())?;
@@ -126,7 +126,7 @@ fn put_signature(
     header: Option<&Value<'_>>,
 ) -> Result<(), AllocError>
     requires { IfSome header (λ v. HasNumbers (value_view v.now)) }
-    ensures { OnOk result (out.new ≡ out.old ++ json_tokens (object_of_members (signature_members
+    ensures { OnOk result (out.new ≡ out.old ++ json_tokens (object_of_members (shown_signature
         (option_map (λ v. value_view v.now) header.entry) (parts signature.now)))) }
 {
     out.begin_object()?;
@@ -197,7 +197,7 @@ fn put_unverified(
 ) -> Result<(), AllocError>
     requires { HasNumbers (value_view document.now) }
     ensures { OnOk result (out.new
-        ≡ out.old ++ named_tokens (unverified (value_view document.now) (token signed.now))) }
+        ≡ out.old ++ named_tokens (unverified_members (value_view document.now) (token signed.now))) }
 {
     out.text("form", form_name(signed.form()))?;
     out.value(alloc, "payload", signed.payload())?;
@@ -212,7 +212,7 @@ pub(crate) fn token_json(
     signed: &Signed<'_>,
 ) -> Result<Reply, AllocError>
     ensures { IfOk result
-        (λ a. reply_view a ≡ token_json (value_of octets.now) (token signed.now)) }
+        (λ a. reply_view a ≡ token_json (json_value octets.now) (token signed.now)) }
 {
     let mut scratch = Scratch::new(alloc);
     let document = value_in(alloc, octets, &mut scratch)?;

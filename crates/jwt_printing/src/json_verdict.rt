@@ -7,7 +7,7 @@ ghost use Rattle.jwt_verify.specs.declared.report.InputFault.TheVariants.{Read};
 ghost use Rattle.jwt_verify.specs.declared.report.Fault.TheVariants.{Text};
 ghost use Rattle.jwt_verify.specs.declared.report.Verdict.TheVariants.{Refused};
 ghost use Rattle.jwt_access.specs.FaultNames.{denial_name};
-ghost use Rattle.jwt_printing.specs.Json.{accepted_members, accepted_status, access_place, access_refused_json, claim_place, count, evidence, file_failed_json, form_place, keys_refused_json, lacked, list, place_of, policy_place, policy_refused_json, read_failed_json, said_json, some_text, state_json, state_members, text, try_json, value_of, verdict_json, verdict_members, verdict_status};
+ghost use Rattle.jwt_printing.specs.Json.{accepted_members, accepted_status, access_place, access_refused_json, claim_place, count, evidence, file_failed_json, form_place, keys_refused_json, lacked, list, place_of, policy_place, policy_refused_json, read_failed_json, said_json, some_text, state_json, state_members, text, try_json, json_value, verdict_json, verdict_members, verdict_status};
 ghost use Rattle.jwt_printing.specs.JsonTokens.{named_tokens};
 ghost use Rattle.jwt_printing.specs.Nearest.{nearest_member};
 ghost use Rattle.jwt_printing.specs.Views.{reply_view, rule_view};
@@ -15,6 +15,7 @@ ghost use Rattle.jwt_printing.specs.Views.{reply_view, rule_view};
 use crate::denied::lacking;
 use crate::json_out::JsonOut;
 use crate::nearest::nearest_member;
+use crate::pair::VerifiedPair;
 use crate::reply::Reply;
 use jwt_access::{AccessFault, AccessRule, Denial};
 use jwt_jws::{FormFault, Place};
@@ -184,17 +185,16 @@ fn put_evidence(
 fn put_accepted(
     alloc: Global,
     out: &mut JsonOut,
-    signature: u32,
-    key: u32,
+    pair: VerifiedPair,
     payload: &[u8],
 ) -> Result<(), AllocError>
     ensures { OnOk result
         (out.new ≡ out.old ++ named_tokens (text (codes "verdict") (codes "accepted")
-        ∷ count (codes "signature") signature ∷ count (codes "key") key ∷
-        (codes "claims", value_of payload.now) ∷ [])) }
+        ∷ count (codes "signature") pair.signature ∷ count (codes "key") pair.key ∷
+        (codes "claims", json_value payload.now) ∷ [])) }
 {
     out.text("verdict", "accepted")?;
-    put_pair(out, signature, key)?;
+    put_pair(out, pair.signature, pair.key)?;
     out.value(alloc, "claims", payload)
 }
 
@@ -211,21 +211,16 @@ fn put_lacked(out: &mut JsonOut, denial: &Denial<'_>) -> Result<(), AllocError>
 }
 
 /// Puts the members of an acceptance that the access rule denies.
-fn put_denied(
-    out: &mut JsonOut,
-    denial: &Denial<'_>,
-    signature: u32,
-    key: u32,
-) -> Result<(), AllocError>
+fn put_denied(out: &mut JsonOut, denial: &Denial<'_>, pair: VerifiedPair) -> Result<(), AllocError>
     ensures { OnOk result
         (out.new ≡ out.old ++ named_tokens (text (codes "verdict") (codes "denied")
         ∷ text (codes "denial") (denial_name denial.now) ∷ lacked denial.now
-        ∷ count (codes "signature") signature ∷ count (codes "key") key ∷ [])) }
+        ∷ count (codes "signature") pair.signature ∷ count (codes "key") pair.key ∷ [])) }
 {
     out.text("verdict", "denied")?;
     out.text("denial", denial.name())?;
     put_lacked(out, denial)?;
-    put_pair(out, signature, key)
+    put_pair(out, pair.signature, pair.key)
 }
 
 /// Of an accepted token: its claims where they lack nothing, and else what they lack.
@@ -233,17 +228,16 @@ fn put_unless_lacking(
     alloc: Global,
     out: &mut JsonOut,
     denial: &Option<Denial<'_>>,
-    signature: u32,
-    key: u32,
+    pair: VerifiedPair,
     payload: &[u8],
 ) -> Result<(), AllocError>
     ensures { OnOk result
         (out.new ≡ out.old
-        ++ named_tokens (accepted_members denial.now signature key payload.now)) }
+        ++ named_tokens (accepted_members denial.now pair.signature pair.key payload.now)) }
 {
     match denial {
-        Some(denial) => put_denied(out, denial, signature, key),
-        None => put_accepted(alloc, out, signature, key, payload),
+        Some(denial) => put_denied(out, denial, pair),
+        None => put_accepted(alloc, out, pair, payload),
     }
 }
 
@@ -274,14 +268,13 @@ fn put_verdict(
             signature,
             key,
             claims,
-        } => put_unless_lacking(
-            alloc,
-            out,
-            &lacking(rule, claims),
-            *signature,
-            *key,
-            payload,
-        ),
+        } => {
+            let pair = VerifiedPair {
+                signature: *signature,
+                key: *key,
+            };
+            put_unless_lacking(alloc, out, &lacking(rule, claims), pair, payload)
+        }
         Verdict::Refused(fault) => put_refused(out, fault),
     }
 }

@@ -18,6 +18,7 @@ mod mac;
 mod meant;
 mod members;
 mod nearest;
+mod pair;
 mod pieces;
 mod pretty;
 mod refusals;

@@ -9,6 +9,7 @@ ghost use Rattle.jwt_printing.specs.Views.{reply_view, rule_view};
 
 use crate::denied::lacking;
 use crate::faults::{denial_text, fault_text};
+use crate::pair::VerifiedPair;
 use crate::reply::Reply;
 use jwt_access::{AccessRule, Denial};
 use jwt_verify::{Fault, InputFault, Report, Verdict};
@@ -54,13 +55,14 @@ fn fault_line(
 /// The line of an acceptance.
 fn accepted_line(
     alloc: Global,
-    signature: u32,
-    key: u32,
+    pair: VerifiedPair,
     tries: usize,
     work: u64,
 ) -> Result<Reply, AllocError>
-    ensures { IfOk result (λ a. reply_view a ≡ accepted_line signature key tries work) }
+    ensures { IfOk result
+        (λ a. reply_view a ≡ accepted_line pair.signature pair.key tries work) }
 {
+    let VerifiedPair { signature, key } = pair;
     let text = format!(in alloc; "accepted sig={signature} key={key} tries={tries} work={work}\n")?;
     Ok(Reply {
         text: text.into_bytes(),
@@ -72,13 +74,14 @@ fn accepted_line(
 fn denied_line(
     alloc: Global,
     denial: &Denial<'_>,
-    signature: u32,
-    key: u32,
+    pair: VerifiedPair,
     tries: usize,
     work: u64,
 ) -> Result<Reply, AllocError>
-    ensures { IfOk result (λ a. reply_view a ≡ denied_line denial.now signature key tries work) }
+    ensures { IfOk result
+        (λ a. reply_view a ≡ denied_line denial.now pair.signature pair.key tries work) }
 {
+    let VerifiedPair { signature, key } = pair;
     let name = denial_text(alloc, denial)?;
     let counts = format!(in alloc; " sig={signature} key={key} tries={tries} work={work}\n")?;
     Reply::around(alloc, "denied ", name.as_slice(), counts.as_str(), 1)
@@ -104,10 +107,16 @@ pub fn report_line(
             signature,
             key,
             claims,
-        } => match lacking(rule, claims) {
-            Some(denial) => denied_line(alloc, &denial, *signature, *key, tries, work),
-            None => accepted_line(alloc, *signature, *key, tries, work),
-        },
+        } => {
+            let pair = VerifiedPair {
+                signature: *signature,
+                key: *key,
+            };
+            match lacking(rule, claims) {
+                Some(denial) => denied_line(alloc, &denial, pair, tries, work),
+                None => accepted_line(alloc, pair, tries, work),
+            }
+        }
         Verdict::Refused(fault) => fault_line(alloc, fault, tries, work),
     }
 }

@@ -7,6 +7,7 @@ ghost use Rattle.jwt_verify.specs.Table.{work};
 ghost use Rattle.jwt_verify.specs.Accepted.{IsVerdict};
 ghost use Rattle.jwt_verify.specs.Paying.{IsWithin};
 ghost use Rattle.jwt_verify.specs.Reports.{FoundMemory, IsReport, IsReadAs, terms};
+ghost use Rattle.jwt_verify.specs.TermsTable.{terms_meant};
 ghost use Rattle.jwt_verify.specs.Verdict.{token_of};
 ghost use Rattle.jwt_verify.specs.declared.report.Fault.TheVariants.{OutOfMemory};
 ghost use Rattle.jwt_verify.specs.declared.report.Verdict.TheVariants.{Refused};
@@ -22,7 +23,7 @@ use jwt_mac::{Budget, CountDown, Verifier};
 use jwt_policy::Policy;
 use jwt_text::Scratch;
 use jwt_verify::laws::tells_tokens;
-use jwt_verify::{Fault, JudgedToken, Report, Try, Verdict, judge_signed};
+use jwt_verify::{Fault, JudgedToken, Report, Terms, Try, Verdict, judge_under};
 use std::alloc::{AllocError, Global};
 
 /// The same answers, shared, in a box.
@@ -79,32 +80,25 @@ fn asking<'a>(first: Try, report: Report<'_>, token: Signed<'a>) -> Asking<'a>
     }
 }
 
-/// The report on octets in hand by verifiers that mean the answers, with the token.
-fn judge_with<'a, 'p>(
-    alloc: Global,
-    octets: &'a [u8],
-    keys: &KeySet,
+/// The terms of a verdict by the one verifier that means the answers.
+fn told_terms<'k, 'p, 'v>(
+    keys: &'k KeySet,
     policy: &'p Policy,
     now: i64,
+    verifiers: &'v [Box<dyn Verifier>],
     answers: &Answers,
-    verifiers: &[Box<dyn Verifier>],
-    budget: &mut CountDown,
-    scratch: &mut Scratch,
-) -> JudgedToken<'a, 'p>
+) -> Terms<'k, 'p, 'v>
     requires one { map meaning verifiers.now ≡ told_meaning (told answers.now) ∷ [] }
-    requires no_octets { ⟦<CountDown as Budget>⟧.octets budget.old ≡ 0 }
-    requires no_calls { ⟦<CountDown as Budget>⟧.calls budget.old ≡ 0 }
-    ensures report { IsReport
-        (terms policy.now keys.now now (told_meaning (told answers.now) ∷ []))
-        octets.now (⟦<CountDown as Budget>⟧.ceiling budget.old) result.report }
-    ensures token { IsReadAs policy.now octets.now result.report.verdict result.token }
-    ensures within { IsWithin policy.now.max_calls (⟦<CountDown as Budget>⟧.calls budget.new) }
-    ensures octets { ⟦<CountDown as Budget>⟧.octets budget.new ≡ work result.report.tries.items }
-    ensures calls { ⟦<CountDown as Budget>⟧.calls budget.new ≡ length result.report.tries.items }
-    ensures ceiling { ⟦<CountDown as Budget>⟧.ceiling budget.new
-        ≡ ⟦<CountDown as Budget>⟧.ceiling budget.old }
+    ensures meant { terms_meant meaning result
+        ≡ terms policy.now keys.now now (told_meaning (told answers.now) ∷ []) }
+    ensures policy { result.policy.now ≡ policy.now }
 {
-    judge_signed(alloc, octets, keys, policy, now, verifiers, budget, scratch)
+    Terms {
+        keys,
+        policy,
+        moment: now,
+        verifiers,
+    }
 }
 
 /// The report on octets in hand, where these answers, shared, are the one verifier, with the token.
@@ -135,9 +129,8 @@ fn judge_by<'a, 'p>(
         return nothing_tried(alloc);
     };
     let verifiers: [Box<dyn Verifier>; 1] = [shared];
-    judge_with(
-        alloc, octets, keys, policy, now, answers, &verifiers, budget, scratch,
-    )
+    let terms = told_terms(keys, policy, now, &verifiers, answers);
+    judge_under(alloc, octets, &terms, budget, scratch)
 }
 
 /// Judges a token in hand by answers on signatures by public keys, or asks about a pair that has no answer.

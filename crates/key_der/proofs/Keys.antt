@@ -16,7 +16,7 @@ use Rattle.key_der.specs.declared.refusal.Refusal.TheVariants.{Algorithm, Point}
 use Rattle.key_der.specs.declared.kind.Kind.{Kind}
 use Rattle.key_der.specs.declared.kind.Kind.TheVariants.{Rsa, Ec, Okp}
 use Rattle.key_der.specs.Der.{AreOctets, IsPublicKey, HasParts, IsRsaText, is_fit, length_octets, algorithm, subject_key, spki, sequence, bit_string, coordinate_size, point_size}
-use Rattle.key_der.specs.Reading.{◌>>=◌, Gives, algorithm_fault, parts_of, kind_of, key_of, rsa_of, ec_of, okp_of, point_fault, encoded, fitting, unfit, read, read_rsa}
+use Rattle.key_der.specs.Reading.{◌>>=◌, AgreesWith, algorithm_fault, algorithm_and_key, kind_of, read_key, rsa_of, ec_of, okp_of, point_fault, decoded_key, fitting, why_unfit, read, read_rsa}
 use Rattle.key_der.proofs.Steps.{bind_ok, chosen, under_ok, ok_is, refused_is_no_value}
 use Rattle.key_der.proofs.Elements.{parts_take, parts_again}
 use Rattle.key_der.proofs.Numbers.{rsa_takes, rsa_again, length-rsa}
@@ -127,8 +127,8 @@ record IsKeyIn (kind : Kind) (bits : List ℕ) (k : KeyOctets) : Type 0 where
   text : bits ≡ subject_key k
   named_so : algorithm_for kind ≡ algorithm k
 
-key_takes : (kind : Kind) (bits : List ℕ) (k : KeyOctets) → AreOctets bits → key_of kind bits ≡ Ok k → IsKeyIn kind bits k
-unfolding key_of
+key_takes : (kind : Kind) (bits : List ℕ) (k : KeyOctets) → AreOctets bits → read_key kind bits ≡ Ok k → IsKeyIn kind bits k
+unfolding read_key
 key_takes Rsa bits k fits e =
     let b = bind_ok (rsa_of bits) (λ p. Ok (RsaKey p.0 p.1)) k e in
     let t = rsa_takes bits b.0 fits b.1 in
@@ -148,7 +148,7 @@ key_takes (Okp curve) bits k fits e =
 record IsReadAs (k : KeyOctets) : Type 0 where
   kind : Kind
   algorithm_is : kind_of (algorithm k) ≡ Ok kind
-  key_is : key_of kind (subject_key k) ≡ Ok k
+  key_is : read_key kind (subject_key k) ≡ Ok k
   algorithm_short : length (algorithm k) < 1000
   key_short : length (subject_key k) < 60000
 
@@ -171,7 +171,7 @@ few_octets Ed25519 = lit< tt
 few_octets Ed448 = lit< tt
 
 key_again : (k : KeyOctets) → HasParts k → IsReadAs k
-unfolding key_of
+unfolding read_key
 key_again (OctKey k) is = absurd is
 key_again (RsaKey n e) is = record {
   kind = Rsa;
@@ -197,18 +197,18 @@ key_again (OkpKey curve x) is = record {
 
 -- ---- all of it
 
-encoded_takes : (bytes : List ℕ) (k : KeyOctets) → AreOctets bytes → encoded bytes ≡ Ok k → HasParts k × (bytes ≡ spki k)
-unfolding encoded
+encoded_takes : (bytes : List ℕ) (k : KeyOctets) → AreOctets bytes → decoded_key bytes ≡ Ok k → HasParts k × (bytes ≡ spki k)
+unfolding decoded_key
 encoded_takes bytes k fits e =
-    let a = bind_ok (parts_of bytes) (λ parts. kind_of parts.0 >>= λ kind. key_of kind parts.1) k e in
-    let b = bind_ok (kind_of a.0.0) (λ kind. key_of kind a.0.1) k a.2 in
+    let a = bind_ok (algorithm_and_key bytes) (λ parts. kind_of parts.0 >>= λ kind. read_key kind parts.1) k e in
+    let b = bind_ok (kind_of a.0.0) (λ kind. read_key kind a.0.1) k a.2 in
     let t = parts_take bytes a.0 fits a.1 in
     let same : a.0.0 ≡ algorithm_for b.0 = kind_takes a.0.0 b.0 b.1 in
     let key = key_takes b.0 a.0.1 k t.1 b.2 in
     (key.is, t.0 ∙ ap (λ (q : List ℕ). sequence (sequence q ++ bit_string a.0.1)) (same ∙ key.named_so) ∙ ap (λ (q : List ℕ). sequence (sequence (algorithm k) ++ bit_string q)) key.text)
 
-encoded_again : (k : KeyOctets) → HasParts k → encoded (spki k) ≡ Ok k
-unfolding encoded
+encoded_again : (k : KeyOctets) → HasParts k → decoded_key (spki k) ≡ Ok k
+unfolding decoded_key
 encoded_again k is =
     let r = key_again k is in
     rw (parts_again (algorithm k) (subject_key k) r.algorithm_short r.key_short, r.algorithm_is, r.key_is) refl
@@ -216,7 +216,7 @@ encoded_again k is =
 fit_is : (key k : KeyOctets) → fitting key ≡ Ok k → (is_fit k ≡ true) × (key ≡ k)
 unfolding fitting
 fit_is key k e =
-    let u = under_ok (is_fit key) (unfit key) (Ok key) k e in
+    let u = under_ok (is_fit key) (why_unfit key) (Ok key) k e in
     let same : key ≡ k = ok_is key k u.1 in
     (subst (λ (y : KeyOctets). is_fit y ≡ true) same u.0, same)
 
@@ -227,7 +227,7 @@ fits_again k fit = rw fit refl
 pub read_takes : (bytes : List ℕ) (k : KeyOctets) → AreOctets bytes → read bytes ≡ Ok k → IsPublicKey k × (bytes ≡ spki k)
 unfolding read
 read_takes bytes k fits e =
-    let a = bind_ok (encoded bytes) fitting k e in
+    let a = bind_ok (decoded_key bytes) fitting k e in
     let f = fit_is a.0 k a.2 in
     let t = encoded_takes bytes k fits (a.1 ∙ ap (λ (y : KeyOctets). Ok y) f.1) in
     (record { parts = t.0; fit = f.0 }, t.1)
@@ -257,20 +257,20 @@ rsa_read_again (OkpKey curve x) bytes is text = absurd text
 
 -- ---- what the functions ensure
 
-pub key_found : (bytes : List ℕ) (r : Result KeyView Refusal) → AreOctets bytes → Gives key_octets r (read bytes) → IfOk r (λ k. IsPublicKey (key_octets k) × (bytes ≡ spki (key_octets k)))
+pub key_found : (bytes : List ℕ) (r : Result KeyView Refusal) → AreOctets bytes → AgreesWith key_octets r (read bytes) → IfOk r (λ k. IsPublicKey (key_octets k) × (bytes ≡ spki (key_octets k)))
 key_found bytes (Ok v) fits given = read_takes bytes (key_octets v) fits given
 key_found bytes (Err d) fits given = tt
 
-pub key_only : (bytes : List ℕ) (r : Result KeyView Refusal) → Gives key_octets r (read bytes) → (k : KeyOctets) → IsPublicKey k → bytes ≡ spki k → IsOkAnd r (λ v. key_octets v ≡ k)
+pub key_only : (bytes : List ℕ) (r : Result KeyView Refusal) → AgreesWith key_octets r (read bytes) → (k : KeyOctets) → IsPublicKey k → bytes ≡ spki k → IsOkAnd r (λ v. key_octets v ≡ k)
 key_only bytes (Ok v) given k is e = ok_is (key_octets v) k (sym given ∙ ap read e ∙ read_again k is)
 key_only bytes (Err d) given k is e =
     absurd (refused_is_no_value d k (sym given ∙ ap read e ∙ read_again k is))
 
-pub rsa_found : (bytes : List ℕ) (r : Result KeyView Refusal) → AreOctets bytes → Gives key_octets r (read_rsa bytes) → IfOk r (λ k. IsPublicKey (key_octets k) × IsRsaText (key_octets k) bytes)
+pub rsa_found : (bytes : List ℕ) (r : Result KeyView Refusal) → AreOctets bytes → AgreesWith key_octets r (read_rsa bytes) → IfOk r (λ k. IsPublicKey (key_octets k) × IsRsaText (key_octets k) bytes)
 rsa_found bytes (Ok v) fits given = rsa_read_takes bytes (key_octets v) fits given
 rsa_found bytes (Err d) fits given = tt
 
-pub rsa_only : (bytes : List ℕ) (r : Result KeyView Refusal) → Gives key_octets r (read_rsa bytes) → (k : KeyOctets) → IsPublicKey k → IsRsaText k bytes → IsOkAnd r (λ v. key_octets v ≡ k)
+pub rsa_only : (bytes : List ℕ) (r : Result KeyView Refusal) → AgreesWith key_octets r (read_rsa bytes) → (k : KeyOctets) → IsPublicKey k → IsRsaText k bytes → IsOkAnd r (λ v. key_octets v ≡ k)
 rsa_only bytes (Ok v) given k is text = ok_is (key_octets v) k (sym given ∙ rsa_read_again k bytes is text)
 rsa_only bytes (Err d) given k is text =
     absurd (refused_is_no_value d k (sym given ∙ rsa_read_again k bytes is text))

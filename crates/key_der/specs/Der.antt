@@ -20,8 +20,8 @@ length_octets n =
     else 130 ∷ (n / 256) ∷ (n % 256) ∷ []
 
 -- identifier, length, contents (8.1.1)
-abbrev pub element : ℕ → List ℕ → List ℕ
-element tag contents = tag ∷ (length_octets (length contents) ++ contents)
+abbrev pub der_element : ℕ → List ℕ → List ℕ
+der_element tag contents = tag ∷ (length_octets (length contents) ++ contents)
 
 -- a number above 0, by its octets, the most significant first and not 0: two's complement, so behind a zero octet where the first
 -- has its highest bit set (8.3)
@@ -29,11 +29,11 @@ abbrev pub twos_complement : List ℕ → List ℕ
 twos_complement octets = if nat_lt (slice_index octets 0) 128 then octets else 0 ∷ octets
 
 abbrev pub integer : List ℕ → List ℕ
-integer octets = element 2 (twos_complement octets)
+integer octets = der_element 2 (twos_complement octets)
 
 -- whole octets, so no unused bits (8.6)
 abbrev pub bit_string : List ℕ → List ℕ
-bit_string octets = element 3 (0 ∷ octets)
+bit_string octets = der_element 3 (0 ∷ octets)
 
 -- (8.8)
 abbrev pub null : List ℕ
@@ -48,11 +48,11 @@ subidentifier n =
 
 -- the object identifier a.b and so on (8.19.4)
 abbrev pub identifier : ℕ → ℕ → List ℕ → List ℕ
-identifier a b arcs = element 6 (flat_map subidentifier ((40 * a + b) ∷ arcs))
+identifier a b arcs = der_element 6 (flat_map subidentifier ((40 * a + b) ∷ arcs))
 
 -- (8.9)
 abbrev pub sequence : List ℕ → List ℕ
-sequence elements = element 48 elements
+sequence elements = der_element 48 elements
 
 -- the named curves (RFC 5480, section 2.1.1.1), and the algorithms that name theirs (RFC 8410, section 3)
 abbrev pub curve_identifier : EcCurve → List ℕ

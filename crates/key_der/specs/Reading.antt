@@ -20,9 +20,9 @@ abbrev pub ◌>>=◌ : {A B : Type 0} → Result A Refusal → (A → Result B R
 (Err e) >>= f = Err e
 
 -- What a function returned, seen by view, is what reading gives.
-abbrev pub Gives : {X Y : Type 0} → (X → Y) → Result X Refusal → Result Y Refusal → Type 0
-Gives view (Ok x) read = read ≡ Ok (view x)
-Gives view (Err e) read = read ≡ Err e
+abbrev pub AgreesWith : {X Y : Type 0} → (X → Y) → Result X Refusal → Result Y Refusal → Type 0
+AgreesWith view (Ok x) read = read ≡ Ok (view x)
+AgreesWith view (Err e) read = read ≡ Err e
 
 -- ---- elements
 
@@ -54,8 +54,8 @@ element_at tag (first ∷ rest) =
     if first == tag then (length_at rest >>= λ n. split_of n.0 n.1) else Err Element
 
 -- the contents of an element with this tag that nothing follows
-unfoldable pub whole_of : ℕ → List ℕ → Result (List ℕ) Refusal
-whole_of tag octets = do
+unfoldable pub only_element : ℕ → List ℕ → Result (List ℕ) Refusal
+only_element tag octets = do
   x ← element_at tag octets
   if length x.1 == 0 then Ok x.0 else Err Trailing
 
@@ -65,39 +65,39 @@ bits_of [] = Err Bits
 bits_of (unused ∷ octets) = if unused == 0 then Ok octets else Err Bits
 
 -- the algorithm, and the octets of the key
-unfoldable pub parts_of : List ℕ → Result (List ℕ × List ℕ) Refusal
-parts_of octets = do
-  info ← whole_of 48 octets
+unfoldable pub algorithm_and_key : List ℕ → Result (List ℕ × List ℕ) Refusal
+algorithm_and_key octets = do
+  info ← only_element 48 octets
   a ← element_at 48 info
-  b ← whole_of 3 a.1
+  b ← only_element 3 a.1
   key ← bits_of b
   Ok (a.0, key)
 
 -- ---- RSA
 
-abbrev pub within : List ℕ → Result (List ℕ) Refusal
-within octets = if nat_lt 4096 (length octets) then Err Number else Ok octets
+abbrev pub within_size : List ℕ → Result (List ℕ) Refusal
+within_size octets = if nat_lt 4096 (length octets) then Err Number else Ok octets
 
 abbrev pub behind_zero : List ℕ → Result (List ℕ) Refusal
 behind_zero [] = Err Number
-behind_zero (first ∷ rest) = if nat_lt first 128 then Err Number else within (first ∷ rest)
+behind_zero (first ∷ rest) = if nat_lt first 128 then Err Number else within_size (first ∷ rest)
 
 -- the octets of a number above 0, of its two's complement in the shortest form
-unfoldable pub number_of : List ℕ → Result (List ℕ) Refusal
-number_of [] = Err Number
-number_of (first ∷ rest) =
+unfoldable pub der_number : List ℕ → Result (List ℕ) Refusal
+der_number [] = Err Number
+der_number (first ∷ rest) =
     if first == 0 then behind_zero rest
-    else if nat_lt first 128 then within (first ∷ rest)
+    else if nat_lt first 128 then within_size (first ∷ rest)
     else Err Number
 
 -- modulus and exponent
 unfoldable pub rsa_of : List ℕ → Result (List ℕ × List ℕ) Refusal
 rsa_of octets = do
-  both ← whole_of 48 octets
+  both ← only_element 48 octets
   n ← element_at 2 both
-  e ← whole_of 2 n.1
-  modulus ← number_of n.0
-  exponent ← number_of e
+  e ← only_element 2 n.1
+  modulus ← der_number n.0
+  exponent ← der_number e
   Ok (modulus, exponent)
 
 -- ---- the other kinds
@@ -138,32 +138,32 @@ kind_of octets =
     else Err (algorithm_fault octets)
 
 -- the key of this kind
-unfoldable pub key_of : Kind → List ℕ → Result KeyOctets Refusal
-key_of Rsa octets = rsa_of octets >>= λ p. Ok (RsaKey p.0 p.1)
-key_of (Ec curve) octets = ec_of curve octets >>= λ p. Ok (EcKey curve p.0 p.1)
-key_of (Okp curve) octets = okp_of curve octets >>= λ x. Ok (OkpKey curve x)
+unfoldable pub read_key : Kind → List ℕ → Result KeyOctets Refusal
+read_key Rsa octets = rsa_of octets >>= λ p. Ok (RsaKey p.0 p.1)
+read_key (Ec curve) octets = ec_of curve octets >>= λ p. Ok (EcKey curve p.0 p.1)
+read_key (Okp curve) octets = okp_of curve octets >>= λ x. Ok (OkpKey curve x)
 
 -- the key of which octets are the encoding, or the first fault
-unfoldable pub encoded : List ℕ → Result KeyOctets Refusal
-encoded octets = do
-  parts ← parts_of octets
+unfoldable pub decoded_key : List ℕ → Result KeyOctets Refusal
+decoded_key octets = do
+  parts ← algorithm_and_key octets
   kind ← kind_of parts.0
-  key_of kind parts.1
+  read_key kind parts.1
 
 -- why no verifier takes such a key
-abbrev pub unfit : KeyOctets → Refusal
-unfit (RsaKey n e) = KeySize
-unfit (EcKey curve x y) = OffCurve
-unfit (OkpKey curve x) = OffCurve
-unfit (OctKey k) = KeySize
+abbrev pub why_unfit : KeyOctets → Refusal
+why_unfit (RsaKey n e) = KeySize
+why_unfit (EcKey curve x y) = OffCurve
+why_unfit (OkpKey curve x) = OffCurve
+why_unfit (OctKey k) = KeySize
 
 -- the key, if a verifier takes it
 unfoldable pub fitting : KeyOctets → Result KeyOctets Refusal
-fitting key = if is_fit key then Ok key else Err (unfit key)
+fitting key = if is_fit key then Ok key else Err (why_unfit key)
 
 -- the public key of which octets are the encoding, or the first fault
 unfoldable pub read : List ℕ → Result KeyOctets Refusal
-read octets = encoded octets >>= fitting
+read octets = decoded_key octets >>= fitting
 
 -- the RSA key of which octets are the RSAPublicKey, or the first fault
 unfoldable pub read_rsa : List ℕ → Result KeyOctets Refusal

@@ -4,7 +4,7 @@ ghost use Rattle.std.specs.Prelude.{◌≡◌, ◌^◌, ◌%◌, ◌==◌, ◌&&
 ghost use Rattle.jwt_mac.specs.Verifying.{key_octets};
 ghost use Rattle.jwt_rsa.specs.PublicKey.{is_key};
 ghost use Rattle.key_der.specs.Der.{is_fit, is_on_curve};
-ghost use Rattle.key_der.specs.Reading.{Gives, fitting, unfit};
+ghost use Rattle.key_der.specs.Reading.{AgreesWith, fitting, why_unfit};
 ghost use Rattle.rsa_number.specs.Octets.{os2ip};
 
 use crate::refusal::Refusal;
@@ -50,7 +50,7 @@ fn is_fit(key: &KeyView<'_>) -> bool
 
 /// Why no verifier takes such a key.
 fn unfit(key: &KeyView<'_>) -> Refusal
-    ensures { result ≡ unfit (key_octets key.now) }
+    ensures { result ≡ why_unfit (key_octets key.now) }
 {
     match key {
         KeyView::Ec { .. } | KeyView::Okp { .. } => Refusal::OffCurve,
@@ -61,7 +61,7 @@ fn unfit(key: &KeyView<'_>) -> Refusal
 /// The key, if a verifier takes it.
 #[tactic(auto, unfolding(crate::specs::Reading::fitting))]
 pub fn fitting(key: KeyView<'_>) -> Result<KeyView<'_>, Refusal>
-    ensures { Gives key_octets result (fitting (key_octets key.entry)) }
+    ensures { AgreesWith key_octets result (fitting (key_octets key.entry)) }
 {
     if is_fit(&key) {
         Ok(key)

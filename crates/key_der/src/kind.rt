@@ -3,7 +3,7 @@
 ghost use Rattle.std.specs.Prelude.{◌≡◌, ◌==◌};
 ghost use Rattle.std.specs.List.{starts_with};
 ghost use Rattle.std.specs.Str.{bytes_eq};
-ghost use Rattle.key_der.specs.Reading.{Gives, algorithm_fault, kind_of};
+ghost use Rattle.key_der.specs.Reading.{AgreesWith, algorithm_fault, kind_of};
 
 use crate::refusal::Refusal;
 use jwt_mac::{EcCurve, EdCurve};
@@ -47,7 +47,7 @@ fn algorithm_fault(algorithm: &[u8]) -> Refusal
 /// The kind of this algorithm, of which the frame is taken off.
 #[tactic(auto, unfolding(crate::specs::Reading::kind_of, crate::specs::Der::length_octets))]
 pub fn kind_of(algorithm: &[u8]) -> Result<Kind, Refusal>
-    ensures { Gives (λ k. k) result (kind_of algorithm.now) }
+    ensures { AgreesWith (λ k. k) result (kind_of algorithm.now) }
 {
     if is(
         algorithm,

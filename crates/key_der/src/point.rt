@@ -2,7 +2,7 @@
 
 ghost use Rattle.std.specs.Prelude.{◌≡◌};
 ghost use Rattle.key_der.specs.Der.{coordinate_size, point_size};
-ghost use Rattle.key_der.specs.Reading.{Gives, ec_of, okp_of, point_fault};
+ghost use Rattle.key_der.specs.Reading.{AgreesWith, ec_of, okp_of, point_fault};
 
 use crate::refusal::Refusal;
 use jwt_mac::{EcCurve, EdCurve};
@@ -42,7 +42,7 @@ fn point_fault(first: u8) -> Refusal
 /// The coordinates of an uncompressed point.
 #[tactic(auto, unfolding(crate::specs::Reading::ec_of))]
 pub fn ec_of(curve: EcCurve, octets: &[u8]) -> Result<(&[u8], &[u8]), Refusal>
-    ensures { Gives (λ x. (x.0.now, x.1.now)) result (ec_of curve octets.now) }
+    ensures { AgreesWith (λ x. (x.0.now, x.1.now)) result (ec_of curve octets.now) }
 {
     match octets {
         [] => Err(Refusal::Point),
@@ -60,7 +60,7 @@ pub fn ec_of(curve: EcCurve, octets: &[u8]) -> Result<(&[u8], &[u8]), Refusal>
 /// The octets of a key, if they are of its size.
 #[tactic(auto, unfolding(crate::specs::Reading::okp_of))]
 pub fn okp_of(curve: EdCurve, octets: &[u8]) -> Result<&[u8], Refusal>
-    ensures { Gives (λ x. x.now) result (okp_of curve octets.now) }
+    ensures { AgreesWith (λ x. x.now) result (okp_of curve octets.now) }
 {
     if octets.len() == point_size(curve) {
         Ok(octets)

@@ -3,7 +3,7 @@
 ghost use Rattle.std.specs.Prelude.{◌≡◌, IfOk, IsOkAnd};
 ghost use Rattle.jwt_mac.specs.Verifying.{KeyOctets, key_octets};
 ghost use Rattle.key_der.specs.Der.{IsPublicKey, IsRsaText, spki};
-ghost use Rattle.key_der.specs.Reading.{Gives, encoded, fitting, key_of, read, read_rsa};
+ghost use Rattle.key_der.specs.Reading.{AgreesWith, decoded_key, fitting, read_key, read, read_rsa};
 
 use crate::element::parts_of;
 use crate::fit::fitting;
@@ -14,9 +14,9 @@ use crate::rsa::rsa_of;
 use jwt_mac::KeyView;
 
 /// The key of this kind.
-#[tactic(auto, unfolding(crate::specs::Reading::key_of))]
+#[tactic(auto, unfolding(crate::specs::Reading::read_key))]
 fn key_of(kind: Kind, octets: &[u8]) -> Result<KeyView<'_>, Refusal>
-    ensures { Gives key_octets result (key_of kind octets.now) }
+    ensures { AgreesWith key_octets result (read_key kind octets.now) }
 {
     match kind {
         Kind::Rsa => {
@@ -35,9 +35,9 @@ fn key_of(kind: Kind, octets: &[u8]) -> Result<KeyView<'_>, Refusal>
 }
 
 /// The key of which octets are the encoding, or the first fault.
-#[tactic(auto, unfolding(crate::specs::Reading::encoded))]
+#[tactic(auto, unfolding(crate::specs::Reading::decoded_key))]
 fn encoded(octets: &[u8]) -> Result<KeyView<'_>, Refusal>
-    ensures { Gives key_octets result (encoded octets.now) }
+    ensures { AgreesWith key_octets result (decoded_key octets.now) }
 {
     let (algorithm, key) = parts_of(octets)?;
     let kind = kind_of(algorithm)?;
@@ -47,7 +47,7 @@ fn encoded(octets: &[u8]) -> Result<KeyView<'_>, Refusal>
 /// The same, if a verifier takes the key.
 #[tactic(auto, unfolding(crate::specs::Reading::read))]
 fn read(octets: &[u8]) -> Result<KeyView<'_>, Refusal>
-    ensures { Gives key_octets result (read octets.now) }
+    ensures { AgreesWith key_octets result (read octets.now) }
 {
     let key = encoded(octets)?;
     fitting(key)
@@ -56,7 +56,7 @@ fn read(octets: &[u8]) -> Result<KeyView<'_>, Refusal>
 /// The RSA key of which octets are the RSAPublicKey, if a verifier takes it.
 #[tactic(auto, unfolding(crate::specs::Reading::read_rsa))]
 fn read_rsa(octets: &[u8]) -> Result<KeyView<'_>, Refusal>
-    ensures { Gives key_octets result (read_rsa octets.now) }
+    ensures { AgreesWith key_octets result (read_rsa octets.now) }
 {
     let (n, e) = rsa_of(octets)?;
     fitting(KeyView::Rsa { n, e })
@@ -74,7 +74,7 @@ pub fn read_public_key(octets: &[u8]) -> Result<KeyView<'_>, Refusal>
     ensures only { (key : KeyOctets) → IsPublicKey key → octets.now ≡ spki key
         → IsOkAnd result (λ v. key_octets v ≡ key) }
     // Which fault it is.
-    ensures exact { Gives key_octets result (read octets.now) }
+    ensures exact { AgreesWith key_octets result (read octets.now) }
 {
     read(octets)
 }
@@ -90,7 +90,7 @@ pub fn read_rsa_public_key(octets: &[u8]) -> Result<KeyView<'_>, Refusal>
     ensures only { (key : KeyOctets) → IsPublicKey key → IsRsaText key octets.now
         → IsOkAnd result (λ v. key_octets v ≡ key) }
     // Which fault it is.
-    ensures exact { Gives key_octets result (read_rsa octets.now) }
+    ensures exact { AgreesWith key_octets result (read_rsa octets.now) }
 {
     read_rsa(octets)
 }

@@ -14,7 +14,7 @@ pub returns-in-Err-TooLong-clause-line : goal.returns-in-Err-TooLong-clause-line
 returns-in-Err-TooLong-clause-line g c =
     IfSome_then (g.R.Source.remaining c.args.r.now) c.in-Err-TooLong.ensures.fails
     (λ x h. let long = rw c.in-Err-TooLong.field-0-is at h in
-    subst (λ (a : Answer). IfOk c.printed_keys_fault.result (λ r. reply_view r ≡ a)) (keys_line_too_long (printer c.args.printing) (map (λ b. (goal.Verifier-dyn g (b.vtable, b.value)).meaning b.value) c.args.verifiers.now) c.args.now.seconds (held_view c.args.held) c.args.policy.now x _ long.1 long.0) c.printed_keys_fault.ensures)
+    subst (λ (a : Answer). IfOk c.printed_keys_fault.result (λ r. reply_view r ≡ a)) (keys_line_too_long (printer c.args.options.now.printing) (map (λ b. (goal.Verifier-dyn g (b.vtable, b.value)).meaning b.value) c.args.options.now.verifiers.now) c.args.options.now.moment.seconds (held_view c.args.held) c.args.policy.now x _ long.1 long.0) c.printed_keys_fault.ensures)
 
 pub returns-in-Err-TooLong-clause-stops : goal.returns-in-Err-TooLong-clause-stops
 returns-in-Err-TooLong-clause-stops g c = IfSome_then (g.R.Source.remaining c.args.r.now) c.in-Err-TooLong.ensures.taken (λ x h. document_stops 4194304 (behind_keys (token_most (held_view c.args.held) c.args.policy.now) (key_set_of (document (held_view c.args.held).keys x))) (held_view c.args.held).keys x _ _ h)
@@ -27,7 +27,7 @@ returns-in-Ok-read-clause-stops g c =
     IfSome_then (g.R.Source.remaining c.args.r.now) c.in-Ok.ensures.document
     (λ x h.
     behind_keys_taken (token_most (held_view c.args.held) c.args.policy.now) (held_view c.args.held).keys x _ _ _ _ (key_set c.in-Ok-read.keys)
-    h (ap key_set_of (sym c.octets.ensures) ∙ c.in-Ok-read.ensures.answer) c.on_rule.ensures.stops)
+    h (ap key_set_of (sym c.octets.ensures) ∙ c.in-Ok-read.ensures.answer) (rw c.terms_at-terms.ensures.policy at c.on_rule.ensures.stops))
 
 pub returns-in-Err-OutOfMemory-read-clause-stops : goal.returns-in-Err-OutOfMemory-read-clause-stops
 returns-in-Err-OutOfMemory-read-clause-stops g c = IfSome_then (g.R.Source.remaining c.args.r.now) c.in-Ok.ensures.document (λ x h. document_stops 4194304 (behind_keys (token_most (held_view c.args.held) c.args.policy.now) (key_set_of (document (held_view c.args.held).keys x))) (held_view c.args.held).keys x _ _ (inr h.taken))

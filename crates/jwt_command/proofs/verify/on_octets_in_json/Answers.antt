@@ -1,26 +1,22 @@
-use Rattle.std.proofs.Common.{◌∙◌, map, subst, ◌≡◌, pos, arith, to_z, w64}
-use Rattle.std.proofs.lemmas.Int.{to_z_pos}
-use Rattle.jwt_verify.specs.Reports.{IsReport, terms as terms_at}
-use Rattle.jwt_keys.specs.KeySets.{key_set}
-use Rattle.jwt_command.specs.Verify.{terms_of_keys}
+use Rattle.std.proofs.Common.{◌∙◌, subst}
+use Rattle.jwt_verify.specs.Reports.{IsReport}
+use Rattle.jwt_verify.specs.TermsTable.{terms_meant}
 use Rattle.jwt_printing.specs.Views.{reply_view, rule_view}
 use Rattle.jwt_command.proofs.Verifying.{answered_in_json, both_ok, read_payload}
 use Rattle.jwt_command.proofs.verify.on_octets_in_json.Goals as goal
 
 pub returns-clause-line : goal.returns-clause-line
 returns-clause-line g c =
-    let vs = map (λ b. (goal.Verifier-dyn g (b.vtable, b.value)).meaning b.value) c.args.verifiers.now in
-    let q = terms_of_keys vs c.args.now.seconds c.args.policy.now (key_set c.args.keys.now) in
+    let q = terms_meant (λ b. (goal.Verifier-dyn g (b.vtable, b.value)).meaning b.value) c.args.terms.now in
     let x = c.args.token.now in
-    let r = c.judge_signed-judged.result.report in
-    let z : to_z w64 c.args.now.seconds ≡ pos c.args.now.seconds = to_z_pos w64 c.args.now.seconds (omega (arith, c.args.now.in_range)) in
+    let r = c.judge_under-judged.result.report in
     both_ok c.report_json.result c.report_json.ensures.line c.report_json.ensures.memory
     (λ a line found. answered_in_json (rule_view c.args.rule) q x c.payload_in-payload.result.now c.tells_reports.ensures r c.octets.result
     (subst (λ w. IsReport q x w r) (c.new-count.ensures.ceiling ∙ c.work.ensures.value)
-    (subst (λ m. IsReport (terms_at c.args.policy.now c.args.keys.now m vs) x c.new-count.result.ceiling r) z c.judge_signed-judged.ensures.report))
-    (c.payload_in-payload.ensures ∙ read_payload c.args.policy.now x r.verdict c.judge_signed-judged.result.token c.tells_tokens.ensures.token found c.judge_signed-judged.ensures.token)
-    (c.octets.ensures ∙ c.judge_signed-judged.ensures.octets) found (reply_view a) line)
+    c.judge_under-judged.ensures.report)
+    (c.payload_in-payload.ensures ∙ read_payload c.args.terms.now.policy.now x r.verdict c.judge_under-judged.result.token c.tells_tokens.ensures.token found c.judge_under-judged.ensures.token)
+    (c.octets.ensures ∙ c.judge_under-judged.ensures.octets) found (reply_view a) line)
 
 pub returns-clause-done : goal.returns-clause-done
 returns-clause-done g c =
-    both_ok c.report_json.result c.report_json.ensures.failed c.report_json.ensures.failed (λ a failed _ is. c.judge_signed-judged.ensures.read (failed is))
+    both_ok c.report_json.result c.report_json.ensures.failed c.report_json.ensures.failed (λ a failed _ is. c.judge_under-judged.ensures.read (failed is))

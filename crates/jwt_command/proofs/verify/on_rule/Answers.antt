@@ -1,22 +1,20 @@
-use Rattle.std.proofs.Common.{rules, ◌≡◌, map, Err}
-use Rattle.jwt_keys.specs.KeySets.{key_set}
+use Rattle.std.proofs.Common.{rules, ◌≡◌, Err}
 use Rattle.jwt_printing.specs.Printer.{printer}
 use Rattle.jwt_printing.specs.Views.{reply_view}
 use Rattle.jwt_words.specs.Seen.{held_view}
 use Rattle.jwt_command.specs.Access.{rule_in_hand}
 use Rattle.jwt_command.specs.Documents.{last_document}
 use Rattle.jwt_command.specs.Stops.{token_most}
-use Rattle.jwt_command.specs.Verify.{terms_of_keys}
+use Rattle.jwt_verify.specs.TermsTable.{terms_meant}
 use Rattle.jwt_command.proofs.Verifying.{nothing_taken, rule_refused}
 use Rattle.jwt_command.proofs.verify.on_rule.Goals as goal
 
 pub returns-in-Err : goal.returns-in-Err
 returns-in-Err g c =
-    let vs = map (λ b. (goal.Verifier-dyn g (b.vtable, b.value)).meaning b.value) c.args.verifiers.now in
-    let q = terms_of_keys vs c.args.now.seconds c.args.policy.now (key_set c.args.keys.now) in
+    let q = terms_meant (λ b. (goal.Verifier-dyn g (b.vtable, b.value)).meaning b.value) c.args.terms.now in
     let is : rule_in_hand (held_view c.args.held).access ≡ Err c.in-Err.fault = search rules in
     record {
       line = rule_refused (printer c.args.printing) reply_view c.printed_access_fault.result q (rule_in_hand (held_view c.args.held).access) c.in-Err.fault (λ x. last_document (held_view c.args.held).token x) (g.R.Source.remaining c.args.r.now) _ c.requires is c.printed_access_fault.ensures;
-      stops = nothing_taken (λ x. token_most (held_view c.args.held) c.args.policy.now) (g.R.Source.remaining c.args.r.now) (g.R.Source.failed c.args.r.now);
+      stops = nothing_taken (λ x. token_most (held_view c.args.held) c.args.terms.now.policy.now) (g.R.Source.remaining c.args.r.now) (g.R.Source.failed c.args.r.now);
       failed = search rules;
     }

@@ -1,9 +1,7 @@
-use Rattle.std.proofs.Common.{◌+◌, ◌∙◌, map, subst, arith, ◌≡◌, pos, to_z, w64}
-use Rattle.std.proofs.lemmas.Int.{to_z_pos}
-use Rattle.jwt_verify.specs.Reports.{IsReport, terms as terms_at}
+use Rattle.std.proofs.Common.{rules, ◌≡◌, ◌+◌, ◌∙◌, map, subst, arith, of_z, to_z, w64}
+use Rattle.jwt_verify.specs.Reports.{IsReport, terms}
 use Rattle.std.proofs.lemmas.Option.{IfSome_then}
-use Rattle.jwt_keys.specs.KeySets.{key_set}
-use Rattle.jwt_command.specs.Verify.{terms_of_keys}
+use Rattle.jwt_verify.specs.TermsTable.{terms_meant}
 use Rattle.jwt_printing.specs.Views.{reply_view, rule_view}
 use Rattle.jwt_command.proofs.Verifying.{front_taken, answered, both_ok}
 use Rattle.jwt_command.proofs.verify.on_token.Goals as goal
@@ -11,17 +9,17 @@ use Rattle.jwt_command.proofs.verify.on_token.Goals as goal
 pub returns-clause-stops : goal.returns-clause-stops
 returns-clause-stops g c =
     IfSome_then (g.R.Source.remaining c.args.r.now) c.validate-report.ensures.most
-    (λ x most. front_taken c.args.policy.now.run.limit (c.args.policy.now.run.limit + 1) x _ _ c.validate-report.result.verdict (omega arith) (λ works. most) c.validate-report.ensures.read)
+    (λ x most. front_taken c.args.terms.now.policy.now.run.limit (c.args.terms.now.policy.now.run.limit + 1) x _ _ c.validate-report.result.verdict (omega arith) (λ works. most) c.validate-report.ensures.read)
 
 pub returns-clause-line : goal.returns-clause-line
 returns-clause-line g c =
-    let vs = map (λ b. (goal.Verifier-dyn g (b.vtable, b.value)).meaning b.value) c.args.verifiers.now in
-    let q = terms_of_keys vs c.args.now.seconds c.args.policy.now (key_set c.args.keys.now) in
+    let q = terms_meant (λ b. (goal.Verifier-dyn g (b.vtable, b.value)).meaning b.value) c.args.terms.now in
     let r = c.validate-report.result in
-    let z : to_z w64 c.args.now.seconds ≡ pos c.args.now.seconds = to_z_pos w64 c.args.now.seconds (omega (arith, c.args.now.in_range)) in
+    let z : to_z w64 (of_z w64 c.args.terms.now.moment) ≡ c.args.terms.now.moment = search rules in
+    let vs = map (λ b. (goal.Verifier-dyn g (b.vtable, b.value)).meaning b.value) c.args.terms.now.verifiers.now in
     IfSome_then (g.R.Source.remaining c.args.r.now) c.validate-report.ensures.report
     (λ x report. both_ok c.report_line.result c.report_line.ensures.line c.report_line.ensures.memory
     (λ a line found. answered (rule_view c.args.rule) q x c.tells_reports.ensures _ r c.octets.result
     (λ n. subst (λ w. IsReport q x w r) (c.new-budget.ensures.ceiling ∙ c.work.ensures.value)
-    (subst (λ m. IsReport (terms_at c.args.policy.now c.args.keys.now m vs) x c.new-budget.result.ceiling r) z (report n)))
+    (subst (λ m. IsReport (terms c.args.terms.now.policy.now c.args.terms.now.keys.now m vs) x c.new-budget.result.ceiling r) z (report n)))
     c.validate-report.ensures.failed c.validate-report.ensures.read (c.octets.ensures ∙ c.validate-report.ensures.octets) found (reply_view a) line))

@@ -1,15 +1,13 @@
-use Rattle.std.proofs.Common.{◌∙◌, map}
+use Rattle.std.proofs.Common.{◌∙◌}
 use Rattle.std.proofs.lemmas.Option.{IfSome_then}
-use Rattle.jwt_keys.specs.KeySets.{key_set}
-use Rattle.jwt_command.specs.Verify.{terms_of_keys}
+use Rattle.jwt_verify.specs.TermsTable.{terms_meant}
 use Rattle.jwt_printing.specs.Views.{reply_view, rule_view}
 use Rattle.jwt_command.proofs.WalkedLines.{json_taken}
 use Rattle.jwt_command.proofs.verify.on_token_json.Goals as goal
 
 pub returns-in-Some-clause-line : goal.returns-in-Some-clause-line
 returns-in-Some-clause-line g c =
-    let vs = map (λ b. (goal.Verifier-dyn g (b.vtable, b.value)).meaning b.value) c.args.verifiers.now in
-    let q = terms_of_keys vs c.args.now.seconds c.args.policy.now (key_set c.args.keys.now) in
+    let q = terms_meant (λ b. (goal.Verifier-dyn g (b.vtable, b.value)).meaning b.value) c.args.terms.now in
     let read = rw c.in-Some.is at c.in_ok-token.ensures.read in
     let works = rw c.in-Some.is at c.in_ok-token.ensures.works in
     IfSome_then (g.R.Source.remaining c.args.r.now) read

@@ -12,6 +12,6 @@ use Rattle.jwt_command.proofs.verify_lines.answer_lines.Given as goal
 -- the lines that were taken are answered, as many as the number of the next, and the answers that haven't gone out are ready
 abbrev pub invariant-lines : goal.invariant-lines
 invariant-lines g l = record {
-  answering : Answering (λ m x. (printer l.fn.printing).token (rule_view l.fn.rule) (terms_of_keys (map (λ b. (goal.Verifier-dyn g (b.vtable, b.value)).meaning b.value) l.fn.verifiers) m l.fn.policy (key_set l.fn.keys)) x)
-      (with_held l.fn.policy.run.limit g.C.Clock.says) (seconds_of l.fn.now) l.number (g.R.Source.remaining l.fn.r) (prepend_known l.ahead (g.R.Source.remaining l.r)) (g.W.Sink.contents l.fn.w) (g.W.Sink.contents l.w) l.ready.items;
+  answering : Answering (λ m x. (printer l.fn.shared.printing).token (rule_view l.fn.shared.rule) (terms_of_keys (map (λ b. (goal.Verifier-dyn g (b.vtable, b.value)).meaning b.value) l.fn.shared.verifiers.now) m l.fn.shared.policy.now (key_set l.fn.shared.keys.now)) x)
+      (with_held l.fn.shared.policy.now.run.limit g.C.Clock.says) (seconds_of l.fn.shared.moment) l.number (g.R.Source.remaining l.fn.r) (prepend_known l.ahead (g.R.Source.remaining l.r)) (g.W.Sink.contents l.fn.w) (g.W.Sink.contents l.w) l.ready.items;
 }

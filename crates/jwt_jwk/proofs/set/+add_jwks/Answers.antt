@@ -2,7 +2,7 @@ use Rattle.std.proofs.Common.{◌≡◌, ◌==◌, ℕ, List, [], length, ap, �
 use Rattle.std.proofs.lemmas.Bool.{both_ways}
 use Rattle.key_pem.specs.declared.text.Block.{Block}
 use Rattle.key_pem.specs.declared.fault.PemFault.TheVariants as pem
-use Rattle.jwt_jwk.specs.Jwk.{text_of}
+use Rattle.jwt_jwk.specs.Jwk.{optional_text}
 use Rattle.jwt_jwk.specs.Converted.{Adds, kid_of}
 use Rattle.jwt_jwk.specs.declared.fault.JwkFault.TheVariants.{OutOfMemory}
 use Rattle.jwt_jwk.proofs.Files.{first_key, next_keys, no_first, on_ok, one_more}
@@ -18,7 +18,7 @@ returns-in-Err-clause-only depth c = λ keys file few.
 pub returns-in-Ok-push_jwk-clause-ok : goal.returns-in-Ok-push_jwk-clause-ok
 returns-in-Ok-push_jwk-clause-ok depth c =
     let kid = kid_of c.args.kid in
-    let alg = text_of c.args.alg in
+    let alg = optional_text c.args.alg in
     on_ok c.add_jwks.result (Adds _ kid alg c.in-Ok.block.rest.now c.push_jwk.new.set.items c.add_jwks.new.set.items) (Adds c.args.later kid alg c.args.text.now c.args.set.now.items c.add_jwks.new.set.items)
     (one_more c.args.later kid alg c.in-Ok.block.label c.in-Ok.block.octets.items c.deref.result.now c.args.text.now c.in-Ok.block.rest.now c.in-Ok-jwk_of_block.jwk.items c.deref-in-Ok-jwk_of_block.result.now
     c.args.set.now.items c.push_jwk.new.set.items c.add_jwks.new.set.items c.in-Ok.ensures.octets c.in-Ok.ensures.found c.deref.ensures.value c.in-Ok-jwk_of_block.ensures.ok c.deref-in-Ok-jwk_of_block.ensures.value

@@ -4,7 +4,7 @@ use Rattle.std.proofs.lemmas.Result.{on_ok_weaker}
 use Rattle.json.specs.Value.{value_view}
 use Rattle.jwt_jws.specs.Views.{token}
 use Rattle.jwt_policy.specs.ClaimKinds.{claims_of}
-use Rattle.jwt_printing.specs.Json.{Named, list, text, value_of}
+use Rattle.jwt_printing.specs.Json.{Named, list, text, json_value}
 use Rattle.jwt_printing.specs.Shown.{form_name}
 use Rattle.jwt_printing.specs.ShownJson.{claims_refused, signatures_json}
 use Rattle.jwt_printing.proofs.JsonLemmas.{two_written}
@@ -14,7 +14,7 @@ pub returns : goal.returns
 returns c =
     let t = token c.args.signed.now in
     let form = text (codes "form") (form_name t.form) in
-    let payload : Named = (codes "payload", value_of t.payload) in
+    let payload : Named = (codes "payload", json_value t.payload) in
     let signatures = list (codes "signatures") (signatures_json t.form (value_view c.args.document.now) 0 t.signatures) in
     let refused = claims_refused (claims_of t.payload) in
     on_ok_weaker c.put_claims_refused.result

@@ -12,8 +12,8 @@ returns c =
     let t = text (codes "verdict") (codes "denied") in
     let d = text (codes "denial") (denial_name c.args.denial.now) in
     let l = lacked c.args.denial.now in
-    let i = count (codes "signature") c.args.signature in
-    let j = count (codes "key") c.args.key in
+    let i = count (codes "signature") c.args.pair.signature in
+    let j = count (codes "key") c.args.pair.key in
     on_ok_weaker c.put_pair.result
     (λ n. two_written (t ∷ d ∷ l ∷ []) (i ∷ j ∷ []) c.args.out.now c.put_lacked.new.out c.put_pair.new.out
     (two_written (t ∷ d ∷ []) (l ∷ []) c.args.out.now c.text-2.new.self c.put_lacked.new.out
