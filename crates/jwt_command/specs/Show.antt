@@ -10,15 +10,15 @@ use Rattle.jwt_printing.specs.ShownJson.{printed_token, printed_form_fault, prin
 use Rattle.jwt_words.specs.declared.printing.Printing.{Printing}
 
 -- of the octets of a token
-abbrev pub shown_token : Printing → List ℕ → Result Token FormFault → Answer
-shown_token printing x (Ok t) = printed_token printing x t
-shown_token printing x (Err f) = printed_form_fault printing f
+abbrev pub printed_form : Printing → List ℕ → Result Token FormFault → Answer
+printed_form printing x (Ok t) = printed_token printing x t
+printed_form printing x (Err f) = printed_form_fault printing f
 
 -- of a token of at most so many octets, with one line feed behind it or none
 abbrev pub show_on : Printing → ℕ → List ℕ → Answer
 show_on printing limit x =
     if nat_lt limit (length x) then printed_too_long printing
-    else shown_token printing (without_line_feed true x) (form_of 32 (without_line_feed true x))
+    else printed_form printing (without_line_feed true x) (form_of 32 (without_line_feed true x))
 
 -- by a reader that has failed or not
 abbrev pub show_answer : Printing → ℕ → Bool → List ℕ → Answer

@@ -2,7 +2,7 @@
 ghost use Rattle.std.specs.Prelude.{◌≡◌, ◌≢◌, ◌≤◌, ◌+◌, ◌⊎◌, true, IfOk, IfSome, Ok, Err};
 ghost use Rattle.jwt_jws.specs.Forms.{form_of};
 ghost use Rattle.jwt_text.specs.Intake.{TakesAtMost};
-ghost use Rattle.jwt_command.specs.Show.{show_answer, shown_token};
+ghost use Rattle.jwt_command.specs.Show.{show_answer, printed_form};
 ghost use Rattle.jwt_printing.specs.ShownJson.{printed_form_fault, printed_token, printed_too_long};
 ghost use Rattle.jwt_printing.specs.Views.{reply_view};
 
@@ -18,7 +18,7 @@ use std::alloc::{AllocError, Global};
 /// What stands in a token of these octets, of at most 32 signatures, or why they are none.
 fn shown(alloc: Global, printing: Printing, octets: &[u8]) -> Result<Reply, AllocError>
     ensures line { IfOk result
-        (λ a. reply_view a ≡ shown_token printing octets.now (form_of 32 octets.now)) }
+        (λ a. reply_view a ≡ printed_form printing octets.now (form_of 32 octets.now)) }
     ensures done { IfOk result (λ a. a.status ≢ 3) }
 {
     match parse(alloc, octets, 32) {
