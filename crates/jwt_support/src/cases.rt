@@ -2,26 +2,26 @@
 
 use crate::examples::{HS256, NOW};
 use crate::reports::{AMPLE, Case};
-use crate::verifiers::{Kind, SAME};
+use crate::verifiers::{SAME, VerifierKind};
 use jwt_mac::Alg;
 
-const ABLE: Kind = Kind {
+const ABLE: VerifierKind = VerifierKind {
     may_lack: true,
     ..SAME
 };
 
-const NEVER: Kind = Kind {
+const NEVER: VerifierKind = VerifierKind {
     accepts: false,
     ..SAME
 };
 
-const LACKING: Kind = Kind {
+const LACKING: VerifierKind = VerifierKind {
     may_lack: true,
     lacks: true,
     ..SAME
 };
 
-const EDWARDS: Kind = Kind {
+const EDWARDS: VerifierKind = VerifierKind {
     alg: Alg::EdDSA,
     ..SAME
 };

@@ -3,7 +3,7 @@ ghost use Rattle.std.specs.Prelude.{◌≡◌};
 
 use crate::examples::filled;
 use crate::streams::Drip;
-use crate::verifiers::{Asked, Kind};
+use crate::verifiers::{TestVerifier, VerifierKind};
 use jwt_keys::KeySet;
 use jwt_mac::{Budget, CountDown, CountUp, Verifier};
 use jwt_policy::{ClaimFault, Policy};
@@ -24,7 +24,7 @@ pub struct Case {
     pub token: &'static str,
     pub now: i64,
     pub ceiling: u64,
-    pub verifiers: &'static [Kind],
+    pub verifiers: &'static [VerifierKind],
     /// The report, as [`told`] has it.
     pub gives: &'static str,
     /// The line that `jwt verify` prints, where it is asked the same.
@@ -40,7 +40,7 @@ pub enum Counts {
 
 /// How a token is handed over: whole to `judge`, or to `validate` by a source, which gives as much as is asked for or one octet a pull.
 #[derive(Clone, Copy)]
-pub enum Way {
+pub enum Handover {
     Whole,
     Read,
     Dripped,
@@ -208,17 +208,17 @@ pub fn validated<R: Source>(
 
 /// The policy and the keys of a case.
 #[derive(Drop)]
-struct Documents {
+struct CaseDocuments {
     policy: Policy,
     keys: KeySet,
 }
 
 /// The policy and the keys of the case, where they are read.
-fn documents_of(alloc: Global, case: &Case) -> Option<Documents> {
+fn documents_of(alloc: Global, case: &Case) -> Option<CaseDocuments> {
     let document = filled(alloc, case.keys).ok()?;
     let keys = KeySet::read(alloc, document.as_bytes()).ok()?;
     let policy = Policy::read(alloc, case.policy.as_bytes()).ok()?;
-    Some(Documents { policy, keys })
+    Some(CaseDocuments { policy, keys })
 }
 
 /// What `validate` says over this source and not of the case's token, with these verifiers and not the case's own.
@@ -262,15 +262,15 @@ pub fn said_with(
     alloc: Global,
     case: &Case,
     verifiers: &[Box<dyn Verifier>],
-    way: Way,
+    way: Handover,
     counts: Counts,
 ) -> Option<String> {
     let token = filled(alloc, case.token).ok()?;
     let octets = token.as_bytes();
     match way {
-        Way::Whole => judged_case(alloc, octets, case, verifiers, counts),
-        Way::Read => validated_case(alloc, &mut Reader::new(octets), case, verifiers, counts),
-        Way::Dripped => {
+        Handover::Whole => judged_case(alloc, octets, case, verifiers, counts),
+        Handover::Read => validated_case(alloc, &mut Reader::new(octets), case, verifiers, counts),
+        Handover::Dripped => {
             validated_case(
                 alloc,
                 &mut Drip::new(octets, 1 << 20),
@@ -283,10 +283,10 @@ pub fn said_with(
 }
 
 /// What is said of the case.
-pub fn said(alloc: Global, case: &Case, way: Way, counts: Counts) -> Option<String> {
+pub fn said(alloc: Global, case: &Case, way: Handover, counts: Counts) -> Option<String> {
     let mut all: Vec<Box<dyn Verifier>> = Vec::new(alloc);
     for kind in case.verifiers {
-        let verifier = Box::new(alloc, Asked { kind: *kind }).ok()?;
+        let verifier = Box::new(alloc, TestVerifier { kind: *kind }).ok()?;
         all.push(verifier).ok()?;
     }
     said_with(alloc, case, &all, way, counts)
@@ -296,10 +296,10 @@ pub fn said(alloc: Global, case: &Case, way: Way, counts: Counts) -> Option<Stri
 /// is no such thing.
 pub fn difference(alloc: Global, case: &Case) -> Option<String> {
     for (way, counts) in [
-        (Way::Whole, Counts::Up),
-        (Way::Dripped, Counts::Up),
-        (Way::Whole, Counts::Down),
-        (Way::Dripped, Counts::Down),
+        (Handover::Whole, Counts::Up),
+        (Handover::Dripped, Counts::Up),
+        (Handover::Whole, Counts::Down),
+        (Handover::Dripped, Counts::Down),
     ] {
         let found = said(alloc, case, way, counts)?;
         if found.as_str() != case.gives {

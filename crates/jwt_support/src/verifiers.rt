@@ -3,7 +3,7 @@ use jwt_mac::{Alg, Answer, KeyView, Message, Verifier};
 
 /// What a verifier of the tests does.
 #[derive(Clone, Copy)]
-pub struct Kind {
+pub struct VerifierKind {
     /// The one algorithm that it names.
     pub alg: Alg,
     /// Whether it accepts signatures that are the public key, or none.
@@ -15,7 +15,7 @@ pub struct Kind {
 }
 
 /// It accepts signatures by RS256 whose octets are the modulus.
-pub const SAME: Kind = Kind {
+pub const SAME: VerifierKind = VerifierKind {
     alg: Alg::RS256,
     accepts: true,
     may_lack: false,
@@ -24,11 +24,11 @@ pub const SAME: Kind = Kind {
 
 /// A verifier of this kind.
 #[derive(Drop)]
-pub struct Asked {
-    pub kind: Kind,
+pub struct TestVerifier {
+    pub kind: VerifierKind,
 }
 
-impl Verifier for Asked {
+impl Verifier for TestVerifier {
     ghost use Rattle.jwt_support.specs.Verifiers.{test_meaning};
 
     ghost meaning = { λ v. test_meaning v.kind.alg v.kind.accepts v.kind.may_lack };

@@ -5,7 +5,7 @@ use jwt_mac::{
     Alg, Answer, Budget, CountDown, CountUp, EdCurve, KeyView, Message, Spent, Verifier, ask, cost,
     first_for, hmac, sha256,
 };
-use jwt_support::verifiers::{Asked, SAME};
+use jwt_support::verifiers::{SAME, TestVerifier};
 use std::alloc::Global;
 use std::cell::Cell;
 use std::test::Fail;
@@ -349,7 +349,7 @@ const OKP: KeyView<'static> = KeyView::Okp {
     x: &[1, 0, 1],
 };
 
-/// Questions about a key and a signature, and the answers of [`Lacking`], [`Asked`] and [`Counting`], in this order.
+/// Questions about a key and a signature, and the answers of [`Lacking`], [`TestVerifier`] and [`Counting`], in this order.
 static QUESTIONS: [(Alg, KeyView<'static>, &[u8], Option<Answer>); 5] = [
     (Alg::RS256, RSA, &[1, 0, 1], Some(Answer::Valid)),
     (Alg::RS256, RSA, &[1, 0], Some(Answer::Invalid)),
@@ -377,7 +377,7 @@ fn is_asked_four_times<B: Budget>(b: &B, left: u64) -> bool {
 fn verifiers(alloc: Global) -> Result<Vec<Box<dyn Verifier>>, Fail> {
     let mut verifiers: Vec<Box<dyn Verifier>> = Vec::new(alloc);
     verifiers.push(Box::new(alloc, Lacking)?)?;
-    verifiers.push(Box::new(alloc, Asked { kind: SAME })?)?;
+    verifiers.push(Box::new(alloc, TestVerifier { kind: SAME })?)?;
     let asked = Cell::new(0);
     verifiers.push(Box::new(alloc, Counting { asked })?)?;
     Ok(verifiers)

@@ -8,7 +8,7 @@ use jwt_policy::{
 };
 use jwt_support::examples::{HS256, key_set};
 use jwt_support::texts::nested;
-use jwt_support::verifiers::{Asked, SAME};
+use jwt_support::verifiers::{SAME, TestVerifier};
 use jwt_text::encode_text;
 use std::alloc::Global;
 use std::process::Abort;
@@ -494,7 +494,7 @@ const RSA: &str = r#"{"kty":"RSA","n":"<RSA_N>","e":"AQAB","alg":"RS256""#;
 fn is_eligible_in(alloc: Global, policy: &Policy, token: &str, key: &Key) -> Result<bool, Fail> {
     let signed = parse(alloc, token.as_bytes(), 1).ok().ok_or("no token")?;
     let signature = signed.signature(0).ok_or("no signature")?;
-    let same: Box<dyn Verifier> = Box::new(alloc, Asked { kind: SAME })?;
+    let same: Box<dyn Verifier> = Box::new(alloc, TestVerifier { kind: SAME })?;
     let found = eligible(policy, signature, key, &[same]);
     let fit = match known_alg(signature) {
         Some(alg) => fits(policy, signature, alg, key),

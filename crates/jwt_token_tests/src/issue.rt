@@ -54,15 +54,15 @@ struct Issued {
 
 /// How a token of one signature is issued.
 #[derive(Clone, Copy)]
-enum Form {
+enum IssuedForm {
     Compact,
     Flat,
 }
 
 /// What a token is issued from.
 #[derive(Clone, Copy)]
-struct Order {
-    form: Form,
+struct IssueOrder {
+    form: IssuedForm,
     alg: Alg,
     /// The number of the key.
     key: u32,
@@ -72,8 +72,8 @@ struct Order {
 }
 
 /// That of [`COMPACT`].
-const FIRST: Order = Order {
-    form: Form::Compact,
+const FIRST: IssueOrder = IssueOrder {
+    form: IssuedForm::Compact,
     alg: Alg::HS256,
     key: 0,
     typ: Some("JWT"),
@@ -82,14 +82,21 @@ const FIRST: Order = Order {
 };
 
 /// What is issued from it.
-fn issue_from(alloc: Global, order: Order) -> Option<Issued> {
+fn issue_from(alloc: Global, order: IssueOrder) -> Option<Issued> {
     let keys = key_set(alloc, KEYS).ok()?;
     let key = keys.key(order.key)?;
     let claims = claims(alloc, order.claims)?;
     let mut budget = CountUp::new(order.ceiling);
     let token = match order.form {
-        Form::Compact => issue_compact(alloc, &mut budget, order.alg, key, order.typ, &claims),
-        Form::Flat => issue_flat(alloc, &mut budget, order.alg, key, order.typ, &claims),
+        IssuedForm::Compact => issue_compact(
+            alloc,
+            &mut budget,
+            order.alg,
+            key,
+            order.typ,
+            &claims,
+        ),
+        IssuedForm::Flat => issue_flat(alloc, &mut budget, order.alg, key, order.typ, &claims),
     };
     Some(Issued {
         token,
@@ -114,7 +121,7 @@ fn is_unissued(issued: &Issued, fault: IssueFault, octets: u64, calls: u32) -> b
 }
 
 /// Whether this token is issued from an order, at this cost and by one call.
-fn issues(alloc: Global, order: Order, token: &str, cost: u64) -> bool {
+fn issues(alloc: Global, order: IssueOrder, token: &str, cost: u64) -> bool {
     match issue_from(alloc, order) {
         Some(issued) => is_issued(&issued, token, cost),
         None => false,
@@ -125,7 +132,7 @@ fn issues(alloc: Global, order: Order, token: &str, cost: u64) -> bool {
 #[test]
 fn tokens_in_compact_form(rt: HostRuntime) {
     assert!(rt; issues(rt.alloc(), FIRST, COMPACT, 200));
-    let order = Order {
+    let order = IssueOrder {
         alg: Alg::HS512,
         key: 4,
         claims: r#"{ "sub" : "a" }"#,
@@ -135,8 +142,8 @@ fn tokens_in_compact_form(rt: HostRuntime) {
 }
 
 /// That of [`FLAT`].
-const FLATTENED: Order = Order {
-    form: Form::Flat,
+const FLATTENED: IssueOrder = IssueOrder {
+    form: IssuedForm::Flat,
     typ: None,
     ..FIRST
 };
@@ -160,8 +167,8 @@ static UNFIT: [(Alg, u32, IssueFault); 8] = [
 ];
 
 /// Whether nothing is issued in this form for this fault, and nothing paid.
-fn refuses(alloc: Global, form: Form, alg: Alg, key: u32, fault: IssueFault) -> bool {
-    let order = Order {
+fn refuses(alloc: Global, form: IssuedForm, alg: Alg, key: u32, fault: IssueFault) -> bool {
+    let order = IssueOrder {
         form,
         alg,
         key,
@@ -180,11 +187,11 @@ fn refuses(alloc: Global, form: Form, alg: Alg, key: u32, fault: IssueFault) -> 
 fn keys_that_may_not_sign(rt: HostRuntime) {
     for &(alg, key, fault) in &UNFIT {
         assert!(rt;
-            refuses(rt.alloc(), Form::Compact, alg, key, fault),
+            refuses(rt.alloc(), IssuedForm::Compact, alg, key, fault),
             "{alg:?} by {key}"
         );
         assert!(rt;
-            refuses(rt.alloc(), Form::Flat, alg, key, fault),
+            refuses(rt.alloc(), IssuedForm::Flat, alg, key, fault),
             "{alg:?} by {key}"
         );
     }

@@ -8,8 +8,8 @@ use jwt_support::cases::{
 };
 use jwt_support::examples::{HS256, NOW, TOKEN_A, filled, key_set};
 use jwt_support::reports::{
-    AMPLE, Case, Counts, Way, difference, first_difference, judged, judged_case, said, said_with,
-    validated_case,
+    AMPLE, Case, Counts, Handover, difference, first_difference, judged, judged_case, said,
+    said_with, validated_case,
 };
 use jwt_support::streams::{Drip, Endless};
 use jwt_support::texts::repeated;
@@ -59,8 +59,8 @@ fn weight(said: Option<&str>, want: &str) -> usize {
 
 /// What a run of `judge` and one of `validate` on the case count for.
 fn two_runs(alloc: Global, case: &Case) -> usize {
-    let judged = said(alloc, case, Way::Whole, Counts::Up);
-    let read = said(alloc, case, Way::Read, Counts::Down);
+    let judged = said(alloc, case, Handover::Whole, Counts::Up);
+    let read = said(alloc, case, Handover::Read, Counts::Down);
     weight(judged.as_deref(), case.gives).saturating_add(weight(read.as_deref(), case.gives))
 }
 
@@ -360,11 +360,11 @@ fn a_source_that_never_ends_is_too_long(rt: HostRuntime) -> Result<(), Fail> {
 
 /// A verifier for RS256 that accepts nothing, and finds no memory after so many questions.
 #[derive(Drop)]
-struct Counting {
+struct CountingVerifier {
     asked: Cell<u32>,
 }
 
-impl Verifier for Counting {
+impl Verifier for CountingVerifier {
     ghost use Rattle.std.specs.Prelude.{true, false};
     ghost use Rattle.jwt_support.specs.Verifiers.{test_meaning};
     ghost use Rattle.jwt_mac.specs.declared.algorithm.Alg.TheVariants.{RS256};
@@ -391,7 +391,7 @@ fn a_verifier_is_asked_once_for_each_call(rt: HostRuntime) -> Result<(), Fail> {
     let alloc = rt.alloc();
     let asked = Cell::new(0);
     let mut all: Vec<Box<dyn Verifier>> = Vec::new(alloc);
-    all.push(Box::new(alloc, Counting { asked })?)?;
+    all.push(Box::new(alloc, CountingVerifier { asked })?)?;
     let case = Case {
         keys: r#"{"keys":[{"kty":"RSA","n":"AQAB","e":"AQAB"},{"kty":"RSA","n":"AQAB","e":"AQAB"}]}"#,
         ..ASKED
@@ -401,7 +401,7 @@ fn a_verifier_is_asked_once_for_each_call(rt: HostRuntime) -> Result<(), Fail> {
         "BadSignature 0; tries 0.0:0 0.1:0 work 0 calls 2; BadSignature",
         "VerifierMemory; tries 0.0:0 work 0 calls 1; Stopped",
     ] {
-        let said = said_with(alloc, &case, &all, Way::Whole, Counts::Up).ok_or("no report")?;
+        let said = said_with(alloc, &case, &all, Handover::Whole, Counts::Up).ok_or("no report")?;
         assert_eq!(rt; said.as_str(), gives);
     }
     Ok(())
