@@ -8,7 +8,7 @@ use Rattle.ecdsa.specs.Limbs.{number}
 use Rattle.ecdsa.proofs.Search.{inverse_is}
 use Rattle.ecdsa.proofs.Congruence.{same_mul}
 use Rattle.ecdsa.specs.Curve.{Domain, Point, Point.Infinity, Point.Affine, by_slope, sum, sum_of, doubled}
-use Rattle.ecdsa.specs.Doubles.{Row, Rows}
+use Rattle.ecdsa.specs.Doubles.{DoublesRow, Rows}
 use Rattle.ecdsa.specs.Stands.{IsAt, AreFor}
 use Rattle.ecdsa.specs.Field.{size, value, Below}
 use Rattle.ecdsa.specs.declared.field.Field.{Field}
@@ -27,7 +27,7 @@ chain E weight (X ∷ xs) (Y ∷ ys) (w ∷ ws) (Some (Affine x y)) =
 chain E weight xs ys ws R = false
 
 pub row_is : {N KIND : ℕ} (f : Field N KIND) (E : Domain) → size f ≡ E.p → (i : ℕ) (P : Point) (x y : ℕ) (X Y : List ℕ) → doubled E i P ≡ Some (Affine x y) → x < E.p → y < E.p →
-    number X ≡ (x * (2 ^ 64) ^ N) % E.p → number Y ≡ (y * (2 ^ 64) ^ N) % E.p → Row f E i P X Y
+    number X ≡ (x * (2 ^ 64) ^ N) % E.p → number Y ≡ (y * (2 ^ 64) ^ N) % E.p → DoublesRow f E i P X Y
 unfolding Below
 row_is {N = N} f E is i P x y X Y double x_below y_below X_is Y_is =
     let m = size f in

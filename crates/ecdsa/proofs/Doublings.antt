@@ -4,7 +4,7 @@ use Rattle.std.specs.Prelude.{if◌then◌else◌}
 use Rattle.std.specs.Int.{from_bool}
 use Rattle.std.proofs.Math.Nat.{pow-suc, pow-zero, div-div-eq-div-mul}
 use Rattle.ecdsa.specs.Curve.{Domain, Point, Point.Infinity, sum_of, doubled, sum_of_doubles}
-use Rattle.ecdsa.specs.Doubles.{Row, Rows}
+use Rattle.ecdsa.specs.Doubles.{DoublesRow, Rows}
 use Rattle.ecdsa.specs.declared.field.Field.{Field}
 
 pub doubles_none : (E : Domain) (u : ℕ) (P : Point) → sum_of_doubles E 0 u P ≡ Some Infinity
@@ -44,21 +44,21 @@ as_long f E k P (x ∷ xs) [] rows = absurd rows
 as_long f E k P (x ∷ xs) (y ∷ ys) rows = ap suc (as_long f E (suc k) P xs ys rows.1)
 
 pub row_at : {N KIND : ℕ} (f : Field N KIND) (E : Domain) (k : ℕ) (P : Point) (xs ys : List (List ℕ)) → Rows f E k P xs ys → (i : ℕ) → i < length xs →
-    Row f E (k + i) P (get_or xs i []) (get_or ys i [])
+    DoublesRow f E (k + i) P (get_or xs i []) (get_or ys i [])
 row_at f E k P [] ys rows i within = absurd (omega arith)
 row_at f E k P (x ∷ xs) [] rows i within = absurd rows
 row_at f E k P (x ∷ xs) (y ∷ ys) rows zero within =
     let same : k ≡ k + 0 = omega arith in
-    subst (λ n. Row f E n P x y) same rows.0
+    subst (λ n. DoublesRow f E n P x y) same rows.0
 row_at f E k P (x ∷ xs) (y ∷ ys) rows (suc i) within =
     let same : suc k + i ≡ k + suc i = omega arith in
-    subst (λ n. Row f E n P (get_or xs i []) (get_or ys i [])) same (row_at f E (suc k) P xs ys rows.1 i (omega arith))
+    subst (λ n. DoublesRow f E n P (get_or xs i []) (get_or ys i [])) same (row_at f E (suc k) P xs ys rows.1 i (omega arith))
 
 pub row_from_first : {N KIND : ℕ} (f : Field N KIND) (E : Domain) (P : Point) (xs ys : List (List ℕ)) → Rows f E 0 P xs ys → (i : ℕ) → i < length xs →
-    Row f E i P (get_or xs i []) (get_or ys i [])
+    DoublesRow f E i P (get_or xs i []) (get_or ys i [])
 row_from_first f E P xs ys rows i within =
     let same : 0 + i ≡ i = omega arith in
-    subst (λ n. Row f E n P (get_or xs i []) (get_or ys i [])) same (row_at f E 0 P xs ys rows i within)
+    subst (λ n. DoublesRow f E n P (get_or xs i []) (get_or ys i [])) same (row_at f E 0 P xs ys rows i within)
 
 pub halved : (u i rest half : ℕ) (set : Bool) → rest ≡ u / 2 ^ i → rest ≡ 2 * half + from_bool set → half ≡ u / 2 ^ (i + 1)
 halved u i rest half set is split =

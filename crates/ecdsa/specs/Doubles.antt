@@ -6,7 +6,7 @@ use Rattle.ecdsa.specs.Field.{size, value, Below}
 use Rattle.ecdsa.specs.Stands.{AreFor}
 
 -- x and y, in the field's form, of P doubled so often
-pub record Row {N KIND : ℕ} (f : Field N KIND) (E : Domain) (i : ℕ) (P : Point) (x y : List ℕ) : Type 0 where
+pub record DoublesRow {N KIND : ℕ} (f : Field N KIND) (E : Domain) (i : ℕ) (P : Point) (x y : List ℕ) : Type 0 where
   pub x_below : Below f x
   pub y_below : Below f y
   pub stands : AreFor (size f) (value f x) (value f y) 1 (doubled E i P)
@@ -16,7 +16,7 @@ abbrev pub Rows : {N KIND : ℕ} → Field N KIND → Domain → ℕ → Point �
 Rows f E i P [] [] = Unit
 Rows f E i P [] (y ∷ ys) = ⊥
 Rows f E i P (x ∷ xs) [] = ⊥
-Rows f E i P (x ∷ xs) (y ∷ ys) = Row f E i P x y × Rows f E (suc i) P xs ys
+Rows f E i P (x ∷ xs) (y ∷ ys) = DoublesRow f E i P x y × Rows f E (suc i) P xs ys
 
 -- all the doubles of the base point that a multiple may need
 pub record IsTable {N KIND : ℕ} (f : Field N KIND) (E : Domain) (xs ys : List (List ℕ)) : Type 0 where

@@ -67,15 +67,15 @@ judged = judged_by []
 
 -- ---- issuing, and HMAC alone
 
-abbrev pub pair : ReadyParts → PairParts
-pair b = record { alg = b.alg; key = b.key }
+abbrev pub ready_pair : ReadyParts → PairParts
+ready_pair b = record { alg = b.alg; key = b.key }
 
 abbrev pub ran_issuing : ℕ → Bool → Ran
 ran_issuing cost true = ran true cost 1
 ran_issuing cost false = ran false 0 0
 
 abbrev pub issued : ReadyParts → Ran
-issued b = ran_issuing (pair_signing_cost None b.claims (pair b)) (is_ok (issued_compact b.policy.run.work None b.claims (pair b)))
+issued b = ran_issuing (pair_signing_cost None b.claims (ready_pair b)) (is_ok (issued_compact b.policy.run.work None b.claims (ready_pair b)))
 
 abbrev pub hashed : ReadyParts → List ℕ → Ran
 hashed b secret =

@@ -3,7 +3,7 @@ use Rattle.std.specs.Prelude.{ℕ, ◌%◌, ◌==◌, Bool, false, not, ◌&&◌
 use Rattle.std.specs.Str.{bytes_eq}
 use Rattle.jwt_mac.specs.Algorithm.{sha512_of}
 use Rattle.jwt_ed25519.specs.Decoding.{decoded}
-use Rattle.jwt_ed25519.specs.Encoding.{encoded}
+use Rattle.jwt_ed25519.specs.Encoding.{encoded_point}
 use Rattle.jwt_ed25519.specs.Octets.{number_of}
 use Rattle.jwt_ed25519.specs.Points.{Coordinates, L, base_x, base_y, point, add, double, negated, multiple}
 
@@ -21,7 +21,7 @@ challenge r key message = number_of (sha512_of (r ++ key ++ message)) % L
 
 -- R is the encoding of [S]B - [k]A (step 3)
 unfoldable pub holds : Coordinates → List ℕ → ℕ → ℕ → Bool
-holds A r s k = bytes_eq (encoded (add (multiple s (point base_x base_y)) (multiple k (negated A)))) r
+holds A r s k = bytes_eq (encoded_point (add (multiple s (point base_x base_y)) (multiple k (negated A)))) r
 
 -- the key decodes, isn't of small order, and R, S and k are as they have to be
 abbrev pub is_key_for : List ℕ → ℕ → ℕ → Option Coordinates → Bool
@@ -29,8 +29,8 @@ is_key_for r s k None = false
 is_key_for r s k (Some A) = not (is_small A) && holds A r s k
 
 -- the signature of a message by a key, R and S (section 5.1.7): 64 octets, S below L, A decodes and isn't of small order
-unfoldable pub verifies : List ℕ → List ℕ → List ℕ → Bool
-verifies key message signature =
+unfoldable pub is_signature : List ℕ → List ℕ → List ℕ → Bool
+is_signature key message signature =
     let r = take 32 signature in
     let s = number_of (drop 32 signature) in
     length signature == 64 && nat_lt s L && is_key_for r s (challenge r key message) (decoded key)

@@ -4,7 +4,7 @@ ghost use Rattle.std.specs.Prelude.{◌≡◌, length};
 ghost use Rattle.jwt_mac.specs.Hmac.{all_octets};
 ghost use Rattle.jwt_ed25519.specs.Elements.{coordinates};
 ghost use Rattle.jwt_ed25519.specs.Limbs.{number};
-ghost use Rattle.jwt_ed25519.specs.Verifying.{challenge, holds, verifies};
+ghost use Rattle.jwt_ed25519.specs.Verifying.{challenge, holds, is_signature};
 
 use crate::decoding::decode;
 use crate::encoding::is_encoding;
@@ -38,7 +38,7 @@ fn holds(a: EdwardsPoint, r: &[u8], s: Limbs, k: Limbs) -> bool
 /// Whether it is the signature of the message that the three parts make, joined, by the public key whose octets these are (RFC
 /// 8032, section 5.1.7), and the key isn't of small order. Key and signature may have any length; no part is copied.
 pub fn verifies(key: &[u8], parts: [&[u8]; 3], signature: &[u8]) -> bool
-    ensures { result ≡ verifies key.now (all_octets parts.entry) signature.now }
+    ensures { result ≡ is_signature key.now (all_octets parts.entry) signature.now }
 {
     if signature.len() != 64 {
         return false;

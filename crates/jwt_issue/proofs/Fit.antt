@@ -7,7 +7,7 @@ use Rattle.serde_json.specs.Data.{object}
 use Rattle.serde_json.specs.Written.{compact_text}
 use Rattle.jwt_text.specs.Answers.{Answers, unless}
 use Rattle.jwt_text.specs.Base64url.{spelling}
-use Rattle.jwt_issue.specs.Issued.{PairParts, SignerParts, header, may_sign, or_else, unfit, first_unfit, first_spent, within, signer_of, signing_cost, pair_signing_cost, pair_costs}
+use Rattle.jwt_issue.specs.Issued.{PairParts, SignerParts, header, may_sign, or_else, unfit, first_unfit, first_spent, token_within, signer_of, signing_cost, pair_signing_cost, pair_costs}
 use Rattle.jwt_mac.specs.Algorithm.{is_hmac_alg}
 use Rattle.jwt_issue.specs.declared.fault.IssueFault.{IssueFault}
 use Rattle.jwt_issue.specs.declared.fault.IssueFault.TheVariants.{OutOfMemory, NoKey, TooManySignatures, AlgNotHmac, KeyUnfit, TooLong, Spent}
@@ -26,11 +26,11 @@ same_cost typ claims pair payload s e p = sym (ap₂ signing_cost p (fit_answer 
 
 pub same_answer : (token : List ℕ → SignerParts → List ℕ) (left : ℕ) (typ : Option (List ℕ)) (claims : List ℕ) (pair : PairParts) (payload : List ℕ) (s : SignerParts)
     → unless (unfit 0 pair) (Ok (signer_of typ pair)) ≡ Ok s → spelling claims ≡ payload
-    → within left (signing_cost payload s ∷ []) (token payload s)
-    ≡ unless (unfit 0 pair) (within left (pair_signing_cost typ claims pair ∷ []) (token (spelling claims) (signer_of typ pair)))
+    → token_within left (signing_cost payload s ∷ []) (token payload s)
+    ≡ unless (unfit 0 pair) (token_within left (pair_signing_cost typ claims pair ∷ []) (token (spelling claims) (signer_of typ pair)))
 same_answer token left typ claims pair payload s e p =
     let fit = fit_answer (unfit 0 pair) (signer_of typ pair) s e in
-    let answer : List ℕ → SignerParts → Result (List ℕ) IssueFault = λ q t. within left (signing_cost q t ∷ []) (token q t) in
+    let answer : List ℕ → SignerParts → Result (List ℕ) IssueFault = λ q t. token_within left (signing_cost q t ∷ []) (token q t) in
     sym (ap (λ (f : Option IssueFault). unless f (answer (spelling claims) (signer_of typ pair))) fit.0 ∙ ap₂ answer p fit.1)
 
 -- ---- what is said of a token, of what is answered
@@ -40,13 +40,13 @@ by_tests true spent token t e = absurd (cc e)
 by_tests false None token t e = cc
 by_tests false (Some fault) token t e = absurd (cc e)
 
-token_of : (fault : Option IssueFault) (left : ℕ) (costs token t : List ℕ) → unless fault (within left costs token) ≡ Ok t → token ≡ t
-unfolding within
+token_of : (fault : Option IssueFault) (left : ℕ) (costs token t : List ℕ) → unless fault (token_within left costs token) ≡ Ok t → token ≡ t
+unfolding token_within
 token_of None left costs token t e = by_tests (nat_lt 1048576 (length token)) (first_spent 0 left costs) token t e
 token_of (Some fault) left costs token t e = absurd (cc e)
 
 pub answered : (P : List ℕ → Type 0) (r : Result (Vec ℕ Global) IssueFault) (fault : Option IssueFault) (left : ℕ) (costs token : List ℕ)
-    → Answers OutOfMemory (λ (v : Vec ℕ Global). v.items) r (unless fault (within left costs token)) → P token → IfOk r (λ (v : Vec ℕ Global). P v.items)
+    → Answers OutOfMemory (λ (v : Vec ℕ Global). v.items) r (unless fault (token_within left costs token)) → P token → IfOk r (λ (v : Vec ℕ Global). P v.items)
 answered P (Ok v) fault left costs token a p = subst P (token_of fault left costs token v.items a) p
 answered P (Err e) fault left costs token a p = tt
 
@@ -64,10 +64,10 @@ signers_costs typ claims pairs payload ss e p =
 
 pub signers_answer : (token : List ℕ → List SignerParts → List ℕ) (left : ℕ) (typ : Option (List ℕ)) (claims : List ℕ) (pairs : List PairParts) (payload : List ℕ) (ss : List SignerParts)
     → first_unfit 0 pairs ≡ None → map (signer_of typ) pairs ≡ ss → spelling claims ≡ payload
-    → within left (map (signing_cost payload) ss) (token payload ss)
-    ≡ unless (first_unfit 0 pairs) (within left (pair_costs typ claims pairs) (token (spelling claims) (map (signer_of typ) pairs)))
+    → token_within left (map (signing_cost payload) ss) (token payload ss)
+    ≡ unless (first_unfit 0 pairs) (token_within left (pair_costs typ claims pairs) (token (spelling claims) (map (signer_of typ) pairs)))
 signers_answer token left typ claims pairs payload ss fit e p =
-    let answer : List ℕ → List ℕ → Result (List ℕ) IssueFault = λ costs t. within left costs t in
+    let answer : List ℕ → List ℕ → Result (List ℕ) IssueFault = λ costs t. token_within left costs t in
     ap₂ answer (signers_costs typ claims pairs payload ss e p) (sym (ap₂ token p e))
     ∙ sym (ap (λ (f : Option IssueFault). unless f (answer (pair_costs typ claims pairs) (token (spelling claims) (map (signer_of typ) pairs)))) fit)
 

@@ -18,8 +18,8 @@ pub record PairParts : Type 0 where
   pub alg : Alg
   pub key : KeyParts
 
-abbrev pub pair : Alg → KeyParts → PairParts
-pair alg key = record { alg = alg; key = key }
+abbrev pub signing_pair : Alg → KeyParts → PairParts
+signing_pair alg key = record { alg = alg; key = key }
 
 -- ---- one signature
 
@@ -144,8 +144,8 @@ first_spent i left [] = None
 first_spent i left (cost ∷ costs) = if nat_lt left cost then Some (Spent i) else first_spent (i + 1) (left - cost) costs
 
 -- the token, unless it has more than 1,048,576 octets or the costs exceed what is left
-unfoldable pub within : ℕ → List ℕ → List ℕ → Result (List ℕ) IssueFault
-within left costs token =
+unfoldable pub token_within : ℕ → List ℕ → List ℕ → Result (List ℕ) IssueFault
+token_within left costs token =
     if nat_lt 1048576 (length token) then Err TooLong
     else unless (first_spent 0 left costs) (Ok token)
 
@@ -160,15 +160,15 @@ pair_costs typ claims pairs = map (pair_signing_cost typ claims) pairs
 
 unfoldable pub issued_compact : ℕ → Option (List ℕ) → List ℕ → PairParts → Result (List ℕ) IssueFault
 issued_compact left typ claims pair =
-    unless (unfit 0 pair) (within left (pair_signing_cost typ claims pair ∷ []) (in_compact_form (spelling claims) (signer_of typ pair)))
+    unless (unfit 0 pair) (token_within left (pair_signing_cost typ claims pair ∷ []) (in_compact_form (spelling claims) (signer_of typ pair)))
 
 unfoldable pub flattened_of : ℕ → Option (List ℕ) → List ℕ → PairParts → Result (List ℕ) IssueFault
 flattened_of left typ claims pair =
-    unless (unfit 0 pair) (within left (pair_signing_cost typ claims pair ∷ []) (flattened_token (spelling claims) (signer_of typ pair)))
+    unless (unfit 0 pair) (token_within left (pair_signing_cost typ claims pair ∷ []) (flattened_token (spelling claims) (signer_of typ pair)))
 
 unfoldable pub general_of : ℕ → Option (List ℕ) → List ℕ → List PairParts → Result (List ℕ) IssueFault
 general_of left typ claims pairs =
     if length pairs == 0 then Err NoKey
     else if nat_lt 32 (length pairs) then Err TooManySignatures
     else unless (first_unfit 0 pairs)
-    (within left (pair_costs typ claims pairs) (general_token (spelling claims) (map (signer_of typ) pairs)))
+    (token_within left (pair_costs typ claims pairs) (general_token (spelling claims) (map (signer_of typ) pairs)))

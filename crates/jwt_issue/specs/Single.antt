@@ -4,7 +4,7 @@ use Rattle.jwt_text.specs.Answers.{unless}
 use Rattle.jwt_text.specs.Base64url.{spelling}
 use Rattle.jwt_mac.specs.Verifying.{signing_input}
 use Rattle.jwt_jws.specs.Token.{Token}
-use Rattle.jwt_issue.specs.Issued.{PairParts, SignerParts, text_members, signature_text, unfit, within, pair_signing_cost, signer_of}
+use Rattle.jwt_issue.specs.Issued.{PairParts, SignerParts, text_members, signature_text, unfit, token_within, pair_signing_cost, signer_of}
 use Rattle.jwt_issue.specs.Signed.{compact_signed, flattened_signed}
 use Rattle.jwt_issue.specs.declared.fault.IssueFault.{IssueFault}
 use Rattle.jwt_issue.specs.declared.single.Single.{Single}
@@ -24,7 +24,7 @@ single_token form payload s = token_of_texts form s.protected payload (signature
 unfoldable pub single_of : Single → ℕ → Option (List ℕ) → List ℕ → PairParts → Result (List ℕ) IssueFault
 single_of form left typ claims pair =
     unless (unfit 0 pair)
-    (within left (pair_signing_cost typ claims pair ∷ []) (single_token form (spelling claims) (signer_of typ pair)))
+    (token_within left (pair_signing_cost typ claims pair ∷ []) (single_token form (spelling claims) (signer_of typ pair)))
 
 -- the signed token that it is
 abbrev pub single_signed : Single → Option (List ℕ) → List ℕ → PairParts → Token

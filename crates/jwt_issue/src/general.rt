@@ -5,7 +5,7 @@ ghost use Rattle.serde_json.specs.Data.{object};
 ghost use Rattle.serde_json.specs.Written.{compact_text};
 ghost use Rattle.jwt_text.specs.Answers.{Answers, unless};
 ghost use Rattle.jwt_jws.specs.SignedToken.{IsSignedToken};
-ghost use Rattle.jwt_issue.specs.Issued.{header, general_of, general_token, within, pair_costs, first_unfit, first_spent, signer_of, signing_cost, text_members, signature_element};
+ghost use Rattle.jwt_issue.specs.Issued.{header, general_of, general_token, token_within, pair_costs, first_unfit, first_spent, signer_of, signing_cost, text_members, signature_element};
 ghost use Rattle.jwt_issue.specs.Paying.{Pays, due};
 ghost use Rattle.jwt_issue.specs.Signed.{general_signed};
 ghost use Rattle.jwt_issue.specs.Views.{pair_parts, optional_text, signer_parts};
@@ -109,7 +109,7 @@ fn add_elements<B: Budget>(
 }
 
 /// The token in general form of these signers and this payload text: its room is got first, then the HMACs are paid in order.
-#[tactic(auto, unfolding(crate::specs::Issued::within))]
+#[tactic(auto, unfolding(crate::specs::Issued::token_within))]
 fn general_token<B: Budget>(
     alloc: Global,
     budget: &mut B,
@@ -120,12 +120,12 @@ fn general_token<B: Budget>(
     requires few { length signers.now ≤ 32 }
     requires room { B.calls budget.old + 32 < 2 ^ 32 }
     ensures answer { Answers IssueFault.OutOfMemory (λ v. v.items) result
-        (within (B.ceiling budget.old - B.octets budget.old)
+        (token_within (B.ceiling budget.old - B.octets budget.old)
         (map (signing_cost payload.now) (map signer_parts signers.now))
         (general_token payload.now (map signer_parts signers.now))) }
     ensures paid { Pays result
         (due (length signers.now)
-        (within (B.ceiling budget.old - B.octets budget.old)
+        (token_within (B.ceiling budget.old - B.octets budget.old)
         (map (signing_cost payload.now) (map signer_parts signers.now))
         (general_token payload.now (map signer_parts signers.now))))
         (λ n. (B.octets budget.new

@@ -2,7 +2,7 @@
 ghost use Rattle.std.specs.Prelude.{◌≡◌, map, IfOk};
 ghost use Rattle.jwt_text.specs.Answers.{Answers};
 ghost use Rattle.jwt_keys.specs.KeySets.{key_set};
-ghost use Rattle.jwt_issue.specs.Issued.{pair};
+ghost use Rattle.jwt_issue.specs.Issued.{signing_pair};
 ghost use Rattle.jwt_issue.specs.Options.{issued_by};
 ghost use Rattle.jwt_issue.specs.Views.{options_parts, pair_parts};
 
@@ -36,7 +36,7 @@ pub struct IssueOptions<'a> {
 
 /// Each key, for one algorithm.
 fn pairs<'k>(alloc: Global, alg: Alg, keys: &'k KeySet) -> Result<Vec<(Alg, &'k Key)>, AllocError>
-    ensures { IfOk result (λ v. map pair_parts v.items ≡ map (pair alg) (key_set keys.now).keys) }
+    ensures { IfOk result (λ v. map pair_parts v.items ≡ map (signing_pair alg) (key_set keys.now).keys) }
 {
     let mut pairs = Vec::new(alloc);
     'keys: for j in 0..keys.len() {

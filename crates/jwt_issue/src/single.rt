@@ -6,7 +6,7 @@ ghost use Rattle.jwt_text.specs.Answers.{Answers};
 ghost use Rattle.jwt_jws.specs.SignedToken.{IsSignedToken};
 ghost use Rattle.jwt_mac.specs.Verifying.{signing_input};
 ghost use Rattle.jwt_text.specs.Base64url.{AreOctets, spelling};
-ghost use Rattle.jwt_issue.specs.Issued.{PairParts, header, signer_of, issued_compact, flattened_of, within, signing_cost, pair_signing_cost, text_members};
+ghost use Rattle.jwt_issue.specs.Issued.{PairParts, header, signer_of, issued_compact, flattened_of, token_within, signing_cost, pair_signing_cost, text_members};
 ghost use Rattle.jwt_issue.specs.Paying.{Pays, due};
 ghost use Rattle.jwt_issue.specs.Signed.{compact_signed, flattened_signed};
 ghost use Rattle.jwt_issue.specs.Single.{token_of_texts, single_token, single_of, single_signed};
@@ -113,7 +113,7 @@ fn token_len(form: Single, signer: &Signer<'_>, payload: &[u8]) -> Option<usize>
 }
 
 /// The token of this signer and payload text: its room is got first, then the HMAC is paid.
-#[tactic(auto, unfolding(crate::specs::Issued::within))]
+#[tactic(auto, unfolding(crate::specs::Issued::token_within))]
 fn signed_token<B: Budget>(
     alloc: Global,
     budget: &mut B,
@@ -123,11 +123,11 @@ fn signed_token<B: Budget>(
 ) -> Result<Vec<u8>, IssueFault>
     requires { B.calls budget.old + 1 < 2 ^ 32 }
     ensures answer { Answers IssueFault.OutOfMemory (λ v. v.items) result
-        (within (B.ceiling budget.old - B.octets budget.old)
+        (token_within (B.ceiling budget.old - B.octets budget.old)
         (signing_cost payload.now (signer_parts signer.now) ∷ [])
         (single_token form payload.now (signer_parts signer.now))) }
     ensures paid { Pays result
-        (due 1 (within (B.ceiling budget.old - B.octets budget.old)
+        (due 1 (token_within (B.ceiling budget.old - B.octets budget.old)
         (signing_cost payload.now (signer_parts signer.now) ∷ [])
         (single_token form payload.now (signer_parts signer.now))))
         (λ n. (B.octets budget.new

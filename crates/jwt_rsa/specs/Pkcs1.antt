@@ -11,12 +11,12 @@ abbrev pub framed : List ℕ → List ℕ → List ℕ → List ℕ
 framed padding info digest = 0 ∷ 1 ∷ padding ++ (0 ∷ info ++ digest)
 
 -- EMSA-PKCS1-v1_5-ENCODE (section 9.2): PS is octets 0xff, as many as fill emLen
-abbrev pub encoded : List ℕ → List ℕ → ℕ → List ℕ
-encoded info digest em_len = framed (replicate (em_len - (length info + length digest) - 3) 255) info digest
+abbrev pub encoded_message : List ℕ → List ℕ → ℕ → List ℕ
+encoded_message info digest em_len = framed (replicate (em_len - (length info + length digest) - 3) 255) info digest
 
 -- RSASSA-PKCS1-V1_5-VERIFY (section 8.2.2): the whole of EM is compared with the encoding of the message
 unfoldable pub pkcs1_accepts : Hash → List ℕ → List ℕ → List ℕ → List ℕ → Bool
 pkcs1_accepts hash n e message signature =
     let k = length (without_zeros n) in
     let em = i2osp (rsavp1 (os2ip n) (os2ip e) (os2ip signature)) k in
-    is_asked n e signature && bytes_eq em (encoded (digest_info hash) (digest_of hash message) k)
+    is_asked n e signature && bytes_eq em (encoded_message (digest_info hash) (digest_of hash message) k)

@@ -2,7 +2,7 @@
 
 ghost use Rattle.std.specs.Prelude.{◌≡◌, ◌≢◌, ◌+◌, ◌≤◌, ◌↔◌, ◌++◌, ℕ, List, length, IsTrue, MatchOption};
 ghost use Rattle.jwt_mac.specs.Hmac.{all_octets};
-ghost use Rattle.jwt_rsa.specs.Pkcs1.{framed, encoded, pkcs1_accepts};
+ghost use Rattle.jwt_rsa.specs.Pkcs1.{framed, encoded_message, pkcs1_accepts};
 
 use crate::hash::Hash;
 use crate::public_key::PublicKey;
@@ -43,7 +43,7 @@ fn padding_of<'a>(em: &'a [u8], info: &[u8], digest: &[u8]) -> Option<&'a [u8]>
 
 /// Whether octets are the encoding of a digest, of their length.
 fn is_encoded(em: &[u8], info: &[u8], digest: &[u8]) -> bool
-    ensures { IsTrue result ↔ (em.now ≡ encoded info.now digest.now (length em.now)) }
+    ensures { IsTrue result ↔ (em.now ≡ encoded_message info.now digest.now (length em.now)) }
 {
     match padding_of(em, info, digest) {
         Some(padding) => padding.iter().all(|octet| *octet == 0xff),

@@ -8,7 +8,7 @@ use Rattle.std.proofs.lemmas.Result.{err_from_is_err_and}
 use Rattle.jwt_jws.specs.SignedToken.{IsSignedToken}
 use Rattle.jwt_text.specs.Answers.{Answers}
 use Rattle.jwt_text.specs.Base64url.{AreOctets, spelling}
-use Rattle.jwt_issue.specs.Issued.{PairParts, SignerParts, first_unfit, general_of, general_token, within, signing_cost, signer_of, pair_costs}
+use Rattle.jwt_issue.specs.Issued.{PairParts, SignerParts, first_unfit, general_of, general_token, token_within, signing_cost, signer_of, pair_costs}
 use Rattle.jwt_issue.specs.declared.fault.IssueFault.{IssueFault}
 use Rattle.jwt_issue.specs.declared.fault.IssueFault.TheVariants.{OutOfMemory}
 use Rattle.jwt_issue.specs.declared.signer.Signer.{Signer}
@@ -61,7 +61,7 @@ returns-clause-paid g c =
     sym (length-map c.deref.result.now signer_parts) ∙ sym (ap (λ (xs : List SignerParts). length xs) signers) ∙ length-map pairs made ∙ length-map c.args.pairs.now pair_parts in
     let Paid : List ℕ → ℕ → Type 0 = λ prices n. (g.B.Budget.octets c.general_token.new.budget ≡ g.B.Budget.octets c.args.budget.now + sum (take n prices)) × (g.B.Budget.calls c.general_token.new.budget ≡ g.B.Budget.calls c.args.budget.now + n) in
     subst (λ (most : ℕ). Pays c.general_token.result most (Paid (pair_costs (optional_text c.args.typ) c.args.claims.now pairs))) (ap₂ (λ (all : ℕ) (r : Result (List ℕ) IssueFault). due all r) size answer)
-    (subst (λ (prices : List ℕ). Pays c.general_token.result (due (length c.deref.result.now) (within left (map (signing_cost c.deref-2.result.now) ss) (general_token c.deref-2.result.now ss))) (Paid prices)) costs c.general_token.ensures.paid)
+    (subst (λ (prices : List ℕ). Pays c.general_token.result (due (length c.deref.result.now) (token_within left (map (signing_cost c.deref-2.result.now) ss) (general_token c.deref-2.result.now ss))) (Paid prices)) costs c.general_token.ensures.paid)
 
 pub returns-clause-signed : goal.returns-clause-signed
 returns-clause-signed g c =

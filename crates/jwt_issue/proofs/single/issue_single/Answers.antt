@@ -3,7 +3,7 @@ use Rattle.std.specs.Global.{Global}
 use Rattle.std.proofs.lemmas.Result.{err_from_is_err_and}
 use Rattle.jwt_jws.specs.SignedToken.{IsSignedToken}
 use Rattle.jwt_text.specs.Base64url.{AreOctets, spelling}
-use Rattle.jwt_issue.specs.Issued.{unfit, within, pair_signing_cost, signer_of, signing_cost}
+use Rattle.jwt_issue.specs.Issued.{unfit, token_within, pair_signing_cost, signer_of, signing_cost}
 use Rattle.jwt_issue.specs.Paying.{Pays, due}
 use Rattle.jwt_issue.specs.Single.{single_of, single_token, single_signed}
 use Rattle.jwt_issue.specs.Views.{pair_of, optional_text, signer_parts}
@@ -34,7 +34,7 @@ returns-clause-paid g c =
     let answer = same_answer (single_token c.args.options.form) left typ c.args.claims.now pair text s c.in_ok-signer.ensures.answer payload in
     let Paid : ℕ → ℕ → Type 0 = λ price n. (g.B.Budget.octets c.signed_token.new.budget ≡ g.B.Budget.octets c.args.budget.now + n * price) × (g.B.Budget.calls c.signed_token.new.budget ≡ g.B.Budget.calls c.args.budget.now + n) in
     subst (λ (most : ℕ). Pays c.signed_token.result most (Paid (pair_signing_cost typ c.args.claims.now pair))) (ap (λ (r : Result (List ℕ) IssueFault). due 1 r) answer)
-    (subst (λ (price : ℕ). Pays c.signed_token.result (due 1 (within left (signing_cost text s ∷ []) (single_token c.args.options.form text s))) (Paid price)) price c.signed_token.ensures.paid)
+    (subst (λ (price : ℕ). Pays c.signed_token.result (due 1 (token_within left (signing_cost text s ∷ []) (single_token c.args.options.form text s))) (Paid price)) price c.signed_token.ensures.paid)
 
 pub returns-clause-signed : goal.returns-clause-signed
 returns-clause-signed g c =

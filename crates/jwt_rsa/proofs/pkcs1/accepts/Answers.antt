@@ -4,7 +4,7 @@ use Rattle.std.specs.Str.{bytes_eq}
 use Rattle.std.proofs.lemmas.Bool.{and_left, false_from_ne_true, OnTrue_at}
 use Rattle.std.proofs.lemmas.Slice.Eq.{bytes_eq-Decides}
 use Rattle.rsa_number.specs.Octets.{i2osp, without_zeros}
-use Rattle.jwt_rsa.specs.Pkcs1.{encoded, pkcs1_accepts}
+use Rattle.jwt_rsa.specs.Pkcs1.{encoded_message, pkcs1_accepts}
 use Rattle.jwt_rsa.proofs.Keys.{not_key, by_answer, all_asked, representative, same_tests}
 use Rattle.jwt_rsa.proofs.Salts.{and_true, length-i2osp}
 use Rattle.jwt_rsa.proofs.pkcs1.accepts.Goals as goal
@@ -37,8 +37,8 @@ returns c =
     let long : length em ≡ length (without_zeros n) = ap length em_is ∙ length-i2osp _ (length (without_zeros n)) in
     let info = c.info.ensures in
     let digest = c.octets.ensures.is ∙ c.digest.ensures.is in
-    let as_read = encoded c.info.result.now c.octets.result.now (length em) in
+    let as_read = encoded_message c.info.result.now c.octets.result.now (length em) in
     let asked = all_asked n e s _ _ trimmed exponent c.in-Some.ensures.0 (c.recover.ensures.asked.0 c.if-not-recover.false) in
     same_tests c.is_encoded.result (bytes_eq em as_read) (em ≡ as_read) c.is_encoded.ensures (bytes_eq-Decides em as_read)
-    ∙ ap₂ bytes_eq em_is (λ i. encoded (info i) (digest i) (long i))
+    ∙ ap₂ bytes_eq em_is (λ i. encoded_message (info i) (digest i) (long i))
     ∙ sym (and_true _ _ asked)
