@@ -68,22 +68,34 @@ fn octets_of(alloc: Global, text: &[u8]) -> Result<Vec<u8>, RunFault>
     }
 }
 
-/// What a run over a signed token takes; `claims` and `header` are read from it before.
-fn ready_over<'a>(
+/// An input that is read: its parts, and what each of them is.
+#[derive(Clone, Copy)]
+struct InputRead<'a, 's> {
     given: Given<'a>,
     policy: &'a Policy,
     keys: &'a KeySet,
-    signed: &'a Signed<'_>,
+    signed: &'a Signed<'s>,
+}
+
+/// What a run over a signed token takes; `claims` and `header` are read from it before.
+fn ready_over<'a>(
+    input: InputRead<'a, '_>,
     claims: &'a ClaimSet,
     header: &'a [u8],
 ) -> Result<Ready<'a>, RunFault>
-    requires claims { claim_set_of (token signed.now).payload ≡ Ok claims.now }
-    requires header { IfSome (slice_get (token signed.now).signatures 0)
+    requires claims { claim_set_of (token input.signed.now).payload ≡ Ok claims.now }
+    requires header { IfSome (slice_get (token input.signed.now).signatures 0)
         (λ s. spelled s.protected_text ≡ Ok header.now) }
     ensures { IfOk result
-        (λ r. IsReadyOver (given_view given.entry) policy.now (key_set keys.now).keys
-        (token signed.now) (ready_view r)) }
+        (λ r. IsReadyOver (given_view input.entry.given) input.entry.policy.now
+        (key_set input.entry.keys.now).keys (token input.entry.signed.now) (ready_view r)) }
 {
+    let InputRead {
+        given,
+        policy,
+        keys,
+        signed,
+    } = input;
     let last = keys.len().saturating_sub(1);
     let key = keys.key(last).ok_or(RunFault::Input)?;
     let signature = signed.signature(0).ok_or(RunFault::Input)?;
@@ -119,21 +131,18 @@ fn header_of(alloc: Global, signed: &Signed<'_>) -> Result<Vec<u8>, RunFault>
 fn on_signed(
     alloc: Global,
     order: Order,
-    given: Given<'_>,
-    policy: &Policy,
-    keys: &KeySet,
-    signed: &Signed<'_>,
+    input: InputRead<'_, '_>,
     built_in: &[Box<dyn Verifier>],
 ) -> Result<Totals, RunFault>
     requires { order.count ≤ 10000000 }
     ensures { IfOk result (λ t. (b : ReadyParts)
-        × IsReadyOver (given_view given.entry) policy.now (key_set keys.now).keys
-        (token signed.now) b
+        × IsReadyOver (given_view input.entry.given) input.entry.policy.now
+        (key_set input.entry.keys.now).keys (token input.entry.signed.now) b
         × (t ≡ repeated order.count (ran_of (map meaning built_in.now) order.workload b))) }
 {
-    let claims = claims(alloc, signed)?;
-    let header = header_of(alloc, signed)?;
-    let ready = ready_over(given, policy, keys, signed, &claims, header.as_slice())?;
+    let claims = claims(alloc, input.signed)?;
+    let header = header_of(alloc, input.signed)?;
+    let ready = ready_over(input, &claims, header.as_slice())?;
     repeat(alloc, order, &ready, built_in)
 }
 
@@ -174,7 +183,15 @@ fn on_given(
     let policy = policy_in(alloc, given.policy)?;
     let keys = keys_in(alloc, given.keys)?;
     match parse(alloc, given.token, policy.max_signatures()) {
-        Ok(signed) => on_signed(alloc, order, given, &policy, &keys, &signed, built_in),
+        Ok(signed) => {
+            let input = InputRead {
+                given,
+                policy: &policy,
+                keys: &keys,
+                signed: &signed,
+            };
+            on_signed(alloc, order, input, built_in)
+        }
         Err(FormFault::OutOfMemory) => Err(RunFault::OutOfMemory),
         Err(_) => Err(RunFault::Input),
     }
