@@ -8,6 +8,7 @@ ghost use Rattle.jwt_verify.specs.Accepted.{IsVerdict};
 ghost use Rattle.jwt_verify.specs.Laws.{IsBefore};
 ghost use Rattle.jwt_verify.specs.Paying.{IsWithin};
 ghost use Rattle.jwt_verify.specs.Reports.{FoundMemory, IsReport, AreEligible, IsBounded, terms};
+ghost use Rattle.jwt_verify.specs.TermsTable.{terms_meant};
 ghost use Rattle.jwt_verify.specs.declared.report.InputFault.TheVariants.{Read};
 ghost use Rattle.jwt_verify.specs.declared.report.Fault.TheVariants.{OutOfMemory, Text};
 ghost use Rattle.jwt_verify.specs.declared.report.Verdict.TheVariants.{Refused};
@@ -22,7 +23,7 @@ use jwt_mac::{Budget, Verifier};
 use jwt_memory::{Memory, Outcome};
 use jwt_policy::Policy;
 use jwt_rsa::Rsa;
-use jwt_verify::{Fault, Report, Verdict};
+use jwt_verify::{Fault, Report, Terms, Verdict};
 use std::alloc::{AllocError, Global};
 use std::marker::Model;
 use std::num::NonZeroUsize;
@@ -80,83 +81,61 @@ fn nothing_tried<'p>(alloc: Global) -> Outcome<'p>
     })
 }
 
-/// The outcome by verifiers that mean what the built-in ones do.
+/// The terms of a verdict by verifiers that mean what the built-in ones do.
+fn built_in_terms<'k, 'p, 'v>(
+    policy: &'p Policy,
+    keys: &'k KeySet,
+    now: i64,
+    verifiers: &'v [Box<dyn Verifier>],
+) -> Terms<'k, 'p, 'v>
+    requires three { map meaning verifiers.now ≡ built_in }
+    ensures meant { terms_meant meaning result ≡ terms policy.now keys.now now built_in }
+    ensures three { map meaning result.verifiers.now ≡ built_in }
+    ensures policy { result.policy.now ≡ policy.now }
+    ensures keys { result.keys.now ≡ keys.now }
+    ensures moment { result.moment ≡ now }
+{
+    Terms {
+        keys,
+        policy,
+        moment: now,
+        verifiers,
+    }
+}
+
+/// The outcome under such terms.
 fn judge_under<'p, B: Budget>(
     memory: &mut Memory,
     alloc: Global,
     octets: &[u8],
-    keys: &KeySet,
-    policy: &'p Policy,
-    now: i64,
-    verifiers: &[Box<dyn Verifier>],
+    under: &Terms<'_, 'p, '_>,
     budget: &mut B,
 ) -> Outcome<'p>
-    requires three { map meaning verifiers.now ≡ built_in }
+    requires three { map (λ b. meaning (b.vtable, b.value)) under.now.verifiers.now ≡ built_in }
     requires no_octets { B.octets budget.old ≡ 0 }
     requires no_calls { B.calls budget.old ≡ 0 }
-    requires kept { AreKept policy.now keys.now built_in memory.old }
+    requires kept { AreKept under.now.policy.now under.now.keys.now built_in memory.old }
     ensures verdict { FoundMemory (report_in result).verdict
-        → IsVerdict (terms policy.now keys.now now built_in)
+        → IsVerdict (terms under.now.policy.now under.now.keys.now under.now.moment built_in)
         octets.now (B.ceiling budget.old) (report_in result).verdict }
-    ensures report { IsReport (terms policy.now keys.now now built_in)
+    ensures report { IsReport
+        (terms under.now.policy.now under.now.keys.now under.now.moment built_in)
         octets.now (B.ceiling budget.old) (report_in result) }
     ensures read { (report_in result).verdict ≢ Refused (Text Read) }
     ensures once { AllPairs IsBefore (paid_in result) }
-    ensures eligible { AreEligible (terms policy.now keys.now now built_in)
+    ensures eligible { AreEligible
+        (terms under.now.policy.now under.now.keys.now under.now.moment built_in)
         octets.now (paid_in result) }
-    ensures bound { IsBounded (terms policy.now keys.now now built_in)
+    ensures bound { IsBounded
+        (terms under.now.policy.now under.now.keys.now under.now.moment built_in)
         octets.now (paid_in result) (B.octets budget.new) }
-    ensures within { IsWithin policy.now.max_calls (B.calls budget.new) }
+    ensures within { IsWithin under.now.policy.now.max_calls (B.calls budget.new) }
     ensures octets { B.octets budget.new ≡ work (paid_in result) }
     ensures calls { B.calls budget.new ≡ length (paid_in result) }
     ensures ceiling { B.ceiling budget.new ≡ B.ceiling budget.old }
-    ensures kept { AreKept policy.now keys.now built_in memory.new }
+    ensures kept { AreKept under.now.policy.now under.now.keys.now built_in memory.new }
 {
-    jwt_memory::judge(memory, alloc, octets, keys, policy, now, verifiers, budget)
-}
-
-/// The outcome by the built-in verifiers.
-#[tactic(auto, unfolding(jwt_verify::specs::Table::work), using(jwt_told::proofs::Blank::nothing))]
-fn judge_built_in<'p, B: Budget>(
-    memory: &mut Memory,
-    alloc: Global,
-    octets: &[u8],
-    keys: &KeySet,
-    policy: &'p Policy,
-    now: i64,
-    budget: &mut B,
-) -> Outcome<'p>
-    requires no_octets { B.octets budget.old ≡ 0 }
-    requires no_calls { B.calls budget.old ≡ 0 }
-    requires kept { AreKept policy.now keys.now built_in memory.old }
-    ensures verdict { FoundMemory (report_in result).verdict
-        → IsVerdict (terms policy.now keys.now now built_in)
-        octets.now (B.ceiling budget.old) (report_in result).verdict }
-    ensures report { IsReport (terms policy.now keys.now now built_in)
-        octets.now (B.ceiling budget.old) (report_in result) }
-    ensures read { (report_in result).verdict ≢ Refused (Text Read) }
-    ensures once { AllPairs IsBefore (paid_in result) }
-    ensures eligible { AreEligible (terms policy.now keys.now now built_in)
-        octets.now (paid_in result) }
-    ensures bound { IsBounded (terms policy.now keys.now now built_in)
-        octets.now (paid_in result) (B.octets budget.new) }
-    ensures within { IsWithin policy.now.max_calls (B.calls budget.new) }
-    ensures octets { B.octets budget.new ≡ work (paid_in result) }
-    ensures calls { B.calls budget.new ≡ length (paid_in result) }
-    ensures ceiling { B.ceiling budget.new ≡ B.ceiling budget.old }
-    ensures kept { AreKept policy.now keys.now built_in memory.new }
-{
-    let Ok(rsa) = Box::new(alloc, Rsa) else {
-        return nothing_tried(alloc);
-    };
-    let Ok(ecdsa) = Box::new(alloc, Ecdsa) else {
-        return nothing_tried(alloc);
-    };
-    let Ok(ed25519) = Box::new(alloc, Ed25519) else {
-        return nothing_tried(alloc);
-    };
-    let verifiers: [Box<dyn Verifier>; 3] = [rsa, ecdsa, ed25519];
-    judge_under(memory, alloc, octets, keys, policy, now, &verifiers, budget)
+    jwt_memory::judge(memory, alloc, octets, under, budget)
 }
 
 impl<'p> Remembering<'p> {
@@ -190,6 +169,7 @@ impl<'p> Remembering<'p> {
     ///
     /// # Refused
     /// As [`judge`](crate::judge) refuses.
+    #[tactic(auto, unfolding(jwt_verify::specs::Table::work), using(jwt_told::proofs::Blank::nothing))]
     pub fn judge<B: Budget>(
         &mut self,
         alloc: Global,
@@ -223,8 +203,17 @@ impl<'p> Remembering<'p> {
         // The policy and the keys stay.
         ensures same { self.new ≡ self.old }
     {
-        let policy = self.policy;
-        let keys = self.keys;
-        judge_built_in(&mut self.memory, alloc, octets, keys, policy, now, budget)
+        let Ok(rsa) = Box::new(alloc, Rsa) else {
+            return nothing_tried(alloc);
+        };
+        let Ok(ecdsa) = Box::new(alloc, Ecdsa) else {
+            return nothing_tried(alloc);
+        };
+        let Ok(ed25519) = Box::new(alloc, Ed25519) else {
+            return nothing_tried(alloc);
+        };
+        let verifiers: [Box<dyn Verifier>; 3] = [rsa, ecdsa, ed25519];
+        let terms = built_in_terms(self.policy, self.keys, now, &verifiers);
+        judge_under(&mut self.memory, alloc, octets, &terms, budget)
     }
 }

@@ -7,6 +7,7 @@ use Rattle.jwt_ed25519.specs.Meanings.{ed25519_meaning}
 use Rattle.jwt_memory.specs.declared.memory.Memory.{Memory}
 use Rattle.jwt_memory.specs.Entries.{HasRoomOf}
 use Rattle.jwt_memory.specs.Kept.{AreKept}
+use Rattle.jwt_verify.specs.declared.terms.Terms.{Terms}
 use Rattle.jwt_c.specs.declared.grounds.Documents.{Documents}
 
 -- what the proved verifiers mean: RSA (RFC 7518, sections 3.3 and 3.5), ECDSA (section 3.4) and Ed25519 (RFC 8037, section 3.1)
@@ -26,6 +27,10 @@ HasSameRoom (Some memory) None = ⊥
 HasSameRoom (Some memory) (Some other) = HasRoomOf memory other
 
 -- ---- Cited by contracts of private functions alone
+
+-- the documents of the terms of a verdict
+abbrev pub lent_documents : {V : Type 0} {D : V → Type 0} → Terms V D → Documents
+lent_documents lent = record { policy = lent.policy.now; keys = lent.keys.now }
 
 -- no token is kept
 abbrev pub IsNothingKept : Option Memory → Type 0

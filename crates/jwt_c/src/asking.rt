@@ -137,29 +137,31 @@ fn write_public(alloc: Global, asked: &Question<'_>, out: &mut [u8], into: &mut 
     write_question(alloc, asked, out, into)
 }
 
-/// Writes the question about a pair at the front of `out`. `FOW_OK`; `FOW_OUT_OF_MEMORY`: memory was refused; `FOW_TOO_SHORT`: `out`
-/// is too short; `FOW_ABSENT`: there is none, or its algorithm is HMAC, or its key is a secret.
-pub(crate) fn ask_about(
-    alloc: Global,
-    state: &State,
-    token: &[u8],
-    pair: OpenPair,
-    out: &mut [u8],
-    into: &mut FowQuestion,
-) -> u32
-    ensures { PutsQuestion
-        (public_asked (asked_at (token_of (documents state.now).policy token.now)
-        (key_set (documents state.now).keys).keys pair.signature pair.key))
-        result into.new out.old out.new }
-{
-    let documents = state.grounds.documents();
-    match read_token(alloc, token, &documents.policy) {
-        Ok(Some(signed)) => match pair.about(&signed, &documents.keys) {
-            Some(asked) => write_public(alloc, &asked, out, into),
-            None => FOW_ABSENT,
-        },
-        Ok(None) => FOW_ABSENT,
-        Err(_) => FOW_OUT_OF_MEMORY,
+impl State {
+    /// Writes the question about a pair at the front of `out`. `FOW_OK`; `FOW_OUT_OF_MEMORY`: memory was refused; `FOW_TOO_SHORT`:
+    /// `out` is too short; `FOW_ABSENT`: there is none, or its algorithm is HMAC, or its key is a secret.
+    pub(crate) fn ask_about(
+        &self,
+        alloc: Global,
+        token: &[u8],
+        pair: OpenPair,
+        out: &mut [u8],
+        into: &mut FowQuestion,
+    ) -> u32
+        ensures { PutsQuestion
+            (public_asked (asked_at (token_of (documents self.now).policy token.now)
+            (key_set (documents self.now).keys).keys pair.signature pair.key))
+            result into.new out.old out.new }
+    {
+        let documents = self.grounds.documents();
+        match read_token(alloc, token, &documents.policy) {
+            Ok(Some(signed)) => match pair.about(&signed, &documents.keys) {
+                Some(asked) => write_public(alloc, &asked, out, into),
+                None => FOW_ABSENT,
+            },
+            Ok(None) => FOW_ABSENT,
+            Err(_) => FOW_OUT_OF_MEMORY,
+        }
     }
 }
 

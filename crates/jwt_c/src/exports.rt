@@ -19,7 +19,7 @@ ghost use Rattle.jwt_c.specs.Proving.{IsProvedBy};
 ghost use Rattle.jwt_c.specs.Issuing.{hmac_at, form_at, typ_of, PutsIssued};
 ghost use Rattle.jwt_issue.specs.ClaimSets.{claim_set_of};
 
-use crate::asking::{Proved, ask_about, ask_last, tell, tell_by, tell_last};
+use crate::asking::{Proved, ask_last, tell, tell_by, tell_last};
 use crate::faults::{keys_number, policy_number};
 use crate::grounds::{Documents, Grounds};
 use crate::handle::{Handle, take};
@@ -351,14 +351,7 @@ pub extern "C" fn fow_ask(
     let Some(state) = take(validator, alloc) else {
         return FOW_NOT_OPEN;
     };
-    let status = ask_about(
-        alloc,
-        &state,
-        token,
-        OpenPair { signature, key },
-        out,
-        asked,
-    );
+    let status = state.ask_about(alloc, token, OpenPair { signature, key }, out, asked);
     *validator = Handle::of(state);
     status
 }

@@ -5,7 +5,6 @@ ghost use Rattle.std.specs.Prelude.{◌≡◌, ◌≢◌, ◌≤◌, None, IfSom
 ghost use Rattle.std.specs.Arc.{arc_value};
 
 use crate::judging::Judging;
-use crate::proving::judging_by_proof;
 use jwt_keys::KeySet;
 use jwt_memory::Memory;
 use jwt_policy::Policy;
@@ -104,6 +103,7 @@ impl Grounds {
         ensures documents { self.new.0 ≡ self.old.0 }
         ensures room { HasSameRoom self.new.1 self.old.1 }
     {
-        judging_by_proof(alloc, &mut self.proved, octets, &self.shared, now, scratch)
+        let documents = &*self.shared;
+        documents.judging_by_proof(alloc, &mut self.proved, octets, now, scratch)
     }
 }

@@ -8,7 +8,7 @@ ghost use Rattle.jwt_memory.specs.Outcomes.{report_in, paid_in, is_remembered};
 ghost use Rattle.jwt_told.specs.Told.{told};
 ghost use Rattle.jwt_c.specs.Documents.{documents};
 ghost use Rattle.jwt_c.specs.Evidence.{claims_kept};
-ghost use Rattle.jwt_c.specs.ProvedKept.{AreProvedKept, HasSameRoom, proved_meanings};
+ghost use Rattle.jwt_c.specs.ProvedKept.{AreProvedKept, HasSameRoom, lent_documents, proved_meanings};
 ghost use Rattle.jwt_c.specs.Proving.{IsProved};
 ghost use Rattle.jwt_c.specs.Remembering.{IsHeldIn};
 
@@ -23,112 +23,121 @@ use jwt_mac::{Budget, CountDown, Verifier};
 use jwt_memory::{Memory, Outcome};
 use jwt_rsa::Rsa;
 use jwt_text::Scratch;
-use jwt_verify::{JudgedToken, judge_signed};
+use jwt_verify::{JudgedToken, Terms, judge_under};
 use std::alloc::Global;
 
-/// The outcome under verifiers that mean what the proved ones do, over a memory where there is one.
+/// The outcome under terms whose verifiers mean what the proved ones do, over a memory where there is one.
 #[tactic(auto, unfolding(jwt_verify::specs::Table::work))]
 fn outcome_under<'p>(
     alloc: Global,
     memory: &mut Option<Memory>,
     octets: &[u8],
-    documents: &'p Documents,
-    now: i64,
-    verifiers: &[Box<dyn Verifier>],
+    under: &Terms<'_, 'p, '_>,
     budget: &mut CountDown,
     scratch: &mut Scratch,
 ) -> Outcome<'p>
-    requires meanings { map meaning verifiers.now ≡ proved_meanings }
+    requires meanings { map (λ b. meaning (b.vtable, b.value)) under.now.verifiers.now ≡ proved_meanings }
     requires no_octets { ⟦<CountDown as Budget>⟧.octets budget.old ≡ 0 }
     requires no_calls { ⟦<CountDown as Budget>⟧.calls budget.old ≡ 0 }
-    requires ceiling { ⟦<CountDown as Budget>⟧.ceiling budget.old ≡ documents.now.policy.run.work }
-    requires kept { AreProvedKept documents.now memory.old }
-    ensures report { IsReport (terms documents.now.policy documents.now.keys now proved_meanings)
-        octets.now documents.now.policy.run.work (report_in result) }
+    requires ceiling { ⟦<CountDown as Budget>⟧.ceiling budget.old
+        ≡ under.now.policy.now.run.work }
+    requires kept { AreProvedKept (lent_documents under.now) memory.old }
+    ensures report { IsReport
+        (terms under.now.policy.now under.now.keys.now under.now.moment proved_meanings)
+        octets.now under.now.policy.now.run.work (report_in result) }
     ensures held { IsHeldIn (is_remembered result) memory.old
-        octets.now documents.now.policy.run.work }
+        octets.now under.now.policy.now.run.work }
     ensures paid { ⟦<CountDown as Budget>⟧.octets budget.new ≡ work (paid_in result) }
-    ensures kept { AreProvedKept documents.now memory.new }
+    ensures kept { AreProvedKept (lent_documents under.now) memory.new }
     ensures room { HasSameRoom memory.new memory.old }
 {
-    let Documents { policy, keys } = documents;
     match memory {
-        Some(memory) => {
-            jwt_memory::judge(memory, alloc, octets, keys, policy, now, verifiers, budget)
-        }
+        Some(memory) => jwt_memory::judge(memory, alloc, octets, under, budget),
         None => {
-            let JudgedToken { report, token: _ } = judge_signed(
-                alloc, octets, keys, policy, now, verifiers, budget, scratch,
+            let JudgedToken { report, token: _ } = judge_under(
+                alloc, octets, under, budget, scratch,
             );
             Outcome::Judged(report)
         }
     }
 }
 
-/// The judging under such verifiers.
+/// The judging under such terms.
 fn judging_under(
     alloc: Global,
     memory: &mut Option<Memory>,
     octets: &[u8],
-    documents: &Documents,
-    now: i64,
-    verifiers: &[Box<dyn Verifier>],
+    under: &Terms<'_, '_, '_>,
     scratch: &mut Scratch,
 ) -> Judging
-    requires meanings { map meaning verifiers.now ≡ proved_meanings }
-    requires kept { AreProvedKept documents.now memory.old }
+    requires meanings { map (λ b. meaning (b.vtable, b.value)) under.now.verifiers.now ≡ proved_meanings }
+    requires kept { AreProvedKept (lent_documents under.now) memory.old }
     ensures judged { result.said.verdict ≤ FOW_REFUSED
-        → IsProved (documents.now, memory.old) now octets.now result.said result.last }
+        → IsProved (lent_documents under.now, memory.old) under.now.moment octets.now
+        result.said result.last }
     ensures never_asks { result.said.verdict ≢ FOW_ASKS }
     ensures claims { result.said.verdict ≢ FOW_OK → claims_kept result.last ≡ None }
-    ensures kept { AreProvedKept documents.now memory.new }
+    ensures kept { AreProvedKept (lent_documents under.now) memory.new }
     ensures room { HasSameRoom memory.new memory.old }
 {
-    let mut budget = documents.policy.budget();
-    let outcome = outcome_under(
-        alloc,
-        memory,
-        octets,
-        documents,
-        now,
-        verifiers,
-        &mut budget,
-        scratch,
-    );
+    let mut budget = under.policy.budget();
+    let outcome = outcome_under(alloc, memory, octets, under, &mut budget, scratch);
     match judging_of(alloc, outcome, budget.octets()) {
         Ok(judging) => judging,
         Err(_) => bare(alloc, FOW_OUT_OF_MEMORY),
     }
 }
 
-/// The same, with the verifiers of RSA, ECDSA and Ed25519.
-pub(crate) fn judging_by_proof(
-    alloc: Global,
-    memory: &mut Option<Memory>,
-    octets: &[u8],
-    documents: &Documents,
-    now: i64,
-    scratch: &mut Scratch,
-) -> Judging
-    requires kept { AreProvedKept documents.now memory.old }
-    ensures judged { result.said.verdict ≤ FOW_REFUSED
-        → IsProved (documents.now, memory.old) now octets.now result.said result.last }
-    ensures never_asks { result.said.verdict ≢ FOW_ASKS }
-    ensures claims { result.said.verdict ≢ FOW_OK → claims_kept result.last ≡ None }
-    ensures kept { AreProvedKept documents.now memory.new }
-    ensures room { HasSameRoom memory.new memory.old }
-{
-    let Ok(rsa) = Box::new(alloc, Rsa) else {
-        return bare(alloc, FOW_OUT_OF_MEMORY);
-    };
-    let Ok(ecdsa) = Box::new(alloc, Ecdsa) else {
-        return bare(alloc, FOW_OUT_OF_MEMORY);
-    };
-    let Ok(ed25519) = Box::new(alloc, Ed25519) else {
-        return bare(alloc, FOW_OUT_OF_MEMORY);
-    };
-    let verifiers: [Box<dyn Verifier>; 3] = [rsa, ecdsa, ed25519];
-    judging_under(alloc, memory, octets, documents, now, &verifiers, scratch)
+impl Documents {
+    /// The terms of a verdict by verifiers that mean what the proved ones do.
+    fn proved_terms<'d, 'v>(
+        &'d self,
+        now: i64,
+        verifiers: &'v [Box<dyn Verifier>],
+    ) -> Terms<'d, 'd, 'v>
+        requires meanings { map meaning verifiers.now ≡ proved_meanings }
+        ensures meant { map meaning result.verifiers.now ≡ proved_meanings }
+        ensures documents { lent_documents result ≡ self.now }
+        ensures moment { result.moment ≡ now }
+    {
+        Terms {
+            keys: &self.keys,
+            policy: &self.policy,
+            moment: now,
+            verifiers,
+        }
+    }
+
+    /// The judging of a token by these documents and the verifiers of RSA, ECDSA and Ed25519, over a memory where there is one.
+    pub(crate) fn judging_by_proof(
+        &self,
+        alloc: Global,
+        memory: &mut Option<Memory>,
+        octets: &[u8],
+        now: i64,
+        scratch: &mut Scratch,
+    ) -> Judging
+        requires kept { AreProvedKept self.now memory.old }
+        ensures judged { result.said.verdict ≤ FOW_REFUSED
+            → IsProved (self.now, memory.old) now octets.now result.said result.last }
+        ensures never_asks { result.said.verdict ≢ FOW_ASKS }
+        ensures claims { result.said.verdict ≢ FOW_OK → claims_kept result.last ≡ None }
+        ensures kept { AreProvedKept self.now memory.new }
+        ensures room { HasSameRoom memory.new memory.old }
+    {
+        let Ok(rsa) = Box::new(alloc, Rsa) else {
+            return bare(alloc, FOW_OUT_OF_MEMORY);
+        };
+        let Ok(ecdsa) = Box::new(alloc, Ecdsa) else {
+            return bare(alloc, FOW_OUT_OF_MEMORY);
+        };
+        let Ok(ed25519) = Box::new(alloc, Ed25519) else {
+            return bare(alloc, FOW_OUT_OF_MEMORY);
+        };
+        let verifiers: [Box<dyn Verifier>; 3] = [rsa, ecdsa, ed25519];
+        let terms = self.proved_terms(now, &verifiers);
+        judging_under(alloc, memory, octets, &terms, scratch)
+    }
 }
 
 /// Judges a token by the proved verifiers, and keeps the report.

@@ -7,7 +7,8 @@ ghost use Rattle.jwt_verify.specs.Table.{work};
 ghost use Rattle.jwt_verify.specs.Accepted.{IsVerdict};
 ghost use Rattle.jwt_verify.specs.Laws.{IsBefore};
 ghost use Rattle.jwt_verify.specs.Paying.{IsWithin};
-ghost use Rattle.jwt_verify.specs.Reports.{FoundMemory, IsReport, AreEligible, IsBounded, TakesMemory, terms};
+ghost use Rattle.jwt_verify.specs.Reports.{FoundMemory, IsReport, AreEligible, IsBounded, TakesMemory};
+ghost use Rattle.jwt_verify.specs.TermsTable.{terms_meant};
 ghost use Rattle.jwt_verify.specs.declared.report.InputFault.TheVariants.{Read};
 ghost use Rattle.jwt_verify.specs.declared.report.Fault.TheVariants.{OutOfMemory, Text};
 ghost use Rattle.jwt_verify.specs.declared.report.Verdict.TheVariants.{Refused};
@@ -18,91 +19,92 @@ ghost use Rattle.jwt_memory.specs.Outcomes.{report_in, paid_in, report_of, accep
 use crate::laws::accepted_ever;
 use crate::memory::{Basis, Memory};
 use crate::outcome::Outcome;
-use jwt_keys::KeySet;
 use jwt_mac::{Budget, Verifier};
-use jwt_policy::{Policy, check};
-use jwt_verify::{Report, Verdict};
+use jwt_policy::check;
+use jwt_verify::{Report, Terms, Verdict};
 use std::alloc::Global;
 use std::sync::Arc;
 
-/// The outcome that an acceptance is. The memory keeps it, where it may and memory is there.
-fn accepted<'p>(
-    memory: &mut Memory,
-    alloc: Global,
-    octets: &[u8],
-    ceiling: u64,
-    basis: Basis,
-) -> Outcome<'p>
-    ensures report { report_in result ≡ report_of (acceptance_of basis) basis }
-    ensures paid { paid_in result ≡ basis.tries.items }
-    ensures anew { is_remembered result ≡ false }
-    ensures held { (entry : _) → Holds memory.new entry → Holds memory.old entry
-        ⊎ ((entry.octets.items ≡ octets.now) × (entry.ceiling ≡ ceiling)
-        × (arc_value entry.basis ≡ basis)) }
-    ensures room { HasRoomOf memory.new memory.old }
-{
-    match Arc::new(alloc, basis) {
-        Ok(basis) => {
-            memory.keep(alloc, octets, ceiling, &basis);
-            Outcome::Accepted(basis)
+impl Memory {
+    /// The outcome that an acceptance is. The memory keeps it, where it may and memory is there.
+    fn accepted<'p>(
+        &mut self,
+        alloc: Global,
+        octets: &[u8],
+        ceiling: u64,
+        basis: Basis,
+    ) -> Outcome<'p>
+        ensures report { report_in result ≡ report_of (acceptance_of basis) basis }
+        ensures paid { paid_in result ≡ basis.tries.items }
+        ensures anew { is_remembered result ≡ false }
+        ensures held { (entry : _) → Holds self.new entry → Holds self.old entry
+            ⊎ ((entry.octets.items ≡ octets.now) × (entry.ceiling ≡ ceiling)
+            × (arc_value entry.basis ≡ basis)) }
+        ensures room { HasRoomOf self.new self.old }
+    {
+        match Arc::new(alloc, basis) {
+            Ok(basis) => {
+                self.keep(alloc, octets, ceiling, &basis);
+                Outcome::Accepted(basis)
+            }
+            Err(refused) => Outcome::Judged(refused.value.into_report()),
         }
-        Err(refused) => Outcome::Judged(refused.value.into_report()),
     }
-}
 
-/// The outcome that a report on the octets is, whose tries cost so many octets. The memory keeps an acceptance, where it may and memory is
-/// there.
-pub(crate) fn kept<'p>(
-    memory: &mut Memory,
-    alloc: Global,
-    octets: &[u8],
-    ceiling: u64,
-    report: Report<'p>,
-    cost: u64,
-) -> Outcome<'p>
-    requires { cost ≡ work report.tries.items }
-    ensures report { report_in result ≡ report.entry }
-    ensures paid { paid_in result ≡ report.entry.tries.items }
-    ensures anew { is_remembered result ≡ false }
-    ensures held { (entry : _) → Holds memory.new entry → Holds memory.old entry
-        ⊎ ((entry.octets.items ≡ octets.now) × (entry.ceiling ≡ ceiling)
-        × (report.entry ≡ report_of (acceptance_of (arc_value entry.basis)) (arc_value entry.basis))) }
-    ensures room { HasRoomOf memory.new memory.old }
-{
-    let Report {
-        verdict,
-        states,
-        tries,
-    } = report;
-    match verdict {
-        Verdict::Accepted {
-            signature,
-            key,
-            claims,
-        } => {
-            let basis = Basis {
+    /// The outcome that a report on the octets is, whose tries cost so many octets. The memory keeps an acceptance, where it may and memory
+    /// is there.
+    pub(crate) fn kept<'p>(
+        &mut self,
+        alloc: Global,
+        octets: &[u8],
+        ceiling: u64,
+        report: Report<'p>,
+        cost: u64,
+    ) -> Outcome<'p>
+        requires { cost ≡ work report.tries.items }
+        ensures report { report_in result ≡ report.entry }
+        ensures paid { paid_in result ≡ report.entry.tries.items }
+        ensures anew { is_remembered result ≡ false }
+        ensures held { (entry : _) → Holds self.new entry → Holds self.old entry
+            ⊎ ((entry.octets.items ≡ octets.now) × (entry.ceiling ≡ ceiling)
+            × (report.entry ≡ report_of (acceptance_of (arc_value entry.basis)) (arc_value entry.basis))) }
+        ensures room { HasRoomOf self.new self.old }
+    {
+        let Report {
+            verdict,
+            states,
+            tries,
+        } = report;
+        match verdict {
+            Verdict::Accepted {
                 signature,
                 key,
                 claims,
+            } => {
+                let basis = Basis {
+                    signature,
+                    key,
+                    claims,
+                    states,
+                    tries,
+                    cost,
+                };
+                self.accepted(alloc, octets, ceiling, basis)
+            }
+            Verdict::Refused(fault) => Outcome::Judged(Report {
+                verdict: Verdict::Refused(fault),
                 states,
                 tries,
-                cost,
-            };
-            accepted(memory, alloc, octets, ceiling, basis)
+            }),
         }
-        Verdict::Refused(fault) => Outcome::Judged(Report {
-            verdict: Verdict::Refused(fault),
-            states,
-            tries,
-        }),
     }
 }
 
 /// The verdict on octets in hand, as [`jwt_verify::judge`] gives it. Where the memory holds the same octets, and they were accepted under
-/// this budget's ceiling, nothing is tried: the claims are held against the policy at the moment `now`, in seconds since
+/// this budget's ceiling, nothing is tried: the claims are held against the policy at the moment of these terms, in seconds since
 /// 1970-01-01T00:00:00Z, and the report is the one that `judge` would give. What was paid in this call is then nothing.
 ///
-/// The conditions: the budget is new, and the memory is of this policy, these keys and these verifiers.
+/// The conditions: the budget is new, and the memory is of the policy, the keys and the verifiers of these terms.
 ///
 /// # Refused
 /// As [`jwt_verify::judge`] refuses. An acceptance is kept where the token is in compact form, isn't too long for the memory, and memory
@@ -112,24 +114,22 @@ pub fn judge<'p, B: Budget>(
     memory: &mut Memory,
     alloc: Global,
     octets: &[u8],
-    keys: &KeySet,
-    policy: &'p Policy,
-    now: i64,
-    verifiers: &[Box<dyn Verifier>],
+    terms: &Terms<'_, 'p, '_>,
     budget: &mut B,
 ) -> Outcome<'p>
     requires no_octets { B.octets budget.old ≡ 0 }
     requires no_calls { B.calls budget.old ≡ 0 }
-    requires kept { AreKept policy.now keys.now (map meaning verifiers.now) memory.old }
+    requires kept { AreKept terms.now.policy.now terms.now.keys.now
+        (map (λ b. meaning (b.vtable, b.value)) terms.now.verifiers.now) memory.old }
 
     // The verdict is that on the octets, unless memory was refused; and what else the report holds.
     ensures verdict { FoundMemory (report_in result).verdict
-        → IsVerdict (terms policy.now keys.now now (map meaning verifiers.now))
+        → IsVerdict (terms_meant (λ b. meaning (b.vtable, b.value)) terms.now)
         octets.now (B.ceiling budget.old) (report_in result).verdict }
-    ensures report { IsReport (terms policy.now keys.now now (map meaning verifiers.now))
+    ensures report { IsReport (terms_meant (λ b. meaning (b.vtable, b.value)) terms.now)
         octets.now (B.ceiling budget.old) (report_in result) }
     ensures read { (report_in result).verdict ≢ Refused (Text Read) }
-    ensures memory { (report_in result).verdict ≡ Refused OutOfMemory → TakesMemory policy.now octets.now }
+    ensures memory { (report_in result).verdict ≡ Refused OutOfMemory → TakesMemory terms.now.policy.now octets.now }
 
     // It is remembered only where the memory held these octets, accepted under this ceiling.
     ensures found { IsFound (is_remembered result) memory.old octets.now (B.ceiling budget.old) }
@@ -137,31 +137,40 @@ pub fn judge<'p, B: Budget>(
     // Of what was paid in this call: no pair is tried twice, and each is eligible; the octets are within the bound, the calls within
     // the policy's ceiling.
     ensures once { AllPairs IsBefore (paid_in result) }
-    ensures eligible { AreEligible (terms policy.now keys.now now (map meaning verifiers.now))
+    ensures eligible { AreEligible (terms_meant (λ b. meaning (b.vtable, b.value)) terms.now)
         octets.now (paid_in result) }
-    ensures bound { IsBounded (terms policy.now keys.now now (map meaning verifiers.now))
+    ensures bound { IsBounded (terms_meant (λ b. meaning (b.vtable, b.value)) terms.now)
         octets.now (paid_in result) (B.octets budget.new) }
-    ensures within { IsWithin policy.now.max_calls (B.calls budget.new) }
+    ensures within { IsWithin terms.now.policy.now.max_calls (B.calls budget.new) }
 
     // The budget agrees with that.
     ensures octets { B.octets budget.new ≡ work (paid_in result) }
     ensures calls { B.calls budget.new ≡ length (paid_in result) }
     ensures ceiling { B.ceiling budget.new ≡ B.ceiling budget.old }
 
-    // The memory is still of this policy, these keys and these verifiers.
-    ensures kept { AreKept policy.now keys.now (map meaning verifiers.now) memory.new }
+    // The memory is still of that policy, those keys and those verifiers.
+    ensures kept { AreKept terms.now.policy.now terms.now.keys.now
+        (map (λ b. meaning (b.vtable, b.value)) terms.now.verifiers.now) memory.new }
     ensures room { HasRoomOf memory.new memory.old }
 {
     accepted_ever();
     let ceiling = budget.left();
     match memory.recall(octets, ceiling) {
         Some(basis) => {
-            let fault = check(policy, &basis.claims, now);
+            let fault = check(terms.policy, &basis.claims, terms.moment);
             Outcome::Remembered(basis, fault)
         }
         None => {
-            let report = jwt_verify::judge(alloc, octets, keys, policy, now, verifiers, budget);
-            kept(memory, alloc, octets, ceiling, report, budget.octets())
+            let report = jwt_verify::judge(
+                alloc,
+                octets,
+                terms.keys,
+                terms.policy,
+                terms.moment,
+                terms.verifiers,
+                budget,
+            );
+            memory.kept(alloc, octets, ceiling, report, budget.octets())
         }
     }
 }

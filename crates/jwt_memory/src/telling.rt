@@ -14,7 +14,6 @@ ghost use Rattle.jwt_memory.specs.Entries.{HasRoomOf};
 ghost use Rattle.jwt_memory.specs.ToldKept.{AreTrulyKept, IsToldNow, IsTrulyRemembered, IsTrulyTold};
 ghost use Rattle.jwt_memory.specs.Outcomes.{report_in, paid_in, is_remembered, IsFound};
 
-use crate::judging::kept;
 use crate::laws::{accepted_ever, accepted_verdicts};
 use crate::memory::Memory;
 use crate::outcome::Outcome;
@@ -115,7 +114,7 @@ pub fn judge_told<'a, 'p>(
         None => match jwt_told::judge_told(
             alloc, octets, keys, policy, now, answers, budget, scratch,
         ) {
-            Ok(report) => Ok(kept(memory, alloc, octets, ceiling, report, budget.octets())),
+            Ok(report) => Ok(memory.kept(alloc, octets, ceiling, report, budget.octets())),
             Err(asking) => Err(asking),
         },
     }

@@ -1,5 +1,5 @@
 use Rattle.std.proofs.Common.{inl, inr, ◌∙◌}
-use Rattle.jwt_memory.proofs.judging.accepted.Goals as goal
+use Rattle.jwt_memory.proofs.memory.Memory.accepted.Goals as goal
 
 pub returns-in-Ok-clause-held : goal.returns-in-Ok-clause-held
 returns-in-Ok-clause-held c e h = elim (c.keep.ensures.held e h) [
