@@ -213,7 +213,10 @@ def names_of(edit, found, crate, folder):
     if whole in found:
         return [whole]
     start, end = "::".join(module) + "::", f"::{edit.function.name}"
-    return [it for it in found if it.startswith(start) and it.endswith(end)]
+    here = [it for it in found if it.startswith(start) and it.endswith(end)]
+    # (a method whose impl stands in another file than its type is named by the type's module)
+    method = "::".join(["", *owner, edit.function.name])
+    return here or [it for it in found if owner and it.startswith(f"{crate}::") and it.endswith(method)]
 
 
 class Crate:
