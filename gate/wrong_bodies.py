@@ -233,7 +233,7 @@ class Crate:
         self.copy()
         self.is_warm = (self.folder / "out/incremental").is_dir() and not from_nothing
         if self.is_warm:
-            kit.linked(str(self.folder / "out/incremental"), str(self.kept))
+            shutil.copytree(self.folder / "out/incremental", self.kept)
         else:
             self.kept.mkdir(parents=True)
 
@@ -263,7 +263,7 @@ class Crate:
         subprocess.run(["git", "init", "-q"], cwd=self.room, check=True)
         for it in self.made.below():
             rlib = self.room / "crates" / it.name / "out/rlib"
-            shutil.copytree(os.path.dirname(it.rlib), rlib, copy_function=self.kit.link_or_copy)
+            shutil.copytree(os.path.dirname(it.rlib), rlib, copy_function=link_or_copy)
         # (without a stamp, rt would prove them once more for an edit that is tried alone)
         for it in self.kit.rtlib.crates_below(str(self.room)):
             rlib = pathlib.Path(os.path.dirname(it.rlib))
@@ -292,11 +292,11 @@ class Crate:
         return self.judged(group, run)
 
     def check_of(self, group):
-        """Runs the prover on a group: over links of what `rt check` kept, or else over what the groups before it have left."""
+        """Runs the prover on a group: over a copy of what `rt check` kept, or else over what the groups before it have left."""
         if not self.is_warm:
             return self.kit.checked(self.made, group.texts, ["--jobs", str(self.jobs)], str(self.kept))
         with tempfile.TemporaryDirectory(dir=self.room) as over:
-            self.kit.linked(str(self.kept), f"{over}/kept")
+            shutil.copytree(self.kept, f"{over}/kept")
             return self.kit.checked(self.made, group.texts, ["--jobs", str(self.jobs)], f"{over}/kept")
 
     def judged(self, group, run):
@@ -336,6 +336,14 @@ class Crate:
         for name, words in re.findall(rf"^(?:rt: )?must-fail {self.name}/{fresh}([\w.-]+?\.edit): (.*)$", said, re.MULTILINE):
             lines[of[name]] = words
         return lines
+
+
+def link_or_copy(source, target):
+    """Links a file that is only read, or copies it where the file system has no such link."""
+    try:
+        os.link(source, target)
+    except OSError:
+        shutil.copy2(source, target)
 
 
 def kit():
