@@ -8,7 +8,6 @@ ghost use Rattle.jwt_verify.specs.Accepted.{IsVerdict};
 ghost use Rattle.jwt_verify.specs.Laws.{IsBefore};
 ghost use Rattle.jwt_verify.specs.Paying.{IsWithin};
 ghost use Rattle.jwt_verify.specs.Reports.{FoundMemory, IsReport, AreEligible, IsBounded, terms};
-ghost use Rattle.jwt_verify.specs.TermsTable.{terms_meant};
 ghost use Rattle.jwt_verify.specs.declared.report.InputFault.TheVariants.{Read};
 ghost use Rattle.jwt_verify.specs.declared.report.Fault.TheVariants.{OutOfMemory, Text};
 ghost use Rattle.jwt_verify.specs.declared.report.Verdict.TheVariants.{Refused};
@@ -89,7 +88,6 @@ fn built_in_terms<'k, 'p, 'v>(
     verifiers: &'v [Box<dyn Verifier>],
 ) -> Terms<'k, 'p, 'v>
     requires three { map meaning verifiers.now ≡ built_in }
-    ensures meant { terms_meant meaning result ≡ terms policy.now keys.now now built_in }
     ensures three { map meaning result.verifiers.now ≡ built_in }
     ensures policy { result.policy.now ≡ policy.now }
     ensures keys { result.keys.now ≡ keys.now }

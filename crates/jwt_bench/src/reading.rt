@@ -15,7 +15,7 @@ use crate::fault::RunFault;
 use crate::given::{Given, split};
 use crate::ready::Ready;
 use crate::totals::Totals;
-use crate::words::Order;
+use crate::words::WorkloadRuns;
 use jwt_issue::ClaimSet;
 use jwt_jws::{FormFault, Signed, parse};
 use jwt_keys::{KeySet, KeysFault};
@@ -27,7 +27,7 @@ use std::alloc::Global;
 /// All runs.
 fn repeat(
     alloc: Global,
-    order: Order,
+    order: WorkloadRuns,
     ready: &Ready<'_>,
     built_in: &[Box<dyn Verifier>],
 ) -> Result<Totals, RunFault>
@@ -130,7 +130,7 @@ fn header_of(alloc: Global, signed: &Signed<'_>) -> Result<Vec<u8>, RunFault>
 /// The runs over a signed token.
 fn on_signed(
     alloc: Global,
-    order: Order,
+    order: WorkloadRuns,
     input: InputRead<'_, '_>,
     built_in: &[Box<dyn Verifier>],
 ) -> Result<Totals, RunFault>
@@ -171,7 +171,7 @@ fn keys_in(alloc: Global, document: &[u8]) -> Result<KeySet, RunFault>
 /// The runs over an input in its three parts.
 fn on_given(
     alloc: Global,
-    order: Order,
+    order: WorkloadRuns,
     given: Given<'_>,
     built_in: &[Box<dyn Verifier>],
 ) -> Result<Totals, RunFault>
@@ -200,7 +200,7 @@ fn on_given(
 /// The runs over the octets of an input.
 fn on_octets(
     alloc: Global,
-    order: Order,
+    order: WorkloadRuns,
     octets: &[u8],
     built_in: &[Box<dyn Verifier>],
 ) -> Result<Totals, RunFault>
@@ -218,7 +218,7 @@ fn on_octets(
 /// Reads the input, at most [`GREATEST_LIMIT`] octets, and runs the workload over it so many times.
 pub(crate) fn totals<R: Source>(
     alloc: Global,
-    order: Order,
+    order: WorkloadRuns,
     built_in: &[Box<dyn Verifier>],
     r: &mut R,
 ) -> Result<Totals, RunFault>

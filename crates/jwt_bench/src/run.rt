@@ -2,11 +2,11 @@
 ghost use Rattle.std.specs.Prelude.{◌≡◌, ◌≢◌, ◌≤◌, ◌⊎◌, Ok, IfOk, OnErr, IfSome, map};
 ghost use Rattle.jwt_bench.specs.Printed.{PrintsRuns};
 ghost use Rattle.jwt_bench.specs.Words.{Asks};
-ghost use Rattle.jwt_bench.specs.declared.words.Order.{Order as Asked};
+ghost use Rattle.jwt_bench.specs.declared.words.WorkloadRuns.{WorkloadRuns as Asked};
 
 use crate::fault::RunFault;
 use crate::reading::totals;
-use crate::words::{Order, read_words};
+use crate::words::{WorkloadRuns, read_words};
 use jwt_mac::Verifier;
 use jwt_text::{Sink, Source, write_out};
 use std::alloc::Global;
@@ -14,7 +14,7 @@ use std::alloc::Global;
 /// Runs what is asked for, and prints what it came to.
 fn run_order<R: Source, W: Sink>(
     alloc: Global,
-    order: Order,
+    order: WorkloadRuns,
     built_in: &[Box<dyn Verifier>],
     r: &mut R,
     w: &mut W,

@@ -1,7 +1,7 @@
 //! The words of the command.
 ghost use Rattle.std.specs.Prelude.{ℕ, map, MatchOption};
 ghost use Rattle.jwt_bench.specs.Words.{Asks, IsCount};
-ghost use Rattle.jwt_bench.specs.declared.words.Order.{Order as Asked};
+ghost use Rattle.jwt_bench.specs.declared.words.WorkloadRuns.{WorkloadRuns as Asked};
 
 use crate::workload::Workload;
 
@@ -10,7 +10,7 @@ const MOST_RUNS: u32 = 10_000_000;
 
 /// What the words ask for.
 #[derive(Clone, Copy, Debug)]
-pub(crate) struct Order {
+pub(crate) struct WorkloadRuns {
     pub(crate) workload: Workload,
     pub(crate) count: u32,
 }
@@ -26,7 +26,7 @@ fn count_in(text: &str) -> Option<u32>
 }
 
 /// What the words ask for: after the program's name a workload and a count of at most 10,000,000, and no more.
-pub(crate) fn read_words(words: &[&str]) -> Option<Order>
+pub(crate) fn read_words(words: &[&str]) -> Option<WorkloadRuns>
     ensures { MatchOption result ((o : Asked) → ¬ Asks (map (λ w. w.now) words.now) o)
         (λ o. Asks (map (λ w. w.now) words.now) o) }
 {
@@ -37,7 +37,7 @@ pub(crate) fn read_words(words: &[&str]) -> Option<Order>
         return None;
     };
     match count_in(count) {
-        Some(count) => Some(Order { workload, count }),
+        Some(count) => Some(WorkloadRuns { workload, count }),
         None => None,
     }
 }

@@ -1,5 +1,5 @@
 -- What a verdict rests on, with a memory and without.
-use Rattle.std.proofs.Common.{◌≡◌, ℕ, ℤ, Bool, true, false, List, [], ◌∷◌, Some, None, refl, Result, Ok, Err}
+use Rattle.std.proofs.Common.{◌≡◌, ℕ, ℤ, Bool, true, false, List, [], ◌∷◌, Some, refl, Result, Ok, Err}
 use Rattle.std.specs.Result.{IfOk, IfErr}
 use Rattle.jwt_verify.specs.declared.report.Report.{Report}
 use Rattle.jwt_jws.specs.Views.{token}

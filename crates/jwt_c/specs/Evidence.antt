@@ -1,5 +1,5 @@
 -- The parts of a report beside its numbers.
-use Rattle.std.specs.Prelude.{◌≡◌, Bool, true, false, List, [], Option, Some, None}
+use Rattle.std.specs.Prelude.{Bool, true, false, List, Option, Some, None}
 use Rattle.std.specs.Arc.{arc_value}
 use Rattle.serde_json.specs.Data.{Members}
 use Rattle.jwt_verify.specs.declared.report.SigState.{SigState}

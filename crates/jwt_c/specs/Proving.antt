@@ -1,5 +1,5 @@
 -- A token judged by the proved verifiers.
-use Rattle.std.specs.Prelude.{◌≡◌, ℕ, ℤ, List, Option, Some, None}
+use Rattle.std.specs.Prelude.{ℕ, ℤ, List, Option, Some, None}
 use Rattle.jwt_verify.specs.Reports.{IsReport, terms}
 use Rattle.jwt_verify.specs.declared.report.Report.{Report}
 use Rattle.jwt_memory.specs.declared.memory.Memory.{Memory}

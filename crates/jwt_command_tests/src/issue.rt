@@ -1,6 +1,6 @@
 //! The command `issue`.
 use crate::examples::VERIFY;
-use crate::runs::{Printed, Row, assert_ran, assert_rows, joined, ran, ran_holding};
+use crate::runs::{CommandRow, Printed, assert_ran, assert_rows, joined, ran, ran_holding};
 use jwt_command::documents::Held;
 use jwt_support::cases::{KEYS_A, KEYS_Z, KEYS_ZA};
 use jwt_support::examples::filled;
@@ -10,44 +10,44 @@ use std::test::Fail;
 
 const COMPACT: &[&str] = &["jwt", "issue", "--alg", "HS256", "--typ", "JWT"];
 
-static REFUSALS: [Row; 9] = [
-    Row {
+static REFUSALS: [CommandRow; 9] = [
+    CommandRow {
         words: COMPACT,
         input: &["{}", "{}"],
         prints: &["refused Keys NotKeySet"],
         status: 1,
     },
-    Row {
+    CommandRow {
         words: COMPACT,
         input: &[r#"{"keys":[]}"#, "{}"],
         prints: &["refused NoKey"],
         status: 1,
     },
-    Row {
+    CommandRow {
         words: COMPACT,
         input: &[r#"{"keys":[]}"#, "[]"],
         prints: &["refused ClaimsShape"],
         status: 1,
     },
-    Row {
+    CommandRow {
         words: COMPACT,
         input: &[KEYS_Z, r#"{"exp":"x"}"#],
         prints: &[r#"refused ClaimKind claim="exp""#],
         status: 1,
     },
-    Row {
+    CommandRow {
         words: &["jwt", "issue", "--alg", "RS256"],
         input: &[KEYS_Z, "{}"],
         prints: &["refused AlgNotHmac sig=0"],
         status: 1,
     },
-    Row {
+    CommandRow {
         words: &["jwt", "issue", "--alg", "HS512", "--form", "json"],
         input: &[KEYS_ZA, "{}"],
         prints: &["refused KeyUnfit sig=0"],
         status: 1,
     },
-    Row {
+    CommandRow {
         words: &["jwt", "issue", "--alg", "none"],
         input: &[KEYS_Z, "{}"],
         prints: &[
@@ -58,7 +58,7 @@ static REFUSALS: [Row; 9] = [
         ],
         status: 2,
     },
-    Row {
+    CommandRow {
         words: &["jwt", "issue", "--alg", "hs265"],
         input: &[KEYS_Z, "{}"],
         prints: &[
@@ -71,7 +71,7 @@ static REFUSALS: [Row; 9] = [
         ],
         status: 2,
     },
-    Row {
+    CommandRow {
         words: &["jwt", "issue", "--alg", "HS256", "--form", "general"],
         input: &[KEYS_Z, "{}"],
         prints: &[

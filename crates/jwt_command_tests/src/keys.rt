@@ -1,5 +1,5 @@
 //! The command `keys`.
-use crate::runs::{Row, assert_rows, joined, ran};
+use crate::runs::{CommandRow, assert_rows, joined, ran};
 use jwt_support::cases::KEYS_A;
 use std::test::Fail;
 
@@ -11,8 +11,8 @@ const KEYS_JSON: &[&str] = &["jwt", "keys", "--json"];
 const RSA_KEY: &str =
     r#"{"keys":[{"kty":"RSA","n":"<RSA_N>","e":"AQAB","alg":"RS256","kid":"2011-04-29"}]}"#;
 
-static LISTS: [Row; 8] = [
-    Row {
+static LISTS: [CommandRow; 8] = [
+    CommandRow {
         words: KEYS,
         input: &[RSA_KEY],
         prints: &[
@@ -21,7 +21,7 @@ static LISTS: [Row; 8] = [
         status: 0,
     },
     // RFC 8037, appendix A.3.
-    Row {
+    CommandRow {
         words: KEYS,
         input: &[r#"{"keys":[{"kty":"OKP","crv":"Ed25519","x":"<ED25519_X>"}]}"#],
         prints: &[
@@ -29,7 +29,7 @@ static LISTS: [Row; 8] = [
         ],
         status: 0,
     },
-    Row {
+    CommandRow {
         words: KEYS,
         input: &[
             r#"{"keys":[{"kty":"XYZ"},{"kty":"oct","k":"AA","kid":"a\n\""},{"kty":"oct"},7,{"kty":"oct","k":"AA"},{"kty":"oct","k":""}]}"#,
@@ -44,31 +44,31 @@ static LISTS: [Row; 8] = [
         ],
         status: 0,
     },
-    Row {
+    CommandRow {
         words: KEYS,
         input: &[r#"{"keys":[]}"#],
         prints: &[],
         status: 0,
     },
-    Row {
+    CommandRow {
         words: KEYS,
         input: &[r#"{"keys":7}"#],
         prints: &["refused Keys NotKeySet"],
         status: 1,
     },
-    Row {
+    CommandRow {
         words: KEYS,
         input: &["[]"],
         prints: &["refused Keys NotKeySet"],
         status: 1,
     },
-    Row {
+    CommandRow {
         words: KEYS,
         input: &["{"],
         prints: &["refused Keys Json"],
         status: 1,
     },
-    Row {
+    CommandRow {
         words: KEYS,
         input: &[r#"{"keys":[],"keys":[]}"#],
         prints: &["refused Keys NameTwice"],
@@ -86,8 +86,8 @@ fn keys_prints_a_line_an_entry(rt: HostRuntime) -> Result<(), Fail> {
 const SKIPPED_KEYS: &str =
     r#"{"keys":[7,{},{"kty":7},{"kty":"XYZ"},{"kty":"EC","crv":"X","x":"AA","y":"AA"},{"kty":"oct","k":"AA=="},{"kty":"oct","k":""}]}"#;
 
-static LISTS_IN_JSON: [Row; 7] = [
-    Row {
+static LISTS_IN_JSON: [CommandRow; 7] = [
+    CommandRow {
         words: KEYS_JSON,
         input: &[
             r#"{"keys":[{"kty":"XYZ"},{"kty":"oct","k":"AA","kid":"a\n\"","alg":"HS256"},7,{"kty":"oct","k":"AA"}]}"#,
@@ -97,7 +97,7 @@ static LISTS_IN_JSON: [Row; 7] = [
         ],
         status: 0,
     },
-    Row {
+    CommandRow {
         words: KEYS_JSON,
         input: &[
             r#"{"keys":[{"kty":"RSA","n":"<RSA_N>","e":"AQAB","alg":"RS256","kid":"2011-04-29"}]}"#,
@@ -107,7 +107,7 @@ static LISTS_IN_JSON: [Row; 7] = [
         ],
         status: 0,
     },
-    Row {
+    CommandRow {
         words: KEYS_JSON,
         input: &[SKIPPED_KEYS],
         prints: &[
@@ -115,25 +115,25 @@ static LISTS_IN_JSON: [Row; 7] = [
         ],
         status: 0,
     },
-    Row {
+    CommandRow {
         words: KEYS_JSON,
         input: &[r#"{"keys":[]}"#],
         prints: &[r#"{"keys":[],"skipped":[]}"#],
         status: 0,
     },
-    Row {
+    CommandRow {
         words: KEYS_JSON,
         input: &[r#"{"keys":7}"#],
         prints: &[r#"{"verdict":"refused","document":"keys","fault":"NotKeySet"}"#],
         status: 1,
     },
-    Row {
+    CommandRow {
         words: KEYS_JSON,
         input: &["{"],
         prints: &[r#"{"verdict":"refused","document":"keys","fault":"Json"}"#],
         status: 1,
     },
-    Row {
+    CommandRow {
         words: KEYS_JSON,
         input: &[r#"{"keys":[],"keys":[]}"#],
         prints: &[r#"{"verdict":"refused","document":"keys","fault":"NameTwice"}"#],

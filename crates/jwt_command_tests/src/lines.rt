@@ -1,6 +1,6 @@
 //! The command `verify --lines`.
 use crate::examples::{ACCEPTED, MOMENT};
-use crate::runs::{AtHand, Printed, assert_ran, ended, ran_with, status_with};
+use crate::runs::{Printed, RunInputs, assert_ran, ended, ran_with, status_with};
 use jwt_command::Moment;
 use jwt_command::documents::Held;
 use jwt_command::verify_lines::{Clock, NoClock};
@@ -76,7 +76,7 @@ fn ran_lines(alloc: Global, words: &[&str], lines: &[&str]) -> Result<Printed, F
         lines: &[TOKEN_A, "", "none", TOKEN_A],
     };
     let mut r = Reader::new(input.as_bytes());
-    let at_hand = AtHand {
+    let at_hand = RunInputs {
         verifiers: &[],
         clock: Some(0),
         moments: &mut moments,
@@ -111,7 +111,7 @@ fn status_of_lines<R: Source, W: Sink>(alloc: Global, r: &mut R, w: &mut W) -> R
         keys: Some(keys.as_bytes()),
         ..Held::none()
     };
-    let at_hand = AtHand {
+    let at_hand = RunInputs {
         verifiers: &[],
         clock: Some(0),
         moments: &mut NoClock,

@@ -1,5 +1,5 @@
 //! The command `policy`.
-use crate::runs::{AtHand, Printed, assert_ran, ended, ran_with};
+use crate::runs::{Printed, RunInputs, assert_ran, ended, ran_with};
 use jwt_command::documents::Held;
 use jwt_command::verify_lines::NoClock;
 use jwt_mac::Verifier;
@@ -38,7 +38,7 @@ fn ran_policy(
         ..Held::none()
     };
     let mut r = Reader::new(&b"unread"[..]);
-    let at_hand = AtHand {
+    let at_hand = RunInputs {
         verifiers: verifiers.as_slice(),
         clock: None,
         moments: &mut NoClock,

@@ -1,5 +1,5 @@
 //! The option `--pretty` of `show`: a token for a person.
-use crate::runs::{Row, assert_rows};
+use crate::runs::{CommandRow, assert_rows};
 use std::test::Fail;
 
 const PRETTY: &[&str] = &["jwt", "show", "--pretty"];
@@ -11,8 +11,8 @@ const AT_THE_END: &[&str] = &["jwt", "show", "--pretty", "--now=1300819380"];
 
 const BEHIND: &[&str] = &["jwt", "show", "--now", "1300819381", "--pretty"];
 
-static SHOWN: [Row; 11] = [
-    Row {
+static SHOWN: [CommandRow; 11] = [
+    CommandRow {
         words: PRETTY,
         input: &["<TOKEN_A>"],
         prints: &[
@@ -35,7 +35,7 @@ static SHOWN: [Row; 11] = [
         ],
         status: 0,
     },
-    Row {
+    CommandRow {
         words: BEFORE,
         input: &["<TOKEN_A>", ""],
         prints: &[
@@ -59,7 +59,7 @@ static SHOWN: [Row; 11] = [
         ],
         status: 0,
     },
-    Row {
+    CommandRow {
         words: AT_THE_END,
         input: &["<TOKEN_A>"],
         prints: &[
@@ -83,7 +83,7 @@ static SHOWN: [Row; 11] = [
         ],
         status: 0,
     },
-    Row {
+    CommandRow {
         words: BEHIND,
         input: &["<TOKEN_A>"],
         prints: &[
@@ -108,7 +108,7 @@ static SHOWN: [Row; 11] = [
         status: 0,
     },
     // Characters of Cc, Cf, Zl and Zp, and above U+FFFF, in the payload and in the header.
-    Row {
+    CommandRow {
         words: PRETTY,
         input: &[
             "eyJhbGciOiJIU-KAjjI1NiIsInR5cCI6IkpXVCJ9.eyJzdWIiOiJhwoXigI7igK7igKjigKnzoICBf8Kt2JzDpPCfmIBcdTAwMWJcIlxcL1x0IiwiZXhwIjoxMzAwODE5MzgwLCJuIjpbMS41MCwtMCx0cnVlLGZhbHNlLG51bGwse31dLCJvIjp7IuKAi2siOltdfX0.AQAB",
@@ -143,7 +143,7 @@ static SHOWN: [Row; 11] = [
         ],
         status: 0,
     },
-    Row {
+    CommandRow {
         words: PRETTY,
         input: &[
             r#"{"payload":"e30","signatures":[{"signature":"AQAB"},{"protected":"eyJhbGciOjd9","header":{"kid":"k","x":[1]},"signature":""}]}"#,
@@ -171,7 +171,7 @@ static SHOWN: [Row; 11] = [
         ],
         status: 0,
     },
-    Row {
+    CommandRow {
         words: PRETTY,
         input: &["e30.."],
         prints: &[
@@ -188,7 +188,7 @@ static SHOWN: [Row; 11] = [
         status: 0,
     },
     // A year before 0 and one past 9999 have no date.
-    Row {
+    CommandRow {
         words: BEFORE,
         input: &[
             "e30.eyJleHAiOi02MjE2NzIxOTIwMSwiaWF0IjotNjIxNjcyMTkyMDAsIm5iZiI6MjUzNDAyMzAwODAwfQ.",
@@ -213,7 +213,7 @@ static SHOWN: [Row; 11] = [
         ],
         status: 0,
     },
-    Row {
+    CommandRow {
         words: BEHIND,
         input: &["e30.eyJleHAiOjE3MDAwMDAwMDAsImlhdCI6MCwibmJmIjo5NTE3ODI0MDB9."],
         prints: &[
@@ -236,13 +236,13 @@ static SHOWN: [Row; 11] = [
         ],
         status: 0,
     },
-    Row {
+    CommandRow {
         words: PRETTY,
         input: &["a.b"],
         prints: &["refused Segments"],
         status: 1,
     },
-    Row {
+    CommandRow {
         words: &["jwt", "show", "--pretty", "--limit", "3"],
         input: &["e30.."],
         prints: &["refused TooLong"],

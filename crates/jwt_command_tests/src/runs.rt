@@ -21,7 +21,7 @@ pub(crate) struct Printed {
 /// A run: its words, the lines of its input, with a line feed between two, the lines that it prints, with one behind each, and its
 /// status. Names in angle brackets in the input are those of [`filled`].
 #[derive(Clone, Copy)]
-pub(crate) struct Row {
+pub(crate) struct CommandRow {
     pub(crate) words: &'static [&'static str],
     pub(crate) input: &'static [&'static str],
     pub(crate) prints: &'static [&'static str],
@@ -30,7 +30,7 @@ pub(crate) struct Row {
 
 /// What a run has at hand.
 #[derive(Drop)]
-pub(crate) struct AtHand<'a, C> {
+pub(crate) struct RunInputs<'a, C> {
     /// The verifiers for public keys.
     pub(crate) verifiers: &'a [Box<dyn Verifier>],
     /// The seconds that the clock says, if it can be read.
@@ -55,11 +55,11 @@ pub(crate) fn status_of<R: Source, W: Sink>(
 pub(crate) fn status_with<R: Source, W: Sink, C: Clock>(
     alloc: Global,
     words: &[&str],
-    at_hand: AtHand<'_, C>,
+    at_hand: RunInputs<'_, C>,
     r: &mut R,
     w: &mut W,
 ) -> u8 {
-    let AtHand {
+    let RunInputs {
         verifiers,
         clock,
         moments,
@@ -94,7 +94,7 @@ pub(crate) fn ran(alloc: Global, words: &[&str], input: &str) -> Result<Printed,
 pub(crate) fn ran_with<R: Source, C: Clock>(
     alloc: Global,
     words: &[&str],
-    at_hand: AtHand<'_, C>,
+    at_hand: RunInputs<'_, C>,
     r: &mut R,
 ) -> Result<Printed, Fail> {
     let mut out: Vec<u8> = Vec::new(alloc);
@@ -110,7 +110,7 @@ pub(crate) fn ran_holding<R: Source>(
     held: Held<'_>,
     r: &mut R,
 ) -> Result<Printed, Fail> {
-    let at_hand = AtHand {
+    let at_hand = RunInputs {
         verifiers: &[],
         clock: None,
         moments: &mut NoClock,
@@ -149,7 +149,7 @@ pub(crate) fn assert_ran(
 }
 
 /// Asserts that each row's run prints just its lines, and ends with its status.
-pub(crate) fn assert_rows(rt: &impl Abort, alloc: Global, rows: &[Row]) -> Result<(), Fail> {
+pub(crate) fn assert_rows(rt: &impl Abort, alloc: Global, rows: &[CommandRow]) -> Result<(), Fail> {
     for row in rows {
         let input = joined(alloc, row.input)?;
         let found = ran(alloc, row.words, &input)?;

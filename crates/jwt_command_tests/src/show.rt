@@ -1,5 +1,5 @@
 //! The command `show`.
-use crate::runs::{Row, assert_rows};
+use crate::runs::{CommandRow, assert_rows};
 use jwt_support::examples::TOKEN_A;
 use std::test::Fail;
 
@@ -7,8 +7,8 @@ const SHOW: &[&str] = &["jwt", "show"];
 
 const SHOW_JSON: &[&str] = &["jwt", "show", "--json", "--limit", "179"];
 
-static SHOWN: [Row; 10] = [
-    Row {
+static SHOWN: [CommandRow; 10] = [
+    CommandRow {
         words: SHOW,
         input: &[TOKEN_A],
         prints: &[
@@ -19,7 +19,7 @@ static SHOWN: [Row; 10] = [
         ],
         status: 0,
     },
-    Row {
+    CommandRow {
         words: SHOW,
         input: &[
             r#"{"payload":"e30","signatures":[{"signature":"AQAB"},{"protected":"eyJhbGciOjd9","header":{"kid":"k"},"signature":""}]}"#,
@@ -34,7 +34,7 @@ static SHOWN: [Row; 10] = [
         ],
         status: 0,
     },
-    Row {
+    CommandRow {
         words: SHOW,
         input: &[
             r#"{"payload":"eyJhdWQiOlsiYSIsImIiXSwiZXhwIjotNX0","header":{"kid":null},"signature":""}"#,
@@ -47,7 +47,7 @@ static SHOWN: [Row; 10] = [
         ],
         status: 0,
     },
-    Row {
+    CommandRow {
         words: SHOW,
         input: &["e30.."],
         prints: &[
@@ -59,7 +59,7 @@ static SHOWN: [Row; 10] = [
         status: 0,
     },
     // {"exp":"1"}, {"exp":1e3}
-    Row {
+    CommandRow {
         words: SHOW,
         input: &["e30.eyJleHAiOiIxIn0."],
         prints: &[
@@ -70,7 +70,7 @@ static SHOWN: [Row; 10] = [
         ],
         status: 0,
     },
-    Row {
+    CommandRow {
         words: SHOW,
         input: &["e30.eyJleHAiOjFlM30."],
         prints: &[
@@ -81,25 +81,25 @@ static SHOWN: [Row; 10] = [
         ],
         status: 0,
     },
-    Row {
+    CommandRow {
         words: SHOW,
         input: &[""],
         prints: &["refused Empty"],
         status: 1,
     },
-    Row {
+    CommandRow {
         words: SHOW,
         input: &["a.b.c.d.e"],
         prints: &["refused Encrypted"],
         status: 1,
     },
-    Row {
+    CommandRow {
         words: SHOW,
         input: &["e30.A."],
         prints: &["refused Base64 part=payload"],
         status: 1,
     },
-    Row {
+    CommandRow {
         words: SHOW,
         input: &[
             r#"{"payload":"e30","signatures":[{"signature":""},{"header":7,"signature":""}]}"#,
@@ -115,8 +115,8 @@ fn show_prints_what_stands_in_a_token(rt: HostRuntime) -> Result<(), Fail> {
     assert_rows(&rt, rt.alloc(), &SHOWN)
 }
 
-static SHOWN_IN_JSON: [Row; 12] = [
-    Row {
+static SHOWN_IN_JSON: [CommandRow; 12] = [
+    CommandRow {
         words: SHOW_JSON,
         input: &[TOKEN_A],
         prints: &[
@@ -124,7 +124,7 @@ static SHOWN_IN_JSON: [Row; 12] = [
         ],
         status: 0,
     },
-    Row {
+    CommandRow {
         words: SHOW_JSON,
         input: &[
             r#"{"payload":"e30","signatures":[{"signature":"AQAB"},{"protected":"eyJhbGciOjd9","header":{"kid":"k"},"signature":""}]}"#,
@@ -135,7 +135,7 @@ static SHOWN_IN_JSON: [Row; 12] = [
         ],
         status: 0,
     },
-    Row {
+    CommandRow {
         words: SHOW_JSON,
         input: &[
             r#"{"payload":"eyJhdWQiOlsiYSIsImIiXSwiZXhwIjotNX0","header":{"x":[1.50, -0],"kid":null},"signature":""}"#,
@@ -145,7 +145,7 @@ static SHOWN_IN_JSON: [Row; 12] = [
         ],
         status: 0,
     },
-    Row {
+    CommandRow {
         words: SHOW_JSON,
         input: &[r#"{"payload":"e30","protected":"","signature":""}"#],
         prints: &[
@@ -154,7 +154,7 @@ static SHOWN_IN_JSON: [Row; 12] = [
         status: 0,
     },
     // A payload of the octets 1, 0 and 1, and one that is a list.
-    Row {
+    CommandRow {
         words: SHOW_JSON,
         input: &["e30.AQAB."],
         prints: &[
@@ -162,7 +162,7 @@ static SHOWN_IN_JSON: [Row; 12] = [
         ],
         status: 0,
     },
-    Row {
+    CommandRow {
         words: SHOW_JSON,
         input: &["e30.eyJleHAiOiIxIn0."],
         prints: &[
@@ -170,7 +170,7 @@ static SHOWN_IN_JSON: [Row; 12] = [
         ],
         status: 0,
     },
-    Row {
+    CommandRow {
         words: SHOW_JSON,
         input: &["e30.W10."],
         prints: &[
@@ -178,25 +178,25 @@ static SHOWN_IN_JSON: [Row; 12] = [
         ],
         status: 0,
     },
-    Row {
+    CommandRow {
         words: SHOW_JSON,
         input: &[""],
         prints: &[r#"{"verdict":"refused","fault":"Empty"}"#],
         status: 1,
     },
-    Row {
+    CommandRow {
         words: SHOW_JSON,
         input: &["a.b.c.d.e"],
         prints: &[r#"{"verdict":"refused","fault":"Encrypted"}"#],
         status: 1,
     },
-    Row {
+    CommandRow {
         words: SHOW_JSON,
         input: &["e30.A."],
         prints: &[r#"{"verdict":"refused","fault":"Base64","part":"payload"}"#],
         status: 1,
     },
-    Row {
+    CommandRow {
         words: SHOW_JSON,
         input: &[
             r#"{"payload":"e30","signatures":[{"signature":""},{"header":7,"signature":""}]}"#,
@@ -204,7 +204,7 @@ static SHOWN_IN_JSON: [Row; 12] = [
         prints: &[r#"{"verdict":"refused","fault":"UnprotectedKind","signature":1}"#],
         status: 1,
     },
-    Row {
+    CommandRow {
         words: &["jwt", "show", "--json", "--limit", "178"],
         input: &[TOKEN_A],
         prints: &[r#"{"verdict":"refused","fault":"TooLong"}"#],

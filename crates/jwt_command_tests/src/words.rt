@@ -1,12 +1,12 @@
 //! Wrong words, and those that ask for the version.
-use crate::runs::{Row, assert_ran, assert_rows, ran_on};
+use crate::runs::{CommandRow, assert_ran, assert_rows, ran_on};
 use jwt_support::examples::TOKEN_A;
 use jwt_support::streams::Drip;
 use std::test::Fail;
 
 /// What clap says of wrong words.
-static SAID: [Row; 3] = [
-    Row {
+static SAID: [CommandRow; 3] = [
+    CommandRow {
         words: &["jwt"],
         input: &[],
         prints: &[
@@ -19,7 +19,7 @@ static SAID: [Row; 3] = [
         ],
         status: 2,
     },
-    Row {
+    CommandRow {
         words: &["jwt", "mac", "--k", "AA==", "--limit", "0"],
         input: &[],
         prints: &[
@@ -29,7 +29,7 @@ static SAID: [Row; 3] = [
         ],
         status: 2,
     },
-    Row {
+    CommandRow {
         words: &["jwt", "mac"],
         input: &[],
         prints: &[

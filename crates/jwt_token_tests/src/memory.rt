@@ -25,7 +25,7 @@ struct Step {
 
 /// How many tokens of how many octets a memory keeps, and the tokens that come one after another.
 #[derive(Clone, Copy)]
-struct Case {
+struct MemoryCase {
     tokens: usize,
     longest: usize,
     steps: &'static [Step],
@@ -55,8 +55,8 @@ const IN_JSON: Step = Step {
     ..FIRST
 };
 
-static CASES: [Case; 4] = [
-    Case {
+static CASES: [MemoryCase; 4] = [
+    MemoryCase {
         tokens: 2,
         longest: 8192,
         steps: &[
@@ -95,12 +95,12 @@ static CASES: [Case; 4] = [
             AGAIN,
         ],
     },
-    Case {
+    MemoryCase {
         tokens: 2,
         longest: 8192,
         steps: &[IN_JSON, IN_JSON, FIRST, AGAIN],
     },
-    Case {
+    MemoryCase {
         tokens: 2,
         longest: 100,
         steps: &[
@@ -111,7 +111,7 @@ static CASES: [Case; 4] = [
             },
         ],
     },
-    Case {
+    MemoryCase {
         tokens: 1,
         longest: 8192,
         steps: &[FIRST, AGAIN],
@@ -155,7 +155,7 @@ fn is_so(
 }
 
 /// The first step of the case that goes another way.
-fn unmet_in(alloc: Global, case: Case) -> Result<Option<&'static str>, Fail> {
+fn unmet_in(alloc: Global, case: MemoryCase) -> Result<Option<&'static str>, Fail> {
     let policy = Policy::read(alloc, HS256.as_bytes())
         .ok()
         .ok_or("no policy")?;

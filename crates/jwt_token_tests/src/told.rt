@@ -12,7 +12,7 @@ use std::test::Fail;
 
 /// What is told of the token before it is judged, and the word for what is made of it.
 #[derive(Clone, Copy)]
-struct Case {
+struct ToldCase {
     shows: &'static str,
     /// Whether the key made the signature; nothing is told where it is `None`.
     valid: Option<bool>,
@@ -24,7 +24,7 @@ struct Case {
 }
 
 /// The case where it is told that the token's key made its signature.
-const TOLD: Case = Case {
+const TOLD: ToldCase = ToldCase {
     shows: "told valid",
     valid: Some(true),
     alg: Alg::RS256,
@@ -33,33 +33,33 @@ const TOLD: Case = Case {
     word: "accepted",
 };
 
-static CASES: [Case; 6] = [
+static CASES: [ToldCase; 6] = [
     TOLD,
-    Case {
+    ToldCase {
         shows: "told invalid",
         valid: Some(false),
         word: "bad signature",
         ..TOLD
     },
-    Case {
+    ToldCase {
         shows: "nothing told",
         valid: None,
         word: "asks",
         ..TOLD
     },
-    Case {
+    ToldCase {
         shows: "told for another key",
         same_key: false,
         word: "asks",
         ..TOLD
     },
-    Case {
+    ToldCase {
         shows: "told for another signature",
         same_signature: false,
         word: "asks",
         ..TOLD
     },
-    Case {
+    ToldCase {
         shows: "told for another algorithm",
         alg: Alg::RS384,
         word: "asks",
@@ -102,7 +102,7 @@ fn octets_of<'a>(question: &Question<'a>, same: bool) -> &'a [u8] {
 /// Tells what the case has of the first signature of the token and the first key.
 fn tell(
     alloc: Global,
-    case: Case,
+    case: ToldCase,
     keys: &KeySet,
     policy: &Policy,
     answers: &mut Answers,
@@ -129,7 +129,7 @@ fn tell(
 /// The word for what is made of the token in a case.
 fn word_in(
     alloc: Global,
-    case: Case,
+    case: ToldCase,
     keys: &KeySet,
     policy: &Policy,
     scratch: &mut Scratch<Global>,

@@ -1,10 +1,10 @@
 use Rattle.std.proofs.Common.{ℕ, List, [], ◌∷◌, map, get_or, Bor}
 use Rattle.jwt_bench.specs.Words.{Asks, IsCount}
-use Rattle.jwt_bench.specs.declared.words.Order.{Order}
+use Rattle.jwt_bench.specs.declared.words.WorkloadRuns.{WorkloadRuns}
 use Rattle.jwt_bench.proofs.words.read_words.Goals as goal
 
 -- the third word is the count
-third : (words : List (Bor (List ℕ))) (order : Order) (other : Bor (List ℕ)) → Asks (map (λ w. w.now) words) order → IsCount (get_or words 2 other).now order.count
+third : (words : List (Bor (List ℕ))) (order : WorkloadRuns) (other : Bor (List ℕ)) → Asks (map (λ w. w.now) words) order → IsCount (get_or words 2 other).now order.count
 third [] order other asks = absurd asks
 third (program ∷ []) order other asks = absurd asks
 third (program ∷ name ∷ []) order other asks = absurd asks

@@ -1,4 +1,4 @@
-use Rattle.std.proofs.Common.{◌≡◌, ◌≤◌, sym, subst, IfSome, Some}
+use Rattle.std.proofs.Common.{◌≤◌, sym, subst, IfSome, Some}
 use Rattle.std.proofs.Math.Facts.{to_z-of_z}
 use Rattle.jwt_c.specs.Proving.{IsProved, IsProvedBy}
 use Rattle.jwt_c.specs.Remembering.{RemembersProved}

@@ -1,4 +1,4 @@
-use Rattle.std.proofs.Common.{◌≡◌, ◌∷◌, [], ◌∙◌, ℤ, sym, subst, ap, false, List, length, option_map}
+use Rattle.std.proofs.Common.{◌≡◌, ◌∷◌, [], ◌∙◌, sym, subst, ap, false, List, length, option_map}
 use Rattle.std.proofs.Math.Facts.{to_z-of_z}
 use Rattle.jwt_mac.specs.Verifying.{Meaning}
 use Rattle.jwt_verify.specs.Reports.{terms}

@@ -1,4 +1,4 @@
-use Rattle.std.proofs.Common.{map, subst}
+use Rattle.std.proofs.Common.{subst}
 use Rattle.jwt_memory.specs.Kept.{AreKept}
 use Rattle.jwt_c.proofs.proving.outcome_under.Goals as goal
 
