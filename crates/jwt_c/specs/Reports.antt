@@ -1,5 +1,5 @@
 -- Judging, and the report that an exported function writes.
-use Rattle.std.specs.Prelude.{◌≡◌, ◌≢◌, ℕ, ℤ, true, false, List, [], ◌∷◌, length, Option, Some, None, option_map, Result, Ok, Err}
+use Rattle.std.specs.Prelude.{◌≡◌, ◌≢◌, ℕ, ℤ, false, List, [], ◌∷◌, length, Option, Some, None, option_map, Result, Ok, Err}
 use Rattle.serde_json.specs.Data.{Members}
 use Rattle.jwt_jws.specs.Token.{Token}
 use Rattle.jwt_jws.specs.Views.{token}

@@ -5,7 +5,7 @@ use Rattle.std.proofs.lemmas.Bool.{and_left, and_right, eq-eqb, ne_eqb, lt-ltb, 
 use Rattle.jwt_ed25519.specs.Octets.{number_of}
 use Rattle.jwt_ed25519.specs.Points.{Coordinates, L}
 use Rattle.jwt_ed25519.specs.Decoding.{decoded}
-use Rattle.jwt_ed25519.specs.Verifying.{is_small, is_key_for, challenge, holds, is_signature}
+use Rattle.jwt_ed25519.specs.Verifying.{is_small, is_key_for, challenge, equation_holds, is_signature}
 
 module _ (key message signature : List ℕ) where
   pub other_length : length signature ≢ 64 → false ≡ is_signature key message signature
@@ -31,7 +31,7 @@ module _ (key message signature : List ℕ) where
       ap (is_key_for (take 32 signature) (number_of (drop 32 signature)) (challenge (take 32 signature) key message)) none ∙ tested long below
 
   pub point_tested : (A : Coordinates) → length signature ≡ 64 → number_of (drop 32 signature) < L → Some A ≡ decoded key →
-      (not (is_small A) && holds A (take 32 signature) (number_of (drop 32 signature)) (challenge (take 32 signature) key message))
+      (not (is_small A) && equation_holds A (take 32 signature) (number_of (drop 32 signature)) (challenge (take 32 signature) key message))
       ≡ is_signature key message signature
   point_tested A long below some =
       ap (is_key_for (take 32 signature) (number_of (drop 32 signature)) (challenge (take 32 signature) key message)) some ∙ tested long below

@@ -20,13 +20,13 @@ unfoldable pub challenge : List ℕ → List ℕ → List ℕ → ℕ
 challenge r key message = number_of (sha512_of (r ++ key ++ message)) % L
 
 -- R is the encoding of [S]B - [k]A (step 3)
-unfoldable pub holds : Coordinates → List ℕ → ℕ → ℕ → Bool
-holds A r s k = bytes_eq (encoded_point (add (multiple s (point base_x base_y)) (multiple k (negated A)))) r
+unfoldable pub equation_holds : Coordinates → List ℕ → ℕ → ℕ → Bool
+equation_holds A r s k = bytes_eq (encoded_point (add (multiple s (point base_x base_y)) (multiple k (negated A)))) r
 
 -- the key decodes, isn't of small order, and R, S and k are as they have to be
 abbrev pub is_key_for : List ℕ → ℕ → ℕ → Option Coordinates → Bool
 is_key_for r s k None = false
-is_key_for r s k (Some A) = not (is_small A) && holds A r s k
+is_key_for r s k (Some A) = not (is_small A) && equation_holds A r s k
 
 -- the signature of a message by a key, R and S (section 5.1.7): 64 octets, S below L, A decodes and isn't of small order
 unfoldable pub is_signature : List ℕ → List ℕ → List ℕ → Bool

@@ -4,7 +4,7 @@ ghost use Rattle.std.specs.Prelude.{◌≡◌, length};
 ghost use Rattle.jwt_mac.specs.Hmac.{all_octets};
 ghost use Rattle.jwt_ed25519.specs.Elements.{coordinates};
 ghost use Rattle.jwt_ed25519.specs.Limbs.{number};
-ghost use Rattle.jwt_ed25519.specs.Verifying.{challenge, holds, is_signature};
+ghost use Rattle.jwt_ed25519.specs.Verifying.{challenge, equation_holds, is_signature};
 
 use crate::decoding::decode;
 use crate::encoding::is_encoding;
@@ -22,10 +22,10 @@ fn challenge(r: &[u8], key: &[u8], parts: [&[u8]; 3]) -> Limbs
 }
 
 /// Whether R is the encoding of [S]B - [k]A.
-#[tactic(auto, unfolding(crate::specs::Verifying::holds))]
+#[tactic(auto, unfolding(crate::specs::Verifying::equation_holds))]
 fn holds(a: EdwardsPoint, r: &[u8], s: Limbs, k: Limbs) -> bool
     requires { length r.now ≡ 32 }
-    ensures { result ≡ holds (coordinates a) r.now (number s) (number k) }
+    ensures { result ≡ equation_holds (coordinates a) r.now (number s) (number k) }
 {
     is_encoding(
         EdwardsPoint::base()

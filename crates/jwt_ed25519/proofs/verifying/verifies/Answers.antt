@@ -5,7 +5,7 @@ use Rattle.jwt_mac.specs.Hmac.{all_octets}
 use Rattle.jwt_ed25519.specs.Elements.{coordinates}
 use Rattle.jwt_ed25519.specs.Limbs.{number}
 use Rattle.jwt_ed25519.specs.Octets.{number_of}
-use Rattle.jwt_ed25519.specs.Verifying.{holds, challenge}
+use Rattle.jwt_ed25519.specs.Verifying.{equation_holds, challenge}
 use Rattle.jwt_ed25519.proofs.Digits.{not_less, second_half}
 use Rattle.jwt_ed25519.proofs.Verdicts.{other_length, s_above, no_point, point_tested}
 use Rattle.jwt_ed25519.proofs.verifying.verifies.Goals as goal
@@ -39,9 +39,9 @@ returns-then-not-is_small c =
     let A = coordinates c.in-Some.a in
     let is = c.from_octets-s.ensures ∙ ap number_of (second_half signature c.if-signature-ne64.false) in
     let below = c.is_less.ensures.0 c.if-not-is_less.false in
-    c.holds.ensures ∙ ap (λ s. holds A (take 32 signature) s (number c.challenge.result)) is
-    ∙ ap (λ k. holds A (take 32 signature) (number_of (drop 32 signature)) k) c.challenge.ensures
-    ∙ ap (λ b. not b && holds A (take 32 signature) (number_of (drop 32 signature)) (challenge (take 32 signature) c.args.key.now message))
+    c.holds.ensures ∙ ap (λ s. equation_holds A (take 32 signature) s (number c.challenge.result)) is
+    ∙ ap (λ k. equation_holds A (take 32 signature) (number_of (drop 32 signature)) k) c.challenge.ensures
+    ∙ ap (λ b. not b && equation_holds A (take 32 signature) (number_of (drop 32 signature)) (challenge (take 32 signature) c.args.key.now message))
     (sym c.if-not-is_small.true ∙ c.is_small.ensures)
     ∙ point_tested c.args.key.now message signature A c.if-signature-ne64.false (omega (arith, is, below, c.order.ensures)) c.in-Some.ensures
 
@@ -53,6 +53,6 @@ returns-else-not-is_small c =
     let is = c.from_octets-s.ensures ∙ ap number_of (second_half signature c.if-signature-ne64.false) in
     let below = c.is_less.ensures.0 c.if-not-is_less.false in
     ap not c.if-not-is_small.false
-    ∙ ap (λ b. not b && holds A (take 32 signature) (number_of (drop 32 signature)) (challenge (take 32 signature) c.args.key.now message))
+    ∙ ap (λ b. not b && equation_holds A (take 32 signature) (number_of (drop 32 signature)) (challenge (take 32 signature) c.args.key.now message))
     (sym c.if-not-is_small.false ∙ c.is_small.ensures)
     ∙ point_tested c.args.key.now message signature A c.if-signature-ne64.false (omega (arith, is, below, c.order.ensures)) c.in-Some.ensures
