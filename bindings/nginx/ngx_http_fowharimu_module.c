@@ -1084,8 +1084,11 @@ ngx_http_fowharimu_keep_claims(ngx_http_request_t *r,
 
 
 /*
- * A text is kept without its quotation marks; one with a control character,
- * which would break a header, isn't.  Numbers, and lists in JSON, have none.
+ * A text is kept without its quotation marks.  It isn't where it has a control
+ * character, which would break a header, or a space at an end, which is no part
+ * of a header's value (RFC 9110, section 5.5): it would arrive as another text.
+ * A list in JSON has brackets at its ends, and its control characters escaped,
+ * but for 0x7f, which breaks no header.
  */
 
 static ngx_int_t
@@ -1098,10 +1101,17 @@ ngx_http_fowharimu_keep_claim(ngx_http_request_t *r, ngx_str_t *claim,
     text = *claim;
     p = claim->data;
 
-    if (*p == '"'
-        && ngx_http_fowharimu_read_text(&p, p + claim->len, &text) != NGX_OK)
-    {
-        return NGX_DECLINED;
+    if (*p == '"') {
+
+        if (ngx_http_fowharimu_read_text(&p, p + claim->len, &text) != NGX_OK) {
+            return NGX_DECLINED;
+        }
+
+        if (text.len
+            && (text.data[0] == ' ' || text.data[text.len - 1] == ' '))
+        {
+            return NGX_DECLINED;
+        }
     }
 
     kept->data = ngx_pstrdup(r->pool, &text);
