@@ -2484,7 +2484,7 @@ static void
 ngx_http_fowharimu_exchange(ngx_http_fowharimu_watch_t *watch,
     ngx_str_t *keys, ngx_log_t *log)
 {
-    uint32_t        fault, status;
+    uint32_t        fault, most, status;
     const char     *why;
     fow_validator   newer = FOW_VALIDATOR_INIT;
 
@@ -2512,6 +2512,15 @@ ngx_http_fowharimu_exchange(ngx_http_fowharimu_watch_t *watch,
 
     ngx_log_error(NGX_LOG_NOTICE, log, 0, "jwt: new keys of \"%V\" are taken",
                   &watch->file.name);
+
+    if (fow_most_questions(&watch->validator->handle, &most) == FOW_OK
+        && most > FOW_MOST_QUESTIONS)
+    {
+        ngx_log_error(NGX_LOG_WARN, log, 0,
+                      "jwt: one token can raise %uD questions about public "
+                      "keys of \"%V\": \"max_calls\" in the policy bounds "
+                      "them", most, &watch->file.name);
+    }
 }
 
 
