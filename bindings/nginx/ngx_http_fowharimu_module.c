@@ -2394,7 +2394,10 @@ ngx_http_fowharimu_look_again(ngx_http_fowharimu_watch_t *watch, ngx_log_t *log)
 }
 
 
-/* what hasn't changed since the last look isn't read, and isn't told again */
+/*
+ * What hasn't changed since the last look isn't read, and isn't told again.
+ * What memory was refused for is read at the next look.
+ */
 
 static void
 ngx_http_fowharimu_look_at(ngx_http_fowharimu_watch_t *watch, ngx_fd_t fd,
@@ -2419,15 +2422,15 @@ ngx_http_fowharimu_look_at(ngx_http_fowharimu_watch_t *watch, ngx_fd_t fd,
         return;
     }
 
-    watch->missing = 0;
-    watch->file.stamp = stamp;
-
     size = ngx_min((size_t) ngx_file_size(&fi), NGX_HTTP_FOWHARIMU_MAX_KEYS + 1);
 
     keys.data = ngx_alloc(size + 1, log);
     if (keys.data == NULL) {
         return;
     }
+
+    watch->missing = 0;
+    watch->file.stamp = stamp;
 
     if (ngx_http_fowharimu_read_fd(fd, size, &keys) == NGX_OK) {
         ngx_http_fowharimu_exchange(watch, &keys, log);
@@ -2492,10 +2495,17 @@ ngx_http_fowharimu_exchange(ngx_http_fowharimu_watch_t *watch,
     status = fow_open(&newer, watch->policy.data, watch->policy.len, keys->data,
                       keys->len, &fault);
 
+    if (status == FOW_OK) {
+        status = fow_remember(&newer, watch->tokens, watch->octets);
+    }
+
+    if (status != FOW_OK && status != FOW_REFUSED) {
+        /* as if it had never been looked at */
+        ngx_memzero(&watch->file.stamp, sizeof(ngx_http_fowharimu_stamp_t));
+    }
+
     why = status == FOW_REFUSED ? fow_fault_name(fault)
-          : status != FOW_OK
-            || fow_remember(&newer, watch->tokens, watch->octets) != FOW_OK
-          ? "OutOfMemory"
+          : status != FOW_OK ? "OutOfMemory"
           : !fow_documents_are_public(&newer) ? "a key of kty oct" : NULL;
 
     if (why) {
