@@ -2,6 +2,7 @@ import java.io.ByteArrayInputStream;
 import java.io.ByteArrayOutputStream;
 import java.io.ObjectInputStream;
 import java.io.ObjectOutputStream;
+import java.io.RandomAccessFile;
 import java.net.InetAddress;
 import java.net.InetSocketAddress;
 import java.nio.charset.StandardCharsets;
@@ -39,7 +40,7 @@ import org.example.fowharimu.Verdict;
 
 /**
  * Tests TOP: the tests of this package, over the tokens of the repository at TOP. Tests TOP another NUMBER: over a library of another interface,
- * which has this number.
+ * which has this number. Tests TOP refused FILE: with refuse.c of bindings/nginx preloaded, which refuses the allocation whose number stands in FILE.
  */
 final class Tests {
     private static final Instant NOW = Instant.ofEpochSecond(1300819379);
@@ -56,7 +57,9 @@ final class Tests {
 
     public static void main(String[] words) throws Exception {
         Tests tests = new Tests(Path.of(words[0]));
-        if (words.length > 1) {
+        if (words.length > 1 && words[1].equals("refused")) {
+            tests.memoryRefused(Path.of(words[2]));
+        } else if (words.length > 1) {
             tests.anotherLibrary(Integer.parseInt(words[2]));
         } else {
             tests.all();
@@ -610,6 +613,37 @@ final class Tests {
             equal(thrown(UnsatisfiedLinkError.class, () -> new Access("{}")).getMessage(), message);
         }
         passed++;
+    }
+
+    /** Where a constructor is refused memory when the documents are open, they are freed: else this takes some 150 MB. */
+    private void memoryRefused(Path number) throws Exception {
+        byte[] policy = octets(HS256);
+        String key = "{\"kty\":\"oct\",\"k\":\"" + "A".repeat(1_000) + "\"}";
+        byte[] keys = octets("{\"keys\":[" + String.join(",", Collections.nCopies(1_000, key)) + "]}");
+        long many = 1_000_000;
+        put(number, many);
+        new Validator(policy, keys).close();
+        // (the last is that of the issuer which the policy names)
+        long count = many - put(number, 0);
+        long before = resident();
+        for (int n = 0; n < 150; n++) {
+            put(number, count);
+            thrown(OutOfMemoryError.class, () -> new Validator(policy, keys));
+        }
+        check(resident() < before + 70_000, "resident: " + resident() + " KiB, and " + before + " before");
+        equal(put(number, 0), 0L);
+        new Validator(policy, keys).close();
+        passed++;
+    }
+
+    /** Puts a number into a file of eight octets, the least of which stands first, and gives the one that was there. */
+    private static long put(Path file, long number) throws Exception {
+        try (RandomAccessFile octets = new RandomAccessFile(file.toFile(), "rw")) {
+            long old = Long.reverseBytes(octets.readLong());
+            octets.seek(0);
+            octets.writeLong(Long.reverseBytes(number));
+            return old;
+        }
     }
 
     private static int accepted(Validator validator, String token, int calls) {
