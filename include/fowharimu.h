@@ -19,8 +19,9 @@
  * What is proved is said function by function below, and exactly by the clauses in crates/jwt_c/src. It holds for callers that
  * keep to these premises, which C can't check:
  *
- *  - A fow_validator is zeroed before its first use (FOW_VALIDATOR_INIT), is changed by these functions alone, isn't copied
- *    while it holds something, and is used by one call at a time. Another thread may use it after a lock or a join. Validators
+ *  - A fow_validator is zeroed before its first use (FOW_VALIDATOR_INIT), is changed by these functions alone, and is used by one
+ *    call at a time. It isn't copied while it holds something, but may be moved: assigned to another place, after which the old one
+ *    isn't used until it is zeroed. Another thread may use it after a lock or a join. Validators
  *    that were opened beside one another (fow_open_beside) may be used by as many threads at once. The same holds of a fow_access
  *    (FOW_ACCESS_INIT), which each thread opens for itself.
  *  - A pointer with a length beside it is to so many readable octets (const) or writable octets (else), fewer than 2^63. It
@@ -57,8 +58,8 @@ uint32_t fow_abi(void);
 /* The library's version, such as "0.1.0". It isn't to be freed. It is C, and tested. */
 const char *fow_version(void);
 
-/* The most questions of one token that the callers in Python, Go and Rust let a policy and a key set raise, unless they are told of more
- * (fow_most_questions). */
+/* The most questions of one token that the callers in Python, Go, Rust, Node and Java let a policy and a key set raise, unless they are told of
+ * more (fow_most_questions). */
 #define FOW_MOST_QUESTIONS 64
 
 /* A policy, a key set, your answers on signatures, and the last report. The members are private. */

@@ -22,11 +22,12 @@ static octets read_file(const char *name)
 {
     octets file = { malloc(MOST), 0 };
     FILE *stream = fopen(name, "rb");
-    if (file.at == NULL || stream == NULL) {
+    if (file.at != NULL && stream != NULL)
+        file.len = fread(file.at, 1, MOST, stream);
+    if (file.at == NULL || stream == NULL || ferror(stream)) {
         fprintf(stderr, "validate: %s can't be read\n", name);
         exit(3);
     }
-    file.len = fread(file.at, 1, MOST, stream);
     fclose(stream);
     return file;
 }
@@ -80,6 +81,7 @@ int main(int argc, char **argv)
 
     uint32_t most = 0, verdict = fow_open(&validator, policy.at, policy.len, keys.at, keys.len, &report.fault);
     if (verdict != FOW_OK) {
+        report.verdict = verdict;
         print_refusal("not opened", &report);
     } else if (fow_most_questions(&validator, &most) != FOW_OK || most > FOW_MOST_QUESTIONS) {
         fprintf(stderr, "validate: one token could raise %" PRIu32 " questions about public keys: set max_calls in the policy\n", most);

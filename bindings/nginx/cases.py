@@ -72,9 +72,10 @@ def read_cases() -> tuple[list[tuple[bytes, ...]], list[Asked], int]:
 
 
 def shown_issuer(claims: str) -> str:
-    """What $jwt_claim_iss has to be: a text without control characters, a whole number of 64 bits, a list of texts; else nothing."""
+    """What $jwt_claim_iss has to be: a text without control characters and without a space at an end; else nothing."""
     value = json.loads(bytes.fromhex(claims)).get("iss") if claims != "-" else None
-    return value if isinstance(value, str) and not any(ord(it) < 32 or ord(it) == 127 for it in value) else ""
+    is_kept = isinstance(value, str) and not any(ord(it) < 32 or ord(it) == 127 for it in value) and value == value.strip(" ")
+    return value if is_kept else ""
 
 
 def expected(case: Asked) -> dict[str, str]:

@@ -1084,8 +1084,11 @@ ngx_http_fowharimu_keep_claims(ngx_http_request_t *r,
 
 
 /*
- * A text is kept without its quotation marks; one with a control character,
- * which would break a header, isn't.  Numbers, and lists in JSON, have none.
+ * A text is kept without its quotation marks.  It isn't where it has a control
+ * character, which would break a header, or a space at an end, which is no part
+ * of a header's value (RFC 9110, section 5.5): it would arrive as another text.
+ * A list in JSON has brackets at its ends, and its control characters escaped,
+ * but for 0x7f, which breaks no header.
  */
 
 static ngx_int_t
@@ -1098,10 +1101,17 @@ ngx_http_fowharimu_keep_claim(ngx_http_request_t *r, ngx_str_t *claim,
     text = *claim;
     p = claim->data;
 
-    if (*p == '"'
-        && ngx_http_fowharimu_read_text(&p, p + claim->len, &text) != NGX_OK)
-    {
-        return NGX_DECLINED;
+    if (*p == '"') {
+
+        if (ngx_http_fowharimu_read_text(&p, p + claim->len, &text) != NGX_OK) {
+            return NGX_DECLINED;
+        }
+
+        if (text.len
+            && (text.data[0] == ' ' || text.data[text.len - 1] == ' '))
+        {
+            return NGX_DECLINED;
+        }
     }
 
     kept->data = ngx_pstrdup(r->pool, &text);
@@ -2384,7 +2394,10 @@ ngx_http_fowharimu_look_again(ngx_http_fowharimu_watch_t *watch, ngx_log_t *log)
 }
 
 
-/* what hasn't changed since the last look isn't read, and isn't told again */
+/*
+ * What hasn't changed since the last look isn't read, and isn't told again.
+ * What memory was refused for is read at the next look.
+ */
 
 static void
 ngx_http_fowharimu_look_at(ngx_http_fowharimu_watch_t *watch, ngx_fd_t fd,
@@ -2409,15 +2422,15 @@ ngx_http_fowharimu_look_at(ngx_http_fowharimu_watch_t *watch, ngx_fd_t fd,
         return;
     }
 
-    watch->missing = 0;
-    watch->file.stamp = stamp;
-
     size = ngx_min((size_t) ngx_file_size(&fi), NGX_HTTP_FOWHARIMU_MAX_KEYS + 1);
 
     keys.data = ngx_alloc(size + 1, log);
     if (keys.data == NULL) {
         return;
     }
+
+    watch->missing = 0;
+    watch->file.stamp = stamp;
 
     if (ngx_http_fowharimu_read_fd(fd, size, &keys) == NGX_OK) {
         ngx_http_fowharimu_exchange(watch, &keys, log);
@@ -2474,7 +2487,7 @@ static void
 ngx_http_fowharimu_exchange(ngx_http_fowharimu_watch_t *watch,
     ngx_str_t *keys, ngx_log_t *log)
 {
-    uint32_t        fault, status;
+    uint32_t        fault, most, status;
     const char     *why;
     fow_validator   newer = FOW_VALIDATOR_INIT;
 
@@ -2482,10 +2495,17 @@ ngx_http_fowharimu_exchange(ngx_http_fowharimu_watch_t *watch,
     status = fow_open(&newer, watch->policy.data, watch->policy.len, keys->data,
                       keys->len, &fault);
 
+    if (status == FOW_OK) {
+        status = fow_remember(&newer, watch->tokens, watch->octets);
+    }
+
+    if (status != FOW_OK && status != FOW_REFUSED) {
+        /* as if it had never been looked at */
+        ngx_memzero(&watch->file.stamp, sizeof(ngx_http_fowharimu_stamp_t));
+    }
+
     why = status == FOW_REFUSED ? fow_fault_name(fault)
-          : status != FOW_OK
-            || fow_remember(&newer, watch->tokens, watch->octets) != FOW_OK
-          ? "OutOfMemory"
+          : status != FOW_OK ? "OutOfMemory"
           : !fow_documents_are_public(&newer) ? "a key of kty oct" : NULL;
 
     if (why) {
@@ -2502,6 +2522,15 @@ ngx_http_fowharimu_exchange(ngx_http_fowharimu_watch_t *watch,
 
     ngx_log_error(NGX_LOG_NOTICE, log, 0, "jwt: new keys of \"%V\" are taken",
                   &watch->file.name);
+
+    if (fow_most_questions(&watch->validator->handle, &most) == FOW_OK
+        && most > FOW_MOST_QUESTIONS)
+    {
+        ngx_log_error(NGX_LOG_WARN, log, 0,
+                      "jwt: one token can raise %uD questions about public "
+                      "keys of \"%V\": \"max_calls\" in the policy bounds "
+                      "them", most, &watch->file.name);
+    }
 }
 
 

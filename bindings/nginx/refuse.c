@@ -1,5 +1,6 @@
-/* Preloaded into nginx by the tests. Of the blocks of memory that the module and libcrypto ask for, it refuses the one whose number, from
- * 1, stands in the file that REFUSED names, as eight octets; then that number is 0, and nothing is refused. */
+/* Preloaded into nginx by the tests, and into other programs over the library. Of the blocks of memory that the module, the library or libcrypto ask
+ * for, it refuses the one whose number, from 1, stands in the file that REFUSED names, as eight octets; then that number is 0, and nothing is refused.
+ * While -N stands there, each block of N octets and more is refused, whoever asks for it. */
 #define _GNU_SOURCE
 #include <dlfcn.h>
 #include <fcntl.h>
@@ -25,22 +26,26 @@ __attribute__((constructor)) static void map_number(void)
         close(file);
 }
 
-static int is_refused(const void *caller)
+static int is_refused(const void *caller, size_t size)
 {
     Dl_info of;
+    if (left != NULL && *left < 0)
+        return size >= (size_t)-*left;
     if (left == NULL || *left == 0 || dladdr(caller, &of) == 0 || of.dli_fname == NULL)
         return 0;
-    if (strstr(of.dli_fname, "fowharimu") == NULL && strstr(of.dli_fname, "libcrypto") == NULL)
+    /* (the file's own name, since its folder may have any) */
+    const char *slash = strrchr(of.dli_fname, '/'), *name = slash == NULL ? of.dli_fname : slash + 1;
+    if (strstr(name, "fowharimu") == NULL && strstr(name, "libcrypto") == NULL)
         return 0;
     return --*left == 0;
 }
 
 void *malloc(size_t size)
 {
-    return is_refused(__builtin_return_address(0)) ? NULL : __libc_malloc(size);
+    return is_refused(__builtin_return_address(0), size) ? NULL : __libc_malloc(size);
 }
 
 void *realloc(void *block, size_t size)
 {
-    return is_refused(__builtin_return_address(0)) ? NULL : __libc_realloc(block, size);
+    return is_refused(__builtin_return_address(0), size) ? NULL : __libc_realloc(block, size);
 }

@@ -388,6 +388,12 @@ static const EVP_MD_CTX *ready_for(made *it, uint32_t alg)
  * ends with `RSA lib` both where an RSA signature is forged and where an allocation was refused; or that nothing was noted before it. */
 enum says { NO, NOTHING, SILENCE };
 
+/* (The headers of OpenSSL 3.0 have no name for it. What is built with them meets a newer libcrypto, which notes it, all the same: each of version 3
+ * has one name for a linker.) */
+#ifndef EVP_R_PROVIDER_SIGNATURE_FAILURE
+#define EVP_R_PROVIDER_SIGNATURE_FAILURE 234
+#endif
+
 /* Each other reason says that there is no answer. */
 static const struct reason {
     int library, reason;
@@ -408,9 +414,7 @@ static const struct reason {
     { ERR_LIB_EC, EC_R_BAD_SIGNATURE, NO },
     { ERR_LIB_EC, EC_R_POINT_AT_INFINITY, NO },
     { ERR_LIB_EC, ERR_R_EC_LIB, NOTHING },
-#ifdef EVP_R_PROVIDER_SIGNATURE_FAILURE
     { ERR_LIB_EVP, EVP_R_PROVIDER_SIGNATURE_FAILURE, SILENCE },
-#endif
 };
 
 /* What the table says of an error; NULL where it isn't there. */

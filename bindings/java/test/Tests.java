@@ -2,11 +2,17 @@ import java.io.ByteArrayInputStream;
 import java.io.ByteArrayOutputStream;
 import java.io.ObjectInputStream;
 import java.io.ObjectOutputStream;
+import java.io.RandomAccessFile;
+import java.net.InetAddress;
+import java.net.InetSocketAddress;
 import java.nio.charset.StandardCharsets;
 import java.nio.file.Files;
 import java.nio.file.Path;
+import java.time.Duration;
 import java.time.Instant;
+import java.time.temporal.ChronoUnit;
 import java.util.ArrayList;
+import java.util.Collections;
 import java.util.List;
 import java.util.Map;
 import java.util.Optional;
@@ -17,13 +23,16 @@ import java.util.concurrent.Future;
 import java.util.stream.Collectors;
 import java.util.stream.Stream;
 
+import com.sun.net.httpserver.HttpServer;
 import org.example.fowharimu.Access;
 import org.example.fowharimu.Denied;
+import org.example.fowharimu.Fetching;
 import org.example.fowharimu.Issuers;
 import org.example.fowharimu.Issuing;
 import org.example.fowharimu.Judging;
 import org.example.fowharimu.Refused;
 import org.example.fowharimu.Remember;
+import org.example.fowharimu.RemoteKeys;
 import org.example.fowharimu.SignatureState;
 import org.example.fowharimu.Try;
 import org.example.fowharimu.Validator;
@@ -31,7 +40,7 @@ import org.example.fowharimu.Verdict;
 
 /**
  * Tests TOP: the tests of this package, over the tokens of the repository at TOP. Tests TOP another NUMBER: over a library of another interface,
- * which has this number.
+ * which has this number. Tests TOP refused FILE: with refuse.c of bindings/nginx preloaded, which refuses the allocation whose number stands in FILE.
  */
 final class Tests {
     private static final Instant NOW = Instant.ofEpochSecond(1300819379);
@@ -48,7 +57,9 @@ final class Tests {
 
     public static void main(String[] words) throws Exception {
         Tests tests = new Tests(Path.of(words[0]));
-        if (words.length > 1) {
+        if (words.length > 1 && words[1].equals("refused")) {
+            tests.memoryRefused(Path.of(words[2]));
+        } else if (words.length > 1) {
             tests.anotherLibrary(Integer.parseInt(words[2]));
         } else {
             tests.all();
@@ -65,7 +76,7 @@ final class Tests {
             this::eachToken, this::ed448, this::clock, this::verdict, this::remembering, this::refusals, this::surrogates, this::documents, this::questions,
             this::mistakes, this::closing, this::issuing, this::freeing, this::threads, this::closingMeanwhile, this::ruleMet, this::denials,
             this::denialIsNoRefusal, this::rulesRefused, this::rulesOfTheDocuments, this::ruleMistakes, this::ruleClosing, this::ruleFreeing,
-            this::ruleThreads, this::ruleClosingMeanwhile, this::terms, this::issuers
+            this::ruleThreads, this::ruleClosingMeanwhile, this::terms, this::issuers, this::times, this::longestTimes
         }) {
             it.run();
             passed++;
@@ -123,6 +134,44 @@ final class Tests {
             thrown(IllegalStateException.class, () -> both.validate(unknown));
             thrown(IllegalStateException.class, () -> other.unverifiedIssuer(octets(unknown)));
         }
+    }
+
+    /** Times that aren't taken: else each token would meet an ArithmeticException. */
+    private void times() throws Exception {
+        Duration most = Duration.ofDays(36_500);
+        for (Duration it : List.of(Duration.ofNanos(-1), most.plusNanos(1), ChronoUnit.FOREVER.getDuration())) {
+            for (int at = 0; at < 4; at++) {
+                List<Duration> all = new ArrayList<>(Collections.nCopies(4, most));
+                all.set(at, it);
+                thrown(IllegalArgumentException.class, () -> fetching(all));
+            }
+        }
+        fetching(Collections.nCopies(4, Duration.ZERO));
+    }
+
+    /** By the longest times that are taken, keys are fetched and tokens are judged, also one that asks for a fetch. */
+    private void longestTimes() throws Exception {
+        Path name = top.resolve("bindings/tokens/RS256");
+        byte[] keys = read(name, "keys");
+        HttpServer server = HttpServer.create(new InetSocketAddress(InetAddress.getLoopbackAddress(), 0), 0);
+        server.createContext("/keys", exchange -> {
+            exchange.sendResponseHeaders(200, keys.length);
+            exchange.getResponseBody().write(keys);
+            exchange.close();
+        });
+        server.start();
+        Fetching how = fetching(Collections.nCopies(4, Duration.ofDays(36_500)));
+        String url = "http://127.0.0.1:" + server.getAddress().getPort() + "/keys";
+        try (RemoteKeys it = new RemoteKeys(read(name, "policy"), url, how)) {
+            check(it.judge(token(name), NOW).accepted(), "by the longest times");
+            equal(refused(() -> it.validate(token(name).replaceFirst(".....$", "AAAAA"), NOW)).fault(), "BadSignature");
+        } finally {
+            server.stop(0);
+        }
+    }
+
+    private static Fetching fetching(List<Duration> times) {
+        return new Fetching(times.get(0), times.get(1), times.get(2), times.get(3), true, Optional.empty(), (url, octets, error) -> {});
     }
 
     private void eachToken() throws Exception {
@@ -566,6 +615,37 @@ final class Tests {
         passed++;
     }
 
+    /** Where a constructor is refused memory when the documents are open, they are freed: else this takes some 150 MB. */
+    private void memoryRefused(Path number) throws Exception {
+        byte[] policy = octets(HS256);
+        String key = "{\"kty\":\"oct\",\"k\":\"" + "A".repeat(1_000) + "\"}";
+        byte[] keys = octets("{\"keys\":[" + String.join(",", Collections.nCopies(1_000, key)) + "]}");
+        long many = 1_000_000;
+        put(number, many);
+        new Validator(policy, keys).close();
+        // (the last is that of the issuer which the policy names)
+        long count = many - put(number, 0);
+        long before = resident();
+        for (int n = 0; n < 150; n++) {
+            put(number, count);
+            thrown(OutOfMemoryError.class, () -> new Validator(policy, keys));
+        }
+        check(resident() < before + 70_000, "resident: " + resident() + " KiB, and " + before + " before");
+        equal(put(number, 0), 0L);
+        new Validator(policy, keys).close();
+        passed++;
+    }
+
+    /** Puts a number into a file of eight octets, the least of which stands first, and gives the one that was there. */
+    private static long put(Path file, long number) throws Exception {
+        try (RandomAccessFile octets = new RandomAccessFile(file.toFile(), "rw")) {
+            long old = Long.reverseBytes(octets.readLong());
+            octets.seek(0);
+            octets.writeLong(Long.reverseBytes(number));
+            return old;
+        }
+    }
+
     private static int accepted(Validator validator, String token, int calls) {
         int count = 0;
         for (int n = 0; n < calls; n++) {
@@ -578,7 +658,7 @@ final class Tests {
         ExecutorService pool = Executors.newFixedThreadPool(threads);
         try {
             List<T> all = new ArrayList<>();
-            for (Future<T> it : pool.invokeAll(java.util.Collections.nCopies(threads, call))) {
+            for (Future<T> it : pool.invokeAll(Collections.nCopies(threads, call))) {
                 all.add(it.get());
             }
             return all;

@@ -1,12 +1,13 @@
 package org.example.fowharimu;
 
 import java.time.Duration;
+import java.util.List;
 import java.util.Objects;
 import java.util.Optional;
 import javax.net.ssl.SSLContext;
 
 /**
- * How keys are fetched, by the rules of {@code docs/KEYS.md}.
+ * How keys are fetched, by the rules of {@code docs/KEYS.md}. No time is below 0, or above 36,500 days.
  *
  * @param refreshAfter the age at which keys are fetched again, in the background
  * @param cooldown the least time between two fetches that tokens ask for
@@ -24,6 +25,9 @@ public record Fetching(
         boolean allowsHttp,
         Optional<SSLContext> tls,
         Listener listener) {
+    /** (a long has the nanoseconds of 292 years) */
+    private static final Duration LONGEST = Duration.ofDays(36_500);
+
     /** Is told of each fetch. */
     @FunctionalInterface
     public interface Listener {
@@ -47,6 +51,7 @@ public record Fetching(
      * @param allowsHttp whether {@code http:} is taken too
      * @param tls by which authorities a server's certificate is checked
      * @param listener what is told of each fetch
+     * @throws IllegalArgumentException for a time below 0 or above 36,500 days
      */
     public Fetching {
         Objects.requireNonNull(refreshAfter, "refreshAfter");
@@ -55,6 +60,11 @@ public record Fetching(
         Objects.requireNonNull(timeout, "timeout");
         Objects.requireNonNull(tls, "tls");
         Objects.requireNonNull(listener, "listener");
+        for (Duration it : List.of(refreshAfter, cooldown, maxAge, timeout)) {
+            if (it.isNegative() || it.compareTo(LONGEST) > 0) {
+                throw new IllegalArgumentException("a time has to be 0 or more, and 36,500 days at most");
+            }
+        }
     }
 
     /** After ten minutes, at most each thirty seconds, for an hour, within five seconds, by {@code https} and the system's authorities. */

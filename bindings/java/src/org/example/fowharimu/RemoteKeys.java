@@ -313,7 +313,8 @@ public final class RemoteKeys implements Judging {
             newer = open(keys);
         } catch (IOException | Refused | RuntimeException e) {
             failure = e;
-        } catch (OutOfMemoryError e) {
+        } catch (Error e) {
+            // (else no other fetch would begin)
             failure = new IOException(e);
         }
         exchange(newer, failure);

@@ -82,16 +82,20 @@ public final class Validator implements Judging {
         if (documents == 0) {
             throw documentRefused(fault[0], policy);
         }
-        int most = Native.mostQuestions(documents);
-        if (most > mostQuestions) {
+        try {
+            int most = Native.mostQuestions(documents);
+            if (most > mostQuestions) {
+                throw new Refused(Refused.Kind.QUESTIONS, "TooManyQuestions", most + " and not " + mostQuestions, 0, 0);
+            }
+            issuer = Text.of(Native.soleIssuer(documents));
+            limit = Native.tokenLimit(documents);
+            isPublic = Native.isPublic(documents);
+            seats = new Documents(documents, remember);
+            cleanable = Seats.CLEANER.register(this, seats);
+        } catch (Throwable e) {
             Native.close(documents);
-            throw new Refused(Refused.Kind.QUESTIONS, "TooManyQuestions", most + " and not " + mostQuestions, 0, 0);
+            throw e;
         }
-        issuer = Text.of(Native.soleIssuer(documents));
-        limit = Native.tokenLimit(documents);
-        isPublic = Native.isPublic(documents);
-        seats = new Documents(documents, remember);
-        cleanable = Seats.CLEANER.register(this, seats);
     }
 
     /**
