@@ -93,6 +93,26 @@ async function testIssuers() {
   }
 }
 
+/** Keys by URL promise the claims by the language's own Promise, also where a library puts another one under its name. */
+async function testGuardUnderAnotherPromise() {
+  const { guard } = require('../guard.js'), own = globalThis.Promise;
+  const validate = async (token) => {
+    if (token === 'good') return { sub: 'ann' };
+    throw new fow.SignatureRefused('', { fault: 'BadSignature' });
+  };
+  const guarding = guard({ validate });
+  const ask = (token) => new Promise((answered) => {
+    const request = { rawHeaders: ['Authorization', `Bearer ${token}`], headers: {} };
+    guarding(request, { setHeader() {}, end() { answered(this.statusCode); } }, (error) => answered(error ?? request.auth));
+  });
+  globalThis.Promise = class extends own {};
+  try {
+    assert.deepStrictEqual([await ask('good'), await ask('forged')], [{ sub: 'ann' }, 401]);
+  } finally {
+    globalThis.Promise = own;
+  }
+}
+
 function testReport() {
   const report = validatorOf(HMAC).judge(tokenOf(HMAC), NOW);
   assert.ok(report.accepted);
@@ -425,6 +445,7 @@ if (!isMainThread) {
   test('what is issued is accepted', testIssuing);
   test('what a validator tells of its policy and keys', testTerms);
   test('several issuers', testIssuers);
+  test('a guard where Promise was replaced', testGuardUnderAnotherPromise);
   test('shared and detached buffers', testSharedBuffers);
   test('what is not closed is freed', testFreeing);
   test('access rules that are not closed are freed', testFreeingRules);
