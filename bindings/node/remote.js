@@ -4,6 +4,7 @@
 const http = require('node:http');
 const https = require('node:https');
 const tls = require('node:tls');
+const { isAnyArrayBuffer, isUint8Array } = require('node:util').types;
 const { Validator, Closed, FowharimuError, SignatureRefused, TokenRefused, textMember } = require('./index.js');
 
 /** The most octets that a key set, or what tells where it stands, may have. */
@@ -33,6 +34,12 @@ function checkedUrl(text, allowHttp) {
   const at = /^https?:\/\/[^/\\?#]/i.test(text) ? new URL(text) : undefined;
   if (at && schemes.includes(at.protocol) && at.username === '' && at.password === '') return at;
   throw new TypeError('the URL of a key set is https, and has a host and neither a name nor a password');
+}
+
+/** A policy as it is now, whatever becomes of the object later. (What is binary otherwise is refused by Validator.) */
+function kept(policy) {
+  if (isUint8Array(policy)) return new Uint8Array(policy);
+  return typeof policy === 'string' || ArrayBuffer.isView(policy) || isAnyArrayBuffer(policy) ? policy : JSON.stringify(policy);
 }
 
 /** Refuses a policy with an HMAC algorithm, or one that doesn't name exactly the issuer, where there is one. */
@@ -125,12 +132,14 @@ class RemoteKeys {
   error = null;
 
   static async open(policy, url, options = {}) {
-    checkPolicy(policy);
-    return RemoteKeys.#begun(policy, checkedUrl(url, options.allowHttp), options);
+    const own = kept(policy);
+    checkPolicy(own);
+    return RemoteKeys.#begun(own, checkedUrl(url, options.allowHttp), options);
   }
 
   static async discover(policy, issuer, options = {}) {
-    checkPolicy(policy, issuer);
+    const own = kept(policy);
+    checkPolicy(own, issuer);
     const at = checkedUrl(issuer, options.allowHttp), how = { ...DEFAULTS, ...options };
     let url;
     try {
@@ -138,7 +147,7 @@ class RemoteKeys {
     } catch (error) {
       throw unavailable(error);
     }
-    return RemoteKeys.#begun(policy, new URL(url), options);
+    return RemoteKeys.#begun(own, new URL(url), how);
   }
 
   static async #begun(policy, at, options) {

@@ -1,7 +1,9 @@
 'use strict';
 const assert = require('node:assert');
 const { spawnSync } = require('node:child_process');
+const { once } = require('node:events');
 const fs = require('node:fs');
+const http = require('node:http');
 const path = require('node:path');
 const test = require('node:test');
 const { Worker, isMainThread, workerData, parentPort } = require('node:worker_threads');
@@ -112,6 +114,36 @@ async function testGuardUnderAnotherPromise() {
     globalThis.Promise = own;
   }
 }
+
+/** Has a test ask a server on the loopback for the keys of RS256, by a URL. */
+async function withKeysAt(tried) {
+  const server = http.createServer((_, response) => response.end(read(RSA, 'keys'))).listen(0, '127.0.0.1');
+  await once(server, 'listening');
+  try {
+    await tried(`http://127.0.0.1:${server.address().port}/keys`);
+  } finally {
+    server.close();
+  }
+}
+
+/** A policy that changes once it was handed over: new keys are judged by what it was. */
+const testKeptPolicy = () => withKeysAt(async (url) => {
+  const { RemoteKeys } = require('../remote.js'), text = JSON.stringify({ algs: ['RS256'], issuers: ['joe'] });
+  for (const [policy, change] of [
+    [JSON.parse(text), (it) => (it.issuers = ['eve'])],
+    [Buffer.from(text), (it) => it.write('eve', text.indexOf('joe'))],
+    [new Uint8Array(Buffer.from(text)), (it) => it.fill(0)],
+    [text, () => {}],
+  ]) {
+    const opening = RemoteKeys.open(policy, url, { allowHttp: true });
+    change(policy);
+    const keys = await opening;
+    assert.ok(await keys.refresh());
+    assert.deepStrictEqual([keys.issuer, (await keys.validate(tokenOf(RSA), NOW)).iss], ['joe', 'joe']);
+    keys.close();
+  }
+  for (const policy of [new Uint16Array(9), new ArrayBuffer(9), undefined]) await assert.rejects(RemoteKeys.open(policy, url), TypeError);
+});
 
 function testReport() {
   const report = validatorOf(HMAC).judge(tokenOf(HMAC), NOW);
@@ -446,6 +478,7 @@ if (!isMainThread) {
   test('what a validator tells of its policy and keys', testTerms);
   test('several issuers', testIssuers);
   test('a guard where Promise was replaced', testGuardUnderAnotherPromise);
+  test('a policy of keys by URL that changes', testKeptPolicy);
   test('shared and detached buffers', testSharedBuffers);
   test('what is not closed is freed', testFreeing);
   test('access rules that are not closed are freed', testFreeingRules);
