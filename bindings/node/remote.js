@@ -12,7 +12,10 @@ const MOST = 4_194_304;
 const MOST_REDIRECTS = 5;
 const REDIRECTS = [301, 302, 303, 307, 308];
 const HEADERS = { accept: 'application/jwk-set+json, application/json', 'accept-encoding': 'identity' };
-const DEFAULTS = { refreshAfter: 600_000, cooldown: 30_000, maxAge: 3_600_000, timeout: 5_000, allowHttp: false, ca: undefined, onFetch: undefined };
+/** The times in milliseconds, where none are given. */
+const TIMES = { refreshAfter: 600_000, cooldown: 30_000, maxAge: 3_600_000, timeout: 5_000 };
+/** The longest time that a timer takes. */
+const LONGEST = 2 ** 31 - 1;
 
 class KeysUnavailable extends FowharimuError {}
 class KeysTooOld extends TokenRefused {}
@@ -34,6 +37,17 @@ function checkedUrl(text, allowHttp) {
   const at = /^https?:\/\/[^/\\?#]/i.test(text) ? new URL(text) : undefined;
   if (at && schemes.includes(at.protocol) && at.username === '' && at.password === '') return at;
   throw new TypeError('the URL of a key set is https, and has a host and neither a name nor a password');
+}
+
+/** The options, with those times that aren't given. A comparison with what is no number would never say that keys are too old. */
+function timed(options) {
+  const how = { ...options };
+  for (const [name, otherwise] of Object.entries(TIMES)) {
+    how[name] ??= otherwise;
+    if (!(typeof how[name] === 'number' && how[name] >= 0)) throw new RangeError(`${name} has to be a number of milliseconds from 0`);
+  }
+  if (how.timeout > LONGEST) throw new RangeError(`timeout has to be at most ${LONGEST} milliseconds`);
+  return how;
 }
 
 /** A policy as it is now, whatever becomes of the object later. (What is binary otherwise is refused by Validator.) */
@@ -87,7 +101,7 @@ async function get(from, how) {
 
 /** The URL of an issuer's keys, which its metadata tell. */
 async function keysUrl(issuer, at, how) {
-  const path = at.pathname.replace(/\/$/, ''), signal = AbortSignal.timeout(how.timeout), words = { secureContext: tls.createSecureContext({ ca: how.ca }), signal, onSocket() {} };
+  const path = at.pathname.replace(/\/$/, ''), signal = AbortSignal.timeout(Math.ceil(how.timeout)), words = { secureContext: tls.createSecureContext({ ca: how.ca }), signal, onSocket() {} };
   const text = await get(new URL(`${path}/.well-known/openid-configuration`, at), words).catch((error) => {
     if (error.status !== 404) throw error;
     return get(new URL(`/.well-known/oauth-authorization-server${path}`, at), words);
@@ -132,15 +146,15 @@ class RemoteKeys {
   error = null;
 
   static async open(policy, url, options = {}) {
-    const own = kept(policy);
+    const own = kept(policy), how = timed(options);
     checkPolicy(own);
-    return RemoteKeys.#begun(own, checkedUrl(url, options.allowHttp), options);
+    return RemoteKeys.#begun(own, checkedUrl(url, how.allowHttp), how);
   }
 
   static async discover(policy, issuer, options = {}) {
-    const own = kept(policy);
+    const own = kept(policy), how = timed(options);
     checkPolicy(own, issuer);
-    const at = checkedUrl(issuer, options.allowHttp), how = { ...DEFAULTS, ...options };
+    const at = checkedUrl(issuer, how.allowHttp);
     let url;
     try {
       url = await keysUrl(issuer, at, how);
@@ -150,9 +164,9 @@ class RemoteKeys {
     return RemoteKeys.#begun(own, new URL(url), how);
   }
 
-  static async #begun(policy, at, options) {
+  static async #begun(policy, at, how) {
     const it = new RemoteKeys();
-    const { refreshAfter, cooldown, maxAge, timeout, allowHttp, ca, onFetch, ...others } = { ...DEFAULTS, ...options };
+    const { refreshAfter, cooldown, maxAge, timeout, allowHttp, ca, onFetch, ...others } = how;
     it.#policy = policy;
     it.#at = at;
     // (made once, since it holds all authorities)

@@ -145,6 +145,22 @@ const testKeptPolicy = () => withKeysAt(async (url) => {
   for (const policy of [new Uint16Array(9), new ArrayBuffer(9), undefined]) await assert.rejects(RemoteKeys.open(policy, url), TypeError);
 });
 
+/** Times that are no times: keys that never grow too old would be what came of them. */
+const testTimes = () => withKeysAt(async (url) => {
+  const { KeysTooOld, RemoteKeys } = require('../remote.js'), policy = { algs: ['RS256'], issuers: ['joe'] };
+  const wrong = ['refreshAfter', 'cooldown', 'maxAge', 'timeout'].flatMap((name) => [NaN, -1, '60', {}].map((it) => ({ [name]: it })));
+  for (const options of [...wrong, { timeout: Infinity }, { timeout: 2 ** 31 }]) {
+    for (const open of [RemoteKeys.open, RemoteKeys.discover]) await assert.rejects(open(policy, url, { allowHttp: true, ...options }), RangeError);
+  }
+  const absent = { refreshAfter: undefined, cooldown: null, maxAge: undefined, timeout: undefined };
+  for (const [options, isOld] of [[absent, false], [{ refreshAfter: 0, maxAge: 0 }, true], [{ maxAge: Infinity, timeout: 2 ** 31 - 1.5 }, false]]) {
+    const keys = await RemoteKeys.open(policy, url, { allowHttp: true, ...options });
+    if (isOld) await assert.rejects(keys.validate(tokenOf(RSA), NOW), KeysTooOld);
+    else assert.strictEqual((await keys.validate(tokenOf(RSA), NOW)).iss, 'joe');
+    keys.close();
+  }
+});
+
 function testReport() {
   const report = validatorOf(HMAC).judge(tokenOf(HMAC), NOW);
   assert.ok(report.accepted);
@@ -479,6 +495,7 @@ if (!isMainThread) {
   test('several issuers', testIssuers);
   test('a guard where Promise was replaced', testGuardUnderAnotherPromise);
   test('a policy of keys by URL that changes', testKeptPolicy);
+  test('the times of keys by URL', testTimes);
   test('shared and detached buffers', testSharedBuffers);
   test('what is not closed is freed', testFreeing);
   test('access rules that are not closed are freed', testFreeingRules);
