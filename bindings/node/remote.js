@@ -30,11 +30,20 @@ class StatusError extends Error {
   }
 }
 
+/** A URL, as it stands or from another one; undefined where it is none. (The error of `URL` has both in it, with what their queries hide.) */
+function urlOf(text, from) {
+  try {
+    return new URL(text, from);
+  } catch {
+    return undefined;
+  }
+}
+
 /** A URL from which keys may be fetched. */
 function checkedUrl(text, allowHttp) {
   const schemes = allowHttp ? ['https:', 'http:'] : ['https:'];
   // (a URL without a host is read by `URL` as one whose host is the path)
-  const at = /^https?:\/\/[^/\\?#]/i.test(text) ? new URL(text) : undefined;
+  const at = /^https?:\/\/[^/\\?#]/i.test(text) ? urlOf(text) : undefined;
   if (at && schemes.includes(at.protocol) && at.username === '' && at.password === '') return at;
   throw new TypeError('the URL of a key set is https, and has a host and neither a name nor a password');
 }
@@ -80,8 +89,8 @@ async function get(from, how) {
     response = await answer(at, how);
     if (!REDIRECTS.includes(response.statusCode) || response.headers.location === undefined) break;
     response.destroy();
-    const to = new URL(response.headers.location, at);
-    if (to.origin !== from.origin || to.username !== '' || to.password !== '') throw new Error('it redirects to another origin');
+    const to = urlOf(response.headers.location, at);
+    if (to?.origin !== from.origin || to.username !== '' || to.password !== '') throw new Error('it redirects to another origin');
     if (hops === MOST_REDIRECTS) throw new Error('it redirects too often');
     at = to;
   }

@@ -161,6 +161,20 @@ const testTimes = () => withKeysAt(async (url) => {
   }
 });
 
+/** What a query hides is told nowhere: not in the errors of URLs, nor in those of fetches. */
+async function testQueries() {
+  const { inspect } = require('node:util'), { RemoteKeys } = require('../remote.js'), told = [];
+  const server = http.createServer((_, response) => response.writeHead(302, { location: 'https://[' }).end()).listen(0, '127.0.0.1');
+  await once(server, 'listening');
+  const onFetch = (...them) => told.push(them);
+  for (const at of [`http://127.0.0.1:${server.address().port}`, 'http://127.0.0.1:1', 'https://[', 'https://a:x']) {
+    await RemoteKeys.open({ algs: ['RS256'] }, `${at}/keys?api_key=secret`, { allowHttp: true, onFetch }).catch((error) => told.push(error));
+  }
+  server.close();
+  assert.strictEqual(told.length, 6);
+  assert.ok(!inspect(told, { depth: 9 }).includes('secret'), inspect(told, { depth: 9 }));
+}
+
 function testReport() {
   const report = validatorOf(HMAC).judge(tokenOf(HMAC), NOW);
   assert.ok(report.accepted);
@@ -496,6 +510,7 @@ if (!isMainThread) {
   test('a guard where Promise was replaced', testGuardUnderAnotherPromise);
   test('a policy of keys by URL that changes', testKeptPolicy);
   test('the times of keys by URL', testTimes);
+  test('queries are told nowhere', testQueries);
   test('shared and detached buffers', testSharedBuffers);
   test('what is not closed is freed', testFreeing);
   test('access rules that are not closed are freed', testFreeingRules);
