@@ -86,8 +86,9 @@ type fetch struct {
 	cancel context.CancelFunc
 }
 
-// OpenRemote fetches a key set. The error is ErrURL, ErrPolicyByURL, an *UnavailableError, or that of Open.
+// OpenRemote fetches a key set. The error is ErrURL, ErrPolicyByURL, an *UnavailableError, or that of Open. The policy and the options are copied.
 func OpenRemote(policy []byte, address string, how Remote, options ...Option) (*RemoteKeys, error) {
+	policy = append([]byte(nil), policy...)
 	if err := checkPolicy(policy, nil); err != nil {
 		return nil, err
 	}
@@ -98,6 +99,7 @@ func OpenRemote(policy []byte, address string, how Remote, options ...Option) (*
 // section 3). The metadata are read once, under the same rules: their issuer has to be that very text, and the policy's issuers exactly that one.
 // The errors are those of OpenRemote.
 func OpenIssuer(policy []byte, issuer string, how Remote, options ...Option) (*RemoteKeys, error) {
+	policy = append([]byte(nil), policy...)
 	if err := checkPolicy(policy, &issuer); err != nil {
 		return nil, err
 	}
@@ -122,7 +124,7 @@ func openRemote(policy []byte, address string, how Remote, options []Option) (*R
 	if _, err := checkURL(address, how.AllowHTTP); err != nil {
 		return nil, err
 	}
-	how = how.orDefaults()
+	how, options = how.orDefaults(), append([]Option(nil), options...)
 	r := &RemoteKeys{policy: policy, address: address, how: how, options: options, client: how.client()}
 	if err := r.Refresh(); err != nil {
 		return nil, &UnavailableError{err}

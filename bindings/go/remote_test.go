@@ -1,0 +1,46 @@
+package fowharimu_test
+
+import (
+	"net/http"
+	"net/http/httptest"
+	"testing"
+
+	"example.org/fowharimu"
+)
+
+const rsa = "../tokens/RS256"
+
+// keysAt serves the keys of RS256, and gives their URL.
+func keysAt(t *testing.T) string {
+	keys := octets(t, rsa+".keys")
+	server := httptest.NewServer(http.HandlerFunc(func(w http.ResponseWriter, _ *http.Request) { w.Write(keys) }))
+	t.Cleanup(server.Close)
+	return server.URL + "/keys"
+}
+
+// openRemote opens keys by URL, over plain HTTP.
+func openRemote(t *testing.T, policy []byte, address string, options ...fowharimu.Option) *fowharimu.RemoteKeys {
+	t.Helper()
+	keys, err := fowharimu.OpenRemote(policy, address, fowharimu.Remote{AllowHTTP: true}, options...)
+	if err != nil {
+		t.Fatal(err)
+	}
+	t.Cleanup(func() { keys.Close() })
+	return keys
+}
+
+func TestNewKeysAreJudgedByThePolicyThatWasHandedOver(t *testing.T) {
+	policy, options := []byte(`{"algs":["RS256"],"issuers":["joe"]}`), []fowharimu.Option{fowharimu.MostQuestions(64)}
+	keys := openRemote(t, policy, keysAt(t), options...)
+	copy(policy, `{"algs":["RS256"],"issuers":["eve"]}`)
+	options[0] = fowharimu.MostQuestions(-1)
+	if err := keys.Refresh(); err != nil {
+		t.Fatal(err)
+	}
+	if _, err := keys.ValidateAt(string(octets(t, rsa+".jwt")), now); err != nil {
+		t.Error(err)
+	}
+	if issuer, has := keys.Issuer(); issuer != "joe" || !has {
+		t.Error(issuer, has)
+	}
+}
