@@ -454,6 +454,10 @@ func get(ctx context.Context, client *http.Client, address string) ([]byte, erro
 	}
 	request.Header.Set("Accept", "application/jwk-set+json, application/json")
 	response, err := client.Do(request)
+	if whole := (*url.Error)(nil); errors.As(err, &whole) {
+		// (it would tell the URL with its query, in which a service may have a secret)
+		err = whole.Err
+	}
 	if err != nil {
 		return nil, err
 	}

@@ -1,8 +1,10 @@
 package fowharimu_test
 
 import (
+	"errors"
 	"net/http"
 	"net/http/httptest"
+	"strings"
 	"testing"
 
 	"example.org/fowharimu"
@@ -42,5 +44,20 @@ func TestNewKeysAreJudgedByThePolicyThatWasHandedOver(t *testing.T) {
 	}
 	if issuer, has := keys.Issuer(); issuer != "joe" || !has {
 		t.Error(issuer, has)
+	}
+}
+
+func TestNoErrorTellsAQuery(t *testing.T) {
+	server := httptest.NewServer(http.RedirectHandler("https://elsewhere.example/keys?api_key=secret", http.StatusFound))
+	defer server.Close()
+	for _, address := range []string{server.URL, "http://127.0.0.1:1"} {
+		tell := make(chan string, 1)
+		how := fowharimu.Remote{AllowHTTP: true, OnFetch: func(url string, _ int, err error) { tell <- url + ": " + err.Error() }}
+		_, err := fowharimu.OpenRemote([]byte(`{"algs":["RS256"]}`), address+"/keys?api_key=secret", how)
+		var unavailable *fowharimu.UnavailableError
+		told := <-tell
+		if !errors.As(err, &unavailable) || strings.Contains(err.Error()+told, "secret") || !strings.HasPrefix(told, address+"/keys: ") {
+			t.Error(err, told)
+		}
 	}
 }
