@@ -6,6 +6,7 @@ import (
 	"net/http/httptest"
 	"strings"
 	"testing"
+	"time"
 
 	"example.org/fowharimu"
 )
@@ -58,6 +59,16 @@ func TestNoErrorTellsAQuery(t *testing.T) {
 		told := <-tell
 		if !errors.As(err, &unavailable) || strings.Contains(err.Error()+told, "secret") || !strings.HasPrefix(told, address+"/keys: ") {
 			t.Error(err, told)
+		}
+	}
+}
+
+func TestTimesAreNotNegative(t *testing.T) {
+	for _, how := range []fowharimu.Remote{{RefreshAfter: -1}, {Cooldown: -1}, {MaxAge: -time.Hour}, {Timeout: -1}} {
+		for _, open := range []func([]byte, string, fowharimu.Remote, ...fowharimu.Option) (*fowharimu.RemoteKeys, error){fowharimu.OpenRemote, fowharimu.OpenIssuer} {
+			if _, err := open([]byte(`{"algs":["RS256"]}`), "https://127.0.0.1:1", how); err != fowharimu.ErrTime {
+				t.Error(err)
+			}
 		}
 	}
 }
