@@ -75,6 +75,13 @@ class _SameOrigin(urllib.request.HTTPRedirectHandler):
             raise urllib.error.URLError("it redirects to another origin")
         return super().redirect_request(req, fp, code, msg, headers, newurl)
 
+    def http_error_302(self, req: urllib.request.Request, fp: Any, code: int, msg: str, headers: Any) -> Any:
+        # (else what the answer has beside its headers would be read, however long it is)
+        fp.close()
+        return super().http_error_302(req, fp, code, msg, headers)
+
+    http_error_301 = http_error_303 = http_error_307 = http_error_308 = http_error_302
+
 
 class _Fetch:
     """One fetch, which ends at its deadline: then its connection is shut, whatever it waits for."""
@@ -82,7 +89,7 @@ class _Fetch:
     def __init__(self, timeout: float) -> None:
         self.done = threading.Event()
         self._ends = time.monotonic() + timeout
-        self._connection: Optional[http.client.HTTPConnection] = None
+        self._held: Optional[socket.socket] = None
         self._timer = threading.Timer(timeout, self.end)
         self._timer.daemon = True
 
@@ -94,13 +101,14 @@ class _Fetch:
     def end(self) -> None:
         """Says that it is over, and shuts its connection where one is open."""
         self._timer.cancel()
-        held = self._connection.sock if self._connection is not None else None
+        self.done.set()
+        held = self._held
         if held is not None:
             try:
-                held.shutdown(socket.SHUT_RDWR)
+                # (below TLS: who reads from it sees that it ends)
+                socket.socket.shutdown(held, socket.SHUT_RDWR)
             except OSError:
                 pass
-        self.done.set()
 
     def get(self, url: str, context: Optional[ssl.SSLContext], allow_http: bool) -> bytes:
         """What stands at the URL. Raises OSError, ValueError and HTTPException where it can't be had in time."""
@@ -125,23 +133,44 @@ class _Fetch:
 
     def _read(self, opener: urllib.request.OpenerDirector, url: str) -> bytes:
         octets = bytearray()
-        with opener.open(urllib.request.Request(url, headers=_ACCEPTS), timeout=self.left or 1e-3) as response:
+        with self._answer(opener, url) as response:
             if response.status != 200:
                 raise ValueError(f"its status is {response.status}")
-            while part := response.read1(65_536):
+            while True:
+                part = response.read1(65_536)
+                # (a connection that was shut may look like an answer that is whole)
+                if self.left == 0:
+                    raise TimeoutError("it comes too slowly")
+                if not part:
+                    break
                 octets += part
                 if len(octets) > _MOST:
                     raise ValueError(f"it has more than {_MOST} octets")
-                if self.left == 0:
-                    raise TimeoutError("it comes too slowly")
             if response.length:
                 raise ValueError("it is cut off")
         return bytes(octets)
 
+    def _answer(self, opener: urllib.request.OpenerDirector, url: str) -> Any:
+        try:
+            return opener.open(urllib.request.Request(url, headers=_ACCEPTS), timeout=self.left or 1e-3)
+        except urllib.error.HTTPError as error:
+            # (it would hold its connection for as long as it is told why the fetch failed)
+            error.close()
+            raise
+
     def opened(self, kind: Callable[..., http.client.HTTPConnection], *words: Any, **named: Any) -> Any:
-        """A connection that is shut at the deadline."""
-        self._connection = kind(*words, **named)
-        return self._connection
+        """A connection that is shut at the deadline: it is held here, since it is forgotten there once an answer begins."""
+        connection = kind(*words, **named)
+        connect = connection.connect
+
+        def connect_held() -> None:
+            connect()
+            self._held = connection.sock
+            if self.done.is_set():
+                raise TimeoutError("it takes too long")
+
+        connection.connect = connect_held  # type: ignore[method-assign]
+        return connection
 
 
 class _Https(urllib.request.HTTPSHandler):

@@ -3,6 +3,7 @@ package org.example.fowharimu;
 import java.io.ByteArrayOutputStream;
 import java.io.IOException;
 import java.io.InterruptedIOException;
+import java.io.UncheckedIOException;
 import java.net.URI;
 import java.net.http.HttpClient;
 import java.net.http.HttpRequest;
@@ -154,7 +155,7 @@ final class Fetch {
                 .header("Accept-Encoding", "identity")
                 .build();
         CompletableFuture<HttpResponse<byte[]>> begun = client.sendAsync(
-                request, it -> it.statusCode() == 200 ? new Octets() : HttpResponse.BodySubscribers.replacing(new byte[0]));
+                request, it -> it.statusCode() == 200 ? new Octets() : nothing());
         answer = begun;
         if (isDropped) {
             begun.cancel(true);
@@ -173,6 +174,17 @@ final class Fetch {
         } catch (ExecutionException e) {
             throw e.getCause() instanceof IOException why ? why : new IOException(e.getCause());
         }
+    }
+
+    /** Takes nothing of a body, which may be of any length: its connection is let go. */
+    private static HttpResponse.BodySubscriber<byte[]> nothing() {
+        return HttpResponse.BodySubscribers.mapping(HttpResponse.BodySubscribers.ofInputStream(), body -> {
+            try (body) {
+                return new byte[0];
+            } catch (IOException e) {
+                throw new UncheckedIOException(e);
+            }
+        });
     }
 
     /** Keeps octets as they come, and no more than a key set may have. */
