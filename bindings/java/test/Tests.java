@@ -19,11 +19,13 @@ import java.util.stream.Stream;
 
 import org.example.fowharimu.Access;
 import org.example.fowharimu.Denied;
+import org.example.fowharimu.Fetching;
 import org.example.fowharimu.Issuers;
 import org.example.fowharimu.Issuing;
 import org.example.fowharimu.Judging;
 import org.example.fowharimu.Refused;
 import org.example.fowharimu.Remember;
+import org.example.fowharimu.RemoteKeys;
 import org.example.fowharimu.SignatureState;
 import org.example.fowharimu.Try;
 import org.example.fowharimu.Validator;
@@ -65,7 +67,7 @@ final class Tests {
             this::eachToken, this::ed448, this::clock, this::verdict, this::remembering, this::refusals, this::surrogates, this::documents, this::questions,
             this::mistakes, this::closing, this::issuing, this::freeing, this::threads, this::closingMeanwhile, this::ruleMet, this::denials,
             this::denialIsNoRefusal, this::rulesRefused, this::rulesOfTheDocuments, this::ruleMistakes, this::ruleClosing, this::ruleFreeing,
-            this::ruleThreads, this::ruleClosingMeanwhile, this::terms, this::issuers
+            this::ruleThreads, this::ruleClosingMeanwhile, this::terms, this::issuers, this::urls
         }) {
             it.run();
             passed++;
@@ -122,6 +124,18 @@ final class Tests {
             both.close();
             thrown(IllegalStateException.class, () -> both.validate(unknown));
             thrown(IllegalStateException.class, () -> other.unverifiedIssuer(octets(unknown)));
+        }
+    }
+
+    /** URLs from which no keys are fetched: what a query may hide is told by no error. */
+    private void urls() throws Exception {
+        byte[] policy = octets("{\"algs\":[\"RS256\"]}");
+        for (String url : List.of("https://issuer.example/ ?secret", "https://[?secret", "keys?secret", "https:///keys?secret", "ftp://a/keys?secret")) {
+            for (Callable<?> call : List.<Callable<?>>of(() -> new RemoteKeys(policy, url), () -> RemoteKeys.discover(policy, url, new Fetching()))) {
+                for (Throwable it = thrown(IllegalArgumentException.class, call); it != null; it = it.getCause()) {
+                    check(!it.toString().contains("secret"), it.toString());
+                }
+            }
         }
     }
 

@@ -5,6 +5,7 @@ import java.io.IOException;
 import java.io.InterruptedIOException;
 import java.io.UncheckedIOException;
 import java.net.URI;
+import java.net.URISyntaxException;
 import java.net.http.HttpClient;
 import java.net.http.HttpRequest;
 import java.net.http.HttpResponse;
@@ -56,13 +57,17 @@ final class Fetch {
 
     /** A URL from which keys may be fetched. Throws IllegalArgumentException for any other. */
     static URI checked(String url, boolean allowsHttp) {
-        URI at = URI.create(url);
-        String scheme = String.valueOf(at.getScheme()).toLowerCase(Locale.ROOT);
-        boolean isTaken = scheme.equals("https") || allowsHttp && scheme.equals("http");
-        if (!isTaken || at.getHost() == null || at.getHost().isEmpty() || at.getRawUserInfo() != null) {
-            throw new IllegalArgumentException("the URL of a key set is https, and has a host and neither a name nor a password");
+        try {
+            URI at = new URI(url);
+            String scheme = String.valueOf(at.getScheme()).toLowerCase(Locale.ROOT);
+            boolean isTaken = scheme.equals("https") || allowsHttp && scheme.equals("http");
+            if (isTaken && at.getHost() != null && !at.getHost().isEmpty() && at.getRawUserInfo() == null) {
+                return at;
+            }
+        } catch (URISyntaxException e) {
+            // (not told: it has the URL in it, whose query may hide a secret)
         }
-        return at;
+        throw new IllegalArgumentException("the URL of a key set is https, and has a host and neither a name nor a password");
     }
 
     /** A client that uses no proxy, and follows no redirection by itself. */
@@ -133,7 +138,7 @@ final class Fetch {
         try {
             to = at.resolve(location);
         } catch (IllegalArgumentException e) {
-            throw new IOException("it redirects to no URL", e);
+            throw new IOException("it redirects to no URL");
         }
         if (to.getHost() == null || to.getRawUserInfo() != null || !origin(to).equals(origin(from))) {
             throw new IOException("it redirects to another origin");
