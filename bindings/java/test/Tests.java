@@ -5,6 +5,7 @@ import java.io.ObjectOutputStream;
 import java.nio.charset.StandardCharsets;
 import java.nio.file.Files;
 import java.nio.file.Path;
+import java.time.Duration;
 import java.time.Instant;
 import java.util.ArrayList;
 import java.util.List;
@@ -67,7 +68,7 @@ final class Tests {
             this::eachToken, this::ed448, this::clock, this::verdict, this::remembering, this::refusals, this::surrogates, this::documents, this::questions,
             this::mistakes, this::closing, this::issuing, this::freeing, this::threads, this::closingMeanwhile, this::ruleMet, this::denials,
             this::denialIsNoRefusal, this::rulesRefused, this::rulesOfTheDocuments, this::ruleMistakes, this::ruleClosing, this::ruleFreeing,
-            this::ruleThreads, this::ruleClosingMeanwhile, this::terms, this::issuers, this::urls
+            this::ruleThreads, this::ruleClosingMeanwhile, this::terms, this::issuers, this::urls, this::times
         }) {
             it.run();
             passed++;
@@ -137,6 +138,24 @@ final class Tests {
                 }
             }
         }
+    }
+
+    /** Times of keys by URL that are none. */
+    private void times() throws Exception {
+        Duration longest = Duration.ofNanos(Long.MAX_VALUE);
+        for (int place = 0; place < 4; place++) {
+            for (Duration wrong : List.of(Duration.ofNanos(-1), longest.plusNanos(1))) {
+                Duration[] its = {longest, Duration.ZERO, longest, longest};
+                its[place] = wrong;
+                thrown(IllegalArgumentException.class, () -> fetching(its));
+                its[place] = longest;
+                fetching(its);
+            }
+        }
+    }
+
+    private static Fetching fetching(Duration... its) {
+        return new Fetching(its[0], its[1], its[2], its[3], false, Optional.empty(), (url, octets, error) -> {});
     }
 
     private void eachToken() throws Exception {

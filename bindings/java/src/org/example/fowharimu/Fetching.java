@@ -1,6 +1,7 @@
 package org.example.fowharimu;
 
 import java.time.Duration;
+import java.util.List;
 import java.util.Objects;
 import java.util.Optional;
 import javax.net.ssl.SSLContext;
@@ -24,6 +25,8 @@ public record Fetching(
         boolean allowsHttp,
         Optional<SSLContext> tls,
         Listener listener) {
+    private static final Duration LONGEST = Duration.ofNanos(Long.MAX_VALUE);
+
     /** Is told of each fetch. */
     @FunctionalInterface
     public interface Listener {
@@ -47,12 +50,18 @@ public record Fetching(
      * @param allowsHttp whether {@code http:} is taken too
      * @param tls by which authorities a server's certificate is checked
      * @param listener what is told of each fetch
+     * @throws IllegalArgumentException for a time that is negative, or of more nanoseconds than a long has
      */
     public Fetching {
         Objects.requireNonNull(refreshAfter, "refreshAfter");
         Objects.requireNonNull(cooldown, "cooldown");
         Objects.requireNonNull(maxAge, "maxAge");
         Objects.requireNonNull(timeout, "timeout");
+        for (Duration it : List.of(refreshAfter, cooldown, maxAge, timeout)) {
+            if (it.isNegative() || it.compareTo(LONGEST) > 0) {
+                throw new IllegalArgumentException("a time is from 0 to " + LONGEST);
+            }
+        }
         Objects.requireNonNull(tls, "tls");
         Objects.requireNonNull(listener, "listener");
     }
