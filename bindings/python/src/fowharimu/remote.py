@@ -10,6 +10,7 @@ from __future__ import annotations
 
 import http.client
 import logging
+import math
 import os
 import socket
 import ssl
@@ -34,6 +35,9 @@ _log = logging.getLogger("fowharimu")
 # The most octets that a key set, or what tells where it stands, may have.
 _MOST = 4_194_304
 
+# The longest deadline, in seconds: what a connection takes.
+_LONGEST = 2_147_483
+
 _ACCEPTS = {"Accept": "application/jwk-set+json, application/json", "Accept-Encoding": "identity"}
 
 
@@ -47,6 +51,13 @@ class KeysTooOld(TokenRefused):
 
 # What a fetch may fail by: no answer, no key set, a URL that isn't followed. Anything else is a fault of this module.
 _Failed = (OSError, ValueError, http.client.HTTPException, FowharimuError, MemoryError)
+
+
+def _time(name: str, seconds: float, most: float = math.inf) -> float:
+    """A time. Raises ValueError for one that is negative, too long, or no number."""
+    if not 0 <= seconds <= most:
+        raise ValueError(f"{name} has to be a number of seconds from 0 to {most}")
+    return seconds
 
 
 def _origin(url: str) -> Tuple[str, Optional[str], Optional[int]]:
@@ -237,8 +248,8 @@ class RemoteKeys:
 
     `options` are those of `Validator`.
 
-    Raises ValueError for a URL that isn't https or has a name or a password in it, or a policy with an HMAC algorithm; KeysUnavailable where the
-    keys can't be fetched; PolicyRefused, TooManyQuestions, AnotherLibrary and MemoryError as `Validator` does.
+    Raises ValueError for a URL that isn't https or has a name or a password in it, a time that is none, or a policy with an HMAC algorithm;
+    KeysUnavailable where the keys can't be fetched; PolicyRefused, TooManyQuestions, AnotherLibrary and MemoryError as `Validator` does.
     """
 
     def __init__(
@@ -255,8 +266,9 @@ class RemoteKeys:
         **options: Any,
     ) -> None:
         self._policy, self._url = _public_policy(policy), _checked(url, allow_http)
-        self._refresh_after, self._cooldown, self._max_age = refresh_after, cooldown, max_age
-        self._timeout, self._allow_http, self._context, self._options = timeout, allow_http, context, options
+        self._refresh_after, self._cooldown = _time("refresh_after", refresh_after), _time("cooldown", cooldown)
+        self._max_age, self._timeout = _time("max_age", max_age), _time("timeout", timeout, _LONGEST)
+        self._allow_http, self._context, self._options = allow_http, context, options
         self._lock = threading.Lock()
         self._fetch: Optional[_Fetch] = None
         self._validator: Optional[Validator] = None
@@ -276,11 +288,11 @@ class RemoteKeys:
 
         Raises as RemoteKeys does, and KeysUnavailable where the metadata can't be had or name another issuer.
         """
-        allow_http = how.get("allow_http", False)
+        allow_http, timeout = how.get("allow_http", False), _time("timeout", how.get("timeout", 5), _LONGEST)
         _checked(issuer, allow_http)
         _public_policy(policy, issuer)
         try:
-            url = _keys_url(issuer, how.get("timeout", 5), how.get("context"), allow_http)
+            url = _keys_url(issuer, timeout, how.get("context"), allow_http)
         except _Failed as error:
             raise KeysUnavailable(str(error)) from error
         return cls(policy, url, **how)
