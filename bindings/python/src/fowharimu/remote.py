@@ -12,6 +12,7 @@ import http.client
 import logging
 import math
 import os
+import re
 import socket
 import ssl
 import threading
@@ -68,6 +69,9 @@ def _origin(url: str) -> Tuple[str, Optional[str], Optional[int]]:
 
 def _checked(url: str, allow_http: bool) -> str:
     """A URL from which keys may be fetched. Raises ValueError for any other."""
+    # (of these http.client says where they stand, with the query, which may hide a secret)
+    if re.search(r"[\x00-\x20\x7f]", url):
+        raise ValueError("the URL of a key set has neither spaces nor control characters")
     parts = urllib.parse.urlsplit(url)
     if parts.scheme != "https" and not (allow_http and parts.scheme == "http"):
         raise ValueError("the URL of a key set begins with https://")
