@@ -8,6 +8,7 @@
 
 from __future__ import annotations
 
+import functools
 import http.client
 import logging
 import math
@@ -38,6 +39,9 @@ _MOST = 4_194_304
 
 # The longest deadline, in seconds: what a connection takes.
 _LONGEST = 2_147_483
+
+# The clock of ages: where there is one, one that goes on while the machine is suspended.
+_clock = functools.partial(time.clock_gettime, time.CLOCK_BOOTTIME) if hasattr(time, "CLOCK_BOOTTIME") else time.monotonic
 
 _ACCEPTS = {"Accept": "application/jwk-set+json, application/json", "Accept-Encoding": "identity"}
 
@@ -277,7 +281,7 @@ class RemoteKeys:
         self._fetch: Optional[_Fetch] = None
         self._validator: Optional[Validator] = None
         self._closed = False
-        self._got = self._tried = time.monotonic()
+        self._got = self._tried = _clock()
         self.error: Optional[BaseException] = None
         """Why the last fetch failed; None where it didn't."""
         _forked.add(self)
@@ -377,13 +381,13 @@ class RemoteKeys:
     def _current(self) -> Validator:
         """The validator by which a token is judged first. Raises KeysTooOld, and Closed."""
         # (before a fetch begins, so that it is the old one)
-        validator, age = self._validator, time.monotonic() - self._got
+        validator, age = self._validator, _clock() - self._got
         if age >= self._refresh_after:
             fetch = self._begun()
             if age >= self._max_age:
                 if fetch is not None:
                     self._wait(fetch)
-                if time.monotonic() - self._got >= self._max_age:
+                if _clock() - self._got >= self._max_age:
                     raise KeysTooOld("KeysTooOld")
                 validator = self._validator
         if validator is None:
@@ -405,7 +409,7 @@ class RemoteKeys:
         with self._lock:
             if self._fetch is not None and self._fetch.left == 0:
                 self._fail(self._fetch, TimeoutError("it takes too long"))
-            if self._fetch is None and not self._closed and time.monotonic() - self._tried >= self._cooldown:
+            if self._fetch is None and not self._closed and _clock() - self._tried >= self._cooldown:
                 self._begin()
             return self._fetch
 
@@ -419,7 +423,7 @@ class RemoteKeys:
 
     def _begin(self) -> _Fetch:
         """Begins a fetch, in a thread of its own, so that nobody waits for it past its deadline. The lock is held."""
-        self._tried = time.monotonic()
+        self._tried = _clock()
         self._fetch = fetch = _Fetch(self._timeout)
         try:
             threading.Thread(target=self._run, args=(fetch,), name="fowharimu-keys", daemon=True).start()
@@ -439,7 +443,7 @@ class RemoteKeys:
         with self._lock:
             if fetch is self._fetch:
                 # The old one is freed when the last call that uses it has ended, since nothing else names it then.
-                self._validator, self._got, self.error, self._fetch = validator, time.monotonic(), None, None
+                self._validator, self._got, self.error, self._fetch = validator, _clock(), None, None
                 _log.info("the key set at %s was fetched, %d octets", _shown(self._url), len(keys))
         fetch.end()
 
