@@ -37,8 +37,8 @@ _log = logging.getLogger("fowharimu")
 # The most octets that a key set, or what tells where it stands, may have.
 _MOST = 4_194_304
 
-# The longest deadline, in seconds: what a connection takes.
-_LONGEST = 2_147_483
+# The greatest of each time, in seconds: a connection takes no longer deadline.
+_GREATEST = {"refresh_after": math.inf, "cooldown": math.inf, "max_age": math.inf, "timeout": 2_147_483}
 
 # The clock of ages: where there is one, one that goes on while the machine is suspended.
 _clock = functools.partial(time.clock_gettime, time.CLOCK_BOOTTIME) if hasattr(time, "CLOCK_BOOTTIME") else time.monotonic
@@ -58,11 +58,11 @@ class KeysTooOld(TokenRefused):
 _Failed = (OSError, ValueError, http.client.HTTPException, FowharimuError, MemoryError)
 
 
-def _time(name: str, seconds: float, most: float = math.inf) -> float:
-    """A time. Raises ValueError for one that is negative, too long, or no number."""
-    if not 0 <= seconds <= most:
-        raise ValueError(f"{name} has to be a number of seconds from 0 to {most}")
-    return seconds
+def _check_times(**given: Any) -> None:
+    """Raises ValueError for a time among what is given that is negative, too long, or no number."""
+    for name, greatest in _GREATEST.items():
+        if not 0 <= given.get(name, 0) <= greatest:
+            raise ValueError(f"{name} has to be a number of seconds from 0 to {greatest}")
 
 
 def _origin(url: str) -> Tuple[str, Optional[str], Optional[int]]:
@@ -274,9 +274,9 @@ class RemoteKeys:
         **options: Any,
     ) -> None:
         self._policy, self._url = _public_policy(policy), _checked(url, allow_http)
-        self._refresh_after, self._cooldown = _time("refresh_after", refresh_after), _time("cooldown", cooldown)
-        self._max_age, self._timeout = _time("max_age", max_age), _time("timeout", timeout, _LONGEST)
-        self._allow_http, self._context, self._options = allow_http, context, options
+        _check_times(refresh_after=refresh_after, cooldown=cooldown, max_age=max_age, timeout=timeout)
+        self._refresh_after, self._cooldown, self._max_age = refresh_after, cooldown, max_age
+        self._timeout, self._allow_http, self._context, self._options = timeout, allow_http, context, options
         self._lock = threading.Lock()
         self._fetch: Optional[_Fetch] = None
         self._validator: Optional[Validator] = None
@@ -296,11 +296,12 @@ class RemoteKeys:
 
         Raises as RemoteKeys does, and KeysUnavailable where the metadata can't be had or name another issuer.
         """
-        allow_http, timeout = how.get("allow_http", False), _time("timeout", how.get("timeout", 5), _LONGEST)
+        allow_http = how.get("allow_http", False)
         _checked(issuer, allow_http)
+        _check_times(**how)
         _public_policy(policy, issuer)
         try:
-            url = _keys_url(issuer, timeout, how.get("context"), allow_http)
+            url = _keys_url(issuer, how.get("timeout", 5), how.get("context"), allow_http)
         except _Failed as error:
             raise KeysUnavailable(str(error)) from error
         return cls(policy, url, **how)
