@@ -242,6 +242,11 @@ def _public(policy: bytes, keys: bytes, options: Dict[str, Any]) -> Validator:
     return validator
 
 
+def _asks_for_keys(refusal: Optional[TokenRefused]) -> bool:
+    """Whether a token was refused for want of a key, or by a bad signature."""
+    return isinstance(refusal, SignatureRefused) and refusal.fault in ("NoKey", "BadSignature")
+
+
 def _member(document: bytes, name: bytes) -> Optional[str]:
     """The text of a member of a JSON object, as the library reads it; None where there is none."""
     text = written(len(document) + 1, load().fow_text_member, document, len(document), name, len(name))
@@ -317,6 +322,18 @@ class RemoteKeys:
                 raise
         return newer.validate(token, now, access)
 
+    def _validate_at_once(self, token: Text, access: Optional[Access]) -> Optional[Claims]:
+        """As validate, where nothing has to be waited for; else None, and a fetch is under way as a rule."""
+        used = self._young()
+        if used is None:
+            return None
+        try:
+            return used.validate(token, None, access)
+        except SignatureRefused as refusal:
+            if _asks_for_keys(refusal) and (self._validator is not used or self._begun() is not None):
+                return None
+            raise
+
     def judge(self, token: Text, now: Optional[SupportsIndex] = None) -> Report:
         """As Validator.judge. Where the keys are too old and none can be fetched, the report has the refusal KeysTooOld and nothing else."""
         try:
@@ -379,25 +396,33 @@ class RemoteKeys:
         """As of Validator."""
         return self._held()._named(octets)
 
-    def _current(self) -> Validator:
-        """The validator by which a token is judged first. Raises KeysTooOld, and Closed."""
+    def _young(self) -> Optional[Validator]:
+        """The validator that is held, and None where its keys are too old. Where they are old, a fetch begins. Raises Closed."""
         # (before a fetch begins, so that it is the old one)
         validator, age = self._validator, _clock() - self._got
         if age >= self._refresh_after:
-            fetch = self._begun()
-            if age >= self._max_age:
-                if fetch is not None:
-                    self._wait(fetch)
-                if _clock() - self._got >= self._max_age:
-                    raise KeysTooOld("KeysTooOld")
-                validator = self._validator
+            self._begun()
+        if age >= self._max_age:
+            return None
         if validator is None:
             raise Closed
         return validator
 
+    def _current(self) -> Validator:
+        """The validator by which a token is judged first. Raises KeysTooOld, and Closed."""
+        young = self._young()
+        if young is not None:
+            return young
+        fetch = self._begun()
+        if fetch is not None:
+            self._wait(fetch)
+        if _clock() - self._got >= self._max_age:
+            raise KeysTooOld("KeysTooOld")
+        return self._held()
+
     def _newer(self, used: Validator, refusal: Optional[TokenRefused]) -> Optional[Validator]:
         """Another validator than the one that was used, where newer keys may change the refusal and are there or can be fetched."""
-        if not isinstance(refusal, SignatureRefused) or refusal.fault not in ("NoKey", "BadSignature"):
+        if not _asks_for_keys(refusal):
             return None
         if self._validator is used:
             fetch = self._begun()
