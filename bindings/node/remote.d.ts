@@ -14,7 +14,7 @@ export interface Remote extends Opening {
   /** Whether `http:` is taken too. */
   allowHttp?: boolean;
   /** The certificates of the authorities that are trusted, in PEM: those that Node trusts without it. */
-  ca?: string | Buffer | (string | Buffer)[];
+  ca?: string | Uint8Array | (string | Uint8Array)[];
   /** Called after each fetch, with the URL without its query, how many octets were had, and why it failed, if it did. */
   onFetch?: (url: string, octets: number, error: Error | null) => void;
 }
