@@ -14,7 +14,7 @@ from typing import Any, Callable, List
 
 from fowharimu import asgi
 from fowharimu.issuers import Issuers
-from fowharimu.remote import KeysUnavailable, RemoteKeys
+from fowharimu.remote import KeysTooOld, KeysUnavailable, RemoteKeys
 
 TOP = pathlib.Path(__file__).resolve().parents[3]
 POLICY = {"algs": ["RS256"]}
@@ -40,7 +40,8 @@ class Opening(unittest.TestCase):
 class Slow(http.server.BaseHTTPRequestHandler):
     """Gives the keys of RS256 once, and then nothing until the test is over."""
 
-    begun, over = threading.Event(), threading.Event()
+    begun: threading.Event
+    over: threading.Event
 
     def do_GET(self) -> None:
         if self.begun.is_set():
@@ -54,6 +55,7 @@ class Slow(http.server.BaseHTTPRequestHandler):
 
 class Waiting(unittest.TestCase):
     def setUp(self) -> None:
+        Slow.begun, Slow.over = threading.Event(), threading.Event()
         server = http.server.ThreadingHTTPServer(("127.0.0.1", 0), Slow)
         threading.Thread(target=server.serve_forever).start()
         self.addCleanup(server.server_close)
@@ -72,6 +74,12 @@ class Waiting(unittest.TestCase):
         with self.assertLogs("fowharimu", "WARNING"):
             done = asyncio.run(self.asked(guard, [forged] * 64, known))
         self.assertEqual(done, [known, *[forged] * 64])
+
+    def test_keys_that_are_too_old_are_waited_for_in_a_thread(self) -> None:
+        self.keys._max_age = 0
+        self.assertIsNone(self.keys._validate_at_once("a.b.c", None))
+        with self.assertRaises(KeysTooOld):
+            self.keys.validate("a.b.c")
 
     async def asked(self, guard: asgi.Guard, first: List[str], last: str) -> List[str]:
         """Tokens in the order in which they are answered."""
