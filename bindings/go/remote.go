@@ -90,7 +90,7 @@ type fetch struct {
 }
 
 // OpenRemote fetches a key set. The error is ErrURL, ErrTime, ErrPolicyByURL, an *UnavailableError, or that of Open. The policy and the options are
-// copied.
+// copied, and so is TLS.
 func OpenRemote(policy []byte, address string, how Remote, options ...Option) (*RemoteKeys, error) {
 	policy = append([]byte(nil), policy...)
 	how, err := how.orDefaults()
@@ -485,7 +485,7 @@ func get(ctx context.Context, client *http.Client, address string) ([]byte, erro
 // client gives a client that uses no proxy, and follows redirections within the origin alone.
 func (how Remote) client() *http.Client {
 	return &http.Client{
-		Transport:     &http.Transport{TLSClientConfig: how.TLS, DisableCompression: true, DisableKeepAlives: true},
+		Transport:     &http.Transport{TLSClientConfig: how.TLS.Clone(), DisableCompression: true, DisableKeepAlives: true},
 		CheckRedirect: sameOrigin,
 	}
 }
