@@ -100,6 +100,9 @@ func (a *Access) Close() error {
 // check says why the rule denies the token that was accepted last, by a *DeniedError, and gives nil where it doesn't. Another error is
 // ErrOutOfMemory or ErrClosed.
 func (a *Access) check(s *seat) error {
+	if a == nil {
+		return ErrClosed
+	}
 	a.mutex.Lock()
 	defer a.mutex.Unlock()
 	if a.rule.at == nil {

@@ -96,8 +96,10 @@ func TestAClosedRuleLetsNothingThrough(t *testing.T) {
 	if _, err := validator.ValidateForAt(token, now, rule); !errors.Is(err, fowharimu.ErrClosed) {
 		t.Error(err)
 	}
-	if _, err := validator.ValidateForAt(token, now, new(fowharimu.Access)); !errors.Is(err, fowharimu.ErrClosed) {
-		t.Error(err)
+	for _, never := range []*fowharimu.Access{nil, new(fowharimu.Access)} {
+		if _, err := validator.ValidateForAt(token, now, never); !errors.Is(err, fowharimu.ErrClosed) {
+			t.Error(err)
+		}
 	}
 }
 

@@ -166,6 +166,7 @@ func (v *Validator) JudgeAt(token string, now time.Time) (Report, error) {
 		return Report{}, err
 	}
 	return Report{
+		accepted:   refusal == nil,
 		Refusal:    refusal,
 		Signature:  said.signature,
 		Key:        said.key,

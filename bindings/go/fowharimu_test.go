@@ -157,12 +157,8 @@ func TestAReportHasEachTry(t *testing.T) {
 	if err != nil {
 		t.Fatal(err)
 	}
-	want := fowharimu.Report{
-		Work:   295,
-		States: []fowharimu.SignatureState{{State: fowharimu.StateVerified}},
-		Tries:  []fowharimu.Try{{Cost: 295}},
-	}
-	if !report.Accepted() || !reflect.DeepEqual(report, want) {
+	states, tries := []fowharimu.SignatureState{{State: fowharimu.StateVerified}}, []fowharimu.Try{{Cost: 295}}
+	if !report.Accepted() || report.Refusal != nil || report.Work != 295 || !reflect.DeepEqual(report.States, states) || !reflect.DeepEqual(report.Tries, tries) {
 		t.Errorf("%+v", report)
 	}
 	if said := report.States[0].State.String(); said != "verified" {
@@ -326,8 +322,8 @@ func TestAClosedValidatorRefuses(t *testing.T) {
 	if _, err := validator.ValidateAt(token, now); !errors.Is(err, fowharimu.ErrClosed) {
 		t.Error(err)
 	}
-	if _, err := validator.JudgeAt(token, now); !errors.Is(err, fowharimu.ErrClosed) {
-		t.Error(err)
+	if report, err := validator.JudgeAt(token, now); !errors.Is(err, fowharimu.ErrClosed) || report.Accepted() {
+		t.Error(err, report)
 	}
 	if _, _, err := validator.UnverifiedHeader(token, 0); !errors.Is(err, fowharimu.ErrClosed) {
 		t.Error(err)

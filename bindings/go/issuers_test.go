@@ -83,7 +83,7 @@ func TestIssuers(t *testing.T) {
 		_, err := issuers.Validate(token)
 		report, second := issuers.Judge(token)
 		var refusal fowharimu.Refusal
-		if !errors.As(err, &refusal) || refusal.FaultName() != fault || second != nil || report.Refusal.FaultName() != fault {
+		if !errors.As(err, &refusal) || refusal.FaultName() != fault || second != nil || report.Accepted() || report.Refusal.FaultName() != fault {
 			t.Errorf("%s: %v, %v, %v", fault, err, report, second)
 		}
 	}
@@ -103,6 +103,9 @@ func TestIssuers(t *testing.T) {
 		issuers.Close()
 		if _, err := issuers.Validate(token); err != fowharimu.ErrClosed {
 			t.Error(err)
+		}
+		if report, err := issuers.Judge(token); err != fowharimu.ErrClosed || report.Accepted() {
+			t.Error(err, report)
 		}
 		if _, _, err := other.UnverifiedIssuer(token); err != fowharimu.ErrClosed {
 			t.Error(err)

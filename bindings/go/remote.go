@@ -27,6 +27,9 @@ var ErrURL = errors.New("fowharimu: no URL of a key set: it is https, and has a 
 // exactly the issuer whose keys are fetched.
 var ErrPolicyByURL = errors.New("fowharimu: no policy for keys by URL: it has an HMAC algorithm, or other issuers than the one")
 
+// ErrTime says that a time of Remote is negative.
+var ErrTime = errors.New("fowharimu: a time of Remote is negative")
+
 // UnavailableError says that the keys can't be fetched, and that none were before. Err says why.
 type UnavailableError struct {
 	Err error
@@ -86,8 +89,14 @@ type fetch struct {
 	cancel context.CancelFunc
 }
 
-// OpenRemote fetches a key set. The error is ErrURL, ErrPolicyByURL, an *UnavailableError, or that of Open.
+// OpenRemote fetches a key set. The error is ErrURL, ErrTime, ErrPolicyByURL, an *UnavailableError, or that of Open. The policy and the options are
+// copied, and so is TLS.
 func OpenRemote(policy []byte, address string, how Remote, options ...Option) (*RemoteKeys, error) {
+	policy = append([]byte(nil), policy...)
+	how, err := how.orDefaults()
+	if err != nil {
+		return nil, err
+	}
 	if err := checkPolicy(policy, nil); err != nil {
 		return nil, err
 	}
@@ -98,10 +107,14 @@ func OpenRemote(policy []byte, address string, how Remote, options ...Option) (*
 // section 3). The metadata are read once, under the same rules: their issuer has to be that very text, and the policy's issuers exactly that one.
 // The errors are those of OpenRemote.
 func OpenIssuer(policy []byte, issuer string, how Remote, options ...Option) (*RemoteKeys, error) {
+	policy = append([]byte(nil), policy...)
+	how, err := how.orDefaults()
+	if err != nil {
+		return nil, err
+	}
 	if err := checkPolicy(policy, &issuer); err != nil {
 		return nil, err
 	}
-	how = how.orDefaults()
 	at, err := checkURL(issuer, how.AllowHTTP)
 	if err != nil {
 		return nil, err
@@ -122,8 +135,7 @@ func openRemote(policy []byte, address string, how Remote, options []Option) (*R
 	if _, err := checkURL(address, how.AllowHTTP); err != nil {
 		return nil, err
 	}
-	how = how.orDefaults()
-	r := &RemoteKeys{policy: policy, address: address, how: how, options: options, client: how.client()}
+	r := &RemoteKeys{policy: policy, address: address, how: how, options: append([]Option(nil), options...), client: how.client()}
 	if err := r.Refresh(); err != nil {
 		return nil, &UnavailableError{err}
 	}
@@ -452,6 +464,10 @@ func get(ctx context.Context, client *http.Client, address string) ([]byte, erro
 	}
 	request.Header.Set("Accept", "application/jwk-set+json, application/json")
 	response, err := client.Do(request)
+	if whole := (*url.Error)(nil); errors.As(err, &whole) {
+		// (it would tell the URL with its query, in which a service may have a secret)
+		err = whole.Err
+	}
 	if err != nil {
 		return nil, err
 	}
@@ -469,7 +485,7 @@ func get(ctx context.Context, client *http.Client, address string) ([]byte, erro
 // client gives a client that uses no proxy, and follows redirections within the origin alone.
 func (how Remote) client() *http.Client {
 	return &http.Client{
-		Transport:     &http.Transport{TLSClientConfig: how.TLS, DisableCompression: true, DisableKeepAlives: true},
+		Transport:     &http.Transport{TLSClientConfig: how.TLS.Clone(), DisableCompression: true, DisableKeepAlives: true},
 		CheckRedirect: sameOrigin,
 	}
 }
@@ -493,16 +509,20 @@ func origin(at *url.URL) [3]string {
 	return [3]string{at.Scheme, strings.ToLower(at.Hostname()), port}
 }
 
-func (how Remote) orDefaults() Remote {
+// orDefaults has each time that is named. The error is ErrTime.
+func (how Remote) orDefaults() (Remote, error) {
 	for at, otherwise := range map[*time.Duration]time.Duration{
 		&how.RefreshAfter: 10 * time.Minute,
 		&how.Cooldown:     30 * time.Second,
 		&how.MaxAge:       time.Hour,
 		&how.Timeout:      5 * time.Second,
 	} {
+		if *at < 0 {
+			return how, ErrTime
+		}
 		if *at == 0 {
 			*at = otherwise
 		}
 	}
-	return how
+	return how, nil
 }

@@ -2,6 +2,7 @@ package fowharimu
 
 // Report is all that is said of a token.
 type Report struct {
+	accepted   bool
 	Refusal    Refusal          // why the token isn't accepted; nil where it is
 	Signature  int              // the number, from 0, of the signature that was verified or that the refusal speaks of
 	Key        int              // the number, from 0, of the key that verified it or that the refusal speaks of
@@ -11,9 +12,9 @@ type Report struct {
 	Remembered bool             // the token was remembered: Work and Tries are those of the judging that accepted it, and nothing was paid now
 }
 
-// Accepted says whether the token is accepted.
+// Accepted says whether the token is accepted. A report that stands beside an error isn't one of an accepted token.
 func (r Report) Accepted() bool {
-	return r.Refusal == nil
+	return r.accepted
 }
 
 // SignatureState is what became of a signature.

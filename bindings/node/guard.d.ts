@@ -1,6 +1,7 @@
 /** Lets HTTP requests through where their token is accepted (RFC 6750): for Express, Connect, and whatever else takes `(req, res, next)`. */
 import type { IncomingMessage, ServerResponse } from 'node:http';
 import type { Access, Claims, Denied, TokenRefused, Validator } from '.';
+import type { Issuers } from './issuers';
 import type { RemoteKeys } from './remote';
 
 /** A request that was let through has its claims as `auth`. */
@@ -22,4 +23,4 @@ export interface Guarding {
  * section 3), or 503 where keys by URL are too old. Where nothing is said of the token, for want of memory or since the validator is closed, it is `next(error)`. Throws TypeError for a
  * realm that a quoted string can't have.
  */
-export function guard(validator: Validator | RemoteKeys, how?: Guarding): (request: Guarded, response: ServerResponse, next: (error?: unknown) => void) => void;
+export function guard(validator: Validator | RemoteKeys | Issuers, how?: Guarding): (request: Guarded, response: ServerResponse, next: (error?: unknown) => void) => void;

@@ -75,8 +75,8 @@ function guard(validator, { access, realm = 'jwt', hidesToken = false, onRefusal
     } catch (error) {
       return turnAway(error);
     }
-    // (keys by URL promise the claims)
-    return claims instanceof Promise ? claims.then(admit, turnAway).catch(next) : admit(claims);
+    // (keys by URL promise the claims: by the language's own Promise, whatever stands under its name now. No claim is a function)
+    return typeof claims?.then === 'function' ? claims.then(admit, turnAway).then(undefined, next) : admit(claims);
   };
 }
 

@@ -1,7 +1,7 @@
 /** Key sets that stand at a URL, by the rules of docs/KEYS.md: `require('fowharimu/remote')`. */
 import { Asking, Claims, Document, FowharimuError, Moment, Opening, Report, Token, TokenRefused } from './index';
 
-/** How keys are fetched. Times are in milliseconds. */
+/** How keys are fetched. Times are in milliseconds, from 0 on; one that is undefined is as without it. */
 export interface Remote extends Opening {
   /** The age at which keys are fetched again, in the background: ten minutes without it. */
   refreshAfter?: number;
@@ -9,12 +9,12 @@ export interface Remote extends Opening {
   cooldown?: number;
   /** The age at which keys are too old: an hour without it. */
   maxAge?: number;
-  /** Of a whole fetch: five seconds without it. */
+  /** Of a whole fetch, below 2 ** 31: five seconds without it. */
   timeout?: number;
   /** Whether `http:` is taken too. */
   allowHttp?: boolean;
   /** The certificates of the authorities that are trusted, in PEM: those that Node trusts without it. */
-  ca?: string | Buffer | (string | Buffer)[];
+  ca?: string | Uint8Array | (string | Uint8Array)[];
   /** Called after each fetch, with the URL without its query, how many octets were had, and why it failed, if it did. */
   onFetch?: (url: string, octets: number, error: Error | null) => void;
 }
@@ -33,7 +33,8 @@ export class KeysTooOld extends TokenRefused {}
 export class RemoteKeys {
   /**
    * Fetches a key set. Rejects with TypeError for a URL that isn't https, has no host, or has a name or a password in it, and for a policy with an
-   * HMAC algorithm; with KeysUnavailable where the keys can't be fetched; and with what `new Validator` throws.
+   * HMAC algorithm; with RangeError for a time that is none; with KeysUnavailable where the keys can't be fetched; and with what `new Validator`
+   * throws. A policy that is changed later doesn't change what is judged.
    */
   static open(policy: Document, url: string, options?: Remote): Promise<RemoteKeys>;
   /**

@@ -4,6 +4,7 @@
 const http = require('node:http');
 const https = require('node:https');
 const tls = require('node:tls');
+const { isAnyArrayBuffer, isUint8Array } = require('node:util').types;
 const { Validator, Closed, FowharimuError, SignatureRefused, TokenRefused, textMember } = require('./index.js');
 
 /** The most octets that a key set, or what tells where it stands, may have. */
@@ -11,7 +12,10 @@ const MOST = 4_194_304;
 const MOST_REDIRECTS = 5;
 const REDIRECTS = [301, 302, 303, 307, 308];
 const HEADERS = { accept: 'application/jwk-set+json, application/json', 'accept-encoding': 'identity' };
-const DEFAULTS = { refreshAfter: 600_000, cooldown: 30_000, maxAge: 3_600_000, timeout: 5_000, allowHttp: false, ca: undefined, onFetch: undefined };
+/** The times in milliseconds, where none are given. */
+const TIMES = { refreshAfter: 600_000, cooldown: 30_000, maxAge: 3_600_000, timeout: 5_000 };
+/** The longest time that a timer takes. */
+const LONGEST = 2 ** 31 - 1;
 
 class KeysUnavailable extends FowharimuError {}
 class KeysTooOld extends TokenRefused {}
@@ -26,13 +30,39 @@ class StatusError extends Error {
   }
 }
 
+/** A URL, as it stands or from another one; undefined where it is none. (The error of `URL` has both in it, with what their queries hide.) */
+function urlOf(text, from) {
+  try {
+    return new URL(text, from);
+  } catch {
+    return undefined;
+  }
+}
+
 /** A URL from which keys may be fetched. */
 function checkedUrl(text, allowHttp) {
   const schemes = allowHttp ? ['https:', 'http:'] : ['https:'];
   // (a URL without a host is read by `URL` as one whose host is the path)
-  const at = /^https?:\/\/[^/\\?#]/i.test(text) ? new URL(text) : undefined;
+  const at = /^https?:\/\/[^/\\?#]/i.test(text) ? urlOf(text) : undefined;
   if (at && schemes.includes(at.protocol) && at.username === '' && at.password === '') return at;
   throw new TypeError('the URL of a key set is https, and has a host and neither a name nor a password');
+}
+
+/** The options, with those times that aren't given. A comparison with what is no number would never say that keys are too old. */
+function timed(options) {
+  const how = { ...options };
+  for (const [name, otherwise] of Object.entries(TIMES)) {
+    how[name] ??= otherwise;
+    if (!(typeof how[name] === 'number' && how[name] >= 0)) throw new RangeError(`${name} has to be a number of milliseconds from 0`);
+  }
+  if (how.timeout > LONGEST) throw new RangeError(`timeout has to be at most ${LONGEST} milliseconds`);
+  return how;
+}
+
+/** A policy as it is now, whatever becomes of the object later. (What is binary otherwise is refused by Validator.) */
+function kept(policy) {
+  if (isUint8Array(policy)) return new Uint8Array(policy);
+  return typeof policy === 'string' || ArrayBuffer.isView(policy) || isAnyArrayBuffer(policy) ? policy : JSON.stringify(policy);
 }
 
 /** Refuses a policy with an HMAC algorithm, or one that doesn't name exactly the issuer, where there is one. */
@@ -59,8 +89,8 @@ async function get(from, how) {
     response = await answer(at, how);
     if (!REDIRECTS.includes(response.statusCode) || response.headers.location === undefined) break;
     response.destroy();
-    const to = new URL(response.headers.location, at);
-    if (to.origin !== from.origin || to.username !== '' || to.password !== '') throw new Error('it redirects to another origin');
+    const to = urlOf(response.headers.location, at);
+    if (to?.origin !== from.origin || to.username !== '' || to.password !== '') throw new Error('it redirects to another origin');
     if (hops === MOST_REDIRECTS) throw new Error('it redirects too often');
     at = to;
   }
@@ -80,7 +110,7 @@ async function get(from, how) {
 
 /** The URL of an issuer's keys, which its metadata tell. */
 async function keysUrl(issuer, at, how) {
-  const path = at.pathname.replace(/\/$/, ''), signal = AbortSignal.timeout(how.timeout), words = { secureContext: tls.createSecureContext({ ca: how.ca }), signal, onSocket() {} };
+  const path = at.pathname.replace(/\/$/, ''), signal = AbortSignal.timeout(Math.ceil(how.timeout)), words = { secureContext: tls.createSecureContext({ ca: how.ca }), signal, onSocket() {} };
   const text = await get(new URL(`${path}/.well-known/openid-configuration`, at), words).catch((error) => {
     if (error.status !== 404) throw error;
     return get(new URL(`/.well-known/oauth-authorization-server${path}`, at), words);
@@ -125,25 +155,27 @@ class RemoteKeys {
   error = null;
 
   static async open(policy, url, options = {}) {
-    checkPolicy(policy);
-    return RemoteKeys.#begun(policy, checkedUrl(url, options.allowHttp), options);
+    const own = kept(policy), how = timed(options);
+    checkPolicy(own);
+    return RemoteKeys.#begun(own, checkedUrl(url, how.allowHttp), how);
   }
 
   static async discover(policy, issuer, options = {}) {
-    checkPolicy(policy, issuer);
-    const at = checkedUrl(issuer, options.allowHttp), how = { ...DEFAULTS, ...options };
+    const own = kept(policy), how = timed(options);
+    checkPolicy(own, issuer);
+    const at = checkedUrl(issuer, how.allowHttp);
     let url;
     try {
       url = await keysUrl(issuer, at, how);
     } catch (error) {
       throw unavailable(error);
     }
-    return RemoteKeys.#begun(policy, new URL(url), options);
+    return RemoteKeys.#begun(own, new URL(url), how);
   }
 
-  static async #begun(policy, at, options) {
+  static async #begun(policy, at, how) {
     const it = new RemoteKeys();
-    const { refreshAfter, cooldown, maxAge, timeout, allowHttp, ca, onFetch, ...others } = { ...DEFAULTS, ...options };
+    const { refreshAfter, cooldown, maxAge, timeout, allowHttp, ca, onFetch, ...others } = how;
     it.#policy = policy;
     it.#at = at;
     // (made once, since it holds all authorities)

@@ -100,6 +100,22 @@ class Handler(http.server.BaseHTTPRequestHandler):
         self.wfile.write(b"HTTP/1.1 200 OK\r\nX-Slow: ")
         self.drip(b"a" * 4_096)
 
+    def answer_chunk(self, document):
+        """The size of a chunk, in a line that never ends."""
+        self.chunked(b"1;slow=")
+        self.drip(b"a" * 4_096)
+
+    def answer_trailers(self, document):
+        """The whole document, and then a trailer that never ends."""
+        self.chunked(b"%x\r\n%b\r\n0\r\nX-Slow: " % (len(document), document))
+        self.drip(b"a" * 4_096)
+
+    def chunked(self, begun):
+        self.send_response(200)
+        self.send_header("Transfer-Encoding", "chunked")
+        self.end_headers()
+        self.wfile.write(begun)
+
     def drip(self, octets):
         try:
             for at in range(len(octets)):
@@ -116,6 +132,17 @@ class Handler(http.server.BaseHTTPRequestHandler):
     def answer_near(self, document):
         """A redirection within the origin."""
         self.redirect("/new")
+
+    def answer_flooding(self, document):
+        """A redirection within the origin, beside which octets come without an end."""
+        self.send_response(302)
+        self.send_header("Location", "/new")
+        self.end_headers()
+        try:
+            while True:
+                self.wfile.write(bytes(65_536))
+        except OSError:
+            pass
 
     def answer_loop(self, document):
         self.redirect("/keys")

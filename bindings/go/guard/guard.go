@@ -35,15 +35,16 @@ type Option func(*guard)
 type guard struct {
 	validator Validator
 	access    *fowharimu.Access
+	asks      bool // there is an access rule
 	realm     string
 	hides     bool
 	tell      func(*http.Request, error)
 	next      http.Handler
 }
 
-// Access has the claims meet an access rule too; where they don't, the answer is 403.
+// Access has the claims meet an access rule too; where they don't, the answer is 403. Where the rule is nil, since it was refused, it is 500.
 func Access(rule *fowharimu.Access) Option {
-	return func(g *guard) { g.access = rule }
+	return func(g *guard) { g.access, g.asks = rule, true }
 }
 
 // Realm is the realm that a request without a token is told: jwt without this. It has no quotation mark and no backslash.
@@ -111,7 +112,7 @@ func (g *guard) validate(token string) (fowharimu.Claims, error) {
 	if !isB64token(token) {
 		return fowharimu.Claims{}, ErrForm
 	}
-	if g.access == nil {
+	if !g.asks {
 		return g.validator.Validate(token)
 	}
 	return g.validator.ValidateFor(token, g.access)

@@ -41,6 +41,30 @@ func TestClosed(t *testing.T) {
 	}
 }
 
+// TestNoRule has an access rule that was refused: nobody is let through.
+func TestNoRule(t *testing.T) {
+	keys, err := os.ReadFile("../../../examples/rfc7515-a1.keys")
+	if err != nil {
+		t.Fatal(err)
+	}
+	validator, err := fowharimu.Open([]byte(`{"algs":["HS256"]}`), keys)
+	if err != nil {
+		t.Fatal(err)
+	}
+	defer validator.Close()
+	token, err := validator.Issue(struct{}{}, fowharimu.Issuing{})
+	if err != nil {
+		t.Fatal(err)
+	}
+	rule, err := fowharimu.OpenAccess([]byte(`{"scope":["read"]}`))
+	if err == nil {
+		t.Error("a rule with a misspelled member")
+	}
+	if got := ask(Bearer(validator, Access(rule))(http.NotFoundHandler()), []string{"Bearer " + token}); got.Code != 500 {
+		t.Error(got.Code)
+	}
+}
+
 // old stands for keys by URL that are too old.
 type old struct{}
 

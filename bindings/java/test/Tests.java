@@ -76,7 +76,8 @@ final class Tests {
             this::eachToken, this::ed448, this::clock, this::verdict, this::remembering, this::refusals, this::surrogates, this::documents, this::questions,
             this::mistakes, this::closing, this::issuing, this::freeing, this::threads, this::closingMeanwhile, this::ruleMet, this::denials,
             this::denialIsNoRefusal, this::rulesRefused, this::rulesOfTheDocuments, this::ruleMistakes, this::ruleClosing, this::ruleFreeing,
-            this::ruleThreads, this::ruleClosingMeanwhile, this::terms, this::issuers, this::times, this::longestTimes
+            this::ruleThreads, this::ruleClosingMeanwhile, this::terms, this::issuers, this::urls, this::times,
+            this::longestTimes
         }) {
             it.run();
             passed++;
@@ -133,6 +134,18 @@ final class Tests {
             both.close();
             thrown(IllegalStateException.class, () -> both.validate(unknown));
             thrown(IllegalStateException.class, () -> other.unverifiedIssuer(octets(unknown)));
+        }
+    }
+
+    /** URLs from which no keys are fetched: what a query may hide is told by no error. */
+    private void urls() throws Exception {
+        byte[] policy = octets("{\"algs\":[\"RS256\"]}");
+        for (String url : List.of("https://issuer.example/ ?secret", "https://[?secret", "keys?secret", "https:///keys?secret", "ftp://a/keys?secret")) {
+            for (Callable<?> call : List.<Callable<?>>of(() -> new RemoteKeys(policy, url), () -> RemoteKeys.discover(policy, url, new Fetching()))) {
+                for (Throwable it = thrown(IllegalArgumentException.class, call); it != null; it = it.getCause()) {
+                    check(!it.toString().contains("secret"), it.toString());
+                }
+            }
         }
     }
 
@@ -615,22 +628,21 @@ final class Tests {
         passed++;
     }
 
-    /** Where a constructor is refused memory when the documents are open, they are freed: else this takes some 150 MB. */
+    /** Where a constructor is refused memory when the documents are open, they are freed: else this takes some 300 MB. */
     private void memoryRefused(Path number) throws Exception {
         byte[] policy = octets(HS256);
-        String key = "{\"kty\":\"oct\",\"k\":\"" + "A".repeat(1_000) + "\"}";
-        byte[] keys = octets("{\"keys\":[" + String.join(",", Collections.nCopies(1_000, key)) + "]}");
+        byte[] keys = octets(SECRET.replace("\"}]", "A".repeat(1_000_000) + "\"}]"));
         long many = 1_000_000;
         put(number, many);
         new Validator(policy, keys).close();
         // (the last is that of the issuer which the policy names)
         long count = many - put(number, 0);
         long before = resident();
-        for (int n = 0; n < 150; n++) {
+        for (int n = 0; n < 400; n++) {
             put(number, count);
             thrown(OutOfMemoryError.class, () -> new Validator(policy, keys));
         }
-        check(resident() < before + 70_000, "resident: " + resident() + " KiB, and " + before + " before");
+        check(resident() < before + 100_000, "resident: " + resident() + " KiB, and " + before + " before");
         equal(put(number, 0), 0L);
         new Validator(policy, keys).close();
         passed++;

@@ -1,7 +1,9 @@
 'use strict';
 const assert = require('node:assert');
 const { spawnSync } = require('node:child_process');
+const { once } = require('node:events');
 const fs = require('node:fs');
+const http = require('node:http');
 const path = require('node:path');
 const test = require('node:test');
 const { Worker, isMainThread, workerData, parentPort } = require('node:worker_threads');
@@ -91,6 +93,86 @@ async function testIssuers() {
     await assert.rejects(issuers.validate(token), fow.Closed);
     assert.throws(() => other.unverifiedIssuer(token), fow.Closed);
   }
+}
+
+/** Keys by URL promise the claims by the language's own Promise, also where a library puts another one under its name. */
+async function testGuardUnderAnotherPromise() {
+  const { guard } = require('../guard.js'), own = globalThis.Promise;
+  const validate = async (token) => {
+    if (token === 'good') return { sub: 'ann' };
+    throw new fow.SignatureRefused('', { fault: 'BadSignature' });
+  };
+  const guarding = guard({ validate });
+  const ask = (token) => new Promise((answered) => {
+    const request = { rawHeaders: ['Authorization', `Bearer ${token}`], headers: {} };
+    guarding(request, { setHeader() {}, end() { answered(this.statusCode); } }, (error) => answered(error ?? request.auth));
+  });
+  globalThis.Promise = class extends own {};
+  try {
+    assert.deepStrictEqual([await ask('good'), await ask('forged')], [{ sub: 'ann' }, 401]);
+  } finally {
+    globalThis.Promise = own;
+  }
+}
+
+/** Has a test ask a server on the loopback for the keys of RS256, by a URL. */
+async function withKeysAt(tried) {
+  const server = http.createServer((_, response) => response.end(read(RSA, 'keys'))).listen(0, '127.0.0.1');
+  await once(server, 'listening');
+  try {
+    await tried(`http://127.0.0.1:${server.address().port}/keys`);
+  } finally {
+    server.close();
+  }
+}
+
+/** A policy that changes once it was handed over: new keys are judged by what it was. */
+const testKeptPolicy = () => withKeysAt(async (url) => {
+  const { RemoteKeys } = require('../remote.js'), text = JSON.stringify({ algs: ['RS256'], issuers: ['joe'] });
+  for (const [policy, change] of [
+    [JSON.parse(text), (it) => (it.issuers = ['eve'])],
+    [Buffer.from(text), (it) => it.write('eve', text.indexOf('joe'))],
+    [new Uint8Array(Buffer.from(text)), (it) => it.fill(0)],
+    [text, () => {}],
+  ]) {
+    const opening = RemoteKeys.open(policy, url, { allowHttp: true });
+    change(policy);
+    const keys = await opening;
+    assert.ok(await keys.refresh());
+    assert.deepStrictEqual([keys.issuer, (await keys.validate(tokenOf(RSA), NOW)).iss], ['joe', 'joe']);
+    keys.close();
+  }
+  for (const policy of [new Uint16Array(9), new ArrayBuffer(9), undefined]) await assert.rejects(RemoteKeys.open(policy, url), TypeError);
+});
+
+/** Times that are no times: keys that never grow too old would be what came of them. */
+const testTimes = () => withKeysAt(async (url) => {
+  const { KeysTooOld, RemoteKeys } = require('../remote.js'), policy = { algs: ['RS256'], issuers: ['joe'] };
+  const wrong = ['refreshAfter', 'cooldown', 'maxAge', 'timeout'].flatMap((name) => [NaN, -1, '60', {}].map((it) => ({ [name]: it })));
+  for (const options of [...wrong, { timeout: Infinity }, { timeout: 2 ** 31 }]) {
+    for (const open of [RemoteKeys.open, RemoteKeys.discover]) await assert.rejects(open(policy, url, { allowHttp: true, ...options }), RangeError);
+  }
+  const absent = { refreshAfter: undefined, cooldown: null, maxAge: undefined, timeout: undefined };
+  for (const [options, isOld] of [[absent, false], [{ refreshAfter: 0, maxAge: 0 }, true], [{ maxAge: Infinity, timeout: 2 ** 31 - 1.5 }, false]]) {
+    const keys = await RemoteKeys.open(policy, url, { allowHttp: true, ...options });
+    if (isOld) await assert.rejects(keys.validate(tokenOf(RSA), NOW), KeysTooOld);
+    else assert.strictEqual((await keys.validate(tokenOf(RSA), NOW)).iss, 'joe');
+    keys.close();
+  }
+});
+
+/** What a query hides is told nowhere: not in the errors of URLs, nor in those of fetches. */
+async function testQueries() {
+  const { inspect } = require('node:util'), { RemoteKeys } = require('../remote.js'), told = [];
+  const server = http.createServer((_, response) => response.writeHead(302, { location: 'https://[' }).end()).listen(0, '127.0.0.1');
+  await once(server, 'listening');
+  const onFetch = (...them) => told.push(them);
+  for (const at of [`http://127.0.0.1:${server.address().port}`, 'http://127.0.0.1:1', 'https://[', 'https://a:x']) {
+    await RemoteKeys.open({ algs: ['RS256'] }, `${at}/keys?api_key=secret`, { allowHttp: true, onFetch }).catch((error) => told.push(error));
+  }
+  server.close();
+  assert.strictEqual(told.length, 6);
+  assert.ok(!inspect(told, { depth: 9 }).includes('secret'), inspect(told, { depth: 9 }));
 }
 
 function testReport() {
@@ -425,6 +507,10 @@ if (!isMainThread) {
   test('what is issued is accepted', testIssuing);
   test('what a validator tells of its policy and keys', testTerms);
   test('several issuers', testIssuers);
+  test('a guard where Promise was replaced', testGuardUnderAnotherPromise);
+  test('a policy of keys by URL that changes', testKeptPolicy);
+  test('the times of keys by URL', testTimes);
+  test('queries are told nowhere', testQueries);
   test('shared and detached buffers', testSharedBuffers);
   test('what is not closed is freed', testFreeing);
   test('access rules that are not closed are freed', testFreeingRules);

@@ -4,7 +4,7 @@ from __future__ import annotations
 
 import logging
 import re
-from typing import List, Optional, Protocol
+from typing import Callable, List, Optional, Protocol, TypeVar
 
 from . import Access, Claims, Denied, TokenRefused, Undecided, Validator
 
@@ -15,10 +15,11 @@ _QUOTABLE = re.compile(r"[ !#-\[\]-~]*")
 _INVALID_TOKEN = 'Bearer error="invalid_token"'
 _INVALID_REQUEST = 'Bearer error="invalid_request"'
 _INSUFFICIENT_SCOPE = 'Bearer error="insufficient_scope"'
+_Said = TypeVar("_Said")
 
 
 class Validates(Protocol):
-    """What a guard asks: a `Validator`, or `RemoteKeys`."""
+    """What a guard asks: a `Validator`, `RemoteKeys`, or `Issuers`."""
 
     def validate(self, token: str, now: None = None, access: Optional[Access] = None) -> Claims: ...
 
@@ -41,15 +42,26 @@ class Bearer:
         self._validator = validator
         self._access = access
         self._realm = realm
-        # (keys by URL may be fetched for a token)
-        self.may_wait = not isinstance(validator, Validator)
 
     def claims(self, values: List[str]) -> Claims:
         """The claims of the request whose headers Authorization have these values. Raises Challenged, and MemoryError, Closed and Undecided where
         nothing is said of the token: a server answers these by 500."""
-        token = self._token(values)
-        try:
+        return self._told(self._token(values), lambda token: self._validator.validate(token, access=self._access))
+
+    def claims_at_once(self, values: List[str]) -> Optional[Claims]:
+        """The same, and None where something may have to be waited for, as keys by URL that are fetched for a token."""
+        return self._told(self._token(values), self._at_once)
+
+    def _at_once(self, token: str) -> Optional[Claims]:
+        if isinstance(self._validator, Validator):
             return self._validator.validate(token, access=self._access)
+        judge = getattr(self._validator, "_validate_at_once", None)
+        return None if judge is None else judge(token, self._access)
+
+    def _told(self, token: str, judge: Callable[[str], _Said]) -> _Said:
+        """What is said of a token; where it isn't accepted, the answer."""
+        try:
+            return judge(token)
         except Undecided:
             raise
         except Denied as denial:

@@ -2,8 +2,8 @@
 
     app.add_middleware(Guard, validator=Validator(policy, keys))
 
-The claims are `request.state.claims`. A call of a validator takes microseconds, so it stays in the event loop: `max_calls` in the policy bounds it. One of
-keys by URL may wait for a fetch, and goes to a thread of asyncio's.
+The claims are `request.state.claims`. A call of a validator takes microseconds, so it stays in the event loop: `max_calls` in the policy bounds it. A token
+that has to wait for a fetch of keys by URL goes to a thread of asyncio's; the others don't wait behind it.
 """
 
 from __future__ import annotations
@@ -50,7 +50,9 @@ class Guard:
             return
         values = [value.decode("latin-1") for name, value in scope["headers"] if name.lower() == b"authorization"]
         try:
-            claims = await asyncio.to_thread(self._bearer.claims, values) if self._bearer.may_wait else self._bearer.claims(values)
+            claims = self._bearer.claims_at_once(values)
+            if claims is None:
+                claims = await asyncio.to_thread(self._bearer.claims, values)
         except Challenged as why:
             await _refuse(scope, send, why)
             return

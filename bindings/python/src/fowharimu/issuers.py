@@ -48,6 +48,16 @@ class Issuers:
             raise _refused()
         return chosen.validate(octets, now, access)
 
+    def _validate_at_once(self, token: Text, access: Optional[Access]) -> Optional[Claims]:
+        """As of RemoteKeys."""
+        octets = octets_of(token, "a token")
+        chosen = self._chosen(octets)
+        if isinstance(chosen, RemoteKeys):
+            return chosen._validate_at_once(octets, access)
+        if chosen is None:
+            raise _refused()
+        return chosen.validate(octets, None, access)
+
     def judge(self, token: Text, now: Optional[SupportsIndex] = None) -> Report:
         """As Validator.judge. Where there is no validator of the issuer that the token names, the report has that refusal and nothing else."""
         octets = octets_of(token, "a token")

@@ -8,9 +8,12 @@
 
 from __future__ import annotations
 
+import functools
 import http.client
 import logging
+import math
 import os
+import re
 import socket
 import ssl
 import threading
@@ -34,6 +37,12 @@ _log = logging.getLogger("fowharimu")
 # The most octets that a key set, or what tells where it stands, may have.
 _MOST = 4_194_304
 
+# The greatest of each time, in seconds: a connection takes no longer deadline.
+_GREATEST = {"refresh_after": math.inf, "cooldown": math.inf, "max_age": math.inf, "timeout": 2_147_483}
+
+# The clock of ages: where there is one, one that goes on while the machine is suspended.
+_clock = functools.partial(time.clock_gettime, time.CLOCK_BOOTTIME) if hasattr(time, "CLOCK_BOOTTIME") else time.monotonic
+
 _ACCEPTS = {"Accept": "application/jwk-set+json, application/json", "Accept-Encoding": "identity"}
 
 
@@ -49,6 +58,13 @@ class KeysTooOld(TokenRefused):
 _Failed = (OSError, ValueError, http.client.HTTPException, FowharimuError, MemoryError)
 
 
+def _check_times(**given: Any) -> None:
+    """Raises ValueError for a time among what is given that is negative, too long, or no number."""
+    for name, greatest in _GREATEST.items():
+        if not 0 <= given.get(name, 0) <= greatest:
+            raise ValueError(f"{name} has to be a number of seconds from 0 to {greatest}")
+
+
 def _origin(url: str) -> Tuple[str, Optional[str], Optional[int]]:
     """The scheme, the host and the port of a URL (RFC 6454, section 4)."""
     parts = urllib.parse.urlsplit(url)
@@ -57,6 +73,9 @@ def _origin(url: str) -> Tuple[str, Optional[str], Optional[int]]:
 
 def _checked(url: str, allow_http: bool) -> str:
     """A URL from which keys may be fetched. Raises ValueError for any other."""
+    # (of these http.client says where they stand, with the query, which may hide a secret)
+    if re.search(r"[\x00-\x20\x7f]", url):
+        raise ValueError("the URL of a key set has neither spaces nor control characters")
     parts = urllib.parse.urlsplit(url)
     if parts.scheme != "https" and not (allow_http and parts.scheme == "http"):
         raise ValueError("the URL of a key set begins with https://")
@@ -75,6 +94,13 @@ class _SameOrigin(urllib.request.HTTPRedirectHandler):
             raise urllib.error.URLError("it redirects to another origin")
         return super().redirect_request(req, fp, code, msg, headers, newurl)
 
+    def http_error_302(self, req: urllib.request.Request, fp: Any, code: int, msg: str, headers: Any) -> Any:
+        # (else what the answer has beside its headers would be read, however long it is)
+        fp.close()
+        return super().http_error_302(req, fp, code, msg, headers)
+
+    http_error_301 = http_error_303 = http_error_307 = http_error_308 = http_error_302
+
 
 class _Fetch:
     """One fetch, which ends at its deadline: then its connection is shut, whatever it waits for."""
@@ -82,7 +108,7 @@ class _Fetch:
     def __init__(self, timeout: float) -> None:
         self.done = threading.Event()
         self._ends = time.monotonic() + timeout
-        self._connection: Optional[http.client.HTTPConnection] = None
+        self._held: Optional[socket.socket] = None
         self._timer = threading.Timer(timeout, self.end)
         self._timer.daemon = True
 
@@ -94,13 +120,14 @@ class _Fetch:
     def end(self) -> None:
         """Says that it is over, and shuts its connection where one is open."""
         self._timer.cancel()
-        held = self._connection.sock if self._connection is not None else None
+        self.done.set()
+        held = self._held
         if held is not None:
             try:
-                held.shutdown(socket.SHUT_RDWR)
+                # (below TLS: who reads from it sees that it ends)
+                socket.socket.shutdown(held, socket.SHUT_RDWR)
             except OSError:
                 pass
-        self.done.set()
 
     def get(self, url: str, context: Optional[ssl.SSLContext], allow_http: bool) -> bytes:
         """What stands at the URL. Raises OSError, ValueError and HTTPException where it can't be had in time."""
@@ -125,23 +152,44 @@ class _Fetch:
 
     def _read(self, opener: urllib.request.OpenerDirector, url: str) -> bytes:
         octets = bytearray()
-        with opener.open(urllib.request.Request(url, headers=_ACCEPTS), timeout=self.left or 1e-3) as response:
+        with self._answer(opener, url) as response:
             if response.status != 200:
                 raise ValueError(f"its status is {response.status}")
-            while part := response.read1(65_536):
+            while True:
+                part = response.read1(65_536)
+                # (a connection that was shut may look like an answer that is whole)
+                if self.left == 0:
+                    raise TimeoutError("it comes too slowly")
+                if not part:
+                    break
                 octets += part
                 if len(octets) > _MOST:
                     raise ValueError(f"it has more than {_MOST} octets")
-                if self.left == 0:
-                    raise TimeoutError("it comes too slowly")
             if response.length:
                 raise ValueError("it is cut off")
         return bytes(octets)
 
+    def _answer(self, opener: urllib.request.OpenerDirector, url: str) -> Any:
+        try:
+            return opener.open(urllib.request.Request(url, headers=_ACCEPTS), timeout=self.left or 1e-3)
+        except urllib.error.HTTPError as error:
+            # (it would hold its connection for as long as it is told why the fetch failed)
+            error.close()
+            raise
+
     def opened(self, kind: Callable[..., http.client.HTTPConnection], *words: Any, **named: Any) -> Any:
-        """A connection that is shut at the deadline."""
-        self._connection = kind(*words, **named)
-        return self._connection
+        """A connection that is shut at the deadline: it is held here, since it is forgotten there once an answer begins."""
+        connection = kind(*words, **named)
+        connect = connection.connect
+
+        def connect_held() -> None:
+            connect()
+            self._held = connection.sock
+            if self.done.is_set():
+                raise TimeoutError("it takes too long")
+
+        connection.connect = connect_held  # type: ignore[method-assign]
+        return connection
 
 
 class _Https(urllib.request.HTTPSHandler):
@@ -194,6 +242,11 @@ def _public(policy: bytes, keys: bytes, options: Dict[str, Any]) -> Validator:
     return validator
 
 
+def _asks_for_keys(refusal: Optional[TokenRefused]) -> bool:
+    """Whether a token was refused for want of a key, or by a bad signature."""
+    return isinstance(refusal, SignatureRefused) and refusal.fault in ("NoKey", "BadSignature")
+
+
 def _member(document: bytes, name: bytes) -> Optional[str]:
     """The text of a member of a JSON object, as the library reads it; None where there is none."""
     text = written(len(document) + 1, load().fow_text_member, document, len(document), name, len(name))
@@ -208,8 +261,8 @@ class RemoteKeys:
 
     `options` are those of `Validator`.
 
-    Raises ValueError for a URL that isn't https or has a name or a password in it, or a policy with an HMAC algorithm; KeysUnavailable where the
-    keys can't be fetched; PolicyRefused, TooManyQuestions, AnotherLibrary and MemoryError as `Validator` does.
+    Raises ValueError for a URL that isn't https or has a name or a password in it, a time that is none, or a policy with an HMAC algorithm;
+    KeysUnavailable where the keys can't be fetched; PolicyRefused, TooManyQuestions, AnotherLibrary and MemoryError as `Validator` does.
     """
 
     def __init__(
@@ -226,13 +279,14 @@ class RemoteKeys:
         **options: Any,
     ) -> None:
         self._policy, self._url = _public_policy(policy), _checked(url, allow_http)
+        _check_times(refresh_after=refresh_after, cooldown=cooldown, max_age=max_age, timeout=timeout)
         self._refresh_after, self._cooldown, self._max_age = refresh_after, cooldown, max_age
         self._timeout, self._allow_http, self._context, self._options = timeout, allow_http, context, options
         self._lock = threading.Lock()
         self._fetch: Optional[_Fetch] = None
         self._validator: Optional[Validator] = None
         self._closed = False
-        self._got = self._tried = time.monotonic()
+        self._got = self._tried = _clock()
         self.error: Optional[BaseException] = None
         """Why the last fetch failed; None where it didn't."""
         _forked.add(self)
@@ -249,6 +303,7 @@ class RemoteKeys:
         """
         allow_http = how.get("allow_http", False)
         _checked(issuer, allow_http)
+        _check_times(**how)
         _public_policy(policy, issuer)
         try:
             url = _keys_url(issuer, how.get("timeout", 5), how.get("context"), allow_http)
@@ -266,6 +321,18 @@ class RemoteKeys:
             if newer is None:
                 raise
         return newer.validate(token, now, access)
+
+    def _validate_at_once(self, token: Text, access: Optional[Access]) -> Optional[Claims]:
+        """As validate, where nothing has to be waited for; else None, and a fetch is under way as a rule."""
+        used = self._young()
+        if used is None:
+            return None
+        try:
+            return used.validate(token, None, access)
+        except SignatureRefused as refusal:
+            if _asks_for_keys(refusal) and (self._validator is not used or self._begun() is not None):
+                return None
+            raise
 
     def judge(self, token: Text, now: Optional[SupportsIndex] = None) -> Report:
         """As Validator.judge. Where the keys are too old and none can be fetched, the report has the refusal KeysTooOld and nothing else."""
@@ -329,25 +396,33 @@ class RemoteKeys:
         """As of Validator."""
         return self._held()._named(octets)
 
-    def _current(self) -> Validator:
-        """The validator by which a token is judged first. Raises KeysTooOld, and Closed."""
+    def _young(self) -> Optional[Validator]:
+        """The validator that is held, and None where its keys are too old. Where they are old, a fetch begins. Raises Closed."""
         # (before a fetch begins, so that it is the old one)
-        validator, age = self._validator, time.monotonic() - self._got
+        validator, age = self._validator, _clock() - self._got
         if age >= self._refresh_after:
-            fetch = self._begun()
-            if age >= self._max_age:
-                if fetch is not None:
-                    self._wait(fetch)
-                if time.monotonic() - self._got >= self._max_age:
-                    raise KeysTooOld("KeysTooOld")
-                validator = self._validator
+            self._begun()
+        if age >= self._max_age:
+            return None
         if validator is None:
             raise Closed
         return validator
 
+    def _current(self) -> Validator:
+        """The validator by which a token is judged first. Raises KeysTooOld, and Closed."""
+        young = self._young()
+        if young is not None:
+            return young
+        fetch = self._begun()
+        if fetch is not None:
+            self._wait(fetch)
+        if _clock() - self._got >= self._max_age:
+            raise KeysTooOld("KeysTooOld")
+        return self._held()
+
     def _newer(self, used: Validator, refusal: Optional[TokenRefused]) -> Optional[Validator]:
         """Another validator than the one that was used, where newer keys may change the refusal and are there or can be fetched."""
-        if not isinstance(refusal, SignatureRefused) or refusal.fault not in ("NoKey", "BadSignature"):
+        if not _asks_for_keys(refusal):
             return None
         if self._validator is used:
             fetch = self._begun()
@@ -360,7 +435,7 @@ class RemoteKeys:
         with self._lock:
             if self._fetch is not None and self._fetch.left == 0:
                 self._fail(self._fetch, TimeoutError("it takes too long"))
-            if self._fetch is None and not self._closed and time.monotonic() - self._tried >= self._cooldown:
+            if self._fetch is None and not self._closed and _clock() - self._tried >= self._cooldown:
                 self._begin()
             return self._fetch
 
@@ -374,7 +449,7 @@ class RemoteKeys:
 
     def _begin(self) -> _Fetch:
         """Begins a fetch, in a thread of its own, so that nobody waits for it past its deadline. The lock is held."""
-        self._tried = time.monotonic()
+        self._tried = _clock()
         self._fetch = fetch = _Fetch(self._timeout)
         try:
             threading.Thread(target=self._run, args=(fetch,), name="fowharimu-keys", daemon=True).start()
@@ -394,7 +469,7 @@ class RemoteKeys:
         with self._lock:
             if fetch is self._fetch:
                 # The old one is freed when the last call that uses it has ended, since nothing else names it then.
-                self._validator, self._got, self.error, self._fetch = validator, time.monotonic(), None, None
+                self._validator, self._got, self.error, self._fetch = validator, _clock(), None, None
                 _log.info("the key set at %s was fetched, %d octets", _shown(self._url), len(keys))
         fetch.end()
 

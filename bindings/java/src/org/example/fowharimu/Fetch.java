@@ -3,7 +3,9 @@ package org.example.fowharimu;
 import java.io.ByteArrayOutputStream;
 import java.io.IOException;
 import java.io.InterruptedIOException;
+import java.io.UncheckedIOException;
 import java.net.URI;
+import java.net.URISyntaxException;
 import java.net.http.HttpClient;
 import java.net.http.HttpRequest;
 import java.net.http.HttpResponse;
@@ -55,13 +57,17 @@ final class Fetch {
 
     /** A URL from which keys may be fetched. Throws IllegalArgumentException for any other. */
     static URI checked(String url, boolean allowsHttp) {
-        URI at = URI.create(url);
-        String scheme = String.valueOf(at.getScheme()).toLowerCase(Locale.ROOT);
-        boolean isTaken = scheme.equals("https") || allowsHttp && scheme.equals("http");
-        if (!isTaken || at.getHost() == null || at.getHost().isEmpty() || at.getRawUserInfo() != null) {
-            throw new IllegalArgumentException("the URL of a key set is https, and has a host and neither a name nor a password");
+        try {
+            URI at = new URI(url);
+            String scheme = String.valueOf(at.getScheme()).toLowerCase(Locale.ROOT);
+            boolean isTaken = scheme.equals("https") || allowsHttp && scheme.equals("http");
+            if (isTaken && at.getHost() != null && !at.getHost().isEmpty() && at.getRawUserInfo() == null) {
+                return at;
+            }
+        } catch (URISyntaxException e) {
+            // (not told: it has the URL in it, whose query may hide a secret)
         }
-        return at;
+        throw new IllegalArgumentException("the URL of a key set is https, and has a host and neither a name nor a password");
     }
 
     /** A client that uses no proxy, and follows no redirection by itself. */
@@ -132,7 +138,7 @@ final class Fetch {
         try {
             to = at.resolve(location);
         } catch (IllegalArgumentException e) {
-            throw new IOException("it redirects to no URL", e);
+            throw new IOException("it redirects to no URL");
         }
         if (to.getHost() == null || to.getRawUserInfo() != null || !origin(to).equals(origin(from))) {
             throw new IOException("it redirects to another origin");
@@ -154,7 +160,7 @@ final class Fetch {
                 .header("Accept-Encoding", "identity")
                 .build();
         CompletableFuture<HttpResponse<byte[]>> begun = client.sendAsync(
-                request, it -> it.statusCode() == 200 ? new Octets() : HttpResponse.BodySubscribers.replacing(new byte[0]));
+                request, it -> it.statusCode() == 200 ? new Octets() : nothing());
         answer = begun;
         if (isDropped) {
             begun.cancel(true);
@@ -173,6 +179,17 @@ final class Fetch {
         } catch (ExecutionException e) {
             throw e.getCause() instanceof IOException why ? why : new IOException(e.getCause());
         }
+    }
+
+    /** Takes nothing of a body, which may be of any length: its connection is let go. */
+    private static HttpResponse.BodySubscriber<byte[]> nothing() {
+        return HttpResponse.BodySubscribers.mapping(HttpResponse.BodySubscribers.ofInputStream(), body -> {
+            try (body) {
+                return new byte[0];
+            } catch (IOException e) {
+                throw new UncheckedIOException(e);
+            }
+        });
     }
 
     /** Keeps octets as they come, and no more than a key set may have. */
