@@ -1,5 +1,5 @@
 -- The sum over the keys of a name is the sum over all keys, since a key of another name costs nothing.
-use Rattle.std.proofs.Common.{◌≡◌, ℕ, zero, suc, ◌+◌, ◌-◌, ◌<◌, ◌≤◌, Bool, true, false, if◌then◌else◌, ◌&&◌, List, length, drop, slice_get, Option, Some, None, refl, sym, ◌∙◌, ap, ⊎_elim, arith}
+use Rattle.std.proofs.Common.{◌≡◌, ℕ, zero, suc, ◌+◌, ◌-◌, ◌<◌, ◌≤◌, Bool, true, false, if◌then◌else◌, ◌&&◌, List, length, drop, slice_get, Option, Some, None, refl, ap, ⊎_elim, arith}
 use Rattle.std.specs.List.{sum_by}
 use Rattle.std.specs.Option.{option_map_or}
 use Rattle.std.proofs.lemmas.Bool.{cases_lt, false_from_ne_true}
@@ -7,7 +7,7 @@ use Rattle.std.proofs.lemmas.List.{drop_all}
 use Rattle.jwt_mac.specs.declared.algorithm.Alg.{Alg}
 use Rattle.jwt_mac.specs.Verifying.{Meaning}
 use Rattle.jwt_keys.specs.Keys.{KeyParts, has_name}
-use Rattle.jwt_keys.specs.Numbers.{PassesAt, IsLeastFrom}
+use Rattle.jwt_keys.specs.Numbers.{PassesAt}
 use Rattle.jwt_policy.specs.Settings.{Settings}
 use Rattle.jwt_advice.specs.Uses.{serves}
 use Rattle.jwt_advice.specs.Costs.{key_try_cost}

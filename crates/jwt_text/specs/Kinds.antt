@@ -1,5 +1,5 @@
 -- The kinds of a node.
-use Rattle.std.specs.Prelude.{ℕ, ◌^◌, ℤ, pos, Option, Some, None, nat_lt, if◌then◌else◌}
+use Rattle.std.specs.Prelude.{◌^◌, ℤ, pos, Option, Some, None, nat_lt, if◌then◌else◌}
 use Rattle.std.specs.Prelude as spec
 use Rattle.serde_json.specs.Data.{Num, unsigned, negative, float}
 use Rattle.jwt_text.specs.declared.number.Number.{Number}

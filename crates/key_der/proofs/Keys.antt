@@ -1,5 +1,5 @@
 -- The two laws: what is read is the encoding of a key, and the encoding of a key is read as that key.
-use Rattle.std.proofs.Common.{◌≡◌, ℕ, ◌*◌, ◌<◌, true, cond, eqb, List, [], ◌∷◌, ◌++◌, length, take, drop, Result, Ok, Err, refl, sym, ap, subst, ◌∙◌, arith, inl, inr, ◌⊎◌, Bor, lit<}
+use Rattle.std.proofs.Common.{◌≡◌, ℕ, ◌*◌, ◌<◌, true, cond, eqb, List, [], ◌∷◌, ◌++◌, length, take, drop, Result, Ok, Err, refl, sym, ap, subst, ◌∙◌, arith, inl, inr, ◌⊎◌, lit<}
 use Rattle.std.specs.Prelude.{IfOk, IsOkAnd, ◌&&◌}
 use Rattle.std.specs.Str.{bytes_eq}
 use Rattle.std.proofs.lemmas.Bool.{eqb-true, eq-eqb, and_parts, and_from}
@@ -12,7 +12,7 @@ use Rattle.jwt_mac.specs.declared.key_view.EcCurve.TheVariants.{P256, P384, P521
 use Rattle.jwt_mac.specs.declared.key_view.EdCurve.{EdCurve}
 use Rattle.jwt_mac.specs.declared.key_view.EdCurve.TheVariants.{Ed25519, Ed448}
 use Rattle.key_der.specs.declared.refusal.Refusal.{Refusal}
-use Rattle.key_der.specs.declared.refusal.Refusal.TheVariants.{Algorithm, Point}
+use Rattle.key_der.specs.declared.refusal.Refusal.TheVariants.{Point}
 use Rattle.key_der.specs.declared.kind.Kind.{Kind}
 use Rattle.key_der.specs.declared.kind.Kind.TheVariants.{Rsa, Ec, Okp}
 use Rattle.key_der.specs.Der.{AreOctets, IsPublicKey, HasParts, IsRsaText, is_fit, length_octets, algorithm, subject_key, spki, sequence, bit_string, coordinate_size, point_size}

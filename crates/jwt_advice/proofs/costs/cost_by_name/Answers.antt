@@ -1,8 +1,6 @@
-use Rattle.std.proofs.Common.{◌<◌, ◌-◌, length, map, Some, arith, sym, ◌∙◌}
-use Rattle.std.proofs.lemmas.List.{length-map}
+use Rattle.std.proofs.Common.{◌<◌, ◌-◌, length, map, Some, arith}
 use Rattle.jwt_keys.specs.Keys.{has_name}
 use Rattle.jwt_keys.specs.KeySets.{key_set}
-use Rattle.jwt_keys.specs.Views.{key_parts}
 use Rattle.jwt_advice.specs.Costs.{key_try_cost}
 use Rattle.jwt_advice.proofs.Walks.{sum_more}
 use Rattle.jwt_advice.proofs.Named.{skipped, none_left, unnamed}

@@ -1,6 +1,6 @@
 use Rattle.std.proofs.Common.{rules, ◌≡◌, ◌∙◌, ◌⊎◌, ap, sym, subst, map, Option, Some, IfSome, [], true, false}
 use Rattle.jwt_command.specs.RunLines.{Outcome}
-use Rattle.jwt_words.specs.Seen.{requested, seen, held_view, jwk_view, policy_view, pretty_view, secret_view}
+use Rattle.jwt_words.specs.Seen.{requested, seen, held_view, jwk_view, policy_view, pretty_view}
 use Rattle.jwt_command.specs.Jwk.{JwkAnswer, jwk_most}
 use Rattle.jwt_command.specs.Policy.{policy_answer}
 use Rattle.jwt_command.specs.Pretty.{PrettyAnswer, pretty_most}
@@ -11,7 +11,7 @@ use Rattle.jwt_command.specs.Runs.{Runs}
 use Rattle.jwt_command.specs.Stops.{most_taken}
 use Rattle.jwt_printing.specs.Printed.{Gives}
 use Rattle.jwt_printing.specs.Views.{reply_view}
-use Rattle.jwt_words.specs.Words.{Jwk, JwkOrder, NewSecret, Once, Order, Policy, Pretty, PrettyOrder, Request}
+use Rattle.jwt_words.specs.Words.{Jwk, JwkOrder, Once, Order, Policy, Pretty, PrettyOrder, Request}
 use Rattle.jwt_command.proofs.Printing.{gives_known, gives_reply, some_known, whatever}
 use Rattle.jwt_command.proofs.run.run_read.Goals as goal
 

@@ -1,6 +1,6 @@
 use Rattle.std.proofs.Common.{◌∙◌, ◌++◌, ap, string_bytes}
 use Rattle.std.proofs.lemmas.Result.{on_ok_weaker}
-use Rattle.json.specs.Json.{Json, array, string}
+use Rattle.json.specs.Json.{array, string}
 use Rattle.json.specs.Tree.{json_tokens}
 use Rattle.jwt_printing.specs.Json.{items_in}
 use Rattle.jwt_printing.proofs.JsonLemmas.{all_put, array_put, mapped_twice}

@@ -1,4 +1,4 @@
-use Rattle.std.proofs.Common.{rules, ◌≡◌, ◌∙◌}
+use Rattle.std.proofs.Common.{rules, ◌≡◌}
 use Rattle.jiff.specs.Words.{civil_nanos}
 use Rattle.jwt_shown.specs.Dates.{nanoseconds}
 use Rattle.jwt_shown.proofs.dates.date_text.Goals as goal

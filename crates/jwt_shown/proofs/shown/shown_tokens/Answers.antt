@@ -1,4 +1,4 @@
-use Rattle.std.proofs.Common.{◌≡◌, ◌++◌, ◌∷◌, [], ◌∙◌, ap, sym, refl, append_assoc, append-nil}
+use Rattle.std.proofs.Common.{◌++◌, ◌∷◌, [], ◌∙◌, ap, sym, refl, append_assoc, append-nil}
 use Rattle.json.specs.Layout as layout
 use Rattle.json.specs.Layout.{step}
 use Rattle.json.specs.Lex.{tokens}

@@ -1,4 +1,4 @@
-use Rattle.std.proofs.Common.{◌∙◌, ap, ℕ, Option, List, Some, None}
+use Rattle.std.proofs.Common.{◌∙◌, ap, ℕ, Option, List, Some}
 use Rattle.std.specs.Prelude.{codes, is_some, if◌then◌else◌, option_map}
 use Rattle.clap.specs.Words.{Row, Text, found_of, one_of, rows_of}
 use Rattle.clap.proofs.WalkLemmas.{first_value-rows}

@@ -1,4 +1,4 @@
-use Rattle.std.proofs.Common.{◌≡◌, Bool, true, if◌then◌else◌, insert, is_ok, refl, sym, subst, ap, ◌∙◌, Global, arith}
+use Rattle.std.proofs.Common.{◌≡◌, true, insert, is_ok, refl, sym, subst, ap, ◌∙◌, Global, arith}
 use Rattle.std.specs.Arc.{arc_value}
 use Rattle.std.specs.declared.sync.Arc.{Arc}
 use Rattle.jwt_told.specs.declared.told.Answered.{Answered}

@@ -1,5 +1,4 @@
-use Rattle.std.proofs.Common.{sym, ap, ◌∙◌}
-use Rattle.std.specs.Prelude.{is_some}
+use Rattle.std.proofs.Common.{sym, ◌∙◌}
 use Rattle.jwt_mac.specs.Verifying.{key_octets, message_octets}
 use Rattle.jwt_told.specs.Parts.{views}
 use Rattle.jwt_told.proofs.Telling.{found_is}
