@@ -15,6 +15,7 @@ use Rattle.jwt_told.specs.Questions.{QuestionParts}
 use Rattle.jwt_c.specs.declared.asking.Proved.{Proved}
 use Rattle.jwt_c.specs.declared.asking.Proved.TheVariants.{Rsa, Ed25519 as OnEd25519, Any}
 use Rattle.jwt_c.specs.declared.state.State.{State}
+use Rattle.jwt_c.specs.declared.status.TheConstants.{FOW_ASKS, FOW_OK}
 use Rattle.jwt_c.specs.Asking.{TellsState, is_ed25519, rsa_says, ed25519_says, proved_says, asked_of, said_by}
 use Rattle.jwt_c.specs.Faults.{form_numbers, claim_numbers, verdict_numbers}
 use Rattle.jwt_c.specs.Reports.{claims_in}
@@ -49,15 +50,15 @@ untold Any q h =
 
 -- ---- no verdict asks
 
-form_never : (f : FormFault) → (form_numbers f).verdict ≡ 2 → ⊥
+form_never : (f : FormFault) → (form_numbers f).verdict ≡ FOW_ASKS → ⊥
 form_never form.OutOfMemory h = cc
 form_never _ h = cc
 
-claim_never : (f : ClaimFault) → (claim_numbers f).verdict ≡ 2 → ⊥
+claim_never : (f : ClaimFault) → (claim_numbers f).verdict ≡ FOW_ASKS → ⊥
 claim_never claim.OutOfMemory h = cc
 claim_never _ h = cc
 
-pub never_asks : (v : Verdict) → (verdict_numbers v).verdict ≡ 2 → ⊥
+pub never_asks : (v : Verdict) → (verdict_numbers v).verdict ≡ FOW_ASKS → ⊥
 never_asks (Accepted i j claims) h = cc
 never_asks (Refused (fault.Form f)) h = form_never f h
 never_asks (Refused (fault.Claim f)) h = claim_never f h
@@ -65,6 +66,6 @@ never_asks (Refused _) h = cc
 
 -- ---- no refusal has claims
 
-pub no_claims : (v : Verdict) → ((verdict_numbers v).verdict ≡ 0 → ⊥) → claims_in v ≡ None
+pub no_claims : (v : Verdict) → ((verdict_numbers v).verdict ≡ FOW_OK → ⊥) → claims_in v ≡ None
 no_claims (Accepted i j claims) h = absurd (h refl)
 no_claims (Refused f) h = refl

@@ -11,6 +11,7 @@ use Rattle.jwt_access.specs.declared.access_fault.AccessFault.TheVariants as fau
 use Rattle.jwt_access.specs.declared.denial.Denial.{Denial}
 use Rattle.jwt_access.specs.declared.denial.Denial.TheVariants.{ScopeMissing, ClaimMissing, ClaimNotAllowed}
 use Rattle.jwt_c.specs.declared.rule_state.RuleState.{RuleState}
+use Rattle.jwt_c.specs.declared.status.TheConstants.{FOW_OK, FOW_REFUSED, FOW_OUT_OF_MEMORY, FOW_ABSENT, FOW_DENIED}
 use Rattle.jwt_c.specs.Written.{Puts}
 
 -- ---- numbers
@@ -43,7 +44,7 @@ RefusesRule (Err it) number = number ≡ access_number it
 
 -- why what this document says isn't held: it is refused for this fault, or memory was refused
 abbrev pub IsRuleRefused : List ℕ → ℕ → ℕ → Type 0
-IsRuleRefused document status number = (status ≢ 0) × (status ≢ 3 → (status ≡ 1) × RefusesRule (rule_of document) number)
+IsRuleRefused document status number = (status ≢ FOW_OK) × (status ≢ FOW_OUT_OF_MEMORY → (status ≡ FOW_REFUSED) × RefusesRule (rule_of document) number)
 
 -- the member, or the claim, for which a rule is refused
 abbrev pub refused_in : Result Rule AccessFault → Option (List ℕ)
@@ -55,16 +56,16 @@ refused_in _ = None
 
 -- ---- a rule that is held against claims
 
--- 0 where the claims meet the rule, else 7 and the number of their denial; 6 where there are none
+-- FOW_OK where the claims meet the rule, else FOW_DENIED and the number of their denial; FOW_ABSENT where there are none
 abbrev pub IsHeldAgainst : Rule → Option Members → ℕ → ℕ → Type 0
-IsHeldAgainst rule None status number = status ≡ 6
+IsHeldAgainst rule None status number = status ≡ FOW_ABSENT
 IsHeldAgainst rule (Some claims) status number =
-    (status ≡ 0 → IsGranted rule claims)
-    × (status ≢ 0 → (status ≡ 7) × ((denial : Denial) × IsDenial rule claims denial × (number ≡ denial_number denial)))
+    (status ≡ FOW_OK → IsGranted rule claims)
+    × (status ≢ FOW_OK → (status ≡ FOW_DENIED) × ((denial : Denial) × IsDenial rule claims denial × (number ≡ denial_number denial)))
 
--- the scope or the claim of their denial is written; 6 where the claims meet the rule, or there are none
+-- the scope or the claim of their denial is written; FOW_ABSENT where the claims meet the rule, or there are none
 abbrev pub PutsDenied : Rule → Option Members → ℕ → ℕ → List ℕ → List ℕ → Type 0
-PutsDenied rule None status size old out = status ≡ 6
+PutsDenied rule None status size old out = status ≡ FOW_ABSENT
 PutsDenied rule (Some claims) status size old out =
-    (status ≡ 6 → IsGranted rule claims)
-    × (status ≢ 6 → (denial : Denial) × IsDenial rule claims denial × Puts (denied denial) status size old out)
+    (status ≡ FOW_ABSENT → IsGranted rule claims)
+    × (status ≢ FOW_ABSENT → (denial : Denial) × IsDenial rule claims denial × Puts (denied denial) status size old out)

@@ -18,6 +18,7 @@ use Rattle.jwt_c.specs.declared.asking.Proved.{Proved}
 use Rattle.jwt_c.specs.declared.asking.Proved.TheVariants.{Rsa, Ed25519 as OnEd25519, Any}
 use Rattle.jwt_c.specs.declared.state.State.{State}
 use Rattle.jwt_c.specs.declared.report.FowQuestion.{FowQuestion}
+use Rattle.jwt_c.specs.declared.status.TheConstants.{FOW_OK, FOW_OUT_OF_MEMORY, FOW_TOO_SHORT}
 use Rattle.jwt_c.specs.Documents.{documents}
 use Rattle.jwt_c.specs.Written.{IsAbsent}
 
@@ -77,8 +78,8 @@ pub record IsSized (question : QuestionParts) (written : FowQuestion) : Type 0 w
 -- the question is written with its sizes, or there is too little room for it; unless memory was refused
 abbrev pub PutsQuestion : Option QuestionParts → ℕ → FowQuestion → List ℕ → List ℕ → Type 0
 PutsQuestion None status written old out = IsAbsent status
-PutsQuestion (Some question) status written old out = (status ≡ 0 → IsSized question written × ((more : List ℕ) × (out ≡ question_octets question ++ more)))
-    × (status ≢ 0 → status ≢ 3 → (status ≡ 5) × (length old < length (question_octets question)))
+PutsQuestion (Some question) status written old out = (status ≡ FOW_OK → IsSized question written × ((more : List ℕ) × (out ≡ question_octets question ++ more)))
+    × (status ≢ FOW_OK → status ≢ FOW_OUT_OF_MEMORY → (status ≡ FOW_TOO_SHORT) × (length old < length (question_octets question)))
 
 -- the same policy and key set, with these answers added
 abbrev TellsOf : List ToldParts → State → State → Type 0
@@ -86,9 +87,9 @@ TellsOf answers before after = (documents after ≡ documents before) × (told a
 
 -- exactly this answer is added, unless memory was refused; where there is no question, none is
 abbrev pub TellsState : Option QuestionParts → Bool → ℕ → State → State → Type 0
-TellsState None valid status before after = IsAbsent status × (status ≢ 0) × (documents after ≡ documents before) × (told after.answers ≡ told before.answers)
-TellsState (Some question) valid status before after = (status ≡ 0 → TellsOf (told_of question valid ∷ []) before after)
-    × (status ≢ 0 → (status ≡ 3) × (documents after ≡ documents before) × (told after.answers ≡ told before.answers))
+TellsState None valid status before after = IsAbsent status × (status ≢ FOW_OK) × (documents after ≡ documents before) × (told after.answers ≡ told before.answers)
+TellsState (Some question) valid status before after = (status ≡ FOW_OK → TellsOf (told_of question valid ∷ []) before after)
+    × (status ≢ FOW_OK → (status ≡ FOW_OUT_OF_MEMORY) × (documents after ≡ documents before) × (told after.answers ≡ told before.answers))
 
 abbrev pub IsTold : Option QuestionParts → Bool → ℕ → State → Option State → Type 0
 IsTold question valid status before None = ⊥
@@ -140,7 +141,7 @@ proved_says (Some question) = if rsa_meaning.named question.alg then rsa_says (S
 
 -- exactly this answer is added, unless memory was refused
 abbrev pub TellsOne : QuestionParts → Bool → ℕ → List ToldParts → List ToldParts → Type 0
-TellsOne question valid status old new = (status ≡ 0 → new ≡ old ++ told_of question valid ∷ []) × (status ≢ 0 → (status ≡ 3) × (new ≡ old))
+TellsOne question valid status old new = (status ≡ FOW_OK → new ≡ old ++ told_of question valid ∷ []) × (status ≢ FOW_OK → (status ≡ FOW_OUT_OF_MEMORY) × (new ≡ old))
 
 -- the question, where ECDSA's verifier names its algorithm
 abbrev pub ecdsa_asked : Option QuestionParts → Option QuestionParts

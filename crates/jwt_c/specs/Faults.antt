@@ -22,6 +22,7 @@ use Rattle.jwt_verify.specs.declared.report.Fault.{Fault}
 use Rattle.jwt_verify.specs.declared.report.Fault.TheVariants as fault
 use Rattle.jwt_verify.specs.declared.report.Verdict.{Verdict}
 use Rattle.jwt_verify.specs.declared.report.Verdict.TheVariants.{Accepted, Refused}
+use Rattle.jwt_c.specs.declared.status.TheConstants.{FOW_OK, FOW_OUT_OF_MEMORY, FOW_REFUSED}
 
 -- ---- each fault has a number of its own; want of memory is a status and no fault
 
@@ -152,8 +153,7 @@ missing_name _ = []
 
 -- ---- a verdict
 
--- The numbers of a report: the verdict (0 accepted, 1 refused, 2 asks, 3 out of memory, 4 nothing is held), the fault, the part of
--- the token, a signature, a key, a claim.
+-- The numbers of a report: the verdict, which is a status, the fault, the part of the token, a signature, a key, a claim.
 pub record Numbers : Type 0 where
   pub verdict : ℕ
   pub fault : ℕ
@@ -168,33 +168,33 @@ bare verdict = record { verdict = verdict; fault = 0; part = 0; signature = 0; k
 
 -- a refusal
 abbrev pub refusal : ℕ → ℕ → ℕ → ℕ → ℕ → Numbers
-refusal fault part signature key claim = record { verdict = 1; fault = fault; part = part; signature = signature; key = key; claim = claim }
+refusal fault part signature key claim = record { verdict = FOW_REFUSED; fault = fault; part = part; signature = signature; key = key; claim = claim }
 
 -- an acceptance
 abbrev pub accepted : ℕ → ℕ → Numbers
-accepted signature key = record { verdict = 0; fault = 0; part = 0; signature = signature; key = key; claim = 0 }
+accepted signature key = record { verdict = FOW_OK; fault = 0; part = 0; signature = signature; key = key; claim = 0 }
 
 abbrev pub form_numbers : FormFault → Numbers
-form_numbers form.OutOfMemory = bare 3
+form_numbers form.OutOfMemory = bare FOW_OUT_OF_MEMORY
 form_numbers why = refusal (form_number why) (form_part why) (form_signature why) 0 0
 
 abbrev pub claim_numbers : ClaimFault → Numbers
-claim_numbers claim.OutOfMemory = bare 3
+claim_numbers claim.OutOfMemory = bare FOW_OUT_OF_MEMORY
 claim_numbers why = refusal (claim_fault_number why) 0 0 0 (claim_of why)
 
 abbrev pub issue_numbers : IssueFault → Numbers
-issue_numbers issue.OutOfMemory = bare 3
+issue_numbers issue.OutOfMemory = bare FOW_OUT_OF_MEMORY
 issue_numbers why = refusal (issue_number why) 0 (issue_signature why) 0 0
 
 abbrev pub fault_numbers : Fault → Numbers
-fault_numbers fault.OutOfMemory = bare 3
+fault_numbers fault.OutOfMemory = bare FOW_OUT_OF_MEMORY
 fault_numbers (fault.Text why) = refusal (input_number why) 0 0 0 0
 fault_numbers (fault.Form why) = form_numbers why
 fault_numbers (fault.WorkExceeded signature key) = refusal 501 0 signature key 0
 fault_numbers (fault.CallsExceeded signature key) = refusal 502 0 signature key 0
 fault_numbers (fault.Signature signature why) = refusal (sig_number why) 0 signature 0 0
 fault_numbers (fault.Claim why) = claim_numbers why
-fault_numbers fault.VerifierMemory = bare 3
+fault_numbers fault.VerifierMemory = bare FOW_OUT_OF_MEMORY
 
 abbrev pub verdict_numbers : Verdict → Numbers
 verdict_numbers (Accepted signature key claims) = accepted signature key

@@ -10,6 +10,7 @@ use Rattle.jwt_keys.specs.Keys.{KeyParts}
 use Rattle.jwt_jws.specs.Token.{Token}
 use Rattle.jwt_policy.specs.Settings.{Settings}
 use Rattle.jwt_verify.specs.declared.report.Fault.{Fault}
+use Rattle.jwt_c.specs.declared.status.TheConstants.{FOW_OUT_OF_MEMORY, FOW_ABSENT, FOW_UNNAMED}
 use Rattle.jwt_c.specs.Asking.{is_secret}
 use Rattle.jwt_c.specs.Written.{IsAbsent, Puts}
 
@@ -37,15 +38,15 @@ named_issuer payload = text_in (codes "iss") (object_of payload)
 
 -- it is written, where it is there; it takes no memory
 abbrev pub PutsHeld : Option (List ℕ) → ℕ → ℕ → List ℕ → List ℕ → Type 0
-PutsHeld None status size old out = status ≡ 6
+PutsHeld None status size old out = status ≡ FOW_ABSENT
 PutsHeld (Some octets) status size old out = Puts octets status size old out
 
--- it is written, where it is there: 8 where it isn't; unless memory was refused
+-- it is written, where it is there: FOW_UNNAMED where it isn't; unless memory was refused
 abbrev pub PutsNamed : Option (List ℕ) → ℕ → ℕ → List ℕ → List ℕ → Type 0
-PutsNamed None status size old out = status ≢ 3 → status ≡ 8
-PutsNamed (Some octets) status size old out = status ≢ 3 → Puts octets status size old out
+PutsNamed None status size old out = status ≢ FOW_OUT_OF_MEMORY → status ≡ FOW_UNNAMED
+PutsNamed (Some octets) status size old out = status ≢ FOW_OUT_OF_MEMORY → Puts octets status size old out
 
--- the issuer that a token names is written; 6 where the octets are no token
+-- the issuer that a token names is written; FOW_ABSENT where the octets are no token
 abbrev pub PutsIssuer : Result Token Fault → ℕ → ℕ → List ℕ → List ℕ → Type 0
 PutsIssuer (Err fault) status size old out = IsAbsent status
 PutsIssuer (Ok signed) status size old out = PutsNamed (named_issuer signed.payload) status size old out

@@ -9,6 +9,7 @@ use Rattle.jwt_policy.specs.declared.claim_fault.ClaimFault.{ClaimFault}
 use Rattle.jwt_issue.specs.Options.{OptionParts, issued_by}
 use Rattle.jwt_issue.specs.declared.fault.IssueFault.{IssueFault}
 use Rattle.jwt_c.specs.declared.report.FowReport.{FowReport}
+use Rattle.jwt_c.specs.declared.status.TheConstants.{FOW_REFUSED, FOW_OUT_OF_MEMORY}
 use Rattle.jwt_c.specs.Faults.{claim_numbers, issue_numbers}
 use Rattle.jwt_c.specs.Reports.{report_numbers}
 use Rattle.jwt_c.specs.Written.{Puts}
@@ -27,10 +28,10 @@ typ_of (first ∷ rest) = Some (first ∷ rest)
 
 -- what is written of an issuing: the token, or why there is none; unless memory was refused
 abbrev pub PutsToken : Result (List ℕ) IssueFault → ℕ → FowReport → ℕ → List ℕ → List ℕ → Type 0
-PutsToken (Ok token) status said size old out = status ≢ 3 → Puts token status size old out
-PutsToken (Err fault) status said size old out = status ≢ 3 → (status ≡ 1) × (report_numbers said ≡ issue_numbers fault)
+PutsToken (Ok token) status said size old out = status ≢ FOW_OUT_OF_MEMORY → Puts token status size old out
+PutsToken (Err fault) status said size old out = status ≢ FOW_OUT_OF_MEMORY → (status ≡ FOW_REFUSED) × (report_numbers said ≡ issue_numbers fault)
 
 -- of these claims
 abbrev pub PutsIssued : OptionParts → List KeyParts → Result (List ℕ) ClaimFault → ℕ → FowReport → ℕ → List ℕ → List ℕ → Type 0
 PutsIssued options keys (Ok claims) status said size old out = PutsToken (issued_by options keys claims) status said size old out
-PutsIssued options keys (Err fault) status said size old out = status ≢ 3 → (status ≡ 1) × (report_numbers said ≡ claim_numbers fault)
+PutsIssued options keys (Err fault) status said size old out = status ≢ FOW_OUT_OF_MEMORY → (status ≡ FOW_REFUSED) × (report_numbers said ≡ claim_numbers fault)

@@ -28,6 +28,7 @@ use Rattle.jwt_c.specs.declared.state.Last.{Last}
 use Rattle.jwt_c.specs.declared.report.FowReport.{FowReport}
 use Rattle.jwt_c.specs.declared.report.FowState.{FowState}
 use Rattle.jwt_c.specs.declared.report.FowTry.{FowTry}
+use Rattle.jwt_c.specs.declared.status.TheConstants.{FOW_OK, FOW_REFUSED, FOW_OUT_OF_MEMORY}
 use Rattle.jwt_c.specs.Documents.{documents}
 use Rattle.jwt_c.specs.Evidence.{states_kept, tries_kept, claims_kept}
 use Rattle.jwt_c.specs.Remembering.{RestsOn, IsHeldIn}
@@ -101,7 +102,7 @@ RefusesEither (Err why) keys fault = fault ≡ policy_number why
 RefusesEither (Ok settings) keys fault = RefusesKeys keys fault
 
 abbrev pub IsRefused : List ℕ → List ℕ → ℕ → ℕ → Type 0
-IsRefused policy keys status fault = (status ≢ 0) × (status ≢ 3 → (status ≡ 1) × RefusesEither (policy_of policy) (key_set_of keys) fault)
+IsRefused policy keys status fault = (status ≢ FOW_OK) × (status ≢ FOW_OUT_OF_MEMORY → (status ≡ FOW_REFUSED) × RefusesEither (policy_of policy) (key_set_of keys) fault)
 
 -- the same policy, key set and answers are held
 abbrev pub IsAlike : Option State → Option State → Type 0

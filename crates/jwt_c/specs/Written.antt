@@ -1,4 +1,4 @@
--- The octets that are written for the caller, by the status: 0 done, 3 out of memory, 5 too short, 6 absent.
+-- The octets that are written for the caller, by the status.
 use Rattle.std.specs.Prelude.{◌≡◌, ◌≢◌, ◌<◌, ℕ, ℤ, ◌++◌, List, [], ◌∷◌, length, slice_get, Option, Some, None, option_and_then, Result, Ok, Err}
 use Rattle.serde_json.specs.Data.{Members}
 use Rattle.jwt_text.specs.Base64url.{octets_of}
@@ -12,6 +12,7 @@ use Rattle.jwt_verify.specs.declared.report.SigState.{SigState}
 use Rattle.jwt_verify.specs.declared.report.Try.{Try}
 use Rattle.jwt_c.specs.declared.report.FowState.{FowState}
 use Rattle.jwt_c.specs.declared.report.FowTry.{FowTry}
+use Rattle.jwt_c.specs.declared.status.TheConstants.{FOW_OK, FOW_OUT_OF_MEMORY, FOW_TOO_SHORT, FOW_ABSENT}
 use Rattle.jwt_c.specs.Reports.{state_parts, state_numbers, try_of, try_parts}
 
 -- what is written begins with these octets, and the size is their number
@@ -20,16 +21,16 @@ BeginsWith octets size out = (size ≡ length octets) × ((more : List ℕ) × (
 
 -- these octets are written, or there is too little room for them
 abbrev pub Puts : List ℕ → ℕ → ℕ → List ℕ → List ℕ → Type 0
-Puts octets status size old out = (status ≡ 0 → BeginsWith octets size out) × (status ≢ 0 → (status ≡ 5) × (length old < length octets))
+Puts octets status size old out = (status ≡ FOW_OK → BeginsWith octets size out) × (status ≢ FOW_OK → (status ≡ FOW_TOO_SHORT) × (length old < length octets))
 
 -- there is nothing to be written, unless memory was refused
 abbrev pub IsAbsent : ℕ → Type 0
-IsAbsent status = status ≢ 3 → status ≡ 6
+IsAbsent status = status ≢ FOW_OUT_OF_MEMORY → status ≡ FOW_ABSENT
 
 -- the payload is written, unless memory was refused
 abbrev pub PutsPayload : Result Token Fault → ℕ → ℕ → List ℕ → List ℕ → Type 0
 PutsPayload (Err fault) status size old out = IsAbsent status
-PutsPayload (Ok signed) status size old out = status ≢ 3 → Puts signed.payload status size old out
+PutsPayload (Ok signed) status size old out = status ≢ FOW_OUT_OF_MEMORY → Puts signed.payload status size old out
 
 -- the octets of the protected header of the signature of this index; none where the octets are no token, or it has no such signature
 abbrev pub header_octets_at : Result Token Fault → ℕ → Option (List ℕ)
@@ -44,18 +45,18 @@ refused_member _ = None
 
 -- the name is written, where it isn't empty
 abbrev pub PutsName : List ℕ → ℕ → ℕ → List ℕ → List ℕ → Type 0
-PutsName [] status size old out = status ≡ 6
+PutsName [] status size old out = status ≡ FOW_ABSENT
 PutsName (first ∷ rest) status size old out = Puts (first ∷ rest) status size old out
 
 -- the state, where there is one
 abbrev pub IsState : Option SigState → ℕ → FowState → Type 0
-IsState None status written = status ≡ 6
-IsState (Some known) status written = (status ≡ 0) × (state_parts written ≡ state_numbers known)
+IsState None status written = status ≡ FOW_ABSENT
+IsState (Some known) status written = (status ≡ FOW_OK) × (state_parts written ≡ state_numbers known)
 
 -- the try, where there is one
 abbrev pub IsTry : Option Try → ℕ → FowTry → Type 0
-IsTry None status written = status ≡ 6
-IsTry (Some known) status written = (status ≡ 0) × (try_of written ≡ try_parts known)
+IsTry None status written = status ≡ FOW_ABSENT
+IsTry (Some known) status written = (status ≡ FOW_OK) × (try_of written ≡ try_parts known)
 
 -- the compact JSON text of a claim, a text or a list of texts, of the claims that are kept
 abbrev pub claim_text_at : Option Members → List ℕ → Option (List ℕ)
@@ -70,8 +71,8 @@ number_at (Some claims) name = whole_at name claims
 -- it is written, where it is there, unless memory was refused
 abbrev pub PutsSome : Option (List ℕ) → ℕ → ℕ → List ℕ → List ℕ → Type 0
 PutsSome None status size old out = IsAbsent status
-PutsSome (Some octets) status size old out = status ≢ 3 → Puts octets status size old out
+PutsSome (Some octets) status size old out = status ≢ FOW_OUT_OF_MEMORY → Puts octets status size old out
 
 abbrev pub PutsNumber : Option ℤ → ℕ → ℤ → Type 0
-PutsNumber None status written = status ≡ 6
-PutsNumber (Some number) status written = (status ≡ 0) × (written ≡ number)
+PutsNumber None status written = status ≡ FOW_ABSENT
+PutsNumber (Some number) status written = (status ≡ FOW_OK) × (written ≡ number)

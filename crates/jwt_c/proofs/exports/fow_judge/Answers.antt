@@ -1,5 +1,6 @@
 use Rattle.std.proofs.Common.{◌≡◌, ◌≤◌, sym, subst, IfSome, Some}
 use Rattle.std.proofs.Math.Facts.{to_z-of_z}
+use Rattle.jwt_c.specs.declared.status.TheConstants.{FOW_ASKS, FOW_REFUSED}
 use Rattle.jwt_c.specs.Reports.{IsAsked, IsAskedBy, IsJudged, IsJudgedBy}
 use Rattle.jwt_c.specs.Remembering.{RemembersTold}
 use Rattle.jwt_c.proofs.exports.fow_judge.Goals as goal
@@ -7,7 +8,7 @@ use Rattle.jwt_c.proofs.exports.fow_judge.Goals as goal
 pub returns-clause-judged : goal.returns-clause-judged
 returns-clause-judged c =
     let said = c.judge_state-said.result in let x = c.args.token.now in let kept = c.judge_state-said.new.state in
-    subst (λ o. IfSome o (λ d. said.verdict ≤ 1 → IsJudgedBy d c.args.now x said c.of.result.state)) (sym c.in-Some.ensures.held)
+    subst (λ o. IfSome o (λ d. said.verdict ≤ FOW_REFUSED → IsJudgedBy d c.args.now x said c.of.result.state)) (sym c.in-Some.ensures.held)
     (λ small. subst (λ o. IsJudgedBy c.in-Some.state.value c.args.now x said o) (sym c.of.ensures)
     (subst (λ d. IsJudged d c.args.now x said kept.last) c.deref_mut.ensures.value
     (subst (λ n. IsJudged c.deref_mut.result.now n x said kept.last) (to_z-of_z c.ranges.now) (c.judge_state-said.ensures.judged small))))
@@ -15,7 +16,7 @@ returns-clause-judged c =
 pub returns-clause-asks : goal.returns-clause-asks
 returns-clause-asks c =
     let said = c.judge_state-said.result in let x = c.args.token.now in let kept = c.judge_state-said.new.state in
-    subst (λ o. IfSome o (λ d. said.verdict ≡ 2 → IsAskedBy d c.args.now x said c.of.result.state)) (sym c.in-Some.ensures.held)
+    subst (λ o. IfSome o (λ d. said.verdict ≡ FOW_ASKS → IsAskedBy d c.args.now x said c.of.result.state)) (sym c.in-Some.ensures.held)
     (λ asks. subst (λ o. IsAskedBy c.in-Some.state.value c.args.now x said o) (sym c.of.ensures)
     (subst (λ d. IsAsked d c.args.now x said kept.last) c.deref_mut.ensures.value
     (subst (λ n. IsAsked c.deref_mut.result.now n x said kept.last) (to_z-of_z c.ranges.now) (c.judge_state-said.ensures.asks asks))))
