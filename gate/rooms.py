@@ -115,18 +115,40 @@ class Definitions:
 
 
 def exported(crate):
-    """The names that a crate's lib.rt passes on, and its public modules."""
-    text = (TOP / "crates" / crate / "src/lib.rt").read_text()
-    names = set()
-    for listed in re.findall(r"^pub use ([^;]+);", text, re.MULTILINE):
+    """The names that a crate's lib.rt passes on, and the files of its public modules."""
+    names, root = set(), TOP / "crates" / crate / "src/lib.rt"
+    for listed in re.findall(r"^pub use ([^;]+);", root.read_text(), re.MULTILINE):
         names |= set(re.findall(r"\w+", listed))
-    return names, set(re.findall(r"^pub mod (\w+);", text, re.MULTILINE))
+    return names, public_modules(root, root.parent)
+
+
+def public_modules(path, folder):
+    """The files of the public modules that a file names, which stand in a folder, and of those in them."""
+    found = set()
+    for name in re.findall(r"^pub mod (\w+);", path.read_text(), re.MULTILINE):
+        file = next(it for it in (folder / f"{name}.rt", folder / name / "mod.rt") if it.exists())
+        found |= {file, *public_modules(file, folder / name)}
+    return found
+
+
+def end_of_signature(lines, at, indent):
+    """The line at which the signature of a function ends, with its clauses: before the body, or at the semicolon of a method that has none."""
+    depth, has_clauses = 0, False
+    for end in range(at, len(lines)):
+        line = re.sub(r'"[^"]*"', "", lines[end]).rstrip()
+        has_clauses = has_clauses or re.match(r"\s*(?:ensures|requires|ghost)\b", line) is not None
+        opened = depth + sum(line.count(it) for it in "([{") - sum(line.count(it) for it in ")]}")
+        is_body = lines[end] == f"{indent}{{" or line.endswith("{") and opened == 1 and not has_clauses
+        if is_body or opened == 0 and line.endswith((";", "{}")):
+            return end
+        depth = opened
+    return len(lines) - 1
 
 
 def contracts(path, crate):
     """Of a file of code each contract, with the room that it has by itself: of a function, of a trait's and a type's ghost members."""
     names, modules = exported(crate)
-    is_open = path.stem in modules or crate == "jwt_c"
+    is_open = path in modules or crate == "jwt_c"
     lines, found, owner = path.read_text().split("\n"), [], None
     at = 0
     while at < len(lines):
@@ -138,10 +160,7 @@ def contracts(path, crate):
             owner = None
         function = FUNCTION.match(line)
         if function:
-            end = at
-            while end < len(lines) and lines[end] != f"{function[1]}{{" and not lines[end].rstrip().endswith(("{", "{}", ";")) or \
-                    end > at and re.match(r"\s*(ensures|requires|ghost|\(|→|×)", lines[end]):
-                end += 1
+            end = end_of_signature(lines, at, function[1])
             text = "\n".join(lines[at : end + 1])
             clauses = text[re.search(r"\b(?:ensures|requires|ghost)\b", text).start():] if re.search(r"\b(?:ensures|requires|ghost)\b", text) else ""
             if path.stem == "laws":

@@ -22,8 +22,6 @@ abbrev pub last_document : Option (List ℕ) → List ℕ → List ℕ
 last_document (Some octets) x = octets
 last_document None x = x
 
--- ---- Cited by contracts of private functions alone
-
 -- ---- what is taken of the input
 
 -- for a document: nothing where it is in hand
@@ -40,6 +38,8 @@ last_most most None = most
 abbrev pub most_unless_unread : Option (List ℕ) → ℕ → ℕ
 most_unless_unread (Some name) most = 0
 most_unless_unread None most = most
+
+-- ---- Cited by contracts of private functions alone
 
 -- the document, and what follows it is still to come
 pub record TakesDocument (limit : ℕ) (held : Option (List ℕ)) (x octets : List ℕ) (rest : Option (List ℕ)) : Type 0 where

@@ -106,8 +106,6 @@ secret_line order None = random_failed order.printing
 abbrev pub secret_answer : SecretOrder → Held → Answer
 secret_answer order held = secret_line order (fresh_secret order.alg held.random)
 
--- ---- Cited by contracts of private functions alone
-
 -- how much of the input is taken at most: nothing where the keys are in a file
 abbrev pub jwk_most : Held → JwkOrder → ℕ
 jwk_most held order = most_unless_unread (unread order.files held) (last_most 4194305 held.key)

@@ -28,13 +28,13 @@ pub mod Jwk
 pub mod Policy
 -- what `jwt show --pretty` answers
 pub mod Pretty
+-- the amount that is taken of an input
+pub mod Stops
 -- the end of a run of the command
 pub mod Runs
 -- ---- What contracts of private functions alone cite, which nobody has to believe
 
 -- a command's input
 pub mod Input
--- the amount that is taken of an input
-pub mod Stops
 -- this crate's own values as contracts see them
 pub mod Views

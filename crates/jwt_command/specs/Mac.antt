@@ -85,8 +85,6 @@ abbrev pub mac_in_hand : Option (List ℕ) → ℕ → Bool → List ℕ → Ans
 mac_in_hand (Some text) limit failed input = mac_answer (without_line_feed true text) limit failed input
 mac_in_hand None limit failed input = key_refused
 
--- ---- Cited by contracts of private functions alone
-
 -- how much of the input is taken at most: nothing where the key is refused
 abbrev pub behind_key : Option (List ℕ) → ℕ → ℕ
 behind_key (Some key) limit = limit + 1

@@ -30,8 +30,6 @@ PrettyAnswer order false x a = PrettyOctets (nat_lt order.limit (length x)) orde
 abbrev pub RunsPretty : PrettyOrder → List ℕ → Bool → Outcome → Type 0
 RunsPretty order x failed o = Printed out_of_memory o ⊎ ((a : Answer) × PrettyAnswer order failed x a × Printed a o)
 
--- ---- Cited by contracts of private functions alone
-
 -- how much of the input is taken at most
 abbrev pub pretty_most : PrettyOrder → ℕ
 pretty_most order = order.limit + 1

@@ -33,8 +33,6 @@ IsReading (Ok request) asked = asked ≡ Some (requested request)
 IsReading (Err (Wrong text)) asked = asked ≡ None
 IsReading (Err OutOfMemory) asked = Unit {0}
 
--- ---- Cited by contracts of private functions alone
-
 -- nothing is read for words that ask for nothing, for the version, for a new secret, for a policy, and for a key of `mac` that is refused
 abbrev pub reads_nothing : Option Request → Bool
 reads_nothing (Some (Once printing Version)) = true

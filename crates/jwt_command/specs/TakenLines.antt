@@ -15,12 +15,6 @@ abbrev pub after_line : List ℕ → List ℕ
 after_line [] = []
 after_line (c ∷ cs) = if c == 10 then cs else after_line cs
 
--- ---- Cited by contracts of private functions alone
-
--- a line feed is among the octets
-abbrev pub has_line_feed : List ℕ → Bool
-has_line_feed octets = list_any (λ c. c == 10) octets
-
 -- the line is within the limit, and what follows it is still to come
 pub record TakesLine (limit : ℕ) (x octets : List ℕ) (rest : Option (List ℕ)) : Type 0 where
   pub line : octets ≡ first_line x
@@ -36,3 +30,9 @@ abbrev pub LineFails : ℕ → Bool → List ℕ → Option (List ℕ) → LineF
 LineFails limit failed x rest TooLong = (limit < length (first_line x)) × (rest ≡ Some (drop (limit + 1) x)) × (failed ≡ false)
 LineFails limit failed x rest Read = failed ≡ true
 LineFails limit failed x rest OutOfMemory = TakesAtMost (line_most limit x) x rest
+
+-- ---- Cited by contracts of private functions alone
+
+-- a line feed is among the octets
+abbrev pub has_line_feed : List ℕ → Bool
+has_line_feed octets = list_any (λ c. c == 10) octets
