@@ -29,10 +29,11 @@ all: libraries $(PROGRAM)
 
 libraries: $(LIBRARIES) $(PACKAGES)
 
+# What is built is as old as its build's beginning: a source that is changed meanwhile is newer.
 $(ARCHIVE): $(CRATES)
-	mkdir -p $(BUILD)
+	mkdir -p $(BUILD) && touch $(BUILD)/archive.begun
 	cd crates/jwt_c && python3 ../../gate/progress.py $(abspath $(BUILD))/archive.log rt lib || { tail $(abspath $(BUILD))/archive.log; false; }
-	touch $@
+	touch -r $(BUILD)/archive.begun $@
 
 $(BUILD)/fault_name.o: bindings/c/fault_name.c include/fowharimu.h
 	mkdir -p $(BUILD)
@@ -66,17 +67,18 @@ $(BUILD)/libfowharimu_openssl.so.0: $(BUILD)/fowharimu_openssl.o $(BUILD)/libfow
 	    $(BUILD)/fowharimu_openssl.o $(BUILD)/libfowharimu.so.0 -lcrypto
 	ln -f $@ $(BUILD)/libfowharimu_openssl.so
 
-# The prefix may be another than that of the last call.
+# The prefix may be another than that of the last call, and root's call may have written the file.
 $(BUILD)/%.pc: bindings/c/%.pc.in FORCE
-	mkdir -p $(BUILD)
+	mkdir -p $(BUILD) && rm -f $@
 	sed 's|@PREFIX@|$(PREFIX)|; s|@LIBDIR@|$(LIBDIR)|; s|@VERSION@|$(VERSION)|' $< > $@
 
 $(PROGRAM): $(CRATES)
+	mkdir -p $(BUILD) && touch $(BUILD)/program.begun
 	./jwt --build-program
-	touch $@
+	touch -r $(BUILD)/program.begun $@
 
 $(BUILD)/fowharimu.1: docs/jwt.1
-	mkdir -p $(BUILD)
+	mkdir -p $(BUILD) && rm -f $@
 	sed 's/^\(\.Nm\|\.Dt\) jwt/\1 fowharimu/I; s/\bjwt \(verify\|issue\|mac\|show\|keys\|jwk\|policy\)/fowharimu \1/g' docs/jwt.1 > $@
 
 install: all $(PROGRAM) $(BUILD)/fowharimu.1
