@@ -1,10 +1,28 @@
 #!/usr/bin/env python3
 """Looks whether what the documents name is there: in docs/PROMISES.md each wrong body, test, clause, file and law, and in all documents
-each file by its path. Each wrong body has a row. A rough reader of the layout of `rt fmt`: names of definitions, of scripts and of tests
+each file by its path; and whether each place that has the version has that of the Makefile. Each wrong body has a row. A rough reader of the layout of `rt fmt`: names of definitions, of scripts and of tests
 in C are looked for too. It ends with 'N passed, M failed', where a row or a path counts as one."""
 import os, pathlib, re, subprocess, sys
 
 TOP = pathlib.Path(__file__).resolve().parent.parent
+# Where the version stands, and the words around it.
+VERSIONS = {
+    "README.md": r"\bfowharimu(?:-go)?[-@]v?(\d+\.\d+\.\d+)",
+    "bindings/go/README.md": r"\bfowharimu@v(\S+)",
+    "bindings/java/pom.xml": r"^  <version>(.*)</version>",
+    "bindings/migrating/run": r'^version = "(.*)"|\bfowharimu v([\d.]+)',
+    "bindings/node/README.md": r"\bfowharimu-(\d+\.\d+\.\d+)",
+    "bindings/node/package.json": r'^  "version": "(.*)"',
+    "bindings/python/README.md": r"\bfowharimu-(\d+\.\d+\.\d+)",
+    "bindings/python/pyproject.toml": r'^version = "(.*)"',
+    "bindings/requests/nethttp/go.mod": r"\bfowharimu v(\S+)",
+    "bindings/rust/Cargo.toml": r'^version = "(.*)"',
+    "bindings/rust/fowharimu/Cargo.toml": r'\bversion = "([^"]*)", default-features',
+    "bindings/rust/fowharimu-http/Cargo.toml": r'(?:^|, )version = "([^"]*)"',
+    "crates/jwt_command/src/run.rt": r'"jwt (\S+), proved with',
+    "debian/changelog": r"\Afowharimu \((\S+)-\d+\)",
+    "examples/gateway/go/go.mod": r"\bfowharimu v(\S+)",
+}
 PLACES = "crates|docs|bindings|examples|include|bench|gate|trial|keys|refused-growths|failing-streams|must-not-compile"
 
 
@@ -65,6 +83,15 @@ def paths_of(text):
     return {it for it in re.findall(rf"`((?:{PLACES})/[\w./*-]+)`", text) if not re.search("CRATE|NAME", it)}
 
 
+def other_versions():
+    """The places that have another version than the Makefile, or none."""
+    (wanted,) = re.findall(r"^VERSION = (\S+)$", (TOP / "Makefile").read_text(), re.MULTILINE)
+    for path, words in VERSIONS.items():
+        found = {"".join(it.groups(default="")) for it in re.finditer(words, (TOP / path).read_text(), re.MULTILINE)}
+        if found != {wanted}:
+            yield f"{path} has the version {', '.join(sorted(found)) or 'nowhere'}, and the Makefile {wanted}"
+
+
 def main():
     names, failed, count, used = Names(), [], 0, set()
     for number, cells in rows((TOP / "docs/PROMISES.md").read_text()):
@@ -82,6 +109,8 @@ def main():
             count += 1
             if not list(TOP.glob(path.rstrip("/"))):
                 failed.append(f"{page.relative_to(TOP)}: no {path}")
+    count += len(VERSIONS)
+    failed += other_versions()
     for it in failed:
         print(it)
     print(f"{count - len(failed)} passed, {len(failed)} failed")
