@@ -15,12 +15,12 @@ export interface Guarding {
   realm?: string;
   /** Whether what is behind isn't shown `Authorization`. */
   hidesToken?: boolean;
-  /** Is told why a token isn't taken, before the answer. */
+  /** Is told why a token isn't taken, before the answer; not of what is no token by its letters (RFC 6750, section 2.1), nor of a request without one. */
   onRefusal?: (error: TokenRefused | Denied, request: IncomingMessage) => void;
 }
 /**
  * Calls `next()` where the token behind the scheme Bearer is accepted now. Else the answer is 400, 401 or 403, with `WWW-Authenticate` (RFC 6750,
  * section 3), or 503 where keys by URL are too old. Where nothing is said of the token, for want of memory or since the validator is closed, it is `next(error)`. Throws TypeError for a
- * realm that a quoted string can't have.
+ * realm that a quoted string can't have, for a name that `Guarding` hasn't, and for an `access` that is none: nothing would be asked for.
  */
 export function guard(validator: Validator | RemoteKeys | Issuers, how?: Guarding): (request: Guarded, response: ServerResponse, next: (error?: unknown) => void) => void;

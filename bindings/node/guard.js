@@ -1,7 +1,7 @@
 'use strict';
 /** Lets HTTP requests through where their token is accepted (RFC 6750). guard.d.ts says what each call does. */
 
-const { Denied, TokenRefused } = require('.');
+const { Access, Denied, TokenRefused } = require('.');
 
 const INVALID_REQUEST = 'Bearer error="invalid_request"';
 const INVALID_TOKEN = 'Bearer error="invalid_token"';
@@ -10,6 +10,8 @@ const INSUFFICIENT_SCOPE = 'Bearer error="insufficient_scope"';
 const B64TOKEN = /^(?:[A-Za-z0-9._~+/-]+=*)?$/;
 const QUOTABLE = /^[ !#-[\]-~]*$/;
 const CREDENTIALS = /^bearer(?: +(.*))?$/is;
+
+const WORDS = ['access', 'realm', 'hidesToken', 'onRefusal'];
 
 /** The values of all headers Authorization: `headers` has the first alone. */
 function authorizations({ rawHeaders }) {
@@ -20,13 +22,13 @@ function authorizations({ rawHeaders }) {
   return values;
 }
 
-function hide(request) {
-  const others = [];
-  for (let place = 0; place < request.rawHeaders.length; place += 2) {
-    if (request.rawHeaders[place].toLowerCase() !== 'authorization') others.push(request.rawHeaders[place], request.rawHeaders[place + 1]);
+/** Takes all headers Authorization away. (Node makes `headers` and `headersDistinct` of `rawHeaders` when they are first read, by a count that stays.) */
+function hide({ headers, headersDistinct, rawHeaders }) {
+  delete headers.authorization;
+  if (headersDistinct !== undefined) delete headersDistinct.authorization;
+  for (let place = rawHeaders.length - 2; place >= 0; place -= 2) {
+    if (rawHeaders[place].toLowerCase() === 'authorization') rawHeaders.splice(place, 2);
   }
-  request.rawHeaders = others;
-  delete request.headers.authorization;
 }
 
 function refuse(response, status, challenge) {
@@ -51,7 +53,16 @@ function answer(response, error) {
   return true;
 }
 
-function guard(validator, { access, realm = 'jwt', hidesToken = false, onRefusal = () => {} } = {}) {
+/** Refuses what would leave an access rule out: a misspelled name, a rule that isn't there, or one that stands for the words. */
+function checkWords(how) {
+  if (how instanceof Access) throw new TypeError('an access rule is handed in as { access }');
+  for (const name of Object.keys(how)) if (!WORDS.includes(name)) throw new TypeError(`a guard takes ${WORDS.join(', ')}, and not ${name}`);
+  if ('access' in how && !(how.access instanceof Access)) throw new TypeError('access has to be an Access');
+}
+
+function guard(validator, how = {}) {
+  checkWords(how);
+  const { access, realm = 'jwt', hidesToken = false, onRefusal = () => {} } = how;
   if (!QUOTABLE.test(realm)) throw new TypeError('a realm has printable characters of ASCII, and neither quotation marks nor backslashes');
   return (request, response, next) => {
     const values = authorizations(request);

@@ -3,7 +3,10 @@
  * verifiers; one by Ed448 is refused as `BadSignature`.
  */
 
-/** Octets, their text, or what JSON.stringify makes a text of. */
+/**
+ * Octets, their text, or what JSON.stringify makes a text of: of plain objects and arrays alone. What it would leave out, as a member that is
+ * undefined, or write as `{}`, as a map, throws TypeError, and a number that isn't exact RangeError: a policy or an access rule would ask for less.
+ */
 export type Document = string | Uint8Array | object;
 /** A token: its text, or its octets. */
 export type Token = string | Uint8Array;
@@ -143,8 +146,7 @@ export class ClaimsRefused extends TokenRefused {
  */
 export class Access {
   /**
-   * A JSON text, or what is written as it: of plain objects and arrays alone, since JSON.stringify writes others as `{}`, and that asks for nothing.
-   * Throws AccessRefused, AnotherLibrary, TypeError for what is neither, RangeError for a number in an object that isn't exact, and an Error where
+   * A JSON text, or what is written as it. Throws AccessRefused, AnotherLibrary, TypeError and RangeError for what is no Document, and an Error where
    * memory is refused.
    */
   constructor(rule: Document);
@@ -161,7 +163,7 @@ export class Access {
 export class Validator {
   /**
    * Both are JSON texts, as the program `jwt` takes them, or what is written as them. Throws PolicyRefused, KeysRefused, TooManyQuestions,
-   * AnotherLibrary, TypeError for what is neither, and an Error where memory is refused.
+   * AnotherLibrary, TypeError and RangeError for what is no Document, and an Error where memory is refused.
    */
   constructor(policy: Document, keys: Document, how?: Opening);
   /**

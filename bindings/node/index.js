@@ -55,21 +55,21 @@ const native = load();
 
 const isBinary = (it) => ArrayBuffer.isView(it) || it instanceof ArrayBuffer || it instanceof SharedArrayBuffer;
 // (of what is binary only a Uint8Array is taken, and addon.c says so)
-const octets = (document, replacer) => (typeof document === 'string' || isBinary(document) ? document : JSON.stringify(document, replacer));
+const octets = (document) => (typeof document === 'string' || isBinary(document) ? document : JSON.stringify(document, wholly));
 
 function isPlain(object) {
   const kind = Object.getPrototypeOf(object);
   return Array.isArray(object) || kind === null || Object.getPrototypeOf(kind) === null;
 }
 
-/** Refuses in an access rule what JSON.stringify leaves out, or writes as `{}`, such as a promise or a map: the rule would ask for less. */
+/** Refuses in a document what JSON.stringify leaves out, or writes as `{}`, such as a promise or a map: a policy or a rule would ask for less. */
 function wholly(name, value) {
   const isObject = typeof value === 'object' && value !== null, at = JSON.stringify(name);
   if (isObject ? !isPlain(value) : ['undefined', 'function', 'symbol'].includes(typeof value)) {
-    throw new TypeError(`an access rule has plain objects and arrays, texts, numbers and booleans, and something else at ${at}`);
+    throw new TypeError(`a document has plain objects and arrays, texts, numbers and booleans, and something else at ${at}`);
   }
   if (!Number.isInteger(value) || Number.isSafeInteger(value)) return value;
-  throw new RangeError(`an access rule has at ${at} a number that isn't exact: a JSON text can have it`);
+  throw new RangeError(`a document has at ${at} a number that isn't exact: a JSON text can have it`);
 }
 
 function compareLibrary() {
@@ -121,7 +121,7 @@ class Access {
 
   constructor(rule) {
     compareLibrary();
-    const text = octets(rule, wholly), held = native.openAccess(text);
+    const text = octets(rule), held = native.openAccess(text);
     if (typeof held === 'number') throw accessRefused(held, text);
     for (let scope; (scope = native.scope(held, this.#scopes.length)) !== undefined; ) this.#scopes.push(scope);
     Object.freeze(this.#scopes);

@@ -15,7 +15,7 @@ export interface Remote extends Opening {
   allowHttp?: boolean;
   /** The certificates of the authorities that are trusted, in PEM: those that Node trusts without it. */
   ca?: string | Uint8Array | (string | Uint8Array)[];
-  /** Called after each fetch, with the URL without its query, how many octets were had, and why it failed, if it did. */
+  /** Called after each fetch, with the URL without its query, how many octets were had, and why it failed, if it did. What it throws is a warning of the process. */
   onFetch?: (url: string, octets: number, error: Error | null) => void;
 }
 

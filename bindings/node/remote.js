@@ -4,7 +4,7 @@
 const http = require('node:http');
 const https = require('node:https');
 const tls = require('node:tls');
-const { isAnyArrayBuffer, isUint8Array } = require('node:util').types;
+const { isUint8Array } = require('node:util').types;
 const { Validator, Closed, FowharimuError, SignatureRefused, TokenRefused, textMember } = require('./index.js');
 
 /** The most octets that a key set, or what tells where it stands, may have. */
@@ -59,10 +59,10 @@ function timed(options) {
   return how;
 }
 
-/** A policy as it is now, whatever becomes of the object later. (What is binary otherwise is refused by Validator.) */
+/** A policy that was checked, as it is now, whatever becomes of the object later. */
 function kept(policy) {
   if (isUint8Array(policy)) return new Uint8Array(policy);
-  return typeof policy === 'string' || ArrayBuffer.isView(policy) || isAnyArrayBuffer(policy) ? policy : JSON.stringify(policy);
+  return typeof policy === 'string' ? policy : JSON.stringify(policy);
 }
 
 /** Refuses a policy with an HMAC algorithm, or one that doesn't name exactly the issuer, where there is one. */
@@ -155,15 +155,15 @@ class RemoteKeys {
   error = null;
 
   static async open(policy, url, options = {}) {
-    const own = kept(policy), how = timed(options);
-    checkPolicy(own);
-    return RemoteKeys.#begun(own, checkedUrl(url, how.allowHttp), how);
+    const how = timed(options);
+    checkPolicy(policy);
+    return RemoteKeys.#begun(kept(policy), checkedUrl(url, how.allowHttp), how);
   }
 
   static async discover(policy, issuer, options = {}) {
-    const own = kept(policy), how = timed(options);
-    checkPolicy(own, issuer);
-    const at = checkedUrl(issuer, how.allowHttp);
+    const how = timed(options);
+    checkPolicy(policy, issuer);
+    const own = kept(policy), at = checkedUrl(issuer, how.allowHttp);
     let url;
     try {
       url = await keysUrl(issuer, at, how);
@@ -197,7 +197,7 @@ class RemoteKeys {
         if (report.refusal) throw report.refusal;
       });
     } catch (error) {
-      if (error instanceof KeysTooOld) return { accepted: false, refusal: error, signature: 0, key: 0, work: 0, states: [], tries: [] };
+      if (error instanceof KeysTooOld) return { accepted: false, refusal: error, signature: 0, key: 0, work: 0, states: [], tries: [], remembered: false };
       if (error !== report?.refusal) throw error;
     }
     return report;
@@ -287,8 +287,17 @@ class RemoteKeys {
       this.error = error;
     }
     this.#fetch = undefined;
-    this.#how.onFetch?.(`${this.#at.origin}${this.#at.pathname}`, octets, this.error);
+    this.#tell(octets);
     return this.error === null;
+  }
+
+  /** Tells what became of a fetch. Whoever is told may throw, which says nothing of a token. */
+  #tell(octets) {
+    try {
+      this.#how.onFetch?.(`${this.#at.origin}${this.#at.pathname}`, octets, this.error);
+    } catch (error) {
+      process.emitWarning(error instanceof Error ? error : String(error));
+    }
   }
 
   /** Takes the new validator in place of the old one, in which no call is under way. */

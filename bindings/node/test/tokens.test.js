@@ -175,6 +175,48 @@ async function testQueries() {
   assert.ok(!inspect(told, { depth: 9 }).includes('secret'), inspect(told, { depth: 9 }));
 }
 
+/** A guard that would ask for no rule, for a misspelled name or a rule that isn't there, isn't made. */
+function testGuardWords() {
+  const { guard } = require('../guard.js'), validator = validatorOf(HMAC), access = new fow.Access({});
+  for (const how of [{ access: undefined }, { acces: access }, { access: {} }, { access, hideToken: true }, access]) {
+    assert.throws(() => guard(validator, how), TypeError);
+  }
+  for (const how of [undefined, {}, { access, realm: 'a', hidesToken: true, onRefusal() {} }]) assert.strictEqual(typeof guard(validator, how), 'function');
+}
+
+/** What stands behind a guard that hides the token finds it nowhere, also where the headers were read before. */
+async function testHiding() {
+  const { guard } = require('../guard.js'), validator = validatorOf(HMAC), guarding = guard(validator, { hidesToken: true });
+  const token = validator.issue({ iss: 'joe', exp: Math.floor(Date.now() / 1000) + 60 });
+  const server = http.createServer((request, response) => {
+    if (request.url === '/read') assert.deepStrictEqual(request.headersDistinct.authorization, [`Bearer ${token}`]);
+    guarding(request, response, () => response.end(JSON.stringify([request.headersDistinct, request.headers, request.rawHeaders])));
+  }).listen(0, '127.0.0.1');
+  await once(server, 'listening');
+  try {
+    for (const at of ['/', '/read']) {
+      const answer = await fetch(`http://127.0.0.1:${server.address().port}${at}`, { headers: { authorization: `Bearer ${token}`, 'x-other': 'b' } });
+      const said = await answer.text();
+      assert.ok(!said.includes(token) && !/authorization/i.test(said));
+      assert.deepStrictEqual(JSON.parse(said)[0]['x-other'], ['b']);
+    }
+  } finally {
+    server.close();
+  }
+}
+
+/** Whoever is told of a fetch may throw: that changes no verdict, and is a warning. */
+const testToldInVain = () => withKeysAt(async (url) => {
+  const { RemoteKeys } = require('../remote.js'), warned = once(process, 'warning');
+  const onFetch = () => {
+    throw new Error('told in vain');
+  };
+  const keys = await RemoteKeys.open({ algs: ['RS256'] }, url, { allowHttp: true, onFetch });
+  assert.strictEqual((await warned)[0].message, 'told in vain');
+  assert.ok((await keys.refresh()) && (await keys.judge(tokenOf(RSA), NOW)).accepted);
+  keys.close();
+});
+
 function testReport() {
   const report = validatorOf(HMAC).judge(tokenOf(HMAC), NOW);
   assert.ok(report.accepted);
@@ -326,6 +368,17 @@ function testRulesByMistake() {
     { scopes: ['read', undefined] }, { claims: { a: undefined } }, { claims: { a: [() => 1] } }, { claims: { a: [7n] } },
   ]) assert.throws(() => new fow.Access(it), TypeError);
   for (const it of [2 ** 53, -(2 ** 62)]) assert.throws(() => new fow.Access({ claims: { a: [it] } }), RangeError);
+}
+
+/** The same of a policy, a key set and claims: one without issuers asks for none. */
+function testDocumentsByMistake() {
+  const policy = { algs: ['HS256'], issuers: undefined }, keys = { keys: [{ kty: 'oct', k: 'AAAA', alg: undefined }] };
+  for (const it of [[policy, '{"keys":[]}'], [new Map([['algs', ['HS256']]]), '{"keys":[]}'], ['{"algs":["HS256"]}', keys]]) {
+    assert.throws(() => new fow.Validator(...it), TypeError);
+  }
+  const validator = validatorOf(HMAC);
+  for (const it of [{ iss: 'joe', exp: undefined }, new Map([['iss', 'joe']]), { aud: ['a', undefined] }]) assert.throws(() => validator.issue(it), TypeError);
+  assert.throws(() => validator.issue({ exp: 2 ** 53 }), RangeError);
 }
 
 /** A call that is handed no rule where it should be handed one gives no claims. */
@@ -499,6 +552,7 @@ if (!isMainThread) {
   test('a denial is no refusal', testDenialIsNoRefusal);
   test('refused access rules', testRefusedRules);
   test('what is no access rule', testRulesByMistake);
+  test('what is no document', testDocumentsByMistake);
   test('no access rule by mistake', testMistakenRules);
   test('the access rules of the documents', testRulesOfTheDocuments);
   test('too many questions', testQuestions);
@@ -508,6 +562,9 @@ if (!isMainThread) {
   test('what a validator tells of its policy and keys', testTerms);
   test('several issuers', testIssuers);
   test('a guard where Promise was replaced', testGuardUnderAnotherPromise);
+  test('a guard without the rule that is meant', testGuardWords);
+  test('a token that a guard hides', testHiding);
+  test('whoever is told of a fetch throws', testToldInVain);
   test('a policy of keys by URL that changes', testKeptPolicy);
   test('the times of keys by URL', testTimes);
   test('queries are told nowhere', testQueries);
