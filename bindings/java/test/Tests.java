@@ -628,21 +628,22 @@ final class Tests {
         passed++;
     }
 
-    /** Where a constructor is refused memory when the documents are open, they are freed: else this takes some 300 MB. */
+    /** Where a constructor is refused memory when the documents are open, they are freed: else this takes some 150 MB. */
     private void memoryRefused(Path number) throws Exception {
         byte[] policy = octets(HS256);
-        byte[] keys = octets(SECRET.replace("\"}]", "A".repeat(1_000_000) + "\"}]"));
+        String key = "{\"kty\":\"oct\",\"k\":\"" + "A".repeat(1_000) + "\"}";
+        byte[] keys = octets("{\"keys\":[" + String.join(",", Collections.nCopies(1_000, key)) + "]}");
         long many = 1_000_000;
         put(number, many);
         new Validator(policy, keys).close();
         // (the last is that of the issuer which the policy names)
         long count = many - put(number, 0);
         long before = resident();
-        for (int n = 0; n < 400; n++) {
+        for (int n = 0; n < 150; n++) {
             put(number, count);
             thrown(OutOfMemoryError.class, () -> new Validator(policy, keys));
         }
-        check(resident() < before + 100_000, "resident: " + resident() + " KiB, and " + before + " before");
+        check(resident() < before + 70_000, "resident: " + resident() + " KiB, and " + before + " before");
         equal(put(number, 0), 0L);
         new Validator(policy, keys).close();
         passed++;
