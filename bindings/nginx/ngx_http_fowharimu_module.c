@@ -2354,7 +2354,11 @@ ngx_http_fowharimu_init_process(ngx_cycle_t *cycle)
         /* (a worker that is to go doesn't wait for it) */
         watch[i]->event.cancelable = 1;
 
-        ngx_add_timer(&watch[i]->event, watch[i]->file.interval);
+        /*
+         * At once: a worker in the place of one that died begins with the keys
+         * of the configuration, which may be older than the file.
+         */
+        ngx_add_timer(&watch[i]->event, 1);
     }
 
     return NGX_OK;
