@@ -1,7 +1,8 @@
 #!/usr/bin/env python3
 """Looks whether what the documents name is there: in docs/PROMISES.md each wrong body, test, clause, file and law, and in all documents
-each file by its path; and whether each place that has the version has that of the Makefile. Each wrong body has a row. A rough reader of the layout of `rt fmt`: names of definitions, of scripts and of tests
-in C are looked for too. It ends with 'N passed, M failed', where a row or a path counts as one."""
+each file by its path; and whether each place that has the version has that of the Makefile. Each wrong body has a row. A rough reader of
+the layout of `rt fmt`: names of definitions, of scripts and of tests in C are looked for too. It ends with 'N passed, M failed', where a
+row, a path or a version counts as one."""
 import os, pathlib, re, subprocess, sys
 
 TOP = pathlib.Path(__file__).resolve().parent.parent
