@@ -1,8 +1,8 @@
 #!/usr/bin/env python3
 """Holds what wrong_bodies.py makes of the prover's words to words that it has said, and to those words changed; runs no prover.
 
-`words.txt` is what the prover said of a copy of rsa_number with eleven wrong bodies and a control. Of each change it is known how many
-of the eleven are clearly refused. It ends with 'N passed, M failed'.
+`words.txt` is what the prover said of a copy of rsa_number with twelve wrong bodies and a control. Of each change it is known how many
+of the twelve are clearly refused. It ends with 'N passed, M failed'.
 """
 import pathlib, sys, types
 
@@ -15,6 +15,7 @@ import wrong_bodies
 EDITED = """octets without_zeros
 montgomery multiply
 modulus bits
+modulus size
 montgomery step
 modulus is_taken
 octets number
@@ -24,32 +25,34 @@ modulus has_size
 power raise
 octets write_limb
 power first_forms"""
-CONTROL = "fn rsa_number::octets::without_zeros: proved"
+CONTROL = "fn rsa_number::octets::without_zeros: no holes"
 OTHER = "fn rsa_number::limbs::is_less: "
-STEP = "fn rsa_number::montgomery::step: not proved"
-BITS = "; `search` did not prove `returns-clause-is`"
+HOLE = "depends on a hole in `Rattle.rsa_number.proofs.limbs.is_less.Proof.is_less_spec`"
+STEP = "fn rsa_number::montgomery::step: not proved; it stands on `Rattle.rsa_number.proofs.montgomery.step.Answers.returns`, which antt refuses"
+BITS = "bits/Answers.antt"
 CALLS = "no proof: it calls `rsa_number::limbs::subtract`, which is not proved"
 PASSES = "no proof: it passes the block `rsa_number::limbs::LimbsShown`, which is not proved"
 GOAL = "`returns`: `omega`: the goal does not follow from what it read. All of that holds, and the goal fails, at `mir"
 # What is changed in the words, the status, and how many are then refused together.
 CASES = [
-    ("nothing", "", "", 1, 11),
-    ("the control isn't proved", CONTROL, CONTROL.replace("proved", "not proved"), 1, 0),
-    ("the control calls what is refused", CONTROL, CONTROL.replace("proved", CALLS), 1, 0),
+    ("nothing", "", "", 1, 12),
+    ("the control isn't proved", CONTROL, CONTROL.replace("no holes", "not proved"), 1, 0),
+    ("the control calls what is refused", CONTROL, CONTROL.replace("no holes", CALLS), 1, 0),
     ("the control has no line", CONTROL, "", 1, 0),
-    ("an unedited function has a fault", OTHER + "proved", OTHER + "no proof: `search` did not prove `returns`", 1, 0),
-    ("an unedited function has other words", OTHER + "proved", OTHER + "could not tell", 1, 0),
-    ("an unedited function hands on what is refused", OTHER + "proved", OTHER + PASSES, 1, 11),
-    ("an edited function only hands on what is refused", STEP, STEP.replace("not proved", PASSES), 1, 10),
+    ("an unedited function has a fault", OTHER + HOLE, OTHER + "no proof: `search` did not prove `returns`", 1, 0),
+    ("an unedited function has other words", OTHER + HOLE, OTHER + "could not tell", 1, 0),
+    ("an unedited function hands on what is refused", OTHER + HOLE, OTHER + PASSES, 1, 12),
+    ("an edited function only hands on what is refused", STEP, STEP.replace(STEP.partition(": ")[2], PASSES), 1, 11),
     ("no verdict", "", "", 3, 0),
-    ("all is proved", "logic=not-proved", "logic=proved", 0, 0),
-    ("another last line", "logic=not-proved", "logic=unknown", 1, 0),
-    ("an edited function has other words", STEP, STEP.replace("not proved", "declined"), 1, 10),
-    ("an edited function only calls what is refused", STEP, STEP.replace("not proved", CALLS), 1, 10),
-    ("an edited function is proved", STEP, STEP.replace("not proved", "proved"), 1, 10),
-    ("an edited function has no line", STEP, "", 1, 10),
-    ("its error names what is gone", GOAL, "`returns`: no field `x`", 1, 10),
-    ("its proof lacks a file, and no goal is named", BITS, "", 1, 10),
+    ("all is proved", "", "", 0, 0),
+    ("an edited function rests on words that aren't known", STEP, STEP.replace("which antt refuses", "which is left"), 1, 11),
+    ("another last line", "only=22 holes=9", "only=22", 1, 0),
+    ("an edited function has other words", STEP, STEP.replace(STEP.partition(": ")[2], "declined"), 1, 11),
+    ("an edited function only calls what is refused", STEP, STEP.replace(STEP.partition(": ")[2], CALLS), 1, 11),
+    ("an edited function is proved", STEP, STEP.replace(STEP.partition(": ")[2], "proved"), 1, 11),
+    ("an edited function has no line", STEP, "", 1, 11),
+    ("its error names what is gone", GOAL, "`returns`: no field `x`", 1, 11),
+    ("its proof lacks a file, and no goal is named", BITS + "; `search` did not prove `returns-clause-is`", BITS, 1, 11),
 ]
 
 

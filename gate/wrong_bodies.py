@@ -1,17 +1,18 @@
 #!/usr/bin/env python3
 """Tries the wrong bodies in crates/CRATE/wrong/ together: see README.md beside this file.
 
-    gate/wrong_bodies.py CRATE ..                 over what `rt check` kept in crates/CRATE/out, where it did, else from nothing
-    gate/wrong_bodies.py --from-nothing CRATE ..  from nothing, as ./check has it behind `rt ci`, which leaves no kept work
+    gate/wrong_bodies.py CRATE ..                 has the libraries below built where they aren't
+    gate/wrong_bodies.py --from-nothing CRATE ..  takes the libraries below as `rt ci` has left them
     gate/wrong_bodies.py --anew CRATE ..          tries also what an earlier run has refused
     gate/wrong_bodies.py --groups CRATE ..        prints which would be tried together, and tries none
 
 crates/CRATE/wrong/*.edit are the wrong bodies. Beside them stand `control`, an edit that means the same as what stands there, and
-so has to be proved, and `alone`, with the names of those that are tried one by one, a line each. The libraries below have to be
+so has to be proved, and `alone`, with the names of those that are tried one by one, a line each, and behind the name of one that stands
+in no function that which has to be refused. The libraries below have to be
 proved and built, as they are behind `rt ci`, `rt check` or `rt all check`. It ends with 'N passed, M failed'; one that is tried alone
 and that `alone` doesn't name has failed, since the gate would else grow slow unseen.
 """
-import dataclasses, fcntl, hashlib, importlib.machinery, importlib.util, json, os, pathlib, re, resource, shutil, subprocess, sys
+import copy, dataclasses, fcntl, hashlib, importlib.machinery, importlib.util, json, os, pathlib, re, resource, shutil, subprocess, sys
 import tempfile, time
 
 sys.dont_write_bytecode = True
@@ -47,6 +48,8 @@ class Edit:
     lines: dict = dataclasses.field(default_factory=dict)
     function: Function = None
     alone: str = ""
+    # The function that the prover is asked for, by its path below the crate, of an edit that stands in none.
+    asked: str = ""
 
 
 @dataclasses.dataclass
@@ -73,6 +76,47 @@ def functions_of(path, text):
         if begins is not None and not any(HEAD.match(it) for it in lines[at + 1 : begins]):
             found.append(Function(path, head[3], begins + 1, ends - 1, len(head[1]), "const" in head[2]))
     return found
+
+
+OWNER = re.compile(r"(?:pub(?:\([a-z ]+\))? )?(?:impl|trait)\b")
+# The type of an impl, and its trait where it is one's.
+IMPL = re.compile(r"impl(?:<.*?>)? (?:(\w+)(?:<.*>)? for )?&?(?:'\w+ )?(\w+)")
+
+
+def module_of(path):
+    """The module that a file of src/ is, by its parts."""
+    return [it for it in path.removeprefix("src/").removesuffix(".rt").split("/") if it not in ("lib", "main", "mod")]
+
+
+def owner_of(function, lines):
+    """The first line of the impl or the trait in which a function stands; none for one that stands by itself."""
+    return next((it for it in reversed(lines[: function.first]) if OWNER.match(it)), "") if function.indent else ""
+
+
+def own_name(function, lines):
+    """A function's path below its crate, as the prover has it; None for a trait's own, and where it can't be told."""
+    above = owner_of(function, lines)
+    of = IMPL.match(above)
+    # (a method whose impl stands in another file than its type is named by the type's module, and a `drop` of one's own by the type alone)
+    if function.indent and not (of and of[1] != "Drop" and any(re.match(rf"(?:pub(?:\([a-z ]+\))? )?(?:struct|enum) {of[2]}\b", it) for it in lines)):
+        return None
+    # (a method of a trait's impl is named by the type and the trait in one word)
+    return "::".join([*module_of(function.path), *([of[2] + (of[1] or "")] if of else []), function.name])
+
+
+def is_in_cycle(function, lines):
+    """Whether a function has one proof with those that call it and that it calls."""
+    at = next(i for i in reversed(range(function.first)) if (HEAD.match(lines[i]) or [""] * 4)[3] == function.name)
+    above = range(at - 1, -1, -1)
+    over = [lines[i] for i in above if all(lines[j].lstrip().startswith(("#", "//")) for j in range(i, at))]
+    return any(it.lstrip().startswith("#[cycle") for it in over)
+
+
+def hole(crate, name):
+    """What stands for the proof of a function: its statement, and a hole."""
+    path = name.split("::")
+    spec = f"{path[-1]}_spec"
+    return f"use Rattle.{crate}.proofs.{'.'.join(path)}.Statement.{{statement}}\n\npub {spec} : {{M : Type 1}} → statement M\n{spec} 𝓤 𝓛 𝓜 𝓡 w = ?\n"
 
 
 def read_edit(file, folder):
@@ -162,12 +206,17 @@ def put(group, edit, folder):
 CALLS = re.compile(r"it (?:calls|passes the block) `[^`]+`(?:(?:,| and) `[^`]+`)*, which (?:is|are) not proved")
 EXPECTED = re.compile(r"expected answers in \./proofs/\S+")
 UNSHOWN = re.compile(r"`search` did not prove `[^`]+`(?:(?:,| and) `[^`]+`)*")
+STANDS = re.compile(r"it stands on `[^`]+`(?:(?:,| and) `[^`]+`)*, which antt refuses")
+# What it says of one that is proved, but for what stands by its contract alone: the only holes are those.
+FINE = re.compile(r"proved|no holes|depends on a hole in `[^`]+`(?:(?:,| and) `[^`]+`)*")
 # What an error in a function's own proof says where a goal isn't shown. What isn't listed says nothing: a name that is gone, a
 # declaration that wasn't admitted, a file that can't be read.
 SHOWS_NOT = re.compile(r"`[^`]+`: (?:(?:as printed|computed as far as they go), the two types (?:first )?differ |"
                        r"`omega`: the goal does not follow )")
 # Before a piece that is of another function, with which this one is proved in one: nothing behind it counts as its own.
 CYCLE = re.compile(r"in `[^`]+`, of this cycle of calls: ")
+# The last line of what the prover says, where it has tried what it was asked for.
+LAST = re.compile(r"only=\d+ (?:proved|holes)=\d+")
 PROVED, OWN, INFECTED, UNKNOWN = "proved", "a fault of its own", "it only calls what is refused", "words that aren't known"
 
 
@@ -176,7 +225,7 @@ def verdicts(said, crate):
     errors = re.findall(r"^(?:\./)?proofs/(\S+)/(?:Answers|Invariants|Proof)\.antt:\d+:\d+: error: (.*)$", said, re.MULTILINE)
     found = {}
     for name, words in re.findall(r"^fn (.+?): (.*)$", said, re.MULTILINE):
-        if words == "proved":
+        if FINE.fullmatch(words):
             found[name] = PROVED
             continue
         head, *pieces = re.split(r"; ", re.sub(r"^no proof: ", "; ", words))
@@ -185,7 +234,7 @@ def verdicts(said, crate):
         folder = name.removeprefix(f"{crate}::").replace("::", "/")
         owns = head == "not proved" and any(at == folder and SHOWS_NOT.match(error) for at, error in errors)
         owns = owns or head == "" and any(map(UNSHOWN.fullmatch, pieces))
-        known = all(any(form.fullmatch(it) for form in (CALLS, EXPECTED, UNSHOWN)) for it in pieces)
+        known = all(any(form.fullmatch(it) for form in (CALLS, EXPECTED, UNSHOWN, STANDS)) for it in pieces)
         if not known or head not in ("", "not proved"):
             found[name] = UNKNOWN
         elif owns and not in_cycle:
@@ -195,20 +244,13 @@ def verdicts(said, crate):
     return found
 
 
-OWNER = re.compile(r"(?:pub(?:\([a-z ]+\))? )?(?:impl|trait)\b")
-
-
 def names_of(edit, found, crate, folder):
     """The names that the prover may give to the function that an edit stands in; it is told only where that is one."""
-    parts = edit.path.removeprefix("src/").removesuffix(".rt").split("/")
-    module = [crate, *(it for it in parts if it not in ("lib", "main", "mod"))]
+    module = [crate, *module_of(edit.path)]
     lines = (folder / edit.path).read_text().split("\n")
-    owner = []
-    if edit.function.indent:
-        above = next((it for it in reversed(lines[: edit.function.first]) if OWNER.match(it)), "")
-        # (a method of a trait's impl is named by the type and the trait in one word)
-        of = re.match(r"impl(?:<.*?>)? (?:(\w+)(?:<.*>)? for )?&?(?:'\w+ )?(\w+)", above) or re.match(r".*()\btrait (\w+)", above)
-        owner = [of[2] + (of[1] or "")] if of else [""]
+    above = owner_of(edit.function, lines)
+    of = IMPL.match(above) or re.match(r".*()\btrait (\w+)", above)
+    owner = [of[2] + (of[1] or "") if of else ""] if edit.function.indent else []
     whole = "::".join([*module, *owner, edit.function.name])
     if whole in found:
         return [whole]
@@ -231,11 +273,7 @@ class Crate:
         self.room = pathlib.Path(room)
         self.kept = self.room / "crates" / name / "out/incremental"
         self.copy()
-        self.is_warm = (self.folder / "out/incremental").is_dir() and not from_nothing
-        if self.is_warm:
-            shutil.copytree(self.folder / "out/incremental", self.kept)
-        else:
-            self.kept.mkdir(parents=True)
+        self.kept.mkdir(parents=True)
 
     def is_left_below(self):
         """Whether all libraries below this crate stand as one run of `rt ci` has left them: built, and with no stamp."""
@@ -277,7 +315,7 @@ class Crate:
             errors = re.findall(r"^\S*?(src/\S+?\.rt):(\d+):\d+: error", run.stdout, re.MULTILINE)
             bad = {(path, int(line) - 1) for path, line in errors}
             lost = [it for it in group.edits[1:] if any((it.path, at) in bad for at in it.lines)]
-            if not lost or run.stdout.rstrip().split("\n")[-1].startswith("logic="):
+            if not lost or LAST.fullmatch(run.stdout.rstrip().split("\n")[-1]):
                 break
             # (without those that don't compile)
             left = Group([], {})
@@ -292,12 +330,41 @@ class Crate:
         return self.judged(group, run)
 
     def check_of(self, group):
-        """Runs the prover on a group: over a copy of what `rt check` kept, or else over what the groups before it have left."""
-        if not self.is_warm:
-            return self.kit.checked(self.made, group.texts, ["--jobs", str(self.jobs)], str(self.kept))
-        with tempfile.TemporaryDirectory(dir=self.room) as over:
-            shutil.copytree(self.kept, f"{over}/kept")
-            return self.kit.checked(self.made, group.texts, ["--jobs", str(self.jobs)], f"{over}/kept")
+        """Has the prover try the functions that a group changes, over what the groups before it have left. Each other function stands there
+        by its contract alone, so that none is proved once more."""
+        only = [word for it in group.edits for word in ("--only", self.name_of(it))]
+        with tempfile.TemporaryDirectory(dir=self.room) as folder:
+            made, texts = copy.copy(self.made), self.shut(group, pathlib.Path(folder))
+            made.folder = folder
+            return self.kit.checked(made, texts, ["--jobs", str(self.jobs), "--allow-holes", "--short-goals", *only], str(self.kept))
+
+    def name_of(self, edit):
+        """The name by which the prover is asked for the function of an edit."""
+        return edit.asked or own_name(edit.function, (self.folder / edit.path).read_text().split("\n")) or edit.function.name
+
+    def shut(self, group, folder):
+        """Copies the crate to a folder, and gives its texts with those of a group, in which each function that no edit changes has a body
+        that never ends, and a hole for its proof."""
+        for part in ("src", "specs", "proofs"):
+            if (self.folder / part).is_dir():
+                shutil.copytree(self.folder / part, folder / part)
+        edited, texts = {self.name_of(it) for it in group.edits}, {}
+        for file in sorted((self.folder / "src").rglob("*.rt")):
+            path = str(file.relative_to(self.folder))
+            lines = file.read_text().split("\n")
+            now = group.texts.get(path, "\n".join(lines)).split("\n")
+            for function in functions_of(path, "\n".join(lines)):
+                name = own_name(function, lines)
+                if name is None or function.is_const or {name, function.name} & edited or is_in_cycle(function, lines):
+                    continue
+                # (as many lines as before, since an error is told by its line)
+                now[function.first : function.last + 1] = ["loop {}", *[""] * (function.last - function.first)]
+                proof = folder / "proofs" / name.replace("::", "/")
+                shutil.rmtree(proof, ignore_errors=True)
+                proof.mkdir(parents=True)
+                (proof / "Proof.antt").write_text(hole(self.name, name))
+            texts[path] = "\n".join(now)
+        return texts
 
     def judged(self, group, run):
         """What a group's check comes to, if its control is proved and no function has a fault that isn't edited."""
@@ -306,7 +373,7 @@ class Crate:
         names = {it: of[0] if len(of) == 1 else None for it, of in meant.items()}
         control, worthless = group.edits[0], ""
         strangers = [it for it, came in found.items() if came in (OWN, UNKNOWN) and not any(it in of for of in meant.values())]
-        if run.returncode != 1 or not run.stdout.rstrip().split("\n")[-1].startswith("logic=not-proved"):
+        if run.returncode != 1 or not LAST.fullmatch(run.stdout.rstrip().split("\n")[-1]):
             worthless = f"the check of all ended with {run.returncode}, and didn't refuse them"
         elif found.get(names[id(control)]) != PROVED:
             worthless = f"the control isn't proved ({found.get(names[id(control)])})"
@@ -318,7 +385,39 @@ class Crate:
         came = {it.file: found.get(names[id(it)], unnamed) for it in group.edits[1:]}
         return [it for it in came if came[it] == OWN], {it: what for it, what in came.items() if what != OWN}
 
-    def alone(self, files, anew):
+    def by_itself(self, edit, control, asked):
+        """Tries an edit of one function as a group does, with the control alone beside it, and counts as refused whatever isn't proved of it, as `rt`
+        does. Gives why it isn't refused."""
+        group = Group([], {})
+        put(group, control, self.folder)
+        edit.asked = asked
+        if not asked and (edit.function is None or not has_room(group, edit)):
+            return "it stands in no function, or in the control's"
+        put(group, edit, self.folder)
+        run = self.check_of(group)
+        lines = run.stdout.rstrip().split("\n")
+        found = verdicts(run.stdout, self.name)
+        names = [[f"{self.name}::{it.asked}"] if it.asked else names_of(it, found, self.name, self.folder) for it in group.edits]
+        bad = next((it for it in lines if self.kit.unread(it, group.texts)), None)
+        if bad or run.returncode != 1 or not LAST.fullmatch(lines[-1]) or any(len(it) != 1 for it in names):
+            return bad or f"the check ended with {run.returncode}: {lines[-1]}"
+        came = [found.get(it[0], "no line") for it in names]
+        lost = [it for it in found if found[it] in (OWN, UNKNOWN) and it != names[1][0]]
+        if came[0] != PROVED or lost or came[1] == PROVED:
+            return f"its control has {came[0]}, itself {came[1]}, and others with a fault are: {', '.join(lost) or 'none'}"
+        return None
+
+    def alone(self, files, control, listed, anew):
+        """Tries edits one by one, and those not refused so by `rt must-fail`. `listed` has the function that the prover is asked for of an edit
+        that stands in none. Gives what was said of each, by its file."""
+        came = {it: self.by_itself(read_edit(it, self.folder), control, listed.get(it.stem, "")) if control else "the crate has no control" for it in files}
+        refused = {it: f"{REFUSED}: by itself" for it, why in came.items() if why is None}
+        for file, why in came.items():
+            if why is not None:
+                print(f"{self.name}: {file.stem} is tried over the whole crate: {why}", flush=True)
+        return {**refused, **self.alone_by_rt([it for it in files if it not in refused], anew)}
+
+    def alone_by_rt(self, files, anew):
         """Tries edits one by one, by `rt must-fail`. Gives what it said of each, by its file."""
         if not files:
             return {}
@@ -435,9 +534,10 @@ class Trial:
         return control
 
     def read_listed(self):
-        """The names of those that are tried alone."""
+        """The names of those that are tried alone, each with the function that the prover is asked for, where it stands in none."""
         file = self.folder / "wrong/alone"
-        return file.read_text().split() if file.is_file() else []
+        rows = [it.split() for it in file.read_text().splitlines()] if file.is_file() else []
+        return {name: "".join(asked) for name, *asked in rows}
 
     def sum_now(self):
         """The sum of what a refusal rests on, as it is now."""
@@ -472,7 +572,7 @@ class Trial:
         start, rest = used(), [it for it in self.left if key_of(it, self.sum) not in self.refused]
         for file in rest:
             print(f"{self.name}: {file.stem} is tried alone: {self.why[file]}", flush=True)
-        for file, said in crate.alone(rest, "--anew" in self.flags).items():
+        for file, said in crate.alone(rest, self.control, self.listed, "--anew" in self.flags).items():
             if not said.startswith(REFUSED):
                 self.failed += 1
                 self.say(file, said)
