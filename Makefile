@@ -94,7 +94,7 @@ install: all $(PROGRAM) $(BUILD)/fowharimu.1
 
 # Made of the release, in a folder outside the repository, since they have symbolic links.
 deb: dist
-	release/debs $(BUILD)/dist
+	packaging/release/debs $(BUILD)/dist
 
 # nginx's own configure, with the flags of Debian's nginx, writes the Makefile for the module.
 NGINX = /usr/share/nginx/src
@@ -106,7 +106,7 @@ $(BUILD)/nginx/Makefile: bindings/nginx/config
 	cd $(NGINX) && bash -c '. ./conf_flags && ./configure --with-cc-opt="$(NGINX_FLAGS)" --with-ld-opt="-Wl,-z,relro -Wl,-z,now" \
 	    "$${NGX_CONF_FLAGS[@]}" --add-dynamic-module=$(CURDIR)/bindings/nginx --builddir=$(CURDIR)/$(BUILD)/nginx' > $(CURDIR)/$(BUILD)/nginx/configure.log
 
-$(BUILD)/nginx/$(MODULE).so: $(BUILD)/nginx/Makefile bindings/nginx/$(MODULE).c $(BUILD)/libfowharimu.a $(BUILD)/libfowharimu_openssl.a
+$(BUILD)/nginx/$(MODULE).so: $(BUILD)/nginx/Makefile $(wildcard bindings/nginx/ngx_http_fowharimu*.[ch]) $(BUILD)/libfowharimu.a $(BUILD)/libfowharimu_openssl.a
 	rm -f $@
 	$(MAKE) -C $(NGINX) -f $(CURDIR)/$(BUILD)/nginx/Makefile modules
 
@@ -128,7 +128,7 @@ nginx-install: nginx-files
 # Each has the archive of the library inside.
 $(BUILD)/node/fowharimu.node: bindings/node/src/addon.c include/fowharimu.h $(BUILD)/libfowharimu.a
 	mkdir -p $(BUILD)/node
-	$(CC) $(CFLAGS) $(WARNINGS) -fPIC -shared -fstack-protector-strong -I$$(release/node_headers) -Iinclude -o $@ $< $(BUILD)/libfowharimu.a \
+	$(CC) $(CFLAGS) $(WARNINGS) -fPIC -shared -fstack-protector-strong -I$$(packaging/release/node_headers) -Iinclude -o $@ $< $(BUILD)/libfowharimu.a \
 	    -Wl,-z,relro,-z,now -Wl,--exclude-libs,ALL
 
 node: $(BUILD)/node/fowharimu.node
@@ -139,18 +139,18 @@ $(BUILD)/java/fowharimu-$(VERSION).jar: $(shell find bindings/java -type f) incl
 java: $(BUILD)/java/fowharimu-$(VERSION).jar
 
 dist: all
-	release/dist $(BUILD)/dist
+	packaging/release/dist $(BUILD)/dist
 
 check-dist:
-	release/check $(BUILD)/dist
+	packaging/release/check $(BUILD)/dist
 
 test: libraries
-	bindings/run
+	tests/run
 
 SECONDS = 20
 
 fuzz: libraries
-	bindings/fuzz/run $(SECONDS)
+	tests/fuzz/run $(SECONDS)
 
 clean:
 	rm -rf $(BUILD)

@@ -7,7 +7,7 @@ is", its example's words, and, behind a colon, what they are. It ends with 'N pa
 import pathlib, re, subprocess, sys
 
 TOP = pathlib.Path(__file__).resolve().parent.parent
-LOOKED_AT = re.compile(r"crates/\w+/(src|specs|proofs)/|include/|bindings/.*\.(c|h|py|go|rs|js|ts|java)$|docs/[^/]*$|README\.md$")
+LOOKED_AT = re.compile(r"crates/\w+/(?:(?:src|specs|proofs)/|README\.md$)|include/|(?:bindings|tests)/.*\.(c|h|py|go|rs|js|ts|java)$|docs/[^/]*$|README\.md$")
 
 
 def recipes():

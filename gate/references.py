@@ -1,5 +1,5 @@
 #!/usr/bin/env python3
-"""Looks whether what the documents name is there: in docs/PROMISES.md each wrong body, test, clause, file and law, and in all documents
+"""Looks whether what the documents name is there: in the README of each crate each wrong body, test, clause, file and law, and in all documents
 each file by its path; and whether each place that has the version has that of the Makefile. Each wrong body has a row. A rough reader of
 the layout of `rt fmt`: names of definitions, of scripts and of tests in C are looked for too. It ends with 'N passed, M failed', where a
 row, a path or a version counts as one."""
@@ -11,20 +11,20 @@ VERSIONS = {
     "README.md": r"\bfowharimu(?:-go)?[-@]v?(\d+\.\d+\.\d+)",
     "bindings/go/README.md": r"\bfowharimu@v(\S+)",
     "bindings/java/pom.xml": r"^  <version>(.*)</version>",
-    "bindings/migrating/run": r'^version = "(.*)"|\bfowharimu v([\d.]+)',
+    "tests/migrating/run": r'^version = "(.*)"|\bfowharimu v([\d.]+)',
     "bindings/node/README.md": r"\bfowharimu-(\d+\.\d+\.\d+)",
     "bindings/node/package.json": r'^  "version": "(.*)"',
     "bindings/python/README.md": r"\bfowharimu-(\d+\.\d+\.\d+)",
     "bindings/python/pyproject.toml": r'^version = "(.*)"',
-    "bindings/requests/nethttp/go.mod": r"\bfowharimu v(\S+)",
+    "tests/requests/nethttp/go.mod": r"\bfowharimu v(\S+)",
     "bindings/rust/Cargo.toml": r'^version = "(.*)"',
     "bindings/rust/fowharimu/Cargo.toml": r'\bversion = "([^"]*)", default-features',
     "bindings/rust/fowharimu-http/Cargo.toml": r'(?:^|, )version = "([^"]*)"',
     "crates/jwt_command/src/run.rt": r'"jwt (\S+), proved with',
-    "debian/changelog": r"\Afowharimu \((\S+)-\d+\)",
+    "packaging/debian/changelog": r"\Afowharimu \((\S+)-\d+\)",
     "examples/gateway/go/go.mod": r"\bfowharimu v(\S+)",
 }
-PLACES = "crates|docs|bindings|examples|include|bench|gate|trial|keys|refused-growths|failing-streams|must-not-compile"
+PLACES = "crates|docs|bindings|examples|include|bench|gate|packaging|tests"
 
 
 def texts(pattern):
@@ -41,7 +41,7 @@ class Names:
         code, specs = texts("crates/*/src/**/*.rt"), texts("crates/*/specs/**/*.antt")
         self.paths = files
         self.files = {os.path.basename(it) for it in files}
-        self.c_tests = {pathlib.Path(it).stem for it in files if it.startswith("bindings/c/")}
+        self.c_tests = {pathlib.Path(it).stem for it in files if it.startswith(("bindings/c/", "tests/c/"))}
         self.functions = set(re.findall(r"\bfn (\w+)", code))
         forms = (r"\b(?:ensures|requires) (\w+) \{", r"ghost (\w+)(?::| =)", r"\b(?:struct|enum|trait) (\w+)")
         self.clauses = {name for form in forms for name in re.findall(form, code)}
@@ -63,8 +63,10 @@ class Names:
 
 
 def rows(text):
-    """The rows of docs/PROMISES.md: the number of each line, and the names in each cell."""
-    for number, line in enumerate(text.splitlines(), 1):
+    """The rows of promises in a crate's README: the number of each line, and the names in each cell."""
+    lines = text.partition("\n## What is promised\n")[0].count("\n")
+    promises = text.partition("\n## What is promised\n")[2].partition("\n## ")[0]
+    for number, line in enumerate(promises.splitlines(), lines + 3):
         if line.startswith("| ") and not line.startswith("| Call"):
             yield number, [set(re.findall(r"`([^`]+)`", it)) for it in line.strip("|").split(" | ")]
 
@@ -95,17 +97,18 @@ def other_versions():
 
 def main():
     names, failed, count, used = Names(), [], 0, set()
-    for number, cells in rows((TOP / "docs/PROMISES.md").read_text()):
-        count += 1
-        used |= cells[3] if len(cells) > 3 else set()
-        missing = missing_in(cells, names)
-        if missing:
-            failed.append(f"docs/PROMISES.md:{number}: {', '.join(sorted(missing))}")
+    for page in sorted(TOP.glob("crates/*/README.md")):
+        for number, cells in rows(page.read_text()):
+            count += 1
+            used |= cells[3] if len(cells) > 3 else set()
+            missing = missing_in(cells, names)
+            if missing:
+                failed.append(f"{page.relative_to(TOP)}:{number}: {', '.join(sorted(missing))}")
     for name in sorted(names.wrong):
         count += 1
         if name not in used:
-            failed.append(f"no row of docs/PROMISES.md has the wrong body {name}")
-    for page in [*sorted(TOP.glob("*.md")), *sorted((TOP / "docs").glob("*.md"))]:
+            failed.append(f"no row of a crate's README has the wrong body {name}")
+    for page in [*sorted(TOP.glob("*.md")), *sorted(TOP.glob("docs/*.md")), *sorted(TOP.glob("crates/*/README.md"))]:
         for path in sorted(paths_of(page.read_text())):
             count += 1
             if not list(TOP.glob(path.rstrip("/"))):

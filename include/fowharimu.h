@@ -36,7 +36,7 @@
  * what reading a token needs from one fow_judge to the next: 16 KiB, and room that grows with the longest token that was judged.
  *
  * A thread that calls these functions has at least 128 KiB of stack, what OpenSSL needs aside: JSON may nest 127 levels deep in a token, a
- * policy, a key set and claims, and who reads it calls itself for each. (Tested: bindings/c/stack.c.) */
+ * policy, a key set and claims, and who reads it calls itself for each. (Tested: tests/c/stack.c.) */
 #ifndef FOWHARIMU_H
 #define FOWHARIMU_H
 

@@ -1,5 +1,5 @@
 /* renew NAME KEYS ..: exchanges key sets while threads judge. NAME is the name of a token with its key set and policy, and each KEYS a file with
- * another set that has its key. Who has keys at a URL fetches them by a client of its own, as docs/KEYS.md says, and does here what it does with the
+ * another set that has its key. Who has keys at a URL fetches them by a client of its own, as docs/REMOTE-KEYS.md says, and does here what it does with the
  * octets: a new set is a new validator, beside which each thread opens its own when it judges next. No token is judged by a mixture. */
 #include <fowharimu_openssl.h>
 #include <pthread.h>

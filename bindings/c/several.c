@@ -1,5 +1,5 @@
 /* several: several issuers, each with a policy and keys of its own. It reads a command a line, words parted by tabs, and answers a line, as
- * bindings/issuers/run says:
+ * tests/issuers/run says:
  *
  *     issuers ISSUER POLICY KEYS ..    takes the files of each issuer: `opened`, or `misused`
  *     validate TOKEN NOW               `accepted`, or the name of the fault

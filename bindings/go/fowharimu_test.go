@@ -454,7 +454,7 @@ func TestAPolicyWithoutABoundIsRefusedUnlessItIsAskedFor(t *testing.T) {
 func TestAnotherLibraryIsRefused(t *testing.T) {
 	another := os.Getenv("FOWHARIMU_ANOTHER")
 	if another == "" {
-		t.Skip("bindings/run names a library of another interface")
+		t.Skip("tests/run names a library of another interface")
 	}
 	_, err := fowharimu.Open([]byte(`{"algs":["HS256"]}`), []byte(`{"keys":[]}`))
 	var library *fowharimu.LibraryError

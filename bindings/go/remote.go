@@ -52,7 +52,7 @@ func (e *TooOldError) Error() string {
 // FaultName is KeysTooOld.
 func (e *TooOldError) FaultName() string { return "KeysTooOld" }
 
-// Remote says how keys are fetched, by the rules of docs/KEYS.md. A time of zero stands for the one that is named here.
+// Remote says how keys are fetched, by the rules of docs/REMOTE-KEYS.md. A time of zero stands for the one that is named here.
 type Remote struct {
 	RefreshAfter time.Duration // the age at which keys are fetched again, in the background; 10 minutes
 	Cooldown     time.Duration // the least time between two fetches, but for Refresh; 30 seconds
@@ -64,7 +64,7 @@ type Remote struct {
 	OnFetch func(url string, octets int, err error)
 }
 
-// RemoteKeys is a policy, and a key set at a URL, which is fetched at once, and again as docs/KEYS.md says: in the background; where a token is
+// RemoteKeys is a policy, and a key set at a URL, which is fetched at once, and again as docs/REMOTE-KEYS.md says: in the background; where a token is
 // refused for want of a key or by a bad signature, at most once a cool-down. Where that fails, the keys stay until they are too old. Goroutines
 // may share it.
 type RemoteKeys struct {

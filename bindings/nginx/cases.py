@@ -1,4 +1,4 @@
-"""The cases of bindings/cases that a request can carry, asked of nginx: what the module says has to be the stored answer.
+"""The cases of tests/cases that a request can carry, asked of nginx: what the module says has to be the stored answer.
 
 A request carries a token in a header, for `jwt_token $http_token`, and where it is of the characters of a b64token (RFC 6750, section 2.1) in the
 header Authorization too; there each other one is refused as Form. It is one without NUL, line feeds and carriage returns, and without a space at
@@ -112,7 +112,7 @@ def differences(nginx: Nginx, cases: list[Asked], remembers: bool) -> Iterator[s
 
 def run(check: Callable[..., None]) -> None:
     """Asks all that can be carried, and says how many these are."""
-    made = subprocess.run([TOP / "bindings/cases/make", TABLE], stdout=subprocess.PIPE, stderr=subprocess.STDOUT, text=True)
+    made = subprocess.run([TOP / "tests/cases/make", TABLE], stdout=subprocess.PIPE, stderr=subprocess.STDOUT, text=True)
     check("cases made", made.returncode == 0, made.stdout)
     if made.returncode:
         return

@@ -21,7 +21,7 @@ def module_of(path: pathlib.Path):
     return module
 
 
-MAKE = module_of(TOP / "bindings/tokens/make")
+MAKE = module_of(TOP / "tests/tokens/make")
 PUBLIC = [*MAKE.RSA, *MAKE.CURVES, *MAKE.EDWARDS]
 
 

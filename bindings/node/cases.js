@@ -1,5 +1,5 @@
 'use strict';
-// cases.js [-remember] FILE: answers each case of a table that bindings/cases/make wrote, by the proved verifiers. bindings/cases/README.md says what
+// cases.js [-remember] FILE: answers each case of a table that tests/cases/make wrote, by the proved verifiers. tests/cases/README.md says what
 // a line is. With -remember tokens are remembered, and each is judged at several moments first.
 const assert = require('node:assert');
 const fs = require('node:fs');

@@ -1,4 +1,4 @@
-/** Key sets that stand at a URL, by the rules of docs/KEYS.md: `require('fowharimu/remote')`. */
+/** Key sets that stand at a URL, by the rules of docs/REMOTE-KEYS.md: `require('fowharimu/remote')`. */
 import { Asking, Claims, Document, FowharimuError, Moment, Opening, Report, Token, TokenRefused } from './index';
 
 /** How keys are fetched. Times are in milliseconds, from 0 on; one that is undefined is as without it. */
@@ -27,7 +27,7 @@ export class KeysUnavailable extends FowharimuError {
 export class KeysTooOld extends TokenRefused {}
 
 /**
- * A policy, and a key set at a URL, which is fetched at once, and again as docs/KEYS.md says: in the background; where a token is refused for want of
+ * A policy, and a key set at a URL, which is fetched at once, and again as docs/REMOTE-KEYS.md says: in the background; where a token is refused for want of
  * a key or by a bad signature, at most once a cool-down. Where that fails, the keys stay until they are too old.
  */
 export class RemoteKeys {

@@ -1,5 +1,5 @@
 'use strict';
-/** Key sets that stand at a URL, by the rules of docs/KEYS.md. remote.d.ts says what each call does. */
+/** Key sets that stand at a URL, by the rules of docs/REMOTE-KEYS.md. remote.d.ts says what each call does. */
 
 const http = require('node:http');
 const https = require('node:https');

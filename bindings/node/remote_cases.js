@@ -1,5 +1,5 @@
 'use strict';
-/** Opens keys by URL, and several issuers, and judges by them as bindings/remote/run and bindings/issuers/run say, a command a line. */
+/** Opens keys by URL, and several issuers, and judges by them as tests/remote/run and tests/issuers/run say, a command a line. */
 const fs = require('node:fs');
 const readline = require('node:readline');
 const { Closed, PolicyRefused, TokenRefused, Validator } = require('.');

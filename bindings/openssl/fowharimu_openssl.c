@@ -285,7 +285,7 @@ static EVP_PKEY *key_of(const fow_question *asked, const uint8_t *room)
 /* What is kept of a key of a number: the members that it was made of, and what was made of them. A context that is ready to verify by an algorithm
  * is copied for each signature, since making it ready takes OpenSSL longer: it looks up the algorithms by name. */
 typedef struct made {
-    EVP_PKEY *key; /* NULL where the members are no key; bindings/c/bench.c looks here for it */
+    EVP_PKEY *key; /* NULL where the members are no key; bench/c/bench.c looks here for it */
     uint32_t kind;
     size_t first, second;
     uint8_t *members; /* one after another; NULL where nothing is kept */

@@ -1,5 +1,5 @@
-"""cases.py [-remember] FILE: answers each case of a table that bindings/cases/make wrote, over OpenSSL; with -remember each of them after the token was
-judged before. bindings/cases/README.md says what a line is."""
+"""cases.py [-remember] FILE: answers each case of a table that tests/cases/make wrote, over OpenSSL; with -remember each of them after the token was
+judged before. tests/cases/README.md says what a line is."""
 import dataclasses
 import json
 import sys

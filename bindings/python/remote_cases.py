@@ -1,4 +1,4 @@
-"""remote_cases.py: opens keys by URL, and several issuers, and judges by them as bindings/remote/run and bindings/issuers/run say, a command a line."""
+"""remote_cases.py: opens keys by URL, and several issuers, and judges by them as tests/remote/run and tests/issuers/run say, a command a line."""
 import ssl
 import sys
 import threading

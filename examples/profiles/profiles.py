@@ -14,11 +14,11 @@ from typing import Any, Iterator, NamedTuple
 HERE = pathlib.Path(__file__).resolve().parent
 TOP = HERE.parent.parent
 DOCUMENT = TOP / "docs/PROFILES.md"
-# The moment of all tokens, that of the cases of bindings/cases, in seconds since 1970-01-01T00:00:00Z.
+# The moment of all tokens, that of the cases of tests/cases, in seconds since 1970-01-01T00:00:00Z.
 NOW = 1300819379
 APPLICATION = "the application: "
 
-sys.path.insert(0, str(TOP / "bindings/cases"))
+sys.path.insert(0, str(TOP / "tests/cases"))
 
 from signing import base64url, key_text, sign  # noqa: E402
 

@@ -1,5 +1,5 @@
-// Command cases answers each case of a table that bindings/cases/make wrote, over OpenSSL: cases [-threads N] [-remember] FILE.
-// bindings/cases/README.md says what a line is. With -threads so many goroutines judge each token on one validator, and all have to answer
+// Command cases answers each case of a table that tests/cases/make wrote, over OpenSSL: cases [-threads N] [-remember] FILE.
+// tests/cases/README.md says what a line is. With -threads so many goroutines judge each token on one validator, and all have to answer
 // alike. With -remember tokens are remembered, and each is judged at several moments first.
 package main
 

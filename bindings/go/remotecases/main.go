@@ -1,4 +1,4 @@
-// Remotecases opens keys by URL, and several issuers, and judges by them as bindings/remote/run and bindings/issuers/run say, a command a line.
+// Remotecases opens keys by URL, and several issuers, and judges by them as tests/remote/run and tests/issuers/run say, a command a line.
 package main
 
 import (

@@ -23,7 +23,7 @@ import org.example.fowharimu.Validator;
 import org.example.fowharimu.Verdict;
 
 /**
- * Cases FILE: answers each case of a table that bindings/cases/make wrote, by the proved verifiers. bindings/cases/README.md says what a line is.
+ * Cases FILE: answers each case of a table that tests/cases/make wrote, by the proved verifiers. tests/cases/README.md says what a line is.
  * With -Dthreads=N so many threads judge each token on one validator, and all have to answer alike. With -Dremember=N so many tokens are remembered,
  * and each is judged at several moments first.
  */

@@ -28,7 +28,7 @@ import org.example.fowharimu.Refused;
 import org.example.fowharimu.RemoteKeys;
 import org.example.fowharimu.Validator;
 
-/** Opens keys by URL, and several issuers, and judges by them as bindings/remote/run and bindings/issuers/run say, a command a line. */
+/** Opens keys by URL, and several issuers, and judges by them as tests/remote/run and tests/issuers/run say, a command a line. */
 final class RemoteCases {
     private Judging keys;
     private Load load;

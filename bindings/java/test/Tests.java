@@ -104,7 +104,7 @@ final class Tests {
         }
     }
 
-    /** Several issuers: bindings/issuers has the table of what is answered. */
+    /** Several issuers: tests/issuers has the table of what is answered. */
     private void issuers() throws Exception {
         String policy = "{\"algs\":[\"HS256\"],\"issuers\":[\"%s\"],\"limit\":%d}";
         Validator one = new Validator(octets(String.format(policy, "a", 400)), octets(SECRET));
@@ -164,7 +164,7 @@ final class Tests {
 
     /** By the longest times that are taken, keys are fetched and tokens are judged, also one that asks for a fetch. */
     private void longestTimes() throws Exception {
-        Path name = top.resolve("bindings/tokens/RS256");
+        Path name = top.resolve("tests/tokens/RS256");
         byte[] keys = read(name, "keys");
         HttpServer server = HttpServer.create(new InetSocketAddress(InetAddress.getLoopbackAddress(), 0), 0);
         server.createContext("/keys", exchange -> {
@@ -189,7 +189,7 @@ final class Tests {
 
     private void eachToken() throws Exception {
         List<Path> names = new ArrayList<>();
-        for (String folder : List.of("examples", "bindings/tokens")) {
+        for (String folder : List.of("examples", "tests/tokens")) {
             try (Stream<Path> files = Files.list(top.resolve(folder))) {
                 files.filter(it -> it.toString().endsWith(".jwt")).forEach(it -> names.add(Path.of(it.toString().replaceAll("\\.jwt$", ""))));
             }
@@ -221,7 +221,7 @@ final class Tests {
     }
 
     private void ed448() throws Exception {
-        Path name = top.resolve("bindings/tokens/Ed448");
+        Path name = top.resolve("tests/tokens/Ed448");
         try (Validator it = open(name)) {
             equal(it.judge(token(name), NOW).refusal().get().fault(), "BadSignature");
         }
@@ -319,7 +319,7 @@ final class Tests {
     }
 
     private void questions() throws Exception {
-        String keys = new String(read(top.resolve("bindings/tokens/RS256"), "keys"), StandardCharsets.UTF_8);
+        String keys = new String(read(top.resolve("tests/tokens/RS256"), "keys"), StandardCharsets.UTF_8);
         String key = keys.substring(keys.indexOf('[') + 1, keys.lastIndexOf(']'));
         byte[] many = octets("{\"keys\":[" + key + "," + key + "," + key + "]}");
         byte[] policy = octets("{\"algs\":[\"RS256\"],\"max_signatures\":32}");
@@ -381,7 +381,7 @@ final class Tests {
     }
 
     private void threads() throws Exception {
-        Path name = top.resolve("bindings/tokens/ES256");
+        Path name = top.resolve("tests/tokens/ES256");
         String token = token(name);
         try (Validator shared = open(name)) {
             for (int it : together(8, () -> accepted(shared, token, 20))) {

@@ -12,7 +12,7 @@ const fow = require('..');
 const TOP = process.env.FOWHARIMU_TOP ?? path.resolve(__dirname, '../../..');
 const NOW = 1300819379;
 const HMAC = path.join(TOP, 'examples/rfc7515-a1');
-const RSA = path.join(TOP, 'bindings/tokens/RS256');
+const RSA = path.join(TOP, 'tests/tokens/RS256');
 const read = (name, end) => fs.readFileSync(`${name}.${end}`);
 const validatorOf = (name) => new fow.Validator(read(name, 'policy'), read(name, 'keys'));
 const tokenOf = (name) => read(name, 'jwt').toString();
@@ -35,7 +35,7 @@ function judgeMany(name) {
 }
 
 function testEachToken() {
-  const names = ['examples', 'bindings/tokens'].flatMap(namesIn);
+  const names = ['examples', 'tests/tokens'].flatMap(namesIn);
   assert.ok(names.length >= 15);
   for (const name of names.filter((it) => !isUnverified(it))) {
     const validator = validatorOf(name), token = tokenOf(name);
@@ -47,7 +47,7 @@ function testEachToken() {
 }
 
 function testEd448() {
-  const name = path.join(TOP, 'bindings/tokens/Ed448');
+  const name = path.join(TOP, 'tests/tokens/Ed448');
   assert.throws(() => validatorOf(name).validate(tokenOf(name), NOW), { name: 'SignatureRefused', fault: 'BadSignature' });
 }
 

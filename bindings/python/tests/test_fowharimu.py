@@ -42,7 +42,7 @@ from fowharimu import (
 from fowharimu.issuers import Issuers
 
 TOP = pathlib.Path(__file__).resolve().parents[3]
-NAMES = sorted(it.with_suffix("") for folder in ("examples", "bindings/tokens") for it in (TOP / folder).glob("*.jwt"))
+NAMES = sorted(it.with_suffix("") for folder in ("examples", "tests/tokens") for it in (TOP / folder).glob("*.jwt"))
 NOW = 1300819379
 HMAC = TOP / "examples/rfc7515-a1"
 
@@ -72,7 +72,7 @@ class Opening(unittest.TestCase):
         for policy in ({"version": 2, "algs": ["RS256"], "max_calls": 64}, {"algs": ["HS256", "ES256"]}, {"algs": ["RS256"], "max_signatures": 7}):
             Validator(policy, keys).close()
 
-    @unittest.skipUnless("FOWHARIMU_ANOTHER" in os.environ, "bindings/run names a library of another interface")
+    @unittest.skipUnless("FOWHARIMU_ANOTHER" in os.environ, "tests/run names a library of another interface")
     def test_another_library_is_refused(self) -> None:
         with self.assertRaises(AnotherLibrary) as caught:
             Validator({"algs": ["HS256"]}, {"keys": []})
@@ -460,7 +460,7 @@ def base64url(text: str) -> str:
 
 
 class Several(unittest.TestCase):
-    """Several issuers, whose tokens the same secret signs. bindings/issuers has the table of what is answered."""
+    """Several issuers, whose tokens the same secret signs. tests/issuers has the table of what is answered."""
 
     KEYS = {"keys": [{"kty": "oct", "k": "A" * 43}]}
 
@@ -551,8 +551,8 @@ class Issuing(unittest.TestCase):
 class Threads(unittest.TestCase):
     def test_a_validator_is_shared_by_threads(self) -> None:
         accepted = []
-        with validator_of(TOP / "bindings/tokens/RS256") as validator:
-            token = token_of(TOP / "bindings/tokens/RS256")
+        with validator_of(TOP / "tests/tokens/RS256") as validator:
+            token = token_of(TOP / "tests/tokens/RS256")
 
             def judge_often() -> None:
                 for _ in range(100):
@@ -650,7 +650,7 @@ class Forks(unittest.TestCase):
             self.assertEqual(validator.validate(token, NOW)["iss"], "joe")
 
     def test_a_child_waits_for_no_lock_of_its_parent(self) -> None:
-        for name in (HMAC, TOP / "bindings/tokens/PS256"):
+        for name in (HMAC, TOP / "tests/tokens/PS256"):
             with self.subTest(name.name):
                 self.check_children(name, 20)
 

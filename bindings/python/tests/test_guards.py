@@ -1,4 +1,4 @@
-"""Tests of what bindings/requests doesn't ask the guards: WebSockets, the life of a server, and what isn't an answer of theirs."""
+"""Tests of what tests/requests doesn't ask the guards: WebSockets, the life of a server, and what isn't an answer of theirs."""
 
 from __future__ import annotations
 

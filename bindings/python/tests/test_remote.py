@@ -1,4 +1,4 @@
-"""Tests of what bindings/remote doesn't ask keys by URL: what is handed in, and what is told."""
+"""Tests of what tests/remote doesn't ask keys by URL: what is handed in, and what is told."""
 
 from __future__ import annotations
 
@@ -47,7 +47,7 @@ class Slow(http.server.BaseHTTPRequestHandler):
         if self.begun.is_set():
             self.over.wait(20)
         self.begun.set()
-        self.wfile.write(b"HTTP/1.0 200 OK\r\n\r\n" + (TOP / "bindings/tokens/RS256.keys").read_bytes())
+        self.wfile.write(b"HTTP/1.0 200 OK\r\n\r\n" + (TOP / "tests/tokens/RS256.keys").read_bytes())
 
     def log_message(self, *_: Any) -> None:
         pass
@@ -67,7 +67,7 @@ class Waiting(unittest.TestCase):
 
     def test_a_token_that_waits_for_a_fetch_holds_up_no_other(self) -> None:
         # (it has expired, and is refused for that alone)
-        known = (TOP / "bindings/tokens/RS256.jwt").read_text().strip()
+        known = (TOP / "tests/tokens/RS256.jwt").read_text().strip()
         forged = known[:-8] + "AAAAAAAA"
         time.sleep(1.6)
         guard = asgi.Guard(unreached, Issuers({"joe": self.keys}))

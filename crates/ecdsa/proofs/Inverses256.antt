@@ -1,4 +1,4 @@
--- The inverses of twice y of the doubles of P-256's base point, written by curves/doubles.
+-- The inverses of twice y of the doubles of P-256's base point, written by tests/curves/doubles.
 use Rattle.std.proofs.Common.{ℕ, List, [], ◌∷◌}
 
 unfoldable pub inverses : List ℕ

@@ -1,4 +1,4 @@
-//! The doubles of the base point of P-521, written by curves/doubles.
+//! The doubles of the base point of P-521, written by tests/curves/doubles.
 
 /// x of 2^i G.
 #[rattlefmt::skip]

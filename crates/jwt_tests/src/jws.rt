@@ -327,7 +327,7 @@ fn counts_or_lacks(alloc: Global, octets: &[u8], count: u32) -> bool {
     }
 }
 
-/// `refused-growths` refuses each allocation of this test in turn.
+/// `tests/refused-growths` refuses each allocation of this test in turn.
 #[test]
 fn a_refused_growth_is_out_of_memory(rt: HostRuntime) {
     let general =

@@ -75,7 +75,7 @@ static GROWING: [Case; 7] = [
     THUMBPRINT_AS_KID,
 ];
 
-/// `refused-growths` refuses each allocation of this test in turn.
+/// `tests/refused-growths` refuses each allocation of this test in turn.
 #[test]
 fn a_refused_growth_changes_no_report(rt: HostRuntime) -> Result<(), Fail> {
     let mut refused = 0usize;

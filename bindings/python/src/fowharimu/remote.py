@@ -1,4 +1,4 @@
-"""Key sets that stand at a URL, by the rules of docs/KEYS.md, which every caller follows.
+"""Key sets that stand at a URL, by the rules of docs/REMOTE-KEYS.md, which every caller follows.
 
     from fowharimu.remote import RemoteKeys
 
@@ -254,7 +254,7 @@ def _member(document: bytes, name: bytes) -> Optional[str]:
 
 
 class RemoteKeys:
-    """A policy, and a key set at a URL, which is fetched at once, and again as docs/KEYS.md says: in the background after `refresh_after`
+    """A policy, and a key set at a URL, which is fetched at once, and again as docs/REMOTE-KEYS.md says: in the background after `refresh_after`
     seconds; where a token is refused for want of a key or by a bad signature, at most once in `cooldown` seconds. Where that fails, the
     keys stay until they are `max_age` seconds old. A fetch takes `timeout` seconds at most, by TLS with `context`. Threads may share it; after
     fork, parent and child each go on by themselves.

@@ -1,4 +1,4 @@
-//! Answers each case of a table that `bindings/cases/make` wrote, over OpenSSL: cases [-remember] FILE. `bindings/cases/README.md` says what a
+//! Answers each case of a table that `tests/cases/make` wrote, over OpenSSL: cases [-remember] FILE. `tests/cases/README.md` says what a
 //! line is. `?` stands for what this crate doesn't show. It doesn't issue. With `-remember` tokens are remembered, and each is judged at several
 //! moments first.
 

@@ -1,4 +1,4 @@
-//! Several issuers. It judges tokens as bindings/issuers/run says, a command a line.
+//! Several issuers. It judges tokens as tests/issuers/run says, a command a line.
 //!
 //! `issuers ISSUER POLICY KEYS ..` takes the files of each issuer, and answers `opened` or `misused`; `validate TOKEN NOW` answers `accepted`, or the
 //! name of the fault.

@@ -1,6 +1,6 @@
 //! Exchanges key sets while threads judge: `renew POLICY TOKEN NOW KEYS KEYS ..`, where each key set has the token's key.
 //!
-//! Who has keys at a URL fetches them by a client of its own, as docs/KEYS.md says, and does here what it does with the octets: a new set is a new
+//! Who has keys at a URL fetches them by a client of its own, as docs/REMOTE-KEYS.md says, and does here what it does with the octets: a new set is a new
 //! validator. A call that is under way ends by the old one, which is freed then. No token is judged by a mixture.
 
 use fowharimu::{Claims, Error, Validator};

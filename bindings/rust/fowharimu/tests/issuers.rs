@@ -1,4 +1,4 @@
-//! Several issuers: bindings/issuers has the table of what is answered.
+//! Several issuers: tests/issuers has the table of what is answered.
 
 use fowharimu::{Access, Error, Issuers, Validator};
 

@@ -15,7 +15,7 @@ fn top() -> PathBuf {
 /// The tokens, each with its policy and key set beside it.
 fn tokens() -> Vec<PathBuf> {
     let mut names = Vec::new();
-    for folder in ["examples", "bindings/tokens"] {
+    for folder in ["examples", "tests/tokens"] {
         for entry in fs::read_dir(top().join(folder)).unwrap() {
             let path = entry.unwrap().path();
             if path.extension() == Some(OsStr::new("jwt")) {
@@ -152,7 +152,7 @@ fn a_name_of_any_length_is_told() {
 
 #[test]
 fn another_thread_may_have_it() {
-    let name = top().join("bindings/tokens/RS256.jwt");
+    let name = top().join("tests/tokens/RS256.jwt");
     let token = fs::read(&name).unwrap();
     let validator = open(&name);
     let claims = thread::spawn(move || validator.validate_at(&token, NOW)).join();
@@ -161,7 +161,7 @@ fn another_thread_may_have_it() {
 
 #[test]
 fn threads_share_it() {
-    for name in ["examples/rfc7515-a1.jwt", "bindings/tokens/RS256.jwt"] {
+    for name in ["examples/rfc7515-a1.jwt", "tests/tokens/RS256.jwt"] {
         let name = top().join(name);
         let token = fs::read(&name).unwrap();
         let mut forged = token.clone();
@@ -183,7 +183,7 @@ fn threads_share_it() {
 
 #[test]
 fn the_clock_is_the_moment() {
-    let name = top().join("bindings/tokens/RS256.jwt");
+    let name = top().join("tests/tokens/RS256.jwt");
     let refusal = open(&name).validate(&fs::read(&name).unwrap()).unwrap_err();
     assert_eq!(
         refusal,
@@ -225,7 +225,7 @@ fn a_policy_without_a_bound_is_refused_unless_it_is_asked_for() {
     }
 }
 
-/// `bindings/run` links a library of another interface.
+/// `tests/run` links a library of another interface.
 #[test]
 fn another_library_is_refused() {
     let Ok(another) = std::env::var("FOWHARIMU_ANOTHER") else {

@@ -7,7 +7,7 @@ import java.util.Optional;
 import javax.net.ssl.SSLContext;
 
 /**
- * How keys are fetched, by the rules of {@code docs/KEYS.md}. No time is below 0, or above 36,500 days.
+ * How keys are fetched, by the rules of {@code docs/REMOTE-KEYS.md}. No time is below 0, or above 36,500 days.
  *
  * @param refreshAfter the age at which keys are fetched again, in the background
  * @param cooldown the least time between two fetches that tokens ask for

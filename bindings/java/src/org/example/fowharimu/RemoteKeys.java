@@ -10,7 +10,7 @@ import java.util.Objects;
 import java.util.Optional;
 
 /**
- * A policy, and a key set at a URL, which is fetched at once, and again as {@code docs/KEYS.md} says: in the background; where a token is refused for want
+ * A policy, and a key set at a URL, which is fetched at once, and again as {@code docs/REMOTE-KEYS.md} says: in the background; where a token is refused for want
  * of a key or by a bad signature, at most once a cool-down. Where that fails, the keys stay until they are too old: from then on each token is refused by
  * the kind {@link Refused.Kind#KEYS_TOO_OLD}. Threads share it. A call on closed keys throws IllegalStateException.
  *

@@ -1,0 +1,136 @@
+"""The table of cases that callers read, the answers that are stored, and what a caller's answers are compared with."""
+import base64
+import hashlib
+import itertools
+import json
+import pathlib
+from typing import Iterator
+
+import corpus
+
+FOLDER = pathlib.Path(__file__).resolve().parent
+STORED = FOLDER / "answers.tsv"
+SETS = ("proved", "openssl", "none")
+FIELDS = ("verdict", "fault", "part", "signature", "key", "claim", "work", "states", "tries", "claims")
+# The faults of fowharimu.h that no call can come to, with why.
+NEVER = {
+    "text.Read": "nothing is read from a stream",
+    "signature.NoVerifier": "fow_judge asks, and fow_proved_judge names each algorithm",
+    "issue.AlgNotHmac": "fow_issue answers FOW_ABSENT",
+    "issue.Spent": "32 signatures of 1,048,576 octets cost less than 10^8 octets, and the budget is 10^12",
+}
+# How many characters of claims are stored; of longer ones the front of their digest is.
+LONGEST = 100
+
+
+def spelled(octets: bytes) -> str:
+    """Octets in hexadecimal, and `-` where there are none."""
+    return octets.hex() or "-"
+
+
+def lines_of(cases: list[corpus.Case]) -> Iterator[str]:
+    """The table, line by line: a policy and a key set stand before all cases that have them."""
+    opened = None
+    for case in cases:
+        if opened != (case.policy, case.keys):
+            opened = (case.policy, case.keys)
+            yield f"open {spelled(case.policy)} {spelled(case.keys)}\n"
+        if isinstance(case, corpus.Judging):
+            yield f"judge {case.name} {case.now} {spelled(case.token)}\n"
+        elif isinstance(case, corpus.Denying):
+            yield f"deny {case.name} {case.now} {spelled(case.rule)} {spelled(case.token)}\n"
+        else:
+            yield f"issue {case.name} {case.alg} {case.form} {case.key} {spelled(case.typ)} {spelled(case.claims)}\n"
+
+
+def group_of(name: str) -> str:
+    """The group of a case: the first word of its name."""
+    return name.partition("/")[0]
+
+
+def digests(cases: list[corpus.Case]) -> list[str]:
+    """A line for each group, with how many cases it has and their digest: it tells a change of the cases from one of the answers."""
+    groups = itertools.groupby(cases, lambda it: group_of(it.name))
+    return [f"group\t{name}\t{len(found)}\t{hashlib.sha256(repr(found).encode()).hexdigest()}\n" for name, found in ((name, list(it)) for name, it in groups)]
+
+
+def shortened(answer: str) -> str:
+    """An answer as it is stored."""
+    rest, _, claims = answer.rpartition("\t")
+    return answer if len(claims) <= LONGEST else f"{rest}\tsha256:{hashlib.sha256(claims.encode()).hexdigest()[:32]}"
+
+
+def read_answers(text: str) -> dict[str, str]:
+    """What a caller says, by the names of the cases. Raises ValueError where it answers a case twice."""
+    pairs = [it.split("\t", 1) for it in text.splitlines()]
+    answers = {name: answer for name, answer in pairs}
+    if len(answers) != len(pairs):
+        raise ValueError("a case is answered twice")
+    return answers
+
+
+def rows(cases: list[corpus.Case], answers: dict[str, dict[str, str]]) -> Iterator[str]:
+    """The answers as they are stored: cases one after another with the same answers are one row, or one for each set of verifiers that differs."""
+    triples = [(it.name, tuple(shortened(answers[one][it.name]) for one in SETS)) for it in cases]
+    for (_, triple), found in itertools.groupby(triples, lambda it: (group_of(it[0]), it[1])):
+        names = [name for name, _ in found]
+        for answer in dict.fromkeys(triple):
+            sets = ",".join(one for one, said in zip(SETS, triple) if said == answer)
+            yield f"{names[0]}\t{len(names)}\t{sets}\t{answer}\n"
+
+
+def stored(cases: list[corpus.Case]) -> dict[str, dict[str, str]]:
+    """The stored answers of each set of verifiers, by the names of the cases. Raises ValueError where they are of other cases."""
+    lines = STORED.read_text().splitlines(keepends=True)
+    if [it for it in lines if it.startswith("group\t")] != digests(cases):
+        raise ValueError(f"{STORED.name} has the answers to other cases than are made now: look at both, then see tests/cases/README.md")
+    places = {it.name: i for i, it in enumerate(cases)}
+    answers: dict[str, dict[str, str]] = {one: {} for one in SETS}
+    for line in lines:
+        if not line.startswith("group\t"):
+            first, count, sets, answer = line.rstrip("\n").split("\t", 3)
+            for case in cases[places[first] : places[first] + int(count)]:
+                answers_of_case = [answers[one] for one in sets.split(",")]
+                for one in answers_of_case:
+                    one[case.name] = answer
+    return answers
+
+
+def faults_of(answers: list[str]) -> set[str]:
+    """The names of the faults that these answers speak of, those of signatures that are barred among them."""
+    found = set()
+    for answer in answers:
+        said = dict(zip(FIELDS, answer.split("\t")))
+        found.add(said["fault"])
+        found |= {f"signature.{it.split('/')[1]}" for it in said["states"].split(",") if it.startswith("1/")}
+    return found - {"-"}
+
+
+def json_line(case: corpus.Case, answers: dict[str, str]) -> str:
+    """A case with its answers, as JSON text: `token` where it is a text in UTF-8, and else `token64` in base64, and so for the other octets."""
+    members: dict[str, object] = {}
+    for name, value in case._asdict().items():
+        if isinstance(value, bytes):
+            try:
+                members[name] = value.decode()
+            except UnicodeDecodeError:
+                members[name + "64"] = base64.b64encode(value).decode()
+        else:
+            members[name] = value
+    first = answers["proved"]
+    members["answer"] = answer_of(first)
+    members |= {one: answer_of(answers[one]) for one in SETS[1:] if answers[one] != first}
+    return json.dumps(members) + "\n"
+
+
+def answer_of(answer: str) -> dict[str, object]:
+    """An answer with its numbers as numbers, and its names as texts."""
+    values: dict[str, object] = dict(zip(FIELDS, answer.split("\t")))
+    for name in ("part", "signature", "key", "work"):
+        values[name] = int(values[name])
+    for name in ("states", "tries"):
+        values[name] = [it.split("/") for it in values[name].split(",")] if values[name] else []
+    for name in ("claim", "claims"):
+        if not values[name].startswith("sha256:"):
+            values[name] = None if values[name] == "-" else bytes.fromhex(values[name]).decode()
+    return values
