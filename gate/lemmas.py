@@ -5,12 +5,13 @@
     gate/lemmas.py --write    writes the groups of the crates in which some are wrong
 
 A file serves the functions whose proofs cite it. It stands below a heading that names a file of code in which such a function is, or
-"several files"; one that files of lemmas alone cite stands anywhere. A file that no proof rests on fails the run.
+"several files"; one that proofs of other crates cite, below "other crates"; one that files of lemmas alone cite stands anywhere. A file that
+no proof rests on fails the run.
 """
 import collections, pathlib, re, sys
 
 TOP = pathlib.Path(__file__).resolve().parent.parent
-SEVERAL, OTHERS = "several files", "other lemmas"
+SEVERAL, OTHERS, ABROAD = "several files", "other lemmas", "other crates"
 MODULE = re.compile(r"((?:pub )?mod (\w+))$", re.MULTILINE)
 
 
@@ -24,13 +25,20 @@ def cited(text, crate):
     return set(names) | set(re.findall(rf"(?:crate|{crate})::proofs::(\w+)::", text))
 
 
+def proofs_of_others(crate):
+    """The texts of the proofs of the other crates that name this crate's."""
+    texts = (it.read_text() for it in TOP.glob("crates/*/proofs/**/*.antt") if it.relative_to(TOP).parts[1] != crate)
+    return [it for it in texts if f"Rattle.{crate}.proofs." in it]
+
+
 def served(crate):
-    """Of each file of lemmas, the files of code whose proofs cite it, and whether any proof rests on it."""
+    """Of each file of lemmas, the files of code whose proofs cite it, or other crates, and whether any proof rests on it."""
     proofs, code = TOP / "crates" / crate / "proofs", TOP / "crates" / crate / "src"
     lemmas = {it.stem: cited(it.read_text(), crate) for it in proofs.glob("*.antt") if it.stem != "Lib"}
     serves = {it: set() for it in lemmas}
     roots = [(it.relative_to(proofs).parts[0], it.read_text()) for it in proofs.glob("*/**/*.antt")]
     roots += [(it.relative_to(code).parts[0].removesuffix(".rt"), it.read_text()) for it in code.glob("**/*.rt")]
+    roots += [(ABROAD, it) for it in proofs_of_others(crate)]
     for file, text in roots:
         for it in cited(text, crate) & lemmas.keys():
             serves[it].add(file)
@@ -44,6 +52,8 @@ def served(crate):
 
 
 def group(files):
+    if ABROAD in files:
+        return ABROAD
     return OTHERS if not files else SEVERAL if len(files) > 1 else f"{next(iter(files))}.rt"
 
 
@@ -55,7 +65,7 @@ def groups(crate):
         module = MODULE.match(line)
         if module and module[2] in files:
             found[group(files[module[2]])].append(line)
-    return {it: found[it] for it in sorted(found, key=lambda it: (it == OTHERS, it == SEVERAL, it))}
+    return {it: found[it] for it in sorted(found, key=lambda it: (it == ABROAD, it == OTHERS, it == SEVERAL, it))}
 
 
 def drawn(crate):

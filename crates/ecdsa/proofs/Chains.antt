@@ -4,7 +4,7 @@ use Rattle.std.specs.Int.{from_bool}
 use Rattle.std.proofs.Math.Nat.{mod-lt, mod-eq_of_lt, mul-mod_right}
 use Rattle.std.proofs.Math.Path.{ap₂}
 use Rattle.std.proofs.lemmas.Bool.{and_parts}
-use Rattle.ecdsa.specs.Limbs.{number}
+use Rattle.numbers.specs.Limbs.{number}
 use Rattle.ecdsa.proofs.Search.{inverse_is}
 use Rattle.ecdsa.proofs.Congruence.{same_mul}
 use Rattle.ecdsa.specs.Curve.{Domain, Point, Point.Infinity, Point.Affine, by_slope, sum, sum_of, doubled}

@@ -1,8 +1,5 @@
 -- ---- limbs: the functions of limbs, p256_prime and p521_prime
 
-pub mod LimbValues
-pub mod Residues
-pub mod MontgomerySteps
 pub mod Rows
 pub mod NineLimbs
 -- ---- inverses: the functions of euclid
@@ -39,6 +36,5 @@ pub mod Tables521
 -- ---- signatures: the functions of constants, octets, signatures and verifying
 
 pub mod CurveConstants
-pub mod ReadOctets
 pub mod SignatureVerdicts
 pub mod OctetVerdicts

@@ -2,14 +2,12 @@
 
 -- the inverse of a number modulo another
 pub mod Inverse
--- elliptic curves over a prime field, and ECDSA on them (SEC 1 version 2, sections 2.2.1, 3.2.2.1 and 4.1.4
+-- elliptic curves over a prime field, and ECDSA on them (SEC 1 version 2, sections 2.2.1, 3.2.2.1 and 4.1.4)
 pub mod Curve
 -- the curves of NIST SP 800-186, sections 3.2.1.3 to 3.2.1.5
 pub mod Curves
 -- ECDSA signatures as octets
 pub mod Ecdsa
--- numbers as limbs of 64 bits
-pub mod Limbs
 -- the primes of P-256 and P-521 (NIST SP 800-186, sections 3.2.1.3 and 3.2.1.5)
 pub mod Primes
 -- ---- What laws alone cite

@@ -1,7 +1,7 @@
 //! Multiples of a point.
 
 ghost use Rattle.std.specs.Prelude.{◌≡◌, ◌*◌, ◌^◌, ◌<◌, Option, Some, IfSome, if◌then◌else◌};
-ghost use Rattle.ecdsa.specs.Limbs.{number};
+ghost use Rattle.numbers.specs.Limbs.{number};
 ghost use Rattle.ecdsa.specs.Curve.{Point as CurvePoint, sum_of, multiple};
 ghost use Rattle.ecdsa.specs.Domains.{domain};
 ghost use Rattle.ecdsa.specs.Field.{size, value};

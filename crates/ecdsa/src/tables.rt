@@ -1,7 +1,7 @@
 //! Multiples of the base point by a table of its doubles.
 
 ghost use Rattle.std.specs.Prelude.{◌≡◌, ℕ, ◌*◌, ◌^◌, ◌<◌, Option, IfSome, if◌then◌else◌, length};
-ghost use Rattle.ecdsa.specs.Limbs.{number};
+ghost use Rattle.numbers.specs.Limbs.{number};
 ghost use Rattle.ecdsa.specs.Curve.{Point as CurvePoint, Point.Affine, sum_of, doubled, sum_of_doubles};
 ghost use Rattle.ecdsa.specs.Domains.{domain};
 ghost use Rattle.ecdsa.specs.Doubles.{IsTable};

@@ -5,28 +5,23 @@ ghost use Rattle.jwt_keys.specs.declared.fault.EntryFault.TheVariants.{OutOfMemo
 
 use crate::skip::SkipReason;
 use std::alloc::{AllocError, AllocFailed};
-use thiserror::Error;
+use std::error::Error;
+use std::fmt;
 
 /// Why a key set is refused.
-#[derive(Clone, Copy, Debug, PartialEq, Eq, Error)]
+#[derive(Clone, Copy, Debug, PartialEq, Eq)]
 pub enum KeysFault {
     /// An allocation was refused.
-    #[error("out of memory")]
     OutOfMemory,
     /// The octets are no JSON text in UTF-8.
-    #[error("not JSON")]
     Json,
     /// The text is no object, or the object has no list `keys`.
-    #[error("not a key set")]
     NotKeySet,
     /// A name stands twice in one object, at any depth.
-    #[error("a name stands twice")]
     NameTwice,
     /// The list `keys` has more than 1,024 entries, readable or not.
-    #[error("too many keys")]
     TooManyKeys,
     /// There are more than 4,194,304 octets.
-    #[error("too long")]
     TooLong,
 }
 
@@ -70,3 +65,23 @@ impl<T: Drop> From<AllocFailed<T>> for EntryFault {
         EntryFault::OutOfMemory
     }
 }
+
+/// What a fault says, in words.
+fn words(fault: KeysFault) -> &'static str {
+    match fault {
+        KeysFault::OutOfMemory => "out of memory",
+        KeysFault::Json => "not JSON",
+        KeysFault::NotKeySet => "not a key set",
+        KeysFault::NameTwice => "a name stands twice",
+        KeysFault::TooManyKeys => "too many keys",
+        KeysFault::TooLong => "too long",
+    }
+}
+
+impl fmt::Display for KeysFault {
+    fn fmt<W: fmt::Write>(&self, f: &mut fmt::Formatter<W>) -> fmt::Result {
+        f.write_str(words(*self))
+    }
+}
+
+impl Error for KeysFault {}

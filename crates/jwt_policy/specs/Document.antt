@@ -52,7 +52,7 @@ settings_of ms = do
   max_calls ← optional (whole_of 0 32768) (codes "max_calls") ms
   Ok (record { run = run; header = header; claims = claims; max_calls = max_calls })
 
--- ---- the member_names
+-- ---- the names of the members
 
 abbrev pub names_of_version_one : List (List ℕ)
 names_of_version_one =

@@ -12,7 +12,7 @@ use Rattle.jwt_text.specs.declared.node.Node.TheVariants.{Null, Bool, Unsigned, 
 use Rattle.jwt_text.specs.declared.node.Entry.{Entry}
 use Rattle.jwt_text.specs.declared.node.Span.{Span}
 use Rattle.jwt_text.specs.declared.store.Store.{Store}
-use Rattle.jwt_text.specs.Flat.{piece, short, long_at, run_by, run_of, IsRunBy, IsRun, text_of, members_from, node_with, node_data, entry_names, IsText, Each, AreEntries, IsNodeWith, IsNode, run_of, IsRun}
+use Rattle.jwt_text.specs.Flat.{piece, short, long_at, run_by, run_of, IsRunBy, IsRun, text_of, members_from, node_with, node_data, entry_names, IsText, Each, AreEntries, IsNodeWith, IsNode}
 use Rattle.jwt_text.specs.Growth.{Extends, AddsText, AddsNodes, AddsEntries}
 use Rattle.jwt_text.proofs.Levels.{each_same, each_from}
 

@@ -1,5 +1,5 @@
 use Rattle.std.proofs.Common.{arith}
-use Rattle.ecdsa.specs.Limbs.{number}
+use Rattle.numbers.specs.Limbs.{number}
 use Rattle.ecdsa.specs.Field.{value}
 use Rattle.ecdsa.proofs.Made.{chord_made}
 use Rattle.ecdsa.proofs.formulas.chord.Goals as goal

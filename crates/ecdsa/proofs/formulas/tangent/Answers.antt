@@ -1,5 +1,5 @@
 use Rattle.std.proofs.Common.{arith}
-use Rattle.ecdsa.specs.Limbs.{number}
+use Rattle.numbers.specs.Limbs.{number}
 use Rattle.ecdsa.specs.Field.{value}
 use Rattle.ecdsa.proofs.Made.{tangent_made}
 use Rattle.ecdsa.proofs.formulas.tangent.Goals as goal

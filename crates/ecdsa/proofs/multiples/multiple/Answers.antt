@@ -1,6 +1,6 @@
 use Rattle.std.proofs.Common.{◌≡◌, ◌+◌, ◌*◌, ◌^◌, ap, ◌∙◌, subst, arith}
 use Rattle.std.specs.Int.{from_bool}
-use Rattle.ecdsa.specs.Limbs.{number}
+use Rattle.numbers.specs.Limbs.{number}
 use Rattle.ecdsa.specs.Curve.{multiple}
 use Rattle.ecdsa.specs.Domains.{domain}
 use Rattle.ecdsa.specs.Stands.{Stands}

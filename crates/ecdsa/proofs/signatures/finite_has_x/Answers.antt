@@ -1,5 +1,5 @@
 use Rattle.std.proofs.Common.{◌^◌}
-use Rattle.ecdsa.specs.Limbs.{number}
+use Rattle.numbers.specs.Limbs.{number}
 use Rattle.ecdsa.specs.Domains.{domain}
 use Rattle.ecdsa.specs.Field.{size, value}
 use Rattle.ecdsa.proofs.SignatureVerdicts.{lacks_none, has_some, no_x, x_of}

@@ -1,7 +1,7 @@
 use Rattle.std.proofs.Common.{◌&&◌, nat_lt, true, false, ap, sym, ◌∙◌}
 use Rattle.std.proofs.Math.Path.{ap₂}
 use Rattle.ecdsa.specs.Inverse.{inverse}
-use Rattle.ecdsa.specs.Limbs.{number}
+use Rattle.numbers.specs.Limbs.{number}
 use Rattle.ecdsa.specs.Curve.{holds_by, is_key}
 use Rattle.ecdsa.specs.Domains.{domain}
 use Rattle.ecdsa.proofs.SignatureVerdicts.{holds_tests}

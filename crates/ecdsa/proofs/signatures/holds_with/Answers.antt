@@ -1,6 +1,6 @@
 use Rattle.std.proofs.Common.{◌^◌, ap, ◌∙◌}
 use Rattle.ecdsa.specs.Inverse.{inverse}
-use Rattle.ecdsa.specs.Limbs.{number}
+use Rattle.numbers.specs.Limbs.{number}
 use Rattle.ecdsa.specs.Curve.{holds_by}
 use Rattle.ecdsa.specs.Domains.{domain}
 use Rattle.ecdsa.specs.Field.{value}

@@ -1,6 +1,6 @@
 use Rattle.std.proofs.Common.{◌+◌, ◌*◌, ◌%◌, ◌==◌, ◌∙◌}
 use Rattle.std.proofs.Math.Path.{ap₂}
-use Rattle.ecdsa.specs.Limbs.{number}
+use Rattle.numbers.specs.Limbs.{number}
 use Rattle.ecdsa.specs.Domains.{domain}
 use Rattle.ecdsa.proofs.SignatureVerdicts.{not_less, key_first, key_second, key_third}
 use Rattle.ecdsa.proofs.signatures.is_key.Goals as goal

@@ -1,4 +1,4 @@
-use Rattle.ecdsa.specs.Limbs.{number}
+use Rattle.numbers.specs.Limbs.{number}
 use Rattle.ecdsa.specs.Domains.{domain}
 use Rattle.ecdsa.specs.Field.{value}
 use Rattle.ecdsa.proofs.FieldValues.{value_below, three_more}

@@ -1,5 +1,5 @@
 use Rattle.std.proofs.Common.{◌≡◌, subst, arith}
-use Rattle.ecdsa.specs.Limbs.{number}
+use Rattle.numbers.specs.Limbs.{number}
 use Rattle.ecdsa.specs.Curve.{Point.Affine, doubled, sum_of_doubles}
 use Rattle.ecdsa.specs.Domains.{domain}
 use Rattle.ecdsa.specs.Stands.{Stands}

@@ -1,6 +1,6 @@
 use Rattle.std.proofs.Common.{◌≡◌, ◌/◌, ◌^◌}
 use Rattle.std.specs.Prelude.{IfSome}
-use Rattle.ecdsa.specs.Limbs.{number}
+use Rattle.numbers.specs.Limbs.{number}
 use Rattle.ecdsa.specs.Curve.{Point.Affine, sum_of_doubles}
 use Rattle.ecdsa.specs.Domains.{domain}
 use Rattle.ecdsa.specs.Stands.{IsBelow, Stands}

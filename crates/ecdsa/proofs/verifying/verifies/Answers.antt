@@ -1,6 +1,6 @@
 use Rattle.std.proofs.Common.{ap, ◌∙◌}
 use Rattle.std.specs.Int.Digits.{number_from_digits}
-use Rattle.ecdsa.specs.Limbs.{number}
+use Rattle.numbers.specs.Limbs.{number}
 use Rattle.ecdsa.specs.Domains.{domain}
 use Rattle.ecdsa.proofs.OctetVerdicts.{last_part, other_x, other_y, other_signature, tested}
 use Rattle.ecdsa.proofs.verifying.verifies.Goals as goal
