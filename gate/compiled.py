@@ -4,25 +4,24 @@
     gate/compiled.py    compiles crates/jwt_tool/out/jwt_tool.o, where it isn't there or is older than its sources
 
 Behind `rt ci` that object isn't there where the program was kept from an earlier run, and no library has a stamp, without which
-`rt run` and `rt lib` would prove all of them once more.
+`rt run` and `rt lib` would prove all of them once more: so these are called only where the libraries are of `rt check`.
 """
-import pathlib, subprocess, sys, tempfile
+import pathlib, subprocess, sys
 
 sys.dont_write_bytecode = True
 sys.path.insert(0, str(pathlib.Path(__file__).resolve().parent))
-import progress, wrong_bodies
+import kit, progress
 
 TOP = pathlib.Path(__file__).resolve().parent.parent
 OBJECT = TOP / "crates/jwt_tool/out/jwt_tool.o"
 
 
-def made(name, command, make):
-    """Makes something of a crate: over kept work by this command of `rt`, else over the libraries that `rt ci` has left."""
-    crate = next(it for it in wrong_bodies.kit().rtlib.crates_below(str(TOP)) if it.name == name)
-    if crate.has_kept():
-        return subprocess.run(["rt", command], cwd=crate.folder, stdin=subprocess.DEVNULL, capture_output=True).returncode == 0
-    with tempfile.TemporaryFile("w+", errors="replace") as crate.out:
-        return make(crate) == 0
+def made(name, command, build):
+    """Makes something of a crate: over the libraries that `rt ci` has left, where they all stand so, else by this command of `rt`."""
+    if kit.is_left_below(kit.crate(name)):
+        return kit.built(name, build)
+    folder = TOP / "crates" / name
+    return subprocess.run(["rt", command], cwd=folder, stdin=subprocess.DEVNULL, capture_output=True).returncode == 0
 
 
 def archive():

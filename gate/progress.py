@@ -15,8 +15,10 @@ TOP = pathlib.Path(__file__).resolve().parent.parent
 KEPT = TOP / "gate/minutes"
 # A piece of work is done where no process was at it for so many seconds.
 QUIET = 10
-# At most so many provers run side by side.
+# At most so many provers run side by side in a build.
 AT_ONCE = 2
+# Of a run of the gate: the minutes by the clock of what follows the proofs and the wrong bodies.
+BEHIND = ("all", "clock")
 
 
 def minutes_kept():
@@ -44,22 +46,51 @@ def keep(minutes, file):
 
 def crates_below(name):
     """A crate, and those of the repository on which it stands, by crates.txt."""
-    stands_on = {}
-    for line in (TOP / "crates.txt").read_text().splitlines():
-        head, found, rest = line.partition("#")[0].partition(":")
-        if found:
-            stands_on[head.split()[0]] = rest.split()
-    found, left = [], [name]
+    below, found, left = stands_on(), [], [name]
     while left:
         crate = left.pop()
-        if crate in stands_on and crate not in found:
+        if crate in below and crate not in found:
             found.append(crate)
-            left += stands_on[crate]
+            left += below[crate]
     return found
 
 
+def stands_on():
+    """Of each crate of the repository, what it stands on, by crates.txt."""
+    found = {}
+    for line in (TOP / "crates.txt").read_text().splitlines():
+        head, colon, rest = line.partition("#")[0].partition(":")
+        if colon:
+            found[head.split()[0]] = rest.split()
+    return found
+
+
+def of_provers(kept):
+    """Of a table of minutes, those of processors."""
+    return {it: took for it, took in kept.items() if it != BEHIND}
+
+
+def chain(kept):
+    """The minutes of the longest chain of crates of which each stands on the one before, with the tests of the last."""
+    below, took = stands_on(), {}
+
+    def of(crate):
+        if crate not in took:
+            took[crate] = kept.get((crate, "proofs"), 0) + max((of(it) for it in below[crate] if it in below), default=0)
+        return took[crate]
+
+    return max((of(it) + kept.get((it, "tests"), 0) for it in below), default=0)
+
+
+def expected(kept):
+    """About how many minutes by the clock a run of the gate takes here from scratch; None where no table of a run is there."""
+    if not kept:
+        return None
+    return max(sum(of_provers(kept).values()) / len(os.sched_getaffinity(0)), chain(kept)) + kept.get(BEHIND, 0)
+
+
 def processors():
-    """How many processors the proofs have."""
+    """How many processors the proofs of a build have."""
     return min(len(os.sched_getaffinity(0)), AT_ONCE)
 
 

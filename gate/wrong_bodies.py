@@ -12,10 +12,11 @@ in no function that which has to be refused. The libraries below have to be
 proved and built, as they are behind `rt ci`, `rt check` or `rt all check`. It ends with 'N passed, M failed'; one that is tried alone
 and that `alone` doesn't name has failed, since the gate would else grow slow unseen.
 """
-import copy, dataclasses, fcntl, hashlib, importlib.machinery, importlib.util, json, os, pathlib, re, resource, shutil, subprocess, sys
-import tempfile, time
+import copy, dataclasses, fcntl, hashlib, json, os, pathlib, re, resource, shutil, subprocess, sys, tempfile, time
 
 sys.dont_write_bytecode = True
+sys.path.insert(0, str(pathlib.Path(__file__).resolve().parent))
+import kit
 
 TOP = pathlib.Path(__file__).resolve().parent.parent
 # What earlier runs have refused, by checksums; nothing that is committed.
@@ -264,21 +265,16 @@ def names_of(edit, found, crate, folder):
 class Crate:
     """A crate whose wrong bodies are tried, in a copy of the repository that is thrown away."""
 
-    def __init__(self, kit, name, room, from_nothing, jobs):
+    def __init__(self, name, room, from_nothing, jobs):
         """`room` is the folder of the copy, `jobs` how many processes a check has. Ends the script where what is below can't be built."""
-        self.kit, self.name, self.folder, self.jobs = kit, name, TOP / "crates" / name, jobs
-        self.made = next(it for it in kit.rtlib.crates_below(str(TOP)) if it.name == name)
-        if not (from_nothing and self.is_left_below()):
+        self.name, self.folder, self.jobs = name, TOP / "crates" / name, jobs
+        self.made = kit.crate(name)
+        if not (from_nothing and kit.is_left_below(self.made)):
             self.build_below()
         self.room = pathlib.Path(room)
         self.kept = self.room / "crates" / name / "out/incremental"
         self.copy()
         self.kept.mkdir(parents=True)
-
-    def is_left_below(self):
-        """Whether all libraries below this crate stand as one run of `rt ci` has left them: built, and with no stamp."""
-        folders = [os.path.dirname(it.rlib) for it in self.made.below()]
-        return all(os.path.isdir(it.rlib) for it in self.made.below()) and not any(os.path.exists(f"{it}/stamp") for it in folders)
 
     def build_below(self):
         """Has the libraries below this crate proved and built, where they aren't. Ends the script where that fails."""
@@ -303,7 +299,7 @@ class Crate:
             rlib = self.room / "crates" / it.name / "out/rlib"
             shutil.copytree(os.path.dirname(it.rlib), rlib, copy_function=link_or_copy)
         # (without a stamp, rt would prove them once more for an edit that is tried alone)
-        for it in self.kit.rtlib.crates_below(str(self.room)):
+        for it in kit.crates(self.room):
             rlib = pathlib.Path(os.path.dirname(it.rlib))
             if rlib.is_dir() and not (rlib / "stamp").exists():
                 (rlib / "stamp").write_text(it.stamp())
@@ -336,7 +332,7 @@ class Crate:
         with tempfile.TemporaryDirectory(dir=self.room) as folder:
             made, texts = copy.copy(self.made), self.shut(group, pathlib.Path(folder))
             made.folder = folder
-            return self.kit.checked(made, texts, ["--jobs", str(self.jobs), "--allow-holes", "--short-goals", *only], str(self.kept))
+            return kit.checked(made, texts, ["--jobs", str(self.jobs), "--allow-holes", "--short-goals", *only], str(self.kept))
 
     def name_of(self, edit):
         """The name by which the prover is asked for the function of an edit."""
@@ -398,7 +394,7 @@ class Crate:
         lines = run.stdout.rstrip().split("\n")
         found = verdicts(run.stdout, self.name)
         names = [[f"{self.name}::{it.asked}"] if it.asked else names_of(it, found, self.name, self.folder) for it in group.edits]
-        bad = next((it for it in lines if self.kit.unread(it, group.texts)), None)
+        bad = next((it for it in lines if kit.unread(it, group.texts)), None)
         if bad or run.returncode != 1 or not LAST.fullmatch(lines[-1]) or any(len(it) != 1 for it in names):
             return bad or f"the check ended with {run.returncode}: {lines[-1]}"
         came = [found.get(it[0], "no line") for it in names]
@@ -445,20 +441,10 @@ def link_or_copy(source, target):
         shutil.copy2(source, target)
 
 
-def kit():
-    """The kit's command as a module."""
-    folder = pathlib.Path(subprocess.run(["rt", "doc"], capture_output=True, text=True, check=True).stdout.strip()).parent
-    loader = importlib.machinery.SourceFileLoader("kit_rt", str(folder / "bin/rt"))
-    module = importlib.util.module_from_spec(importlib.util.spec_from_loader("kit_rt", loader))
-    loader.exec_module(module)
-    module.rtlib.guarded()
-    return module
-
-
 def sum_of(made):
     """A sum of what a refusal rests on beside the edit: the kit, this judge, HANDLES, the control, the crate and those below."""
     sum = hashlib.sha256(subprocess.run(["rt", "version"], capture_output=True, check=True).stdout)
-    sum.update(pathlib.Path(__file__).read_bytes())
+    sum.update(pathlib.Path(__file__).read_bytes() + pathlib.Path(kit.__file__).read_bytes())
     for file in [TOP / "HANDLES", TOP / "crates" / made.name / "wrong/control", TOP / "crates" / made.name / "wrong/alone"]:
         sum.update(file.read_bytes() if file.is_file() else b"")
     for it in [made, *made.below()]:
@@ -511,9 +497,9 @@ def crates_with_any():
 class Trial:
     """The wrong bodies of a crate, and what became of them."""
 
-    def __init__(self, name, kit, flags):
-        """`kit` is the kit's command as a module, `flags` are the script's."""
-        self.name, self.kit, self.flags, self.folder = name, kit, flags, TOP / "crates" / name
+    def __init__(self, name, flags):
+        """`flags` are the script's."""
+        self.name, self.flags, self.folder = name, flags, TOP / "crates" / name
         self.files, self.control = files_in(name, "wrong"), self.read_control()
         self.listed = self.read_listed()
         self.sum, kept = self.sum_now(), read_kept()
@@ -541,7 +527,7 @@ class Trial:
 
     def sum_now(self):
         """The sum of what a refusal rests on, as it is now."""
-        return sum_of(next(it for it in self.kit.rtlib.crates_below(str(TOP)) if it.name == self.name))
+        return sum_of(kit.crate(self.name))
 
     def groups(self):
         """The groups of what is left to try; the others are noted with why they are tried alone."""
@@ -591,7 +577,7 @@ class Trial:
             self.say(file, "refused, as it must be (kept from an earlier run)")
         if self.left:
             with tempfile.TemporaryDirectory(prefix="together-") as room:
-                crate = Crate(self.kit, self.name, room, "--from-nothing" in self.flags, 1)
+                crate = Crate(self.name, room, "--from-nothing" in self.flags, 1)
                 self.try_groups(crate, self.groups())
                 self.try_alone(crate)
         # (nothing is kept of a crate that was changed meanwhile)
@@ -616,9 +602,9 @@ def main():
     unknown = [it for it in names if not (TOP / "crates" / it / "src").is_dir()]
     if unknown or not names:
         sys.exit(f"wrong_bodies: no crate {', '.join(unknown)}\n{__doc__}")
-    module, passed, failed = kit(), 0, 0
+    passed, failed = 0, 0
     for name in names:
-        trial = Trial(name, module, flags)
+        trial = Trial(name, flags)
         if "--groups" in flags:
             trial.show_groups()
             continue
