@@ -80,8 +80,13 @@ def functions_of(path, text):
 
 
 OWNER = re.compile(r"(?:pub(?:\([a-z ]+\))? )?(?:impl|trait)\b")
-# The type of an impl, and its trait where it is one's.
-IMPL = re.compile(r"impl(?:<.*?>)? (?:(\w+)(?:<.*>)? for )?&?(?:'\w+ )?(\w+)")
+# Of an impl its trait where it is one's, the first word of what that is of, and the type.
+IMPL = re.compile(r"impl(?:<.*?>)? (?:(\w+)(?:<(?:(?:\w+::)*(\w+))?.*>)? for )?&?(?:'\w+ )?(\w+)")
+
+
+def owner_name(of):
+    """The word by which the prover names an impl: the type, and behind it its trait with what that is of."""
+    return of[3] + (of[1] or "") + (of[2] or "")
 
 
 def module_of(path):
@@ -99,10 +104,10 @@ def own_name(function, lines):
     above = owner_of(function, lines)
     of = IMPL.match(above)
     # (a method whose impl stands in another file than its type is named by the type's module, and a `drop` of one's own by the type alone)
-    if function.indent and not (of and of[1] != "Drop" and any(re.match(rf"(?:pub(?:\([a-z ]+\))? )?(?:struct|enum) {of[2]}\b", it) for it in lines)):
+    if function.indent and not (of and of[1] != "Drop" and any(re.match(rf"(?:pub(?:\([a-z ]+\))? )?(?:struct|enum) {of[3]}\b", it) for it in lines)):
         return None
-    # (a method of a trait's impl is named by the type and the trait in one word)
-    return "::".join([*module_of(function.path), *([of[2] + (of[1] or "")] if of else []), function.name])
+    # (a method of a trait's impl is named by the type, the trait and what that is of in one word)
+    return "::".join([*module_of(function.path), *([owner_name(of)] if of else []), function.name])
 
 
 def is_in_cycle(function, lines):
@@ -250,8 +255,8 @@ def names_of(edit, found, crate, folder):
     module = [crate, *module_of(edit.path)]
     lines = (folder / edit.path).read_text().split("\n")
     above = owner_of(edit.function, lines)
-    of = IMPL.match(above) or re.match(r".*()\btrait (\w+)", above)
-    owner = [of[2] + (of[1] or "") if of else ""] if edit.function.indent else []
+    of = IMPL.match(above) or re.match(r".*()()\btrait (\w+)", above)
+    owner = [owner_name(of) if of else ""] if edit.function.indent else []
     whole = "::".join([*module, *owner, edit.function.name])
     if whole in found:
         return [whole]
