@@ -68,7 +68,7 @@ func changed(token string) string {
 
 func TestEachTokenIsAcceptedAndRefusedWhereItIsChanged(t *testing.T) {
 	examples, _ := filepath.Glob("../../examples/*.jwt")
-	names, _ := filepath.Glob("../tokens/*.jwt")
+	names, _ := filepath.Glob("../../tests/tokens/*.jwt")
 	names = append(names, examples...)
 	if len(names) < 15 {
 		t.Fatalf("%d tokens are there", len(names))
@@ -285,7 +285,7 @@ func TestThereIsNoHeader(t *testing.T) {
 }
 
 func TestClaims(t *testing.T) {
-	validator, token := open(t, "../tokens/RS256")
+	validator, token := open(t, "../../tests/tokens/RS256")
 	claims, err := validator.ValidateAt(token, now)
 	if err != nil {
 		t.Fatal(err)
@@ -375,7 +375,7 @@ func TestValidatorsThatAreNotClosedAreCollected(t *testing.T) {
 }
 
 func TestGoroutinesShareAValidator(t *testing.T) {
-	for _, name := range []string{hmac, "../tokens/RS256"} {
+	for _, name := range []string{hmac, "../../tests/tokens/RS256"} {
 		validator, token := open(t, name)
 		forged := changed(token)
 		var group sync.WaitGroup

@@ -11,7 +11,7 @@ import (
 	"example.org/fowharimu"
 )
 
-const rsa = "../tokens/RS256"
+const rsa = "../../tests/tokens/RS256"
 
 // keysAt serves the keys of RS256, and gives their URL.
 func keysAt(t *testing.T) string {
