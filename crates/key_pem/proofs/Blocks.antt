@@ -1,9 +1,11 @@
 -- Where a block's body ends.
-use Rattle.std.proofs.Common.{◌≡◌, ◌≢◌, ℕ, ◌+◌, ◌<◌, ◌≤◌, List, ◌++◌, length, get_or, take, drop, Some, refl, sym, ap, subst, ◌∙◌, arith, inl, inr}
+use Rattle.std.proofs.Common.{◌≡◌, ◌≢◌, ℕ, ◌+◌, ◌<◌, ◌≤◌, Bool, true, false, List, ◌++◌, length, get_or, take, drop, Result, Ok, Err, codes, refl, sym, ap, subst, ◌∙◌, arith, inl, inr}
 use Rattle.std.proofs.lemmas.Bool.{cases_order}
 use Rattle.std.proofs.lemmas.List.{take_at, drop_at, length-append, append_cancel_left, get_or_append_left, get_or-append-add}
-use Rattle.std.proofs.lemmas.Option.{same_Some}
-use Rattle.key_pem.specs.Pem.{begin_line, end_line, trimmed, IsPlain, IsBlock, IsOneBlock}
+use Rattle.std.specs.Prelude.{if◌then◌else◌}
+use Rattle.key_pem.specs.Pem.{begin_line, begins, end_line, is_private, label_at, trimmed, FaultBehind, IsFirstFault, IsOneFault, IsPlain, IsBlock, IsOneBlock}
+use Rattle.key_pem.specs.declared.fault.PemFault.{PemFault}
+use Rattle.key_pem.specs.declared.fault.PemFault.TheVariants as fault
 use Rattle.key_pem.specs.declared.label.Label.{Label}
 use Rattle.key_pem.specs.declared.label.Label.TheVariants.{PublicKey, RsaPublicKey}
 
@@ -43,18 +45,58 @@ split label text begin after body rest n is starts first plain whole =
     let at = place label body rest n plain here in
     (ap (take n) behind ∙ take_at body (end_line label ++ rest) n (sym at), ap (drop n) behind ∙ drop_at body (end_line label ++ rest) n (sym at))
 
+-- ---- the label at the front
+
+begun : (l : Label) (rest : List ℕ) → label_at (begin_line l ++ rest) ≡ Ok l
+unfolding label_at
+begun PublicKey rest = refl
+begun RsaPublicKey rest = refl
+
+label_is : (l found : Label) (text rest : List ℕ) → text ≡ begin_line l ++ rest → label_at text ≡ Ok found → found ≡ l
+label_is l found text rest e h = let same : label_at text ≡ Ok l = ap label_at e ∙ begun l rest in cc
+
 -- the block that a text is stands where its blanks end, and has the label that was found there
 pub at_start : (label found : Label) (octets text start : List ℕ) → start ≡ trimmed text → (one : IsOneBlock label octets text)
-    → ((l : Label) (rest : List ℕ) → start ≡ begin_line l ++ rest → Some found ≡ Some l) → (found ≡ label) × IsBlock found octets start one.rest
+    → label_at start ≡ Ok found → (found ≡ label) × IsBlock found octets start one.rest
 at_start label found octets text start is one named =
     let moved : IsBlock label octets start one.rest = subst (λ (t : List ℕ). IsBlock label octets t one.rest) (sym is) one.block in
-    let same : found ≡ label = same_Some found label (named label (moved.body ++ (end_line label ++ one.rest)) moved.parts) in
+    let same : found ≡ label = label_is label found start (moved.body ++ (end_line label ++ one.rest)) moved.parts named in
     (same, subst (λ (l : Label). IsBlock l octets start one.rest) (sym same) moved)
 
 -- the block with which a text begins stands where its blanks end, and has the label that was found there
 pub at_front : (label found : Label) (octets text start rest : List ℕ) → start ≡ trimmed text → IsBlock label octets (trimmed text) rest
-    → ((l : Label) (rest : List ℕ) → start ≡ begin_line l ++ rest → Some found ≡ Some l) → (found ≡ label) × IsBlock found octets start rest
+    → label_at start ≡ Ok found → (found ≡ label) × IsBlock found octets start rest
 at_front label found octets text start rest is block named =
     let moved : IsBlock label octets start rest = subst (λ (t : List ℕ). IsBlock label octets t rest) (sym is) block in
-    let same : found ≡ label = same_Some found label (named label (moved.body ++ (end_line label ++ rest)) moved.parts) in
+    let same : found ≡ label = label_is label found start (moved.body ++ (end_line label ++ rest)) moved.parts named in
     (same, subst (λ (l : Label). IsBlock l octets start rest) (sym same) moved)
+
+-- a text that begins with no label begins with no block
+pub unbegun : (label : Label) (octets text start rest : List ℕ) (why : PemFault) → start ≡ trimmed text → IsBlock label octets (trimmed text) rest → label_at start ≡ Err why → ⊥
+unbegun label octets text start rest why is block h =
+    let begins : label_at start ≡ Ok label = ap label_at (is ∙ block.parts) ∙ begun label (block.body ++ (end_line label ++ rest)) in cc
+
+-- ---- why there is no label
+
+chosen : (a b c d : Bool) → (if a then Ok PublicKey else if b then Ok RsaPublicKey else if c then Err fault.PrivateKey else if d then Err fault.Certificate else Err fault.Line) ≡ Err fault.Trailing → ⊥
+chosen true b c d h = cc
+chosen false true c d h = cc
+chosen false false true d h = cc
+chosen false false false true h = cc
+chosen false false false false h = cc
+
+none_trails : (text : List ℕ) → label_at text ≡ Err fault.Trailing → ⊥
+unfolding label_at
+none_trails text h =
+    chosen (begins (begin_line PublicKey) text) (begins (begin_line RsaPublicKey) text) (is_private text) (begins (codes "-----BEGIN CERTIFICATE-----") text) h
+
+behind_label : (text start : List ℕ) (f : PemFault) → start ≡ trimmed text → label_at start ≡ Err f → IsFirstFault text f
+behind_label text start f is h = subst (λ (r : Result Label PemFault). FaultBehind r (trimmed text) f) (sym (ap label_at (sym is) ∙ h)) refl
+
+pub one_fault : (text start : List ℕ) (f : PemFault) → start ≡ trimmed text → label_at start ≡ Err f → IsOneFault text f
+one_fault text start fault.Trailing is h = absurd (none_trails start h)
+one_fault text start fault.PrivateKey is h = behind_label text start fault.PrivateKey is h
+one_fault text start fault.Certificate is h = behind_label text start fault.Certificate is h
+one_fault text start fault.Line is h = behind_label text start fault.Line is h
+one_fault text start fault.Base64 is h = behind_label text start fault.Base64 is h
+one_fault text start fault.OutOfMemory is h = behind_label text start fault.OutOfMemory is h
