@@ -6,7 +6,7 @@ ghost use Rattle.jwt_keys.specs.KeySets.{key_set};
 ghost use Rattle.jwt_verify.specs.Table.{work};
 ghost use Rattle.jwt_verify.specs.Accepted.{IsVerdict};
 ghost use Rattle.jwt_verify.specs.Paying.{IsWithin};
-ghost use Rattle.jwt_verify.specs.Reports.{FoundMemory, IsReport, IsReadAs, terms};
+ghost use Rattle.jwt_verify.specs.Reports.{FoundMemory, IsReport, IsReadAs, TakesMemory, terms};
 ghost use Rattle.jwt_verify.specs.TermsTable.{terms_meant};
 ghost use Rattle.jwt_verify.specs.Verdict.{token_of};
 ghost use Rattle.jwt_verify.specs.declared.report.Fault.TheVariants.{OutOfMemory};
@@ -17,6 +17,7 @@ ghost use Rattle.jwt_told.specs.Questions.{AreTries, IsFirstOpen, IsOpen, NoneOp
 use crate::answers::Answers;
 use crate::laws::right_answers;
 use crate::questions::{Asking, OpenPair, first_open};
+use crate::unread::untried;
 use jwt_jws::Signed;
 use jwt_keys::KeySet;
 use jwt_mac::{Budget, CountDown, Verifier};
@@ -32,22 +33,6 @@ fn boxed(alloc: Global, answers: &Answers) -> Result<Box<Answers>, AllocError>
 {
     let shared = answers.share(alloc)?;
     Ok(Box::new(alloc, shared)?)
-}
-
-/// A report that memory was refused before anything was read or tried.
-fn nothing_tried<'a, 'p>(alloc: Global) -> JudgedToken<'a, 'p>
-    ensures verdict { result.report.verdict ≡ Refused OutOfMemory }
-    ensures tries { result.report.tries.items ≡ [] }
-    ensures token { result.token ≡ None }
-{
-    JudgedToken {
-        report: Report {
-            verdict: Verdict::Refused(Fault::OutOfMemory),
-            states: Vec::new(alloc),
-            tries: Vec::new(alloc),
-        },
-        token: None,
-    }
 }
 
 /// Whether memory was there.
@@ -102,7 +87,7 @@ fn told_terms<'k, 'p, 'v>(
 }
 
 /// The report on octets in hand, where these answers, shared, are the one verifier, with the token.
-#[tactic(auto, unfolding(jwt_verify::specs::Table::work), using(crate::proofs::Blank::nothing))]
+#[tactic(auto, unfolding(jwt_verify::specs::Table::work))]
 fn judge_by<'a, 'p>(
     alloc: Global,
     octets: &'a [u8],
@@ -119,6 +104,7 @@ fn judge_by<'a, 'p>(
         (terms policy.now keys.now now (told_meaning (told answers.now) ∷ []))
         octets.now (⟦<CountDown as Budget>⟧.ceiling budget.old) result.report }
     ensures token { IsReadAs policy.now octets.now result.report.verdict result.token }
+    ensures memory { result.report.verdict ≡ Refused OutOfMemory → TakesMemory policy.now octets.now }
     ensures within { IsWithin policy.now.max_calls (⟦<CountDown as Budget>⟧.calls budget.new) }
     ensures octets { ⟦<CountDown as Budget>⟧.octets budget.new ≡ work result.report.tries.items }
     ensures calls { ⟦<CountDown as Budget>⟧.calls budget.new ≡ length result.report.tries.items }
@@ -126,7 +112,10 @@ fn judge_by<'a, 'p>(
         ≡ ⟦<CountDown as Budget>⟧.ceiling budget.old }
 {
     let Ok(shared) = boxed(alloc, answers) else {
-        return nothing_tried(alloc);
+        return JudgedToken {
+            report: untried(alloc, octets, policy),
+            token: None,
+        };
     };
     let verifiers: [Box<dyn Verifier>; 1] = [shared];
     let terms = told_terms(keys, policy, now, &verifiers, answers);
@@ -173,6 +162,7 @@ pub fn judge_told<'a, 'p>(
     ensures report { IfOk result (IsReport
         (terms policy.now keys.now now (told_meaning (told answers.now) ∷ []))
         octets.now (⟦<CountDown as Budget>⟧.ceiling budget.old)) }
+    ensures memory { IfOk result (λ r. r.verdict ≡ Refused OutOfMemory → TakesMemory policy.now octets.now) }
 
     // Where the answers are true, the verdict is the true one, unless memory was refused.
     ensures right { IfOk result (λ r. FoundMemory r.verdict
