@@ -1,5 +1,5 @@
 -- An outcome as contracts see it.
-use Rattle.std.specs.Prelude.{◌≡◌, ℕ, Bool, true, false, List, []}
+use Rattle.std.specs.Prelude.{◌≡◌, ◌⊎◌, ℕ, Bool, true, false, List, []}
 use Rattle.std.specs.Arc.{arc_value}
 use Rattle.jwt_verify.specs.declared.report.Try.{Try}
 use Rattle.jwt_verify.specs.declared.report.Report.{Report}
@@ -42,3 +42,12 @@ is_remembered (Remembered basis fault) = true
 abbrev pub IsFound : Bool → Memory → List ℕ → ℕ → Type 0
 IsFound false memory octets ceiling = Unit {0}
 IsFound true memory octets ceiling = (entry : MemoryEntry) × Holds memory entry × (entry.octets.items ≡ octets) × (entry.ceiling ≡ ceiling)
+
+-- the memory holds nothing that it didn't before
+abbrev pub KeepsNone : Memory → Memory → Type 0
+KeepsNone before after = (entry : MemoryEntry) → Holds after entry → Holds before entry
+
+-- The memory holds nothing that it didn't before but these octets, accepted under this ceiling, where this report is their acceptance.
+abbrev pub KeepsOnly : List ℕ → ℕ → Report → Memory → Memory → Type 0
+KeepsOnly octets ceiling report before after = (entry : MemoryEntry) → Holds after entry
+    → Holds before entry ⊎ ((entry.octets.items ≡ octets) × (entry.ceiling ≡ ceiling) × (report ≡ report_of (acceptance_of (arc_value entry.basis)) (arc_value entry.basis)))

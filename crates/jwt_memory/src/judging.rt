@@ -14,7 +14,7 @@ ghost use Rattle.jwt_verify.specs.declared.report.Fault.TheVariants.{OutOfMemory
 ghost use Rattle.jwt_verify.specs.declared.report.Verdict.TheVariants.{Refused};
 ghost use Rattle.jwt_memory.specs.Entries.{Holds, HasRoomOf};
 ghost use Rattle.jwt_memory.specs.Kept.{AreKept};
-ghost use Rattle.jwt_memory.specs.Outcomes.{report_in, paid_in, report_of, acceptance_of, is_remembered, IsFound};
+ghost use Rattle.jwt_memory.specs.Outcomes.{report_in, paid_in, report_of, acceptance_of, is_remembered, IsFound, KeepsOnly};
 
 use crate::laws::accepted_ever;
 use crate::memory::{Basis, Memory};
@@ -65,9 +65,7 @@ impl Memory {
         ensures report { report_in result ≡ report.entry }
         ensures paid { paid_in result ≡ report.entry.tries.items }
         ensures anew { is_remembered result ≡ false }
-        ensures held { (entry : _) → Holds self.new entry → Holds self.old entry
-            ⊎ ((entry.octets.items ≡ octets.now) × (entry.ceiling ≡ ceiling)
-            × (report.entry ≡ report_of (acceptance_of (arc_value entry.basis)) (arc_value entry.basis))) }
+        ensures held { KeepsOnly octets.now ceiling report.entry self.old self.new }
         ensures room { HasRoomOf self.new self.old }
     {
         let Report {
@@ -152,6 +150,9 @@ pub fn judge<'p, B: Budget>(
     ensures kept { AreKept terms.now.policy.now terms.now.keys.now
         (map (λ b. meaning (b.vtable, b.value)) terms.now.verifiers.now) memory.new }
     ensures room { HasRoomOf memory.new memory.old }
+
+    // It keeps nothing new but this token, where it is accepted now.
+    ensures held { KeepsOnly octets.now (B.ceiling budget.old) (report_in result) memory.old memory.new }
 {
     accepted_ever();
     let ceiling = budget.left();

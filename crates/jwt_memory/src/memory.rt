@@ -132,7 +132,6 @@ pub struct Memory {
 impl Memory {
     ghost use Rattle.jwt_memory.specs.Entries.{Holds, HasRoomOf};
     ghost use Rattle.jwt_memory.specs.Kept.{IsEmpty};
-    ghost use Rattle.jwt_memory.specs.ToldKept.{IsTrulyEmpty};
 
     /// An empty memory, for at most so many tokens of at most so many octets each.
     ///
@@ -141,7 +140,6 @@ impl Memory {
     pub fn new(alloc: Global, tokens: NonZeroUsize, longest: usize) -> Result<Memory, AllocError>
         ensures nothing { IfOk result (λ m. m.table.entries ≡ []) }
         ensures empty { IfOk result IsEmpty }
-        ensures truly { IfOk result IsTrulyEmpty }
         ensures tokens { IfOk result (λ m. m.table.cap ≡ non_zero_usize_get tokens) }
         ensures longest { IfOk result (λ m. m.longest ≡ longest) }
     {

@@ -4,15 +4,16 @@ ghost use Rattle.std.specs.Prelude.{◌≡◌, ◌∷◌, [], Ok, IfOk, IfErr, M
 ghost use Rattle.jwt_jws.specs.Views.{token};
 ghost use Rattle.jwt_keys.specs.KeySets.{key_set};
 ghost use Rattle.jwt_verify.specs.Table.{work};
-ghost use Rattle.jwt_verify.specs.Accepted.{IsVerdict};
 ghost use Rattle.jwt_verify.specs.Paying.{IsWithin};
-ghost use Rattle.jwt_verify.specs.Reports.{FoundMemory, terms};
+ghost use Rattle.jwt_verify.specs.Reports.{TakesMemory, terms};
+ghost use Rattle.jwt_verify.specs.declared.report.Fault.TheVariants.{OutOfMemory};
+ghost use Rattle.jwt_verify.specs.declared.report.Verdict.TheVariants.{Refused};
 ghost use Rattle.jwt_verify.specs.Verdict.{token_of};
-ghost use Rattle.jwt_told.specs.Told.{Truth, AreRight, told, told_meaning, true_meaning};
+ghost use Rattle.jwt_told.specs.Told.{told, told_meaning};
 ghost use Rattle.jwt_told.specs.Questions.{AreTries, IsFirstOpen, IsOpen};
 ghost use Rattle.jwt_memory.specs.Entries.{HasRoomOf};
-ghost use Rattle.jwt_memory.specs.ToldKept.{AreTrulyKept, IsToldNow, IsTrulyRemembered, IsTrulyTold};
-ghost use Rattle.jwt_memory.specs.Outcomes.{report_in, paid_in, is_remembered, IsFound};
+ghost use Rattle.jwt_memory.specs.ToldKept.{IsToldNow, IsRecalled, KeepsTold};
+ghost use Rattle.jwt_memory.specs.Outcomes.{report_in, paid_in, is_remembered, KeepsNone, KeepsOnly};
 
 use crate::laws::{accepted_ever, accepted_verdicts};
 use crate::memory::Memory;
@@ -28,13 +29,14 @@ use std::alloc::Global;
 /// were accepted under this budget's ceiling, nothing is tried and nothing is asked: the claims are held against the policy at the moment
 /// `now`.
 ///
-/// The verdict is the true one where each answer now is true, and each at the time when a token was kept. A wrong answer stays
-/// wrong for as long as the token is remembered, also where the answers were cleared.
+/// A remembered verdict rests on the answers that were there when its token was kept: it is what they came to, and the true one where
+/// they were true. So a wrong answer stays wrong for as long as its token is remembered, also where the answers were cleared, and
+/// spoils no other.
 ///
 /// The condition: the budget is new.
 ///
 /// # Refused
-/// As [`jwt_verify::judge`] refuses.
+/// As [`jwt_told::judge_told`] refuses.
 ///
 /// # Errors
 /// As [`jwt_told::judge_told`] asks.
@@ -53,32 +55,23 @@ pub fn judge_told<'a, 'p>(
     requires no_octets { ⟦<CountDown as Budget>⟧.octets budget.old ≡ 0 }
     requires no_calls { ⟦<CountDown as Budget>⟧.calls budget.old ≡ 0 }
 
-    // Where the answers now are true, and those on the tokens that the memory holds: the verdict is the true one, unless
-    // memory was refused, and the report is that of a run by such answers; and the memory still holds such tokens alone.
-    ensures right { IfOk result (λ o. (truth : Truth) → AreRight truth (told answers.now)
-        → AreTrulyKept truth policy.now keys.now memory.old → FoundMemory (report_in o).verdict
-        → IsVerdict (terms policy.now keys.now now (true_meaning truth ∷ []))
-        octets.now (⟦<CountDown as Budget>⟧.ceiling budget.old) (report_in o).verdict) }
-    ensures report { IfOk result (λ o. (truth : Truth) → AreRight truth (told answers.now)
-        → AreTrulyKept truth policy.now keys.now memory.old
-        → IsTrulyTold truth policy.now keys.now now
-        octets.now (⟦<CountDown as Budget>⟧.ceiling budget.old) (report_in o)) }
-    ensures kept { (truth : Truth) → AreRight truth (told answers.now)
-        → AreTrulyKept truth policy.now keys.now memory.old
-        → AreTrulyKept truth policy.now keys.now memory.new }
-    ensures room { HasRoomOf memory.new memory.old }
-
     // A new judging rests on the answers now, whatever the memory holds, as jwt_told::judge_told says it.
     ensures anew { IfOk result (λ o. is_remembered o ≡ false → IsToldNow (told answers.now)
         policy.now keys.now now octets.now (⟦<CountDown as Budget>⟧.ceiling budget.old) (report_in o)) }
 
-    // A remembered verdict rests on the answers when it was accepted, whatever they are now; and the memory held these octets, accepted
-    // under this ceiling.
-    ensures remembered { IfOk result (λ o. is_remembered o ≡ true → (truth : Truth)
-        → AreTrulyKept truth policy.now keys.now memory.old → IsTrulyRemembered truth
-        policy.now keys.now now octets.now (⟦<CountDown as Budget>⟧.ceiling budget.old) (report_in o)) }
-    ensures found { IfOk result (λ o. IsFound (is_remembered o) memory.old
-        octets.now (⟦<CountDown as Budget>⟧.ceiling budget.old)) }
+    // A remembered verdict is what the claims of a token that the memory held come to now: of all these octets, accepted under this
+    // ceiling.
+    ensures remembered { IfOk result (λ o. is_remembered o ≡ true → IsRecalled memory.old
+        policy.now now octets.now (⟦<CountDown as Budget>⟧.ceiling budget.old) (report_in o)) }
+
+    ensures memory { IfOk result (λ o. (report_in o).verdict ≡ Refused OutOfMemory → TakesMemory policy.now octets.now) }
+
+    // The memory keeps nothing new but this token, where it is accepted now; and by the answers now, on which what it comes to later rests.
+    ensures held { MatchResult result
+        (λ o. KeepsOnly octets.now (⟦<CountDown as Budget>⟧.ceiling budget.old) (report_in o) memory.old memory.new)
+        (λ _. KeepsNone memory.old memory.new) }
+    ensures kept { KeepsTold (told answers.now) policy.now keys.now memory.old memory.new }
+    ensures room { HasRoomOf memory.new memory.old }
 
     // It asks about the first try of a run by the answers that has none. It comes with the token.
     ensures tries { IfErr result (λ a. AreTries
