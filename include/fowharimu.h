@@ -16,8 +16,10 @@
  *     ... the next token ...
  *     fow_close(&validator);
  *
- * What is proved is said function by function below, and exactly by the clauses in crates/jwt_c/src. It holds for callers that
- * keep to these premises, which C can't check:
+ * What is proved is said function by function below, and exactly by the clauses in crates/jwt_c/src. Besides, of each call that writes to `out`: with
+ * any status but FOW_OK it writes nothing, neither there nor to *written or *asked, and with FOW_OK what stands behind its octets stays as it was. That
+ * FOW_OUT_OF_MEMORY comes only where memory was refused is tested, and isn't proved. All of it holds for callers that keep to these premises, which C
+ * can't check:
  *
  *  - A fow_validator is zeroed before its first use (FOW_VALIDATOR_INIT), is changed by these functions alone, and is used by one
  *    call at a time. It isn't copied while it holds something, but may be moved: assigned to another place, after which the old one
@@ -272,11 +274,10 @@ typedef struct fow_question {
 /* The form of a token (RFC 7515, section 7). */
 enum fow_form { FOW_COMPACT = 1, FOW_GENERAL = 2, FOW_FLATTENED = 3 };
 
-/* Reads a policy and a key set.
+/* Reads a policy and a key set. Their octets aren't needed any more after the call.
  *
  * Proved: FOW_OK: the policy and the key set that these octets spell are held from now on, and no answers. FOW_REFUSED: *fault
- * says why the first of the two that is refused is refused. FOW_OUT_OF_MEMORY: memory was refused. Where the answer
- * isn't FOW_OK, the validator holds what it held. The octets aren't needed any more after the call.
+ * says why the first of the two that is refused is refused. Where the answer isn't FOW_OK, the validator holds what it held.
  *
  * A caller who answers questions sets `max_calls` in the policy: each question is a try, so `max_calls` bounds how many are
  * asked of one token. Without it a token of 32 signatures may raise a question for each of them and each key of the set.
@@ -290,8 +291,7 @@ uint32_t fow_open(fow_validator *validator, const uint8_t *policy, size_t policy
  * is closed or opened anew. Each has its own answers and its own last judging. While this call runs, it has both to itself.
  *
  * Proved: FOW_OK: the policy and the key set that the other holds are held from now on, and no answers. FOW_NOT_OPEN: the other
- * holds nothing. FOW_OUT_OF_MEMORY: memory was refused. Where the answer isn't FOW_OK, the validator holds what it held. The other
- * holds what it held in each case. */
+ * holds nothing. Where the answer isn't FOW_OK, the validator holds what it held. The other holds what it held. */
 uint32_t fow_open_beside(fow_validator *validator, fow_validator *another);
 
 /* How many questions one token can raise: the product of the policy's `max_signatures` and of the keys that an algorithm of public keys in
@@ -316,7 +316,8 @@ void fow_close(fow_validator *validator);
  * Proved: an acceptance or a refusal, with all that *report says of it, is the verdict of validate's contract on these octets under the
  * policy, the key set and the moment. HMAC is verified; for the other algorithms your answers are believed. Where each answer is right, it
  * is the verdict under what is right. FOW_ASKS: fow_try_of gives the tries of a run in which a pair without an answer counts as invalid,
- * and the report names the first try that has none. FOW_NOT_OPEN: nothing is held. FOW_OUT_OF_MEMORY: nothing is said.
+ * and the report names the first try that has none. FOW_NOT_OPEN: nothing is held, and else it is never answered. Where the answer isn't
+ * FOW_OK, no claims are kept. The policy, the key set and the answers stay.
  *
  * After FOW_ASKS a caller answers the pair that the report names (fow_asked, fow_answer_asked). It may answer the later tries with `cost` 0
  * too, until one is valid (fow_ask, fow_answer, which read the token again): after a valid answer other pairs may be tried, so judge the
@@ -328,7 +329,8 @@ uint32_t fow_judge(fow_validator *validator, const uint8_t *token, size_t token_
  * A signature by Ed448 is refused: FOW_SIG_BAD_SIGNATURE.
  *
  * Proved: what is accepted or refused, and all that *report says of it, is the verdict of validate's contract on these octets under the
- * policy, the key set, the moment and these verifiers. It never answers FOW_ASKS. FOW_NOT_OPEN, FOW_OUT_OF_MEMORY: as of fow_judge. */
+ * policy, the key set, the moment and these verifiers. It never answers FOW_ASKS. FOW_NOT_OPEN: as of fow_judge. Where the answer isn't
+ * FOW_OK, no claims are kept. The policy, the key set and the answers stay. */
 uint32_t fow_proved_judge(fow_validator *validator, const uint8_t *token, size_t token_len, int64_t now, fow_report *report);
 
 /* Remembers accepted tokens from now on: at most `tokens` of those that fow_judge accepts, and as many of those that fow_proved_judge accepts,
@@ -339,53 +341,56 @@ uint32_t fow_proved_judge(fow_validator *validator, const uint8_t *token, size_t
  * tries and the work of the judging that accepted it, and the verdict on its claims at the new moment; fow_remembered says that nothing was
  * paid now. Only accepted tokens in compact form are remembered, so only other accepted tokens push one out.
  *
- * The memory of fow_judge rests on your answers at the time when a token was accepted: a wrong answer stays wrong for as long as the token is
- * remembered, also after fow_forget. Accepted tokens and their claims lie in memory until they go, and aren't wiped. One of 179
+ * The memory of fow_judge rests on your answers at the time when a token was accepted: a wrong answer stays wrong for as long as that token is
+ * remembered, also after fow_forget, and spoils no other. Accepted tokens and their claims lie in memory until they go, and aren't wiped. One of 179
  * octets takes some 850 octets in all, one of 1,300 with 26 claims some 3,200. Where there is no memory to keep one, it isn't kept, and the verdict
  * is the same. A kept token that has expired is refused by its claims, and stays until others push it out.
  *
- * Proved: FOW_OK: so many tokens of so many octets are remembered from now on, none yet, and nothing else has changed. FOW_OUT_OF_MEMORY: memory
- * was refused. FOW_NOT_OPEN: nothing is held. Where the answer isn't FOW_OK, the validator holds what it held. And of every judging: a verdict of
- * fow_proved_judge is the one that its contract says, remembered or not. A remembered verdict of fow_judge is the verdict under what is right,
- * where your answers on the remembered tokens were right when these were accepted. That stays so where your present answers are right too. A verdict is remembered only where the memory holds all octets of the token. (That it is remembered, and that the least used goes
- * first, is tested.) */
+ * Proved: FOW_OK: so many tokens of so many octets are remembered from now on, none yet, and nothing else has changed. FOW_NOT_OPEN: nothing is
+ * held. Where the answer isn't FOW_OK, the validator holds what it held. And of every judging: it remembers nothing new but its own token, where it
+ * answers FOW_OK. A verdict of fow_proved_judge is the one that its contract says, remembered or not. A remembered verdict of fow_judge is what the
+ * token's claims come to now, by your answers at the time when it was accepted: the verdict under what is right, where those were right. A verdict is
+ * remembered only where the memory holds all octets of the token. (That it is remembered, and that the least used goes first, is tested.) */
 uint32_t fow_remember(fow_validator *validator, size_t tokens, size_t octets);
 
 /* Whether the last verdict came out of a memory: then nothing was tried and nothing paid for it, though fow_try_of gives the tries that were paid
- * when the token was accepted. Proved: true only where the memory holds all octets of the token; false where nothing is held. The validator holds
- * what it held. (That it is true of each verdict out of a memory, and that nothing was tried then, is tested.) */
+ * when the token was accepted. Proved: after an acceptance or a refusal it is true only where the memory held all octets of the token. It is false
+ * where nothing is held. The validator holds what it held. (That it is true of each verdict out of a memory, and that nothing was tried then, is tested.) */
 bool fow_remembered(fow_validator *validator);
 
 /* What became of signature `signature` of the token that was judged last. Proved: FOW_OK: that is what is kept of it, which
- * after an acceptance or a refusal is what validate's report says; FOW_ABSENT, and nothing else, where that has no such
- * signature. FOW_NOT_OPEN: nothing is held. */
+ * after an acceptance or a refusal is what validate's report says. FOW_ABSENT: exactly where that has no such signature. FOW_NOT_OPEN:
+ * nothing is held. The validator holds what it held. */
 uint32_t fow_state_of(fow_validator *validator, uint32_t signature, fow_state *state);
 
 /* Try `n`, from 0, of the last judging; after FOW_ASKS of the run that fow_judge speaks of. Proved as with fow_state_of. */
 uint32_t fow_try_of(fow_validator *validator, uint64_t n, fow_try *tried);
 
-/* The name of the claim that the last judging found missing (FOW_CLAIM_MISSING), as the policy spells it. FOW_ABSENT: it found
- * none missing, or one whose name is empty. */
+/* The name of the claim that the last judging found missing (FOW_CLAIM_MISSING), as the policy spells it.
+ *
+ * Proved: FOW_OK: `out` begins with that name, which has *written octets. FOW_ABSENT: it found none missing, or one whose name is empty.
+ * FOW_NOT_OPEN: nothing is held. The validator holds what it held. */
 uint32_t fow_refused_claim(fow_validator *validator, uint8_t *out, size_t out_len, size_t *written);
 
 /* Writes the question of the last judging at the front of `out`: that about the pair that its report names. The length of the token and
  * 16,384 octets are always enough.
  *
  * Proved: FOW_OK: `out` begins with the question whether that key made that signature of the token that was judged, and *asked has its
- * sizes. FOW_ABSENT: the last judging asked nothing, or that is answered. */
+ * sizes. FOW_ABSENT: the last judging asked nothing, or that is answered. FOW_NOT_OPEN: nothing is held. The validator holds what it held. */
 uint32_t fow_asked(fow_validator *validator, uint8_t *out, size_t out_len, fow_question *asked);
 
 /* Tells whether the key made the signature that the last judging asks about. Later verdicts rest on it as on fow_answer.
  *
  * Proved: FOW_OK: exactly this answer is added to those before. Else the answers are as before. FOW_ABSENT: the last judging asked
- * nothing, or that is answered. After each of them nothing is asked. */
+ * nothing, or that is answered. FOW_NOT_OPEN: nothing is held. What else is kept of the last judging stays, and it asks nothing more. */
 uint32_t fow_answer_asked(fow_validator *validator, bool valid);
 
-/* Writes a question at the front of `out`. The token's length and 16,384 octets are always enough. A secret is never written: no question is
- * about HMAC or about a key of kind `oct`.
+/* Writes a question at the front of `out`. The token's length and 16,384 octets are always enough. A secret is never written, nor anything else
+ * where the answer isn't FOW_OK: no question is about HMAC or about a key of kind `oct`.
  *
  * Proved: FOW_OK: `out` begins with the question whether key `key` of the set made signature `signature` of the token, and
- * *asked has its sizes. FOW_ABSENT: the octets are no token, there is no such pair, its algorithm is HMAC, or its key is a secret. */
+ * *asked has its sizes. FOW_ABSENT: the octets are no token, there is no such pair, its algorithm is HMAC, or its key is a secret. FOW_NOT_OPEN:
+ * nothing is held. The validator holds what it held. */
 uint32_t fow_ask(fow_validator *validator, const uint8_t *token, size_t token_len, uint32_t signature, uint32_t key, uint8_t *out,
     size_t out_len, fow_question *asked);
 
@@ -393,14 +398,14 @@ uint32_t fow_ask(fow_validator *validator, const uint8_t *token, size_t token_le
  * signature alone. Where the same question is answered twice, the first answer counts.
  *
  * Proved: FOW_OK: exactly this answer is added to those before. Else the answers are as before. FOW_ABSENT: the octets are no token,
- * or there is no such pair. */
+ * or there is no such pair. FOW_NOT_OPEN: nothing is held. What is kept of the last judging stays. */
 uint32_t fow_answer(fow_validator *validator, const uint8_t *token, size_t token_len, uint32_t signature, uint32_t key, bool valid);
 
 /* Tells what this library's proved verifier of RSA says of the signature, in place of fow_ask and fow_answer: for RS256, RS384,
  * RS512, PS256, PS384 and PS512. It accepts what RFC 8017 does, with keys of 2,048 to 8,192 bits.
  *
  * Proved: FOW_OK: exactly that answer is added to those before. Else the answers are as before. FOW_ABSENT: the octets are no
- * token, there is no such pair, or its algorithm is another one. */
+ * token, there is no such pair, or its algorithm is another one. FOW_NOT_OPEN: nothing is held. What is kept of the last judging stays. */
 uint32_t fow_answer_rsa(fow_validator *validator, const uint8_t *token, size_t token_len, uint32_t signature, uint32_t key);
 
 /* The same by this library's proved verifier of Ed25519 (RFC 8032, section 5.1.7): for EdDSA with a key of that curve. It accepts a
@@ -419,13 +424,13 @@ uint32_t fow_answer_ed25519(fow_validator *validator, const uint8_t *token, size
 uint32_t fow_answer_proved(fow_validator *validator, const uint8_t *token, size_t token_len, uint32_t signature, uint32_t key);
 
 /* Forgets your answers: do so from time to time, since all of them are kept until then. Proved: no answer is kept, and the policy
- * and the key set are as before. */
+ * and the key set are as before. What is kept of the last judging stays. */
 void fow_forget(fow_validator *validator);
 
 /* Writes the octets of the payload of a token, whether it was judged or not: judge it first.
  *
  * Proved: FOW_OK: `out` begins with the payload, which has *written octets. FOW_ABSENT: the octets are no token under the
- * policy. */
+ * policy. FOW_NOT_OPEN: nothing is held. The validator holds what it held. */
 uint32_t fow_payload(fow_validator *validator, const uint8_t *token, size_t token_len, uint8_t *out, size_t out_len,
     size_t *written);
 
@@ -433,7 +438,8 @@ uint32_t fow_payload(fow_validator *validator, const uint8_t *token, size_t toke
  * them: a header says what anyone wrote, and may be looked at to find a key, never to trust the token.
  *
  * Proved: FOW_OK: `out` begins with the octets that the protected text of that signature spells, which are *written; of a token in
- * JSON form that has none, 0. FOW_ABSENT: the octets are no token under the policy, or it has no such signature. */
+ * JSON form that has none, 0. FOW_ABSENT: the octets are no token under the policy, or it has no such signature. FOW_NOT_OPEN: nothing is
+ * held. The validator holds what it held. */
 uint32_t fow_unverified_header(fow_validator *validator, const uint8_t *token, size_t token_len, uint32_t signature, uint8_t *out,
     size_t out_len, size_t *written);
 
@@ -443,7 +449,8 @@ uint32_t fow_unverified_header(fow_validator *validator, const uint8_t *token, s
  * enough.
  *
  * Proved: FOW_OK: `out` begins with that text, which has *written octets. FOW_ABSENT: the octets are no token under the policy, and fow_judge says
- * why. FOW_UNNAMED: the payload is no text of one JSON object in which no name stands twice, or it has no text `iss`. */
+ * why. FOW_UNNAMED: the payload is no text of one JSON object in which no name stands twice, or it has no text `iss`. FOW_NOT_OPEN: nothing is
+ * held. The validator holds what it held. */
 uint32_t fow_unverified_issuer(fow_validator *validator, const uint8_t *token, size_t token_len, uint8_t *out, size_t out_len, size_t *written);
 
 /* Writes the issuer that the policy allows, where its `issuers` has exactly one text. It takes no memory. A policy has at most 65,536 octets, which
@@ -476,12 +483,12 @@ uint32_t fow_text_member(const uint8_t *document, size_t document_len, const uin
  * another kind stands in what fow_payload writes.
  *
  * Proved: FOW_OK: `out` begins with that text, which has *written octets. FOW_ABSENT: the last verdict was no acceptance, the
- * payload has no such claim, or it is of another kind. */
+ * payload has no such claim, or it is of another kind. FOW_NOT_OPEN: nothing is held. The validator holds what it held. */
 uint32_t fow_claim(fow_validator *validator, const uint8_t *name, size_t name_len, uint8_t *out, size_t out_len,
     size_t *written);
 
 /* A claim of the token that was accepted last that is a whole number of 64 signed bits, such as `exp`. Proved: FOW_OK: *number
- * is that number. FOW_ABSENT: there is none, as with fow_claim. */
+ * is that number. FOW_ABSENT: there is none, as with fow_claim. FOW_NOT_OPEN: nothing is held. The validator holds what it held. */
 uint32_t fow_number(fow_validator *validator, const uint8_t *name, size_t name_len, int64_t *number);
 
 /* An access rule: which scopes and which values of claims an accepted token has to have. It is a document of its own (docs/ACCESS.md), so
@@ -493,11 +500,10 @@ typedef struct fow_access {
 
 #define FOW_ACCESS_INIT { NULL, false }
 
-/* Reads an access rule, of at most 65,536 octets.
+/* Reads an access rule, of at most 65,536 octets, which aren't needed after the call.
  *
- * Proved: FOW_OK: the rule that these octets say is held from now on. FOW_REFUSED: *fault says why it is refused, the first cause.
- * FOW_OUT_OF_MEMORY: memory was refused. Where the answer isn't FOW_OK, the fow_access holds what it held. The octets aren't needed after the
- * call. */
+ * Proved: FOW_OK: the rule that these octets say is held from now on. FOW_REFUSED: *fault says why it is refused, the first cause. Where the
+ * answer isn't FOW_OK, the fow_access holds what it held. */
 uint32_t fow_access_open(fow_access *access, const uint8_t *rule, size_t rule_len, uint32_t *fault);
 
 /* Writes the name of the member, or of the claim, for which a rule is refused, in UTF-8, with JSON escapes undone. It reads the rule's
@@ -537,7 +543,7 @@ uint32_t fow_denied_name(fow_validator *validator, fow_access *access, uint8_t *
  *
  * Proved: FOW_OK: `out` begins with the token that the contract of issuing gives for these claims, which has *written octets.
  * FOW_REFUSED: *report has the fault, with the signature or the claim that it speaks of. FOW_ABSENT: there is no such algorithm
- * or form, or `typ` isn't in UTF-8. *report is written for FOW_REFUSED alone. */
+ * or form, or `typ` isn't in UTF-8. FOW_NOT_OPEN: nothing is held. *report is written for FOW_REFUSED alone. The validator holds what it held. */
 uint32_t fow_issue(fow_validator *validator, uint32_t alg, uint32_t form, uint32_t key, const uint8_t *typ, size_t typ_len,
     const uint8_t *claims, size_t claims_len, uint8_t *out, size_t out_len, size_t *written, fow_report *report);
 

@@ -5,6 +5,7 @@ pub mod Resting
 -- ---- For rule_handle.rt
 pub mod RuleHandles
 -- ---- For several files
+pub mod Adding
 pub mod Counting
 pub mod Telling
 pub mod Values

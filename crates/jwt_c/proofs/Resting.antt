@@ -6,41 +6,31 @@ use Rattle.jwt_jws.specs.Views.{token}
 use Rattle.jwt_keys.specs.KeySets.{key_set}
 use Rattle.jwt_verify.specs.Reports.{terms}
 use Rattle.jwt_verify.specs.Verdict.{token_of}
-use Rattle.jwt_told.specs.Told.{Truth, ToldParts, told_meaning}
+use Rattle.jwt_told.specs.Told.{ToldParts, told_meaning}
 use Rattle.jwt_told.specs.Questions.{AreTries, IsFirstOpen, IsOpen}
 use Rattle.jwt_told.specs.declared.questions.Asking.{Asking}
 use Rattle.jwt_memory.specs.declared.memory.Memory.{Memory}
 use Rattle.jwt_memory.specs.declared.outcome.Outcome.{Outcome}
-use Rattle.jwt_memory.specs.Outcomes.{IsFound, is_remembered, report_in}
-use Rattle.jwt_memory.specs.ToldKept.{AreTrulyKept, IsToldNow, IsTrulyRemembered}
+use Rattle.jwt_memory.specs.Outcomes.{is_remembered, report_in}
+use Rattle.jwt_memory.specs.ToldKept.{IsToldNow, IsRecalled}
 use Rattle.jwt_c.specs.declared.grounds.Documents.{Documents}
-use Rattle.jwt_c.specs.Remembering.{RestsOn, IsHeldIn}
+use Rattle.jwt_c.specs.Remembering.{RestsOn}
 use Rattle.jwt_c.specs.Reports.{IsAsking}
 
--- by what is told now, or by what was told then
+-- by what is told now, or by a token that is kept
 pub rests : (b : Bool) (ts : List ToldParts) (m : Memory) (it : Documents) (now : ℤ) (x : List ℕ) (r : Report)
     → (b ≡ false → IsToldNow ts it.policy it.keys now x it.policy.run.work r)
-    → (b ≡ true → (truth : Truth) → AreTrulyKept truth it.policy it.keys m → IsTrulyRemembered truth it.policy it.keys now x it.policy.run.work r)
+    → (b ≡ true → IsRecalled m it.policy now x it.policy.run.work r)
     → RestsOn b ts (Some m) it now x r
 rests false ts m it now x r anew later = anew refl
 rests true ts m it now x r anew later = later refl
 
 pub rests_if : {E : Type 0} (result : Result Outcome E) (ts : List ToldParts) (m : Memory) (it : Documents) (now : ℤ) (x : List ℕ)
     → IfOk result (λ o. is_remembered o ≡ false → IsToldNow ts it.policy it.keys now x it.policy.run.work (report_in o))
-    → IfOk result (λ o. is_remembered o ≡ true → (truth : Truth) → AreTrulyKept truth it.policy it.keys m → IsTrulyRemembered truth it.policy it.keys now x it.policy.run.work (report_in o))
+    → IfOk result (λ o. is_remembered o ≡ true → IsRecalled m it.policy now x it.policy.run.work (report_in o))
     → IfOk result (λ o. RestsOn (is_remembered o) ts (Some m) it now x (report_in o))
 rests_if (Ok o) ts m it now x anew later = rests (is_remembered o) ts m it now x (report_in o) anew later
 rests_if (Err e) ts m it now x anew later = tt
-
--- what is remembered was found
-pub held : (b : Bool) (m : Memory) (x : List ℕ) (w : ℕ) → IsFound b m x w → IsHeldIn b (Some m) x w
-held false m x w h = tt
-held true m x w h = h
-
-pub held_if : {E : Type 0} (result : Result Outcome E) (m : Memory) (x : List ℕ) (w : ℕ)
-    → IfOk result (λ o. IsFound (is_remembered o) m x w) → IfOk result (λ o. IsHeldIn (is_remembered o) (Some m) x w)
-held_if (Ok o) m x w h = held (is_remembered o) m x w h
-held_if (Err e) m x w h = tt
 
 -- what is asked, from its four parts
 pub asks_if : {T : Type 0} (result : Result T Asking) (ts : List ToldParts) (it : Documents) (now : ℤ) (x : List ℕ)

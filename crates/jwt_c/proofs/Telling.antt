@@ -1,5 +1,5 @@
 -- What is told by a proved verifier, and that no verdict asks.
-use Rattle.std.proofs.Common.{◌≡◌, ℕ, Bool, true, false, ◌&&◌, ◌||◌, refl, subst, Some, None, option_map}
+use Rattle.std.proofs.Common.{◌≡◌, ◌≤◌, lit≤, ℕ, Bool, true, false, ◌&&◌, ◌||◌, refl, subst, Some, None, option_map}
 use Rattle.std.specs.Prelude.{if◌then◌else◌}
 use Rattle.jwt_ecdsa.specs.Meanings.{ecdsa_meaning}
 use Rattle.jwt_ed25519.specs.Meanings.{ed25519_meaning}
@@ -15,7 +15,7 @@ use Rattle.jwt_told.specs.Questions.{QuestionParts}
 use Rattle.jwt_c.specs.declared.asking.Proved.{Proved}
 use Rattle.jwt_c.specs.declared.asking.Proved.TheVariants.{Rsa, Ed25519 as OnEd25519, Any}
 use Rattle.jwt_c.specs.declared.state.State.{State}
-use Rattle.jwt_c.specs.declared.status.TheConstants.{FOW_ASKS, FOW_OK}
+use Rattle.jwt_c.specs.declared.status.TheConstants.{FOW_ASKS, FOW_OK, FOW_OUT_OF_MEMORY}
 use Rattle.jwt_c.specs.Asking.{TellsState, is_ed25519, rsa_says, ed25519_says, proved_says, asked_of, said_by}
 use Rattle.jwt_c.specs.Faults.{form_numbers, claim_numbers, verdict_numbers}
 use Rattle.jwt_c.specs.Reports.{claims_in}
@@ -63,6 +63,22 @@ never_asks (Accepted i j claims) h = cc
 never_asks (Refused (fault.Form f)) h = form_never f h
 never_asks (Refused (fault.Claim f)) h = claim_never f h
 never_asks (Refused _) h = cc
+
+-- ---- a verdict is one of four
+
+form_small : (f : FormFault) → (form_numbers f).verdict ≤ FOW_OUT_OF_MEMORY
+form_small form.OutOfMemory = lit≤ tt
+form_small _ = lit≤ tt
+
+claim_small : (f : ClaimFault) → (claim_numbers f).verdict ≤ FOW_OUT_OF_MEMORY
+claim_small claim.OutOfMemory = lit≤ tt
+claim_small _ = lit≤ tt
+
+pub is_small : (v : Verdict) → (verdict_numbers v).verdict ≤ FOW_OUT_OF_MEMORY
+is_small (Accepted i j claims) = lit≤ tt
+is_small (Refused (fault.Form f)) = form_small f
+is_small (Refused (fault.Claim f)) = claim_small f
+is_small (Refused _) = lit≤ tt
 
 -- ---- no refusal has claims
 

@@ -17,10 +17,11 @@ use Rattle.jwt_told.specs.Ranks.{key_first, key_second}
 use Rattle.jwt_c.specs.declared.asking.Proved.{Proved}
 use Rattle.jwt_c.specs.declared.asking.Proved.TheVariants.{Rsa, Ed25519 as OnEd25519, Any}
 use Rattle.jwt_c.specs.declared.state.State.{State}
+use Rattle.jwt_c.specs.declared.state.Last.{Last}
 use Rattle.jwt_c.specs.declared.report.FowQuestion.{FowQuestion}
 use Rattle.jwt_c.specs.declared.status.TheConstants.{FOW_OK, FOW_OUT_OF_MEMORY, FOW_TOO_SHORT}
 use Rattle.jwt_c.specs.Documents.{documents}
-use Rattle.jwt_c.specs.Written.{IsAbsent}
+use Rattle.jwt_c.specs.Written.{IsAbsent, written_over}
 
 abbrev pub alg_number : Alg → ℕ
 alg_number alg.HS256 = 1
@@ -78,7 +79,7 @@ pub record IsSized (question : QuestionParts) (written : FowQuestion) : Type 0 w
 -- the question is written with its sizes, or there is too little room for it; unless memory was refused
 abbrev pub PutsQuestion : Option QuestionParts → ℕ → FowQuestion → List ℕ → List ℕ → Type 0
 PutsQuestion None status written old out = IsAbsent status
-PutsQuestion (Some question) status written old out = (status ≡ FOW_OK → IsSized question written × ((more : List ℕ) × (out ≡ question_octets question ++ more)))
+PutsQuestion (Some question) status written old out = (status ≡ FOW_OK → IsSized question written × (out ≡ written_over (question_octets question) old))
     × (status ≢ FOW_OK → status ≢ FOW_OUT_OF_MEMORY → (status ≡ FOW_TOO_SHORT) × (length old < length (question_octets question)))
 
 -- the same policy and key set, with these answers added
@@ -94,6 +95,20 @@ TellsState (Some question) valid status before after = (status ≡ FOW_OK → Te
 abbrev pub IsTold : Option QuestionParts → Bool → ℕ → State → Option State → Type 0
 IsTold question valid status before None = ⊥
 IsTold question valid status before (Some after) = TellsState question valid status before after
+
+-- what is kept of the last judging stays
+abbrev pub StaysLast : State → Option State → Type 0
+StaysLast before None = ⊥
+StaysLast before (Some after) = after.last ≡ before.last
+
+-- the same of it, but that it asks nothing
+abbrev pub unasked : Last → Last
+unasked last = record { evidence = last.evidence; missing = last.missing; asked = None; remembered = last.remembered }
+
+-- what is kept of the last judging stays, but for its question, which is gone
+abbrev pub StaysAnswered : State → Option State → Type 0
+StaysAnswered before None = ⊥
+StaysAnswered before (Some after) = after.last ≡ unasked before.last
 
 -- ---- the questions that the proved verifiers answer
 

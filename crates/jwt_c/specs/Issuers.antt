@@ -36,11 +36,6 @@ text_in name (Err fault) = None
 abbrev pub named_issuer : List ℕ → Option (List ℕ)
 named_issuer payload = text_in (codes "iss") (object_of payload)
 
--- it is written, where it is there; it takes no memory
-abbrev pub PutsHeld : Option (List ℕ) → ℕ → ℕ → List ℕ → List ℕ → Type 0
-PutsHeld None status size old out = status ≡ FOW_ABSENT
-PutsHeld (Some octets) status size old out = Puts octets status size old out
-
 -- it is written, where it is there: FOW_UNNAMED where it isn't; unless memory was refused
 abbrev pub PutsNamed : Option (List ℕ) → ℕ → ℕ → List ℕ → List ℕ → Type 0
 PutsNamed None status size old out = status ≢ FOW_OUT_OF_MEMORY → status ≡ FOW_UNNAMED

@@ -12,6 +12,8 @@ pub mod ProvedKept
 pub mod Remembering
 -- judging, and the report that an exported function writes
 pub mod Reports
+-- what a judging adds to the memories of a validator
+pub mod Keeping
 -- the octets that are written for the caller, by the status
 pub mod Written
 -- access rules that are held, and what they say of the claims of the last acceptance

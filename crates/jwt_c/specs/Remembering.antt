@@ -1,24 +1,23 @@
 -- The memories of a validator, and the grounds of a verdict that comes out of one.
 use Rattle.std.specs.Prelude.{◌≡◌, ℕ, ℤ, Bool, true, false, List, [], Option, Some, None}
 use Rattle.jwt_verify.specs.declared.report.Report.{Report}
-use Rattle.jwt_told.specs.Told.{Truth, ToldParts, AreRight, told}
+use Rattle.jwt_told.specs.Told.{ToldParts}
 use Rattle.jwt_memory.specs.declared.memory.MemoryEntry.{MemoryEntry}
 use Rattle.jwt_memory.specs.declared.memory.Memory.{Memory}
 use Rattle.jwt_memory.specs.Entries.{Holds}
-use Rattle.jwt_memory.specs.ToldKept.{AreTrulyKept, IsToldNow, IsTrulyRemembered}
+use Rattle.jwt_memory.specs.ToldKept.{IsToldNow, IsRecalled}
 use Rattle.jwt_c.specs.declared.state.State.{State}
 use Rattle.jwt_c.specs.declared.grounds.Documents.{Documents}
 use Rattle.jwt_c.specs.Documents.{documents}
-use Rattle.jwt_c.specs.ProvedKept.{HasSameRoom}
 
 -- ---- a verdict that came out of a memory
 
--- where the answers on the tokens that the memory keeps are true, the verdict is the true one, and the report is that of a run by true answers
+-- the report is what a token that the memory holds comes to now: it has all these octets, and was accepted under the policy's ceiling
 abbrev pub RestsOnMemory : Option Memory → Documents → ℤ → List ℕ → Report → Type 0
 RestsOnMemory None grounds now octets report = ⊥
-RestsOnMemory (Some memory) grounds now octets report = (truth : Truth) → AreTrulyKept truth grounds.policy grounds.keys memory → IsTrulyRemembered truth grounds.policy grounds.keys now octets grounds.policy.run.work report
+RestsOnMemory (Some memory) grounds now octets report = IsRecalled memory grounds.policy now octets grounds.policy.run.work report
 
--- a new report rests on the answers now, a remembered one on those when the token was accepted
+-- a new report rests on the answers now, a remembered one on a token that the memory holds: so on the answers when that was kept
 abbrev pub RestsOn : Bool → List ToldParts → Option Memory → Documents → ℤ → List ℕ → Report → Type 0
 RestsOn false answers memory grounds now octets report = IsToldNow answers grounds.policy grounds.keys now octets grounds.policy.run.work report
 RestsOn true answers memory grounds now octets report = RestsOnMemory memory grounds now octets report
@@ -34,25 +33,6 @@ IsHeldIn false memory octets ceiling = Unit {0}
 IsHeldIn true memory octets ceiling = Knows memory octets ceiling
 
 -- ---- what becomes of the memories of a state
-
--- the answers on the tokens that the memory keeps are true
-abbrev pub IsTrulyKept : Truth → Documents → Option Memory → Type 0
-IsTrulyKept truth grounds None = Unit {0}
-IsTrulyKept truth grounds (Some memory) = AreTrulyKept truth grounds.policy grounds.keys memory
-
--- where the answers are true, the memory keeps tokens by true answers, if it did before
-abbrev pub StaysTrue : List ToldParts → Documents → Option Memory → Option Memory → Type 0
-StaysTrue answers grounds before after = (truth : Truth) → AreRight truth answers → IsTrulyKept truth grounds before → IsTrulyKept truth grounds after
-
--- what a judging by answers does to them
-abbrev pub RemembersTold : State → Option State → Type 0
-RemembersTold before None = ⊥
-RemembersTold before (Some after) = StaysTrue (told before.answers) (documents before) before.memory after.memory × HasSameRoom after.memory before.memory × (after.grounds ≡ before.grounds)
-
--- what a judging by the proved verifiers does to them
-abbrev pub RemembersProved : State → Option State → Type 0
-RemembersProved before None = ⊥
-RemembersProved before (Some after) = HasSameRoom after.grounds.1 before.grounds.1 × (after.memory ≡ before.memory)
 
 -- they stay as they are
 abbrev pub RemembersAlike : State → Option State → Type 0

@@ -31,7 +31,7 @@ use Rattle.jwt_c.specs.declared.report.FowTry.{FowTry}
 use Rattle.jwt_c.specs.declared.status.TheConstants.{FOW_OK, FOW_REFUSED, FOW_OUT_OF_MEMORY}
 use Rattle.jwt_c.specs.Documents.{documents}
 use Rattle.jwt_c.specs.Evidence.{states_kept, tries_kept, claims_kept}
-use Rattle.jwt_c.specs.Remembering.{RestsOn, IsHeldIn}
+use Rattle.jwt_c.specs.Remembering.{RestsOn}
 use Rattle.jwt_c.specs.Faults.{Numbers, keys_number, policy_number, sig_number, verdict_numbers, missing_in}
 
 abbrev pub report_numbers : FowReport → Numbers
@@ -142,7 +142,6 @@ Says report said last = (report_numbers said ≡ verdict_numbers report.verdict)
 abbrev pub IsJudged : State → ℤ → List ℕ → FowReport → Last → Type 0
 IsJudged state now octets said last = (report : Report)
     × RestsOn last.remembered (told state.answers) state.memory (documents state) now octets report
-    × IsHeldIn last.remembered state.memory octets (documents state).policy.run.work
     × Says report said last
 
 -- the report is judged so, and is what the state that is held keeps

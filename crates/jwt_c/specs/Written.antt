@@ -1,5 +1,5 @@
 -- The octets that are written for the caller, by the status.
-use Rattle.std.specs.Prelude.{◌≡◌, ◌≢◌, ◌<◌, ℕ, ℤ, ◌++◌, List, [], ◌∷◌, length, slice_get, Option, Some, None, option_and_then, Result, Ok, Err}
+use Rattle.std.specs.Prelude.{◌≡◌, ◌≢◌, ◌<◌, ℕ, ℤ, ◌++◌, List, [], ◌∷◌, length, drop, slice_get, Option, Some, None, option_and_then, Result, Ok, Err}
 use Rattle.serde_json.specs.Data.{Members}
 use Rattle.jwt_text.specs.Base64url.{octets_of}
 use Rattle.jwt_text.specs.Members.{compact_at, whole_at}
@@ -15,13 +15,13 @@ use Rattle.jwt_c.specs.declared.report.FowTry.{FowTry}
 use Rattle.jwt_c.specs.declared.status.TheConstants.{FOW_OK, FOW_OUT_OF_MEMORY, FOW_TOO_SHORT, FOW_ABSENT}
 use Rattle.jwt_c.specs.Reports.{state_parts, state_numbers, try_of, try_parts}
 
--- what is written begins with these octets, and the size is their number
-abbrev pub BeginsWith : List ℕ → ℕ → List ℕ → Type 0
-BeginsWith octets size out = (size ≡ length octets) × ((more : List ℕ) × (out ≡ octets ++ more))
+-- these octets stand at the front, and what stood behind them still does
+abbrev pub written_over : List ℕ → List ℕ → List ℕ
+written_over octets old = octets ++ drop (length octets) old
 
--- these octets are written, or there is too little room for them
+-- these octets are written, and the size is their number; or there is too little room for them
 abbrev pub Puts : List ℕ → ℕ → ℕ → List ℕ → List ℕ → Type 0
-Puts octets status size old out = (status ≡ FOW_OK → BeginsWith octets size out) × (status ≢ FOW_OK → (status ≡ FOW_TOO_SHORT) × (length old < length octets))
+Puts octets status size old out = (status ≡ FOW_OK → (size ≡ length octets) × (out ≡ written_over octets old)) × (status ≢ FOW_OK → (status ≡ FOW_TOO_SHORT) × (length old < length octets))
 
 -- there is nothing to be written, unless memory was refused
 abbrev pub IsAbsent : ℕ → Type 0
@@ -72,6 +72,11 @@ number_at (Some claims) name = whole_at name claims
 abbrev pub PutsSome : Option (List ℕ) → ℕ → ℕ → List ℕ → List ℕ → Type 0
 PutsSome None status size old out = IsAbsent status
 PutsSome (Some octets) status size old out = status ≢ FOW_OUT_OF_MEMORY → Puts octets status size old out
+
+-- it is written, where it is there; it takes no memory
+abbrev pub PutsHeld : Option (List ℕ) → ℕ → ℕ → List ℕ → List ℕ → Type 0
+PutsHeld None status size old out = status ≡ FOW_ABSENT
+PutsHeld (Some octets) status size old out = Puts octets status size old out
 
 abbrev pub PutsNumber : Option ℤ → ℕ → ℤ → Type 0
 PutsNumber None status written = status ≡ FOW_ABSENT

@@ -1,9 +1,10 @@
 //! Access rules that are held, and what they say of the claims of the last acceptance.
 
-ghost use Rattle.std.specs.Prelude.{◌≡◌, IfOk, IfErr, Ok, option_map, slice_get};
+ghost use Rattle.jwt_c.specs.declared.status.TheConstants.{FOW_OK};
+ghost use Rattle.std.specs.Prelude.{◌≡◌, ◌≢◌, IfOk, IfErr, Ok, option_map, slice_get};
 ghost use Rattle.jwt_access.specs.Document.{rule_of};
 ghost use Rattle.jwt_c.specs.Access.{access_number, denial_number, IsRuleRefused, IsHeldAgainst, PutsDenied, refused_in};
-ghost use Rattle.jwt_c.specs.Written.{PutsSome};
+ghost use Rattle.jwt_c.specs.Written.{PutsHeld, PutsSome};
 
 use crate::rule_state::RuleState;
 use crate::status::{FOW_ABSENT, FOW_DENIED, FOW_OK, FOW_OUT_OF_MEMORY, FOW_REFUSED, NotHeld};
@@ -67,7 +68,8 @@ pub(crate) fn rule_of(alloc: Global, document: &[u8]) -> Result<Box<RuleState>, 
 /// Puts the name of the member, or of the claim, for which a rule is refused at the front of `out`. `FOW_OK`; `FOW_OUT_OF_MEMORY`: memory
 /// was refused; `FOW_TOO_SHORT`: `out` is too short; `FOW_ABSENT`: the rule isn't refused for one.
 pub(crate) fn put_refused(alloc: Global, rule: &[u8], out: &mut [u8], written: &mut usize) -> u32
-    ensures { PutsSome (refused_in (rule_of rule.now)) result written.new out.old out.new }
+    ensures written { PutsSome (refused_in (rule_of rule.now)) result written.new out.old out.new }
+    ensures unwritten { result ≢ FOW_OK → (out.new ≡ out.old) × (written.new ≡ written.old) }
 {
     match AccessRule::read(alloc, rule) {
         Err(AccessFault::OutOfMemory) => FOW_OUT_OF_MEMORY,
@@ -84,7 +86,8 @@ pub(crate) fn put_refused(alloc: Global, rule: &[u8], out: &mut [u8], written: &
 /// Puts a scope that the rule asks for at the front of `out`. `FOW_OK`; `FOW_TOO_SHORT`: `out` is too short;
 /// `FOW_ABSENT`: there is no such scope.
 pub(crate) fn put_scope(rule: &AccessRule, number: u32, out: &mut [u8], written: &mut usize) -> u32
-    ensures { PutsSome (slice_get rule.now.scopes number) result written.new out.old out.new }
+    ensures written { PutsHeld (slice_get rule.now.scopes number) result written.new out.old out.new }
+    ensures unwritten { result ≢ FOW_OK → (out.new ≡ out.old) × (written.new ≡ written.old) }
 {
     match rule.scopes().get(number as usize) {
         Some(scope) => put(scope.as_bytes(), out, written),
@@ -114,7 +117,8 @@ pub(crate) fn put_denied(
     out: &mut [u8],
     written: &mut usize,
 ) -> u32
-    ensures { PutsDenied rule.now (option_map (λ c. c.now) claims.entry) result written.new out.old out.new }
+    ensures written { PutsDenied rule.now (option_map (λ c. c.now) claims.entry) result written.new out.old out.new }
+    ensures unwritten { result ≢ FOW_OK → (out.new ≡ out.old) × (written.new ≡ written.old) }
 {
     match claims {
         Some(claims) => match rule.denial(claims) {

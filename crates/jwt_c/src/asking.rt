@@ -1,6 +1,7 @@
 //! Questions, as they are written for the caller, and their answers.
 
-ghost use Rattle.std.specs.Prelude.{◌≡◌, IfOk, None, length, option_map, Some};
+ghost use Rattle.jwt_c.specs.declared.status.TheConstants.{FOW_OK};
+ghost use Rattle.std.specs.Prelude.{◌≡◌, ◌≢◌, IfOk, None, length, option_map, Some};
 ghost use Rattle.jwt_mac.specs.Verifying.{key_octets, signing_input};
 ghost use Rattle.jwt_keys.specs.KeySets.{key_set};
 ghost use Rattle.jwt_verify.specs.Verdict.{token_of};
@@ -8,7 +9,7 @@ ghost use Rattle.jwt_told.specs.Questions.{kept_parts, question_parts};
 ghost use Rattle.jwt_told.specs.Told.{told};
 ghost use Rattle.jwt_c.specs.Documents.{documents};
 ghost use Rattle.jwt_c.specs.Reports.{asked_at};
-ghost use Rattle.jwt_c.specs.Asking.{alg_number, kind_number, question_octets, PutsQuestion, TellsOne, TellsState, is_ed25519, is_secret, public_asked, rsa_asked, rsa_says, ecdsa_asked, ecdsa_says, ed25519_asked, ed25519_says, proved_asked, proved_says, asked_of, said_by};
+ghost use Rattle.jwt_c.specs.Asking.{alg_number, kind_number, question_octets, PutsQuestion, TellsOne, TellsState, is_ed25519, is_secret, public_asked, unasked, rsa_asked, rsa_says, ecdsa_asked, ecdsa_says, ed25519_asked, ed25519_says, proved_asked, proved_says, asked_of, said_by};
 
 use crate::report::FowQuestion;
 use crate::state::{Last, State};
@@ -96,7 +97,8 @@ fn write_question(
     out: &mut [u8],
     into: &mut FowQuestion,
 ) -> u32
-    ensures { PutsQuestion (Some (question_parts asked.now)) result into.new out.old out.new }
+    ensures written { PutsQuestion (Some (question_parts asked.now)) result into.new out.old out.new }
+    ensures unwritten { result ≢ FOW_OK → (out.new ≡ out.old) × (into.new ≡ into.old) }
 {
     let Ok(Spelled { all, input }) = spell(alloc, asked) else {
         return FOW_OUT_OF_MEMORY;
@@ -129,7 +131,8 @@ pub(crate) fn is_secret(key: &KeyView) -> bool
 /// Writes a question at the front of `out`, unless it is about HMAC or a secret. `FOW_OK`; `FOW_OUT_OF_MEMORY`: memory was refused;
 /// `FOW_TOO_SHORT`: `out` is too short; `FOW_ABSENT`: it isn't written.
 fn write_public(alloc: Global, asked: &Question<'_>, out: &mut [u8], into: &mut FowQuestion) -> u32
-    ensures { PutsQuestion (public_asked (Some (question_parts asked.now))) result into.new out.old out.new }
+    ensures written { PutsQuestion (public_asked (Some (question_parts asked.now))) result into.new out.old out.new }
+    ensures unwritten { result ≢ FOW_OK → (out.new ≡ out.old) × (into.new ≡ into.old) }
 {
     if asked.alg.is_hmac() || is_secret(&asked.key) {
         return FOW_ABSENT;
@@ -148,10 +151,11 @@ impl State {
         out: &mut [u8],
         into: &mut FowQuestion,
     ) -> u32
-        ensures { PutsQuestion
+        ensures written { PutsQuestion
             (public_asked (asked_at (token_of (documents self.now).policy token.now)
             (key_set (documents self.now).keys).keys pair.signature pair.key))
             result into.new out.old out.new }
+        ensures unwritten { result ≢ FOW_OK → (out.new ≡ out.old) × (into.new ≡ into.old) }
     {
         let documents = self.grounds.documents();
         match read_token(alloc, token, &documents.policy) {
@@ -168,7 +172,8 @@ impl State {
 /// Writes the question of the last judging at the front of `out`. `FOW_OK`; `FOW_OUT_OF_MEMORY`: memory was refused;
 /// `FOW_TOO_SHORT`: `out` is too short; `FOW_ABSENT`: there is none.
 pub(crate) fn ask_last(alloc: Global, last: &Last, out: &mut [u8], into: &mut FowQuestion) -> u32
-    ensures { PutsQuestion (option_map kept_parts last.now.asked) result into.new out.old out.new }
+    ensures written { PutsQuestion (option_map kept_parts last.now.asked) result into.new out.old out.new }
+    ensures unwritten { result ≢ FOW_OK → (out.new ≡ out.old) × (into.new ≡ into.old) }
 {
     match &last.asked {
         Some(copy) => write_question(alloc, &copy.lent(), out, into),
@@ -181,7 +186,7 @@ pub(crate) fn ask_last(alloc: Global, last: &Last, out: &mut [u8], into: &mut Fo
 pub(crate) fn tell_last(alloc: Global, state: &mut State, valid: bool) -> u32
     ensures told { TellsState (option_map kept_parts state.old.last.asked) valid result
         state.old state.new }
-    ensures none { state.new.last.asked ≡ None }
+    ensures last { state.new.last ≡ unasked state.old.last }
     ensures memories { (state.new.memory ≡ state.old.memory) × (state.new.grounds ≡ state.old.grounds) }
 {
     match replace(&mut state.last.asked, None) {
@@ -215,6 +220,7 @@ pub(crate) fn tell(
 ) -> u32
     ensures told { TellsState (asked_at (token_of (documents state.old).policy token.now)
         (key_set (documents state.old).keys).keys pair.signature pair.key) valid result state.old state.new }
+    ensures last { state.new.last ≡ state.old.last }
     ensures memories { (state.new.memory ≡ state.old.memory) × (state.new.grounds ≡ state.old.grounds) }
 {
     match read_token(alloc, token, &state.grounds.documents().policy) {
@@ -353,6 +359,7 @@ pub(crate) fn tell_by(
         (key_set (documents state.old).keys).keys pair.signature pair.key))
         (said_by by (asked_at (token_of (documents state.old).policy token.now)
         (key_set (documents state.old).keys).keys pair.signature pair.key)) result state.old state.new }
+    ensures last { state.new.last ≡ state.old.last }
     ensures memories { (state.new.memory ≡ state.old.memory) × (state.new.grounds ≡ state.old.grounds) }
 {
     let documents = state.grounds.documents();

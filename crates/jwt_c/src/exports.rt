@@ -11,9 +11,10 @@ ghost use Rattle.jwt_c.specs.Documents.{documents};
 ghost use Rattle.jwt_c.specs.Reports.{asked_at, IsBeside, IsFresh, IsOpened, IsRead, IsRefused, IsAlike, IsForgotten, IsAskedBy, IsJudgedBy, report_numbers};
 ghost use Rattle.jwt_c.specs.Evidence.{states_kept, tries_kept, claims_kept};
 ghost use Rattle.jwt_c.specs.Faults.{bare};
-ghost use Rattle.jwt_c.specs.Remembering.{Remembers, RemembersAlike, RemembersProved, RemembersTold};
+ghost use Rattle.jwt_c.specs.Keeping.{RemembersProved, RemembersTold};
+ghost use Rattle.jwt_c.specs.Remembering.{Remembers, RemembersAlike};
 ghost use Rattle.jwt_c.specs.Written.{PutsPayload, PutsName, IsState, IsTry, PutsSome, PutsNumber, claim_text_at, header_octets_at, number_at, refused_member};
-ghost use Rattle.jwt_c.specs.Asking.{PutsQuestion, IsTold, public_asked, rsa_asked, rsa_says, ed25519_asked, ed25519_says, proved_asked, proved_says};
+ghost use Rattle.jwt_c.specs.Asking.{PutsQuestion, IsTold, StaysLast, StaysAnswered, public_asked, rsa_asked, rsa_says, ed25519_asked, ed25519_says, proved_asked, proved_says};
 ghost use Rattle.jwt_c.specs.MostQuestions.{most_questions};
 ghost use Rattle.jwt_c.specs.Proving.{IsProvedBy};
 ghost use Rattle.jwt_c.specs.Issuing.{hmac_at, form_at, typ_of, PutsIssued};
@@ -183,7 +184,8 @@ pub extern "C" fn fow_refused_member(
     out: &mut [u8],
     written: &mut usize,
 ) -> u32
-    ensures { PutsSome (refused_member (policy_of policy.now)) result written.new out.old out.new }
+    ensures name { PutsSome (refused_member (policy_of policy.now)) result written.new out.old out.new }
+    ensures unwritten { result ≢ FOW_OK → (out.new ≡ out.old) × (written.new ≡ written.old) }
 {
     match Policy::read(alloc, policy) {
         Err(PolicyFault::OutOfMemory) => FOW_OUT_OF_MEMORY,
@@ -197,7 +199,7 @@ pub extern "C" fn fow_refused_member(
 /// Frees what is held, if anything is.
 #[unsafe(no_mangle)]
 pub extern "C" fn fow_close(validator: &mut Handle, alloc: Global)
-    ensures { validator.new.state ≡ None }
+    ensures closed { validator.new.state ≡ None }
 {
     *validator = Handle::empty(alloc);
 }
@@ -213,6 +215,7 @@ pub extern "C" fn fow_judge(
 ) -> u32
     ensures verdict { result ≡ report.new.verdict }
     ensures none { validator.old.state ≡ None → report_numbers report.new ≡ bare FOW_NOT_OPEN }
+    ensures open { validator.old.state ≢ None → result ≤ FOW_OUT_OF_MEMORY }
     ensures alike { IsAlike validator.old.state validator.new.state }
 
     // What is accepted or refused is judged by validate's contract, and what is kept of it is its report.
@@ -222,8 +225,8 @@ pub extern "C" fn fow_judge(
     // Claims are kept of an acceptance alone.
     ensures claims { IfSome validator.new.state (λ e. result ≢ FOW_OK → claims_kept e.last ≡ None) }
 
-    // Where the answers are true, those on the remembered tokens are, if they were before.
-    ensures remembers { IfSome validator.old.state (λ d. RemembersTold d validator.new.state) }
+    // It remembers nothing new but this token, where it is accepted: by the answers now, on which what it comes to later rests.
+    ensures remembers { IfSome validator.old.state (λ d. RemembersTold d token.now report.new validator.new.state) }
 
     // The pair that is asked about is the first of the tries that has no answer. The tries are kept.
     ensures asks { IfSome validator.old.state (λ d. result ≡ FOW_ASKS
@@ -251,6 +254,7 @@ pub extern "C" fn fow_proved_judge(
 ) -> u32
     ensures verdict { result ≡ report.new.verdict }
     ensures none { validator.old.state ≡ None → report_numbers report.new ≡ bare FOW_NOT_OPEN }
+    ensures open { validator.old.state ≢ None → result ≤ FOW_OUT_OF_MEMORY }
     ensures alike { IsAlike validator.old.state validator.new.state }
 
     // What is accepted or refused is judged by validate's contract, and what is kept of it is its report.
@@ -261,7 +265,8 @@ pub extern "C" fn fow_proved_judge(
     // Claims are kept of an acceptance alone.
     ensures claims { IfSome validator.new.state (λ e. result ≢ FOW_OK → claims_kept e.last ≡ None) }
 
-    ensures remembers { IfSome validator.old.state (λ d. RemembersProved d validator.new.state) }
+    // It remembers nothing new but this token, where it is accepted.
+    ensures remembers { IfSome validator.old.state (λ d. RemembersProved d token.now report.new validator.new.state) }
 {
     let Some(mut state) = take(validator, alloc) else {
         *report = FowReport::bare(FOW_NOT_OPEN);
@@ -286,6 +291,7 @@ pub extern "C" fn fow_state_of(
     ensures none { validator.old.state ≡ None → result ≡ FOW_NOT_OPEN }
     ensures state { IfSome validator.old.state (λ d.
         IsState (slice_get (states_kept d.last) signature) result written.new) }
+    ensures unwritten { result ≢ FOW_OK → written.new ≡ written.old }
 {
     let Some(state) = take(validator, alloc) else {
         return FOW_NOT_OPEN;
@@ -314,6 +320,7 @@ pub extern "C" fn fow_try_of(
     ensures none { validator.old.state ≡ None → result ≡ FOW_NOT_OPEN }
     ensures tried { IfSome validator.old.state (λ d.
         IsTry (slice_get (tries_kept d.last) n) result tried.new) }
+    ensures unwritten { result ≢ FOW_OK → tried.new ≡ tried.old }
 {
     let Some(state) = take(validator, alloc) else {
         return FOW_NOT_OPEN;
@@ -347,6 +354,7 @@ pub extern "C" fn fow_ask(
         (public_asked (asked_at (token_of (documents d).policy token.now)
         (key_set (documents d).keys).keys signature key))
         result asked.new out.old out.new) }
+    ensures unwritten { result ≢ FOW_OK → (out.new ≡ out.old) × (asked.new ≡ asked.old) }
 {
     let Some(state) = take(validator, alloc) else {
         return FOW_NOT_OPEN;
@@ -370,6 +378,7 @@ pub extern "C" fn fow_asked(
     ensures none { validator.old.state ≡ None → result ≡ FOW_NOT_OPEN }
     ensures question { IfSome validator.old.state (λ d. PutsQuestion
         (option_map kept_parts d.last.asked) result asked.new out.old out.new) }
+    ensures unwritten { result ≢ FOW_OK → (out.new ≡ out.old) × (asked.new ≡ asked.old) }
 {
     let Some(state) = take(validator, alloc) else {
         return FOW_NOT_OPEN;
@@ -387,8 +396,8 @@ pub extern "C" fn fow_answer_asked(validator: &mut Handle, alloc: Global, valid:
     ensures none { validator.old.state ≡ None → (result ≡ FOW_NOT_OPEN) × (validator.new.state ≡ None) }
     ensures told { IfSome validator.old.state (λ d. IsTold
         (option_map kept_parts d.last.asked) valid result d validator.new.state) }
-    ensures answered { IfSome validator.new.state (λ e. e.last.asked ≡ None) }
     ensures remembers { IfSome validator.old.state (λ d. RemembersAlike d validator.new.state) }
+    ensures last { IfSome validator.old.state (λ d. StaysAnswered d validator.new.state) }
 {
     let Some(mut state) = take(validator, alloc) else {
         return FOW_NOT_OPEN;
@@ -415,6 +424,7 @@ pub extern "C" fn fow_answer(
         (key_set (documents d).keys).keys signature key)
         valid result d validator.new.state) }
     ensures remembers { IfSome validator.old.state (λ d. RemembersAlike d validator.new.state) }
+    ensures last { IfSome validator.old.state (λ d. StaysLast d validator.new.state) }
 {
     let Some(mut state) = take(validator, alloc) else {
         return FOW_NOT_OPEN;
@@ -429,6 +439,7 @@ pub extern "C" fn fow_answer(
 pub extern "C" fn fow_forget(validator: &mut Handle, alloc: Global)
     ensures forgotten { IsForgotten validator.old.state validator.new.state }
     ensures remembers { IfSome validator.old.state (λ d. RemembersAlike d validator.new.state) }
+    ensures last { IfSome validator.old.state (λ d. StaysLast d validator.new.state) }
 {
     if let Some(mut state) = take(validator, alloc) {
         state.answers.clear();
@@ -489,6 +500,7 @@ pub extern "C" fn fow_payload(
     ensures none { validator.old.state ≡ None → result ≡ FOW_NOT_OPEN }
     ensures payload { IfSome validator.old.state (λ d. PutsPayload
         (token_of (documents d).policy token.now) result written.new out.old out.new) }
+    ensures unwritten { result ≢ FOW_OK → (out.new ≡ out.old) × (written.new ≡ written.old) }
 {
     let Some(state) = take(validator, alloc) else {
         return FOW_NOT_OPEN;
@@ -514,6 +526,7 @@ pub extern "C" fn fow_unverified_header(
     ensures none { validator.old.state ≡ None → result ≡ FOW_NOT_OPEN }
     ensures header { IfSome validator.old.state (λ d. PutsSome
         (header_octets_at (token_of (documents d).policy token.now) signature) result written.new out.old out.new) }
+    ensures unwritten { result ≢ FOW_OK → (out.new ≡ out.old) × (written.new ≡ written.old) }
 {
     let Some(state) = take(validator, alloc) else {
         return FOW_NOT_OPEN;
@@ -536,6 +549,7 @@ pub extern "C" fn fow_refused_claim(
     ensures none { validator.old.state ≡ None → result ≡ FOW_NOT_OPEN }
     ensures name { IfSome validator.old.state (λ d. PutsName
         d.last.missing.items result written.new out.old out.new) }
+    ensures unwritten { result ≢ FOW_OK → (out.new ≡ out.old) × (written.new ≡ written.old) }
 {
     let Some(state) = take(validator, alloc) else {
         return FOW_NOT_OPEN;
@@ -567,6 +581,7 @@ pub extern "C" fn fow_answer_rsa(
         (key_set (documents d).keys).keys signature key))
         result d validator.new.state) }
     ensures remembers { IfSome validator.old.state (λ d. RemembersAlike d validator.new.state) }
+    ensures last { IfSome validator.old.state (λ d. StaysLast d validator.new.state) }
 {
     let Some(mut state) = take(validator, alloc) else {
         return FOW_NOT_OPEN;
@@ -601,6 +616,7 @@ pub extern "C" fn fow_answer_ed25519(
         (key_set (documents d).keys).keys signature key))
         result d validator.new.state) }
     ensures remembers { IfSome validator.old.state (λ d. RemembersAlike d validator.new.state) }
+    ensures last { IfSome validator.old.state (λ d. StaysLast d validator.new.state) }
 {
     let Some(mut state) = take(validator, alloc) else {
         return FOW_NOT_OPEN;
@@ -635,6 +651,7 @@ pub extern "C" fn fow_answer_proved(
         (key_set (documents d).keys).keys signature key))
         result d validator.new.state) }
     ensures remembers { IfSome validator.old.state (λ d. RemembersAlike d validator.new.state) }
+    ensures last { IfSome validator.old.state (λ d. StaysLast d validator.new.state) }
 {
     let Some(mut state) = take(validator, alloc) else {
         return FOW_NOT_OPEN;
@@ -677,6 +694,8 @@ pub extern "C" fn fow_issue(
         → PutsIssued (record { alg = a; typ = typ_of typ.now; form = f; key = key })
         (key_set (documents d).keys).keys (claim_set_of claims.now)
         result report.new written.new out.old out.new))) }
+    ensures unwritten { result ≢ FOW_OK → (out.new ≡ out.old) × (written.new ≡ written.old) }
+    ensures unsaid { result ≢ FOW_REFUSED → report.new ≡ report.old }
 {
     let Some(state) = take(validator, alloc) else {
         return FOW_NOT_OPEN;
@@ -716,6 +735,7 @@ pub extern "C" fn fow_claim(
     ensures claim { IfSome validator.old.state (λ d. IsUtf8 name.now
         → PutsSome (claim_text_at (claims_kept d.last) name.now) result written.new out.old out.new) }
     ensures other { IfSome validator.old.state (λ d. ¬ IsUtf8 name.now → result ≡ FOW_ABSENT) }
+    ensures unwritten { result ≢ FOW_OK → (out.new ≡ out.old) × (written.new ≡ written.old) }
 {
     let Some(state) = take(validator, alloc) else {
         return FOW_NOT_OPEN;
@@ -739,6 +759,7 @@ pub extern "C" fn fow_number(
     ensures claim { IfSome validator.old.state (λ d. IsUtf8 name.now
         → PutsNumber (number_at (claims_kept d.last) name.now) result number.new) }
     ensures other { IfSome validator.old.state (λ d. ¬ IsUtf8 name.now → result ≡ FOW_ABSENT) }
+    ensures unwritten { result ≢ FOW_OK → number.new ≡ number.old }
 {
     let Some(state) = take(validator, alloc) else {
         return FOW_NOT_OPEN;

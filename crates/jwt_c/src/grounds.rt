@@ -1,6 +1,6 @@
 //! The policy and the keys that a validator judges by, with the memory of the proved verifiers.
 
-ghost use Rattle.jwt_c.specs.declared.status.TheConstants.{FOW_ASKS, FOW_OK, FOW_REFUSED};
+ghost use Rattle.jwt_c.specs.declared.status.TheConstants.{FOW_ASKS, FOW_OK, FOW_OUT_OF_MEMORY, FOW_REFUSED};
 ghost use Rattle.std.specs.Prelude.{◌≡◌, ◌≢◌, ◌≤◌, None, IfSome};
 ghost use Rattle.std.specs.Arc.{arc_value};
 
@@ -50,6 +50,7 @@ impl Model for Grounds {
 
 impl Grounds {
     ghost use Rattle.jwt_c.specs.Evidence.{claims_kept};
+    ghost use Rattle.jwt_c.specs.Keeping.{AddsOnly};
     ghost use Rattle.jwt_c.specs.ProvedKept.{IsNothingKept, HasSameRoom};
     ghost use Rattle.jwt_c.specs.Proving.{IsProved};
 
@@ -102,6 +103,8 @@ impl Grounds {
         ensures claims { result.said.verdict ≢ FOW_OK → claims_kept result.last ≡ None }
         ensures documents { self.new.0 ≡ self.old.0 }
         ensures room { HasSameRoom self.new.1 self.old.1 }
+        ensures open { result.said.verdict ≤ FOW_OUT_OF_MEMORY }
+        ensures adds { AddsOnly self.old.0.policy.run.work octets.now result.said result.last self.old.1 self.new.1 }
     {
         let documents = &*self.shared;
         documents.judging_by_proof(alloc, &mut self.proved, octets, now, scratch)

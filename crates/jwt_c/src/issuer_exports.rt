@@ -1,13 +1,13 @@
 //! The functions that C calls for keys by URL, and for several issuers.
 
 ghost use Rattle.jwt_c.specs.declared.status.TheConstants.{FOW_ABSENT, FOW_NOT_OPEN, FOW_OK};
-ghost use Rattle.std.specs.Prelude.{◌≡◌, IfSome, IsUtf8, None, false};
+ghost use Rattle.std.specs.Prelude.{◌≡◌, ◌≢◌, IfSome, IsUtf8, None, false};
 ghost use Rattle.jwt_text.specs.ObjectText.{object_of};
 ghost use Rattle.jwt_keys.specs.KeySets.{key_set};
 ghost use Rattle.jwt_verify.specs.Verdict.{token_of};
 ghost use Rattle.jwt_c.specs.Documents.{documents};
-ghost use Rattle.jwt_c.specs.Issuers.{PutsHeld, PutsIssuer, are_public, sole, text_in};
-ghost use Rattle.jwt_c.specs.Written.{PutsSome};
+ghost use Rattle.jwt_c.specs.Issuers.{PutsIssuer, are_public, sole, text_in};
+ghost use Rattle.jwt_c.specs.Written.{PutsHeld, PutsSome};
 
 use crate::handle::{Handle, take};
 use crate::issuers::{are_public, put_issuer, put_sole_issuer, put_text};
@@ -59,6 +59,7 @@ pub extern "C" fn fow_sole_issuer(
     ensures none { validator.old.state ≡ None → result ≡ FOW_NOT_OPEN }
     ensures issuer { IfSome validator.old.state (λ d. PutsHeld
         (sole (documents d).policy.claims.issuers) result written.new out.old out.new) }
+    ensures unwritten { result ≢ FOW_OK → (out.new ≡ out.old) × (written.new ≡ written.old) }
 {
     let Some(state) = take(validator, alloc) else {
         return FOW_NOT_OPEN;
@@ -83,6 +84,7 @@ pub extern "C" fn fow_unverified_issuer(
     ensures none { validator.old.state ≡ None → result ≡ FOW_NOT_OPEN }
     ensures issuer { IfSome validator.old.state (λ d. PutsIssuer
         (token_of (documents d).policy token.now) result written.new out.old out.new) }
+    ensures unwritten { result ≢ FOW_OK → (out.new ≡ out.old) × (written.new ≡ written.old) }
 {
     let Some(state) = take(validator, alloc) else {
         return FOW_NOT_OPEN;
@@ -105,6 +107,7 @@ pub extern "C" fn fow_text_member(
     ensures text { IsUtf8 name.now
         → PutsSome (text_in name.now (object_of document.now)) result written.new out.old out.new }
     ensures other { ¬ IsUtf8 name.now → result ≡ FOW_ABSENT }
+    ensures unwritten { result ≢ FOW_OK → (out.new ≡ out.old) × (written.new ≡ written.old) }
 {
     put_text(alloc, document, name, out, written)
 }

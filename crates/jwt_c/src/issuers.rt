@@ -1,7 +1,7 @@
 //! The documents of a validator as public ones, and the issuer that a token names.
 
-ghost use Rattle.jwt_c.specs.declared.status.TheConstants.{FOW_ABSENT};
-ghost use Rattle.std.specs.Prelude.{◌≡◌, IsUtf8, codes, false, map, option_map, slice_get, string_bytes};
+ghost use Rattle.jwt_c.specs.declared.status.TheConstants.{FOW_ABSENT, FOW_OK};
+ghost use Rattle.std.specs.Prelude.{◌≡◌, ◌≢◌, IsUtf8, codes, false, map, option_map, slice_get, string_bytes};
 ghost use Rattle.std.specs.List.{list_any};
 ghost use Rattle.std.specs.Option.{option_map_or};
 ghost use Rattle.jwt_mac.specs.Algorithm.{is_hmac_alg};
@@ -9,8 +9,8 @@ ghost use Rattle.jwt_text.specs.ObjectText.{object_of};
 ghost use Rattle.jwt_keys.specs.KeySets.{key_set};
 ghost use Rattle.jwt_verify.specs.Verdict.{token_of};
 ghost use Rattle.jwt_c.specs.Documents.{documents};
-ghost use Rattle.jwt_c.specs.Issuers.{PutsHeld, PutsIssuer, PutsNamed, are_public, is_secret_key, named_issuer, sole, text_in};
-ghost use Rattle.jwt_c.specs.Written.{PutsSome};
+ghost use Rattle.jwt_c.specs.Issuers.{PutsIssuer, PutsNamed, are_public, is_secret_key, named_issuer, sole, text_in};
+ghost use Rattle.jwt_c.specs.Written.{PutsHeld, PutsSome};
 
 use crate::asking::is_secret;
 use crate::state::State;
@@ -84,8 +84,9 @@ fn sole_issuer(policy: &Policy) -> Option<&str>
 /// Puts the issuer that the policy allows at the front of `out`, where it is one alone. `FOW_OK`; `FOW_TOO_SHORT`: `out` is too short;
 /// `FOW_ABSENT`: it isn't one alone.
 pub(crate) fn put_sole_issuer(state: &State, out: &mut [u8], written: &mut usize) -> u32
-    ensures { PutsHeld (sole (documents state.now).policy.claims.issuers)
+    ensures written { PutsHeld (sole (documents state.now).policy.claims.issuers)
         result written.new out.old out.new }
+    ensures unwritten { result ≢ FOW_OK → (out.new ≡ out.old) × (written.new ≡ written.old) }
 {
     match sole_issuer(&state.grounds.documents().policy) {
         Some(issuer) => put(issuer.as_bytes(), out, written),
@@ -96,7 +97,8 @@ pub(crate) fn put_sole_issuer(state: &State, out: &mut [u8], written: &mut usize
 /// Puts the issuer that a payload names at the front of `out`. `FOW_OK`; `FOW_OUT_OF_MEMORY`: memory was refused;
 /// `FOW_TOO_SHORT`: `out` is too short; `FOW_UNNAMED`: it names none.
 fn put_named(alloc: Global, payload: &[u8], out: &mut [u8], written: &mut usize) -> u32
-    ensures { PutsNamed (named_issuer payload.now) result written.new out.old out.new }
+    ensures written { PutsNamed (named_issuer payload.now) result written.new out.old out.new }
+    ensures unwritten { result ≢ FOW_OK → (out.new ≡ out.old) × (written.new ≡ written.old) }
 {
     match object(alloc, payload) {
         Ok(claims) => match claims.text("iss") {
@@ -117,8 +119,9 @@ pub(crate) fn put_issuer(
     out: &mut [u8],
     written: &mut usize,
 ) -> u32
-    ensures { PutsIssuer (token_of (documents state.now).policy token.now)
+    ensures written { PutsIssuer (token_of (documents state.now).policy token.now)
         result written.new out.old out.new }
+    ensures unwritten { result ≢ FOW_OK → (out.new ≡ out.old) × (written.new ≡ written.old) }
 {
     match read_token(alloc, token, &state.grounds.documents().policy) {
         Ok(Some(signed)) => put_named(alloc, signed.payload(), out, written),
@@ -139,6 +142,7 @@ pub(crate) fn put_text(
     ensures text { IsUtf8 name.now
         → PutsSome (text_in name.now (object_of document.now)) result written.new out.old out.new }
     ensures other { ¬ IsUtf8 name.now → result ≡ FOW_ABSENT }
+    ensures unwritten { result ≢ FOW_OK → (out.new ≡ out.old) × (written.new ≡ written.old) }
 {
     let Ok(name) = from_utf8(name) else {
         return FOW_ABSENT;

@@ -1,7 +1,7 @@
 //! Issues tokens.
 
-ghost use Rattle.jwt_c.specs.declared.status.TheConstants.{FOW_ABSENT};
-ghost use Rattle.std.specs.Prelude.{◌≡◌, None, IfSome};
+ghost use Rattle.jwt_c.specs.declared.status.TheConstants.{FOW_ABSENT, FOW_OK, FOW_REFUSED};
+ghost use Rattle.std.specs.Prelude.{◌≡◌, ◌≢◌, None, IfSome};
 ghost use Rattle.jwt_keys.specs.KeySets.{key_set};
 ghost use Rattle.jwt_issue.specs.ClaimSets.{claim_set_of};
 ghost use Rattle.jwt_issue.specs.Options.{issued_by};
@@ -66,9 +66,11 @@ fn put_token(
     written: &mut usize,
     report: &mut FowReport,
 ) -> u32
-    ensures { PutsToken
+    ensures written { PutsToken
         (issued_by (options_parts options.entry) (key_set keys.now).keys claims.now)
         result report.new written.new out.old out.new }
+    ensures unwritten { result ≢ FOW_OK → (out.new ≡ out.old) × (written.new ≡ written.old) }
+    ensures unsaid { result ≢ FOW_REFUSED → report.new ≡ report.old }
 {
     match issue_by(alloc, options, keys, claims) {
         Ok(token) => put(&token, out, written),
@@ -90,8 +92,10 @@ fn put_issued(
     written: &mut usize,
     report: &mut FowReport,
 ) -> u32
-    ensures { PutsIssued (options_parts options.entry) (key_set keys.now).keys
+    ensures written { PutsIssued (options_parts options.entry) (key_set keys.now).keys
         (claim_set_of claims.now) result report.new written.new out.old out.new }
+    ensures unwritten { result ≢ FOW_OK → (out.new ≡ out.old) × (written.new ≡ written.old) }
+    ensures unsaid { result ≢ FOW_REFUSED → report.new ≡ report.old }
 {
     let Ok(octets) = claims.to_vec(alloc) else {
         return FOW_OUT_OF_MEMORY;
@@ -126,6 +130,8 @@ pub(crate) fn put_numbered(
         (λ a. IfSome (form_at form) (λ f. PutsIssued
         (record { alg = a; typ = typ_of typ.now; form = f; key = key }) (key_set keys.now).keys
         (claim_set_of claims.now) result report.new written.new out.old out.new)) }
+    ensures unwritten { result ≢ FOW_OK → (out.new ≡ out.old) × (written.new ≡ written.old) }
+    ensures unsaid { result ≢ FOW_REFUSED → report.new ≡ report.old }
 {
     match hmac_at(alg) {
         Some(alg) => match form_at(form) {

@@ -1,7 +1,7 @@
 //! The judging of a token by answers.
 
-ghost use Rattle.jwt_c.specs.declared.status.TheConstants.{FOW_ASKS, FOW_OK, FOW_REFUSED};
-ghost use Rattle.std.specs.Prelude.{◌≡◌, ◌≢◌, None, ◌≤◌, [], true, false, IfOk, IfErr, length, option_map};
+ghost use Rattle.jwt_c.specs.declared.status.TheConstants.{FOW_ASKS, FOW_OK, FOW_OUT_OF_MEMORY, FOW_REFUSED};
+ghost use Rattle.std.specs.Prelude.{◌≡◌, ◌≢◌, None, ◌≤◌, [], true, false, IfOk, IfErr, MatchResult, length, option_map};
 ghost use Rattle.std.specs.Arc.{arc_value};
 ghost use Rattle.jwt_jws.specs.Views.{token};
 ghost use Rattle.jwt_keys.specs.KeySets.{key_set};
@@ -15,7 +15,8 @@ ghost use Rattle.jwt_c.specs.declared.state.Evidence.TheVariants.{Shared};
 ghost use Rattle.jwt_c.specs.Evidence.{states_of, tries_of, evidence_claims, states_kept, tries_kept, claims_kept};
 ghost use Rattle.jwt_c.specs.Faults.{missing_in, missing_name, bare, verdict_numbers};
 ghost use Rattle.jwt_c.specs.ProvedKept.{HasSameRoom};
-ghost use Rattle.jwt_c.specs.Remembering.{RestsOn, IsHeldIn, StaysTrue};
+ghost use Rattle.jwt_c.specs.Keeping.{AddsNone, AddsOnly, AddsReport, AddsTold};
+ghost use Rattle.jwt_c.specs.Remembering.{RestsOn};
 ghost use Rattle.jwt_c.specs.Reports.{IsNew, IsAsked, IsAsking, IsJudged, Says, claims_in, report_numbers};
 
 use crate::grounds::Documents;
@@ -115,7 +116,8 @@ fn missing_name(alloc: Global, fault: &ClaimFault<'_>) -> Result<Vec<u8>, AllocE
 
 /// The name of the claim that a verdict finds missing.
 fn missing(alloc: Global, verdict: &Verdict<'_>) -> Result<Vec<u8>, AllocError>
-    ensures { IfOk result (λ v. v.items ≡ missing_in verdict.now) }
+    ensures name { IfOk result (λ v. v.items ≡ missing_in verdict.now) }
+    ensures fails { IfErr result (λ _. claims_in verdict.now ≡ None) }
 {
     match verdict {
         Verdict::Refused(Fault::Claim(fault)) => missing_name(alloc, fault),
@@ -267,6 +269,8 @@ fn recalled(
         (arc_value basis).key (arc_value basis).claims fault.entry) (arc_value basis))
         j.said j.last) }
     ensures remembered { IfOk result (λ j. j.last.remembered ≡ true) }
+    ensures fails { IfErr result (λ _. claims_in (checked (arc_value basis).signature
+        (arc_value basis).key (arc_value basis).claims fault.entry) ≡ None) }
 {
     match fault {
         None => {
@@ -289,6 +293,7 @@ pub(crate) fn judging_of(
     requires { paid ≡ work (paid_in outcome) }
     ensures says { IfOk result (λ j. Says (report_in outcome.entry) j.said j.last) }
     ensures remembered { IfOk result (λ j. j.last.remembered ≡ is_remembered outcome.entry) }
+    ensures fails { IfErr result (λ _. claims_in (report_in outcome.entry).verdict ≡ None) }
 {
     match outcome {
         Outcome::Judged(report) => {
@@ -320,10 +325,11 @@ fn outcome_of<'a, 'p>(
     requires ceiling { ⟦<CountDown as Budget>⟧.ceiling budget.old ≡ documents.now.policy.run.work }
     ensures rests { IfOk result (λ o. RestsOn (is_remembered o) (told answers.now) memory.old
         documents.now now octets.now (report_in o)) }
-    ensures held { IfOk result (λ o. IsHeldIn (is_remembered o) memory.old
-        octets.now documents.now.policy.run.work) }
     ensures paid { IfOk result (λ o. ⟦<CountDown as Budget>⟧.octets budget.new ≡ work (paid_in o)) }
-    ensures stays { StaysTrue (told answers.now) documents.now memory.old memory.new }
+    ensures adds { MatchResult result
+        (λ o. AddsReport documents.now.policy.run.work octets.now (report_in o) memory.old memory.new)
+        (λ _. AddsNone memory.old memory.new) }
+    ensures told { AddsTold (told answers.now) documents.now memory.old memory.new }
     ensures room { HasSameRoom memory.new memory.old }
     ensures asks { IfErr result (λ a. IsAsking (told answers.now) documents.now now octets.now a) }
 {
@@ -348,7 +354,10 @@ fn report_on(alloc: Global, state: &mut State, octets: &[u8], now: i64) -> Judgi
     ensures claims { result.said.verdict ≢ FOW_OK → claims_kept result.last ≡ None }
     ensures grounds { state.new.grounds ≡ state.old.grounds }
     ensures told { told state.new.answers ≡ told state.old.answers }
-    ensures stays { StaysTrue (told state.old.answers) (documents state.old)
+    ensures open { result.said.verdict ≤ FOW_OUT_OF_MEMORY }
+    ensures adds { AddsOnly (documents state.old).policy.run.work octets.now result.said result.last
+        state.old.memory state.new.memory }
+    ensures kept { AddsTold (told state.old.answers) (documents state.old)
         state.old.memory state.new.memory }
     ensures room { HasSameRoom state.new.memory state.old.memory }
 {
@@ -383,7 +392,10 @@ pub(crate) fn judge_state(alloc: Global, state: &mut State, octets: &[u8], now: 
     ensures claims { result.verdict ≢ FOW_OK → claims_kept state.new.last ≡ None }
     ensures grounds { state.new.grounds ≡ state.old.grounds }
     ensures told { told state.new.answers ≡ told state.old.answers }
-    ensures stays { StaysTrue (told state.old.answers) (documents state.old)
+    ensures open { result.verdict ≤ FOW_OUT_OF_MEMORY }
+    ensures adds { AddsOnly (documents state.old).policy.run.work octets.now result state.new.last
+        state.old.memory state.new.memory }
+    ensures kept { AddsTold (told state.old.answers) (documents state.old)
         state.old.memory state.new.memory }
     ensures room { HasSameRoom state.new.memory state.old.memory }
 {

@@ -1,6 +1,6 @@
 //! A token judged by the proved verifiers.
 
-ghost use Rattle.jwt_c.specs.declared.status.TheConstants.{FOW_ASKS, FOW_OK, FOW_REFUSED};
+ghost use Rattle.jwt_c.specs.declared.status.TheConstants.{FOW_ASKS, FOW_OK, FOW_OUT_OF_MEMORY, FOW_REFUSED};
 ghost use Rattle.std.specs.Prelude.{◌≡◌, ◌≢◌, ◌≤◌, map};
 ghost use Rattle.jwt_verify.specs.Reports.{IsReport, terms};
 ghost use Rattle.jwt_verify.specs.Table.{work};
@@ -8,6 +8,7 @@ ghost use Rattle.jwt_memory.specs.Outcomes.{report_in, paid_in, is_remembered};
 ghost use Rattle.jwt_told.specs.Told.{told};
 ghost use Rattle.jwt_c.specs.Documents.{documents};
 ghost use Rattle.jwt_c.specs.Evidence.{claims_kept};
+ghost use Rattle.jwt_c.specs.Keeping.{AddsOnly, AddsReport};
 ghost use Rattle.jwt_c.specs.ProvedKept.{AreProvedKept, HasSameRoom, lent_documents, proved_meanings};
 ghost use Rattle.jwt_c.specs.Proving.{IsProved};
 ghost use Rattle.jwt_c.specs.Remembering.{IsHeldIn};
@@ -50,6 +51,7 @@ fn outcome_under<'p>(
     ensures paid { ⟦<CountDown as Budget>⟧.octets budget.new ≡ work (paid_in result) }
     ensures kept { AreProvedKept (lent_documents under.now) memory.new }
     ensures room { HasSameRoom memory.new memory.old }
+    ensures adds { AddsReport under.now.policy.now.run.work octets.now (report_in result) memory.old memory.new }
 {
     match memory {
         Some(memory) => jwt_memory::judge(memory, alloc, octets, under, budget),
@@ -79,6 +81,8 @@ fn judging_under(
     ensures claims { result.said.verdict ≢ FOW_OK → claims_kept result.last ≡ None }
     ensures kept { AreProvedKept (lent_documents under.now) memory.new }
     ensures room { HasSameRoom memory.new memory.old }
+    ensures open { result.said.verdict ≤ FOW_OUT_OF_MEMORY }
+    ensures adds { AddsOnly under.now.policy.now.run.work octets.now result.said result.last memory.old memory.new }
 {
     let mut budget = under.policy.budget();
     let outcome = outcome_under(alloc, memory, octets, under, &mut budget, scratch);
@@ -124,6 +128,8 @@ impl Documents {
         ensures claims { result.said.verdict ≢ FOW_OK → claims_kept result.last ≡ None }
         ensures kept { AreProvedKept self.now memory.new }
         ensures room { HasSameRoom memory.new memory.old }
+        ensures open { result.said.verdict ≤ FOW_OUT_OF_MEMORY }
+        ensures adds { AddsOnly self.now.policy.run.work octets.now result.said result.last memory.old memory.new }
     {
         let Ok(rsa) = Box::new(alloc, Rsa) else {
             return bare(alloc, FOW_OUT_OF_MEMORY);
@@ -150,6 +156,9 @@ pub(crate) fn prove_state(alloc: Global, state: &mut State, octets: &[u8], now: 
     ensures told { told state.new.answers ≡ told state.old.answers }
     ensures memory { state.new.memory ≡ state.old.memory }
     ensures room { HasSameRoom state.new.grounds.1 state.old.grounds.1 }
+    ensures open { result.verdict ≤ FOW_OUT_OF_MEMORY }
+    ensures adds { AddsOnly (documents state.old).policy.run.work octets.now result state.new.last
+        state.old.grounds.1 state.new.grounds.1 }
 {
     let Judging { said, last } = state.grounds.judge(alloc, octets, now, &mut *state.scratch);
     state.last = last;

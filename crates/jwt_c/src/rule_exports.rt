@@ -5,7 +5,7 @@ ghost use Rattle.std.specs.Prelude.{◌≡◌, ◌≢◌, IfSome, None, slice_ge
 ghost use Rattle.jwt_access.specs.Document.{rule_of};
 ghost use Rattle.jwt_c.specs.Evidence.{claims_kept};
 ghost use Rattle.jwt_c.specs.Access.{HoldsRule, IsRuleRefused, IsHeldAgainst, PutsDenied, refused_in};
-ghost use Rattle.jwt_c.specs.Written.{PutsSome};
+ghost use Rattle.jwt_c.specs.Written.{PutsHeld, PutsSome};
 
 use crate::access::{hold, put_denied, put_refused, put_scope, rule_of};
 use crate::handle::{Handle, take};
@@ -48,7 +48,8 @@ pub extern "C" fn fow_access_refused(
     out: &mut [u8],
     written: &mut usize,
 ) -> u32
-    ensures { PutsSome (refused_in (rule_of rule.now)) result written.new out.old out.new }
+    ensures name { PutsSome (refused_in (rule_of rule.now)) result written.new out.old out.new }
+    ensures unwritten { result ≢ FOW_OK → (out.new ≡ out.old) × (written.new ≡ written.old) }
 {
     put_refused(alloc, rule, out, written)
 }
@@ -56,7 +57,7 @@ pub extern "C" fn fow_access_refused(
 /// Frees what is held, if anything is.
 #[unsafe(no_mangle)]
 pub extern "C" fn fow_access_close(access: &mut RuleHandle, alloc: Global)
-    ensures { access.new.state ≡ None }
+    ensures closed { access.new.state ≡ None }
 {
     *access = RuleHandle::empty(alloc);
 }
@@ -73,8 +74,9 @@ pub extern "C" fn fow_access_scope(
 ) -> u32
     ensures same { access.new.state ≡ access.old.state }
     ensures none { access.old.state ≡ None → result ≡ FOW_NOT_OPEN }
-    ensures scope { IfSome access.old.state (λ a. PutsSome
+    ensures scope { IfSome access.old.state (λ a. PutsHeld
         (slice_get a.rule.scopes number) result written.new out.old out.new) }
+    ensures unwritten { result ≢ FOW_OK → (out.new ≡ out.old) × (written.new ≡ written.old) }
 {
     let Some(state) = take_rule(access, alloc) else {
         return FOW_NOT_OPEN;
@@ -132,6 +134,7 @@ pub extern "C" fn fow_denied_name(
     ensures no_rule { access.old.state ≡ None → result ≡ FOW_NOT_OPEN }
     ensures name { IfSome validator.old.state (λ d. IfSome access.old.state (λ a.
         PutsDenied a.rule (claims_kept d.last) result written.new out.old out.new)) }
+    ensures unwritten { result ≢ FOW_OK → (out.new ≡ out.old) × (written.new ≡ written.old) }
 {
     let Some(state) = take(validator, alloc) else {
         return FOW_NOT_OPEN;

@@ -1,7 +1,7 @@
 //! Octets that are written for the caller.
 
-ghost use Rattle.jwt_c.specs.declared.status.TheConstants.{FOW_ABSENT};
-ghost use Rattle.std.specs.Prelude.{◌≡◌, IsUtf8, None, option_map};
+ghost use Rattle.jwt_c.specs.declared.status.TheConstants.{FOW_ABSENT, FOW_OK};
+ghost use Rattle.std.specs.Prelude.{◌≡◌, ◌≢◌, IsUtf8, None, option_map};
 ghost use Rattle.jwt_text.specs.Base64url.{octets_of};
 ghost use Rattle.jwt_verify.specs.Verdict.{token_of};
 ghost use Rattle.jwt_c.specs.Documents.{documents};
@@ -17,7 +17,8 @@ use std::str::from_utf8;
 
 /// Puts octets at the front of `out`. `FOW_OK`; `FOW_TOO_SHORT`: it is too short.
 pub(crate) fn put(octets: &[u8], out: &mut [u8], written: &mut usize) -> u32
-    ensures { Puts octets.now result written.new out.old out.new }
+    ensures written { Puts octets.now result written.new out.old out.new }
+    ensures unwritten { result ≢ FOW_OK → (out.new ≡ out.old) × (written.new ≡ written.old) }
 {
     if octets.len() > out.len() {
         return FOW_TOO_SHORT;
@@ -36,8 +37,9 @@ pub(crate) fn payload_of(
     out: &mut [u8],
     written: &mut usize,
 ) -> u32
-    ensures { PutsPayload (token_of (documents state.now).policy token.now)
+    ensures written { PutsPayload (token_of (documents state.now).policy token.now)
         result written.new out.old out.new }
+    ensures unwritten { result ≢ FOW_OK → (out.new ≡ out.old) × (written.new ≡ written.old) }
 {
     match read_token(alloc, token, &state.grounds.documents().policy) {
         Ok(Some(signed)) => put(signed.payload(), out, written),
@@ -57,8 +59,9 @@ impl State {
         out: &mut [u8],
         written: &mut usize,
     ) -> u32
-        ensures { PutsSome (header_octets_at (token_of (documents self.now).policy token.now) signature)
+        ensures written { PutsSome (header_octets_at (token_of (documents self.now).policy token.now) signature)
             result written.new out.old out.new }
+        ensures unwritten { result ≢ FOW_OK → (out.new ≡ out.old) × (written.new ≡ written.old) }
     {
         match read_token(alloc, token, &self.grounds.documents().policy) {
             Ok(Some(signed)) => match signed.signature(signature) {
@@ -74,7 +77,8 @@ impl State {
 /// Puts the octets that a base64url text spells at the front of `out`. `FOW_OK`; `FOW_OUT_OF_MEMORY`: memory was refused; `FOW_TOO_SHORT`:
 /// `out` is too short; `FOW_ABSENT`: it spells none.
 fn put_decoded(alloc: Global, text: &[u8], out: &mut [u8], written: &mut usize) -> u32
-    ensures { PutsSome (octets_of text.now) result written.new out.old out.new }
+    ensures written { PutsSome (octets_of text.now) result written.new out.old out.new }
+    ensures unwritten { result ≢ FOW_OK → (out.new ≡ out.old) × (written.new ≡ written.old) }
 {
     match decode(alloc, text) {
         Ok(octets) => put(&octets, out, written),
@@ -95,6 +99,7 @@ pub(crate) fn put_claim(
     ensures claim { IsUtf8 name.now
         → PutsSome (claim_text_at (option_map (λ c. c.now) claims.entry) name.now) result written.new out.old out.new }
     ensures other { ¬ IsUtf8 name.now → result ≡ FOW_ABSENT }
+    ensures unwritten { result ≢ FOW_OK → (out.new ≡ out.old) × (written.new ≡ written.old) }
 {
     let Ok(name) = from_utf8(name) else {
         return FOW_ABSENT;

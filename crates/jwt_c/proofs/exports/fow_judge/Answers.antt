@@ -2,7 +2,7 @@ use Rattle.std.proofs.Common.{◌≡◌, ◌≤◌, sym, subst, IfSome, Some}
 use Rattle.std.proofs.Math.Facts.{to_z-of_z}
 use Rattle.jwt_c.specs.declared.status.TheConstants.{FOW_ASKS, FOW_REFUSED}
 use Rattle.jwt_c.specs.Reports.{IsAsked, IsAskedBy, IsJudged, IsJudgedBy}
-use Rattle.jwt_c.specs.Remembering.{RemembersTold}
+use Rattle.jwt_c.specs.Keeping.{RemembersTold}
 use Rattle.jwt_c.proofs.exports.fow_judge.Goals as goal
 
 pub returns-clause-judged : goal.returns-clause-judged
@@ -23,7 +23,7 @@ returns-clause-asks c =
 
 pub returns-clause-remembers : goal.returns-clause-remembers
 returns-clause-remembers c =
-    let kept = c.judge_state-said.new.state in let is = c.judge_state-said.ensures in
-    subst (λ o. IfSome o (λ d. RemembersTold d c.of.result.state)) (sym c.in-Some.ensures.held)
-    (subst (λ o. RemembersTold c.in-Some.state.value o) (sym c.of.ensures)
-    (subst (λ d. RemembersTold d (Some kept)) c.deref_mut.ensures.value (is.stays, is.room, is.grounds)))
+    let kept = c.judge_state-said.new.state in let is = c.judge_state-said.ensures in let x = c.args.token.now in let said = c.judge_state-said.result in
+    subst (λ o. IfSome o (λ d. RemembersTold d x said c.of.result.state)) (sym c.in-Some.ensures.held)
+    (subst (λ o. RemembersTold c.in-Some.state.value x said o) (sym c.of.ensures)
+    (subst (λ d. RemembersTold d x said (Some kept)) c.deref_mut.ensures.value (is.adds, is.kept, is.room, is.grounds)))

@@ -2,7 +2,7 @@ use Rattle.std.proofs.Common.{◌≤◌, sym, subst, IfSome, Some}
 use Rattle.std.proofs.Math.Facts.{to_z-of_z}
 use Rattle.jwt_c.specs.declared.status.TheConstants.{FOW_REFUSED}
 use Rattle.jwt_c.specs.Proving.{IsProved, IsProvedBy}
-use Rattle.jwt_c.specs.Remembering.{RemembersProved}
+use Rattle.jwt_c.specs.Keeping.{RemembersProved}
 use Rattle.jwt_c.proofs.exports.fow_proved_judge.Goals as goal
 
 pub returns-clause-judged : goal.returns-clause-judged
@@ -15,7 +15,7 @@ returns-clause-judged c =
 
 pub returns-clause-remembers : goal.returns-clause-remembers
 returns-clause-remembers c =
-    let kept = c.prove_state-said.new.state in let is = c.prove_state-said.ensures in
-    subst (λ o. IfSome o (λ d. RemembersProved d c.of.result.state)) (sym c.in-Some.ensures.held)
-    (subst (λ o. RemembersProved c.in-Some.state.value o) (sym c.of.ensures)
-    (subst (λ d. RemembersProved d (Some kept)) c.deref_mut.ensures.value (is.room, is.memory)))
+    let kept = c.prove_state-said.new.state in let is = c.prove_state-said.ensures in let x = c.args.token.now in let said = c.prove_state-said.result in
+    subst (λ o. IfSome o (λ d. RemembersProved d x said c.of.result.state)) (sym c.in-Some.ensures.held)
+    (subst (λ o. RemembersProved c.in-Some.state.value x said o) (sym c.of.ensures)
+    (subst (λ d. RemembersProved d x said (Some kept)) c.deref_mut.ensures.value (is.adds, is.room, is.memory)))

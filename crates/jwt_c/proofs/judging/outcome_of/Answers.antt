@@ -1,12 +1,13 @@
-use Rattle.std.proofs.Common.{◌≡◌, ◌∷◌, [], true, false, sym, subst}
-use Rattle.std.specs.Result.{IfOk, IfErr}
+use Rattle.std.proofs.Common.{◌≡◌, ◌∷◌, [], Some, true, false, sym, subst}
+use Rattle.std.specs.Result.{IfOk, IfErr, MatchResult}
 use Rattle.std.proofs.Math.Facts.{to_z-of_z}
 use Rattle.jwt_verify.specs.Reports.{terms}
-use Rattle.jwt_told.specs.Told.{Truth, told, told_meaning}
+use Rattle.jwt_told.specs.Told.{told, told_meaning}
 use Rattle.jwt_told.specs.Questions.{AreTries}
-use Rattle.jwt_memory.specs.Outcomes.{is_remembered, report_in}
-use Rattle.jwt_memory.specs.ToldKept.{AreTrulyKept, IsToldNow, IsTrulyRemembered}
-use Rattle.jwt_c.specs.Remembering.{RestsOn, IsTrulyKept}
+use Rattle.jwt_memory.specs.Outcomes.{KeepsNone, KeepsOnly, is_remembered, report_in}
+use Rattle.jwt_memory.specs.ToldKept.{IsToldNow, IsRecalled}
+use Rattle.jwt_c.specs.Keeping.{AddsNone, AddsReport, AddsTold}
+use Rattle.jwt_c.specs.Remembering.{RestsOn}
 use Rattle.jwt_c.proofs.Resting.{rests_if, asks_if}
 use Rattle.jwt_c.proofs.judging.outcome_of.Goals as goal
 
@@ -17,11 +18,18 @@ returns-in-Some-clause-rests c =
     subst (λ m. IfOk all (λ o. RestsOn (is_remembered o) ts m it now x (report_in o))) (sym c.in-Some.is) (rests_if all ts m it now x
     (subst (λ w. IfOk all (λ o. is_remembered o ≡ false → IsToldNow ts it.policy it.keys now x w (report_in o))) c.requires.ceiling
     (subst (λ n. IfOk all (λ o. is_remembered o ≡ false → IsToldNow ts it.policy it.keys n x w (report_in o))) (to_z-of_z c.ranges.now) c.judge_told.ensures.anew))
-    (subst (λ w. IfOk all (λ o. is_remembered o ≡ true → (truth : Truth) → AreTrulyKept truth it.policy it.keys m → IsTrulyRemembered truth it.policy it.keys now x w (report_in o))) c.requires.ceiling
-    (subst (λ n. IfOk all (λ o. is_remembered o ≡ true → (truth : Truth) → AreTrulyKept truth it.policy it.keys m → IsTrulyRemembered truth it.policy it.keys n x w (report_in o))) (to_z-of_z c.ranges.now) c.judge_told.ensures.remembered)))
+    (subst (λ w. IfOk all (λ o. is_remembered o ≡ true → IsRecalled m it.policy now x w (report_in o))) c.requires.ceiling
+    (subst (λ n. IfOk all (λ o. is_remembered o ≡ true → IsRecalled m it.policy n x w (report_in o))) (to_z-of_z c.ranges.now) c.judge_told.ensures.remembered)))
 
-pub returns-in-Some-clause-stays : goal.returns-in-Some-clause-stays
-returns-in-Some-clause-stays c truth right kept = c.judge_told.ensures.kept truth right (subst (λ m. IsTrulyKept truth c.args.documents.now m) c.in-Some.is kept)
+pub returns-in-Some-clause-adds : goal.returns-in-Some-clause-adds
+returns-in-Some-clause-adds c =
+    let it = c.args.documents.now in let x = c.args.octets.now in let all = c.judge_told.result in let n = c.judge_told.new.memory in
+    subst (λ m. MatchResult all (λ o. AddsReport it.policy.run.work x (report_in o) m (Some n)) (λ _. AddsNone m (Some n))) (sym c.in-Some.is)
+    (subst (λ w. MatchResult all (λ o. KeepsOnly x w (report_in o) c.in-Some.memory n) (λ _. KeepsNone c.in-Some.memory n)) c.requires.ceiling c.judge_told.ensures.held)
+
+pub returns-in-Some-clause-told : goal.returns-in-Some-clause-told
+returns-in-Some-clause-told c =
+    subst (λ m. AddsTold (told c.args.answers.now) c.args.documents.now m (Some c.judge_told.new.memory)) (sym c.in-Some.is) c.judge_told.ensures.kept
 
 pub returns-in-Some-clause-asks : goal.returns-in-Some-clause-asks
 returns-in-Some-clause-asks c =

@@ -1,4 +1,4 @@
-use Rattle.std.proofs.Common.{◌≡◌, ◌∷◌, [], ◌∙◌, sym, subst, ap, false, List, length, option_map}
+use Rattle.std.proofs.Common.{◌≡◌, ◌≤◌, ◌∷◌, [], ◌∙◌, sym, subst, ap, false, List, length, option_map}
 use Rattle.std.proofs.Math.Facts.{to_z-of_z}
 use Rattle.jwt_mac.specs.Verifying.{Meaning}
 use Rattle.jwt_verify.specs.Reports.{terms}
@@ -9,9 +9,11 @@ use Rattle.jwt_told.specs.Questions.{AreTries, IsFirstOpen, IsOpen, kept_parts}
 use Rattle.jwt_memory.specs.Outcomes.{is_remembered, report_in}
 use Rattle.jwt_c.specs.Documents.{documents}
 use Rattle.jwt_c.specs.Evidence.{tries_kept}
-use Rattle.jwt_c.specs.Remembering.{RestsOn, IsHeldIn, StaysTrue}
+use Rattle.jwt_c.specs.Keeping.{AddsOnly, AddsTold}
+use Rattle.jwt_c.specs.Remembering.{RestsOn}
 use Rattle.jwt_c.specs.Reports.{IsAsking, asked_at}
-use Rattle.jwt_c.proofs.Telling.{never_asks, no_claims}
+use Rattle.jwt_c.proofs.Adding.{adds_said, adds_nothing, adds_none}
+use Rattle.jwt_c.proofs.Telling.{is_small, never_asks, no_claims}
 use Rattle.jwt_c.proofs.judging.report_on.Goals as goal
 
 pub returns-in-Ok-judging_of-clause-judged : goal.returns-in-Ok-judging_of-clause-judged
@@ -22,10 +24,7 @@ returns-in-Ok-judging_of-clause-judged c _ =
     subst (λ b. RestsOn b ts d.memory (documents d) c.args.now x r) (sym is.remembered)
     (subst (λ it. RestsOn (is_remembered o) ts d.memory it c.args.now x r) c.documents-documents.ensures
     (subst (λ n. RestsOn (is_remembered o) ts d.memory lent n x r) (to_z-of_z c.ranges.now) c.in-Ok.ensures.rests)) in
-    let held : IsHeldIn last.remembered d.memory x (documents d).policy.run.work =
-    subst (λ b. IsHeldIn b d.memory x (documents d).policy.run.work) (sym is.remembered)
-    (subst (λ it. IsHeldIn (is_remembered o) d.memory x it.policy.run.work) c.documents-documents.ensures c.in-Ok.ensures.held) in
-    (r, rests, held, is.says)
+    (r, rests, is.says)
 
 pub returns-in-Ok-judging_of-clause-asks : goal.returns-in-Ok-judging_of-clause-asks
 returns-in-Ok-judging_of-clause-asks c asks = absurd (never_asks (report_in c.in-Ok.outcome).verdict (sym (ap (λ n. n.verdict) c.in-Ok-judging_of.ensures.says.0) ∙ asks))
@@ -35,9 +34,15 @@ returns-in-Ok-judging_of-clause-claims c h =
     let says = c.in-Ok-judging_of.ensures.says in
     says.3.2 ∙ no_claims (report_in c.in-Ok.outcome).verdict (λ z. h (ap (λ n. n.verdict) says.0 ∙ z))
 
-pub returns-in-Ok-judging_of-clause-stays : goal.returns-in-Ok-judging_of-clause-stays
-returns-in-Ok-judging_of-clause-stays c =
-    subst (λ it. StaysTrue (told c.args.state.now.answers) it c.args.state.now.memory c.outcome_of.new.memory) c.documents-documents.ensures c.outcome_of.ensures.stays
+pub returns-in-Ok-judging_of-clause-kept : goal.returns-in-Ok-judging_of-clause-kept
+returns-in-Ok-judging_of-clause-kept c =
+    subst (λ it. AddsTold (told c.args.state.now.answers) it c.args.state.now.memory c.outcome_of.new.memory) c.documents-documents.ensures c.outcome_of.ensures.told
+
+pub returns-in-Ok-judging_of-clause-adds : goal.returns-in-Ok-judging_of-clause-adds
+returns-in-Ok-judging_of-clause-adds c =
+    let d = c.args.state.now in let x = c.args.octets.now in let lent = c.documents-documents.result.now in
+    subst (λ it. AddsOnly it.policy.run.work x c.in-Ok-judging_of.judging.said c.in-Ok-judging_of.judging.last d.memory c.outcome_of.new.memory) c.documents-documents.ensures
+    (adds_said lent.policy.run.work x c.in-Ok-judging_of.judging.said c.in-Ok-judging_of.judging.last (report_in c.in-Ok.outcome) c.in-Ok-judging_of.ensures.says d.memory c.outcome_of.new.memory c.in-Ok.ensures.adds)
 
 pub returns-in-Ok-asking-clause-asks : goal.returns-in-Ok-asking-clause-asks
 returns-in-Ok-asking-clause-asks c _ =
@@ -64,14 +69,36 @@ returns-in-Ok-asking-clause-asks c _ =
     × (option_map kept_parts last.asked ≡ asked_at (token_of it.policy x) (key_set it.keys).keys said.signature said.key) × (last.remembered ≡ false)) c.documents-documents.ensures
     (tries, first, here, is.count ∙ ap length (sym is.tries), asked, is.anew)
 
-pub returns-in-Ok-asking-clause-stays : goal.returns-in-Ok-asking-clause-stays
-returns-in-Ok-asking-clause-stays c =
-    subst (λ it. StaysTrue (told c.args.state.now.answers) it c.args.state.now.memory c.outcome_of.new.memory) c.documents-documents.ensures c.outcome_of.ensures.stays
+pub returns-in-Ok-asking-clause-kept : goal.returns-in-Ok-asking-clause-kept
+returns-in-Ok-asking-clause-kept c =
+    subst (λ it. AddsTold (told c.args.state.now.answers) it c.args.state.now.memory c.outcome_of.new.memory) c.documents-documents.ensures c.outcome_of.ensures.told
 
-pub returns-in-Err-judging_of-clause-stays : goal.returns-in-Err-judging_of-clause-stays
-returns-in-Err-judging_of-clause-stays c =
-    subst (λ it. StaysTrue (told c.args.state.now.answers) it c.args.state.now.memory c.outcome_of.new.memory) c.documents-documents.ensures c.outcome_of.ensures.stays
+pub returns-in-Ok-asking-clause-adds : goal.returns-in-Ok-asking-clause-adds
+returns-in-Ok-asking-clause-adds c =
+    let d = c.args.state.now in let x = c.args.octets.now in let lent = c.documents-documents.result.now in
+    subst (λ it. AddsOnly it.policy.run.work x c.in-Ok-asking.judging.said c.in-Ok-asking.judging.last d.memory c.outcome_of.new.memory) c.documents-documents.ensures
+    (adds_none lent.policy.run.work x c.in-Ok-asking.judging.said c.in-Ok-asking.judging.last d.memory c.outcome_of.new.memory c.in-Err.ensures.adds)
 
-pub returns-in-Err-asking-clause-stays : goal.returns-in-Err-asking-clause-stays
-returns-in-Err-asking-clause-stays c =
-    subst (λ it. StaysTrue (told c.args.state.now.answers) it c.args.state.now.memory c.outcome_of.new.memory) c.documents-documents.ensures c.outcome_of.ensures.stays
+pub returns-in-Err-judging_of-clause-kept : goal.returns-in-Err-judging_of-clause-kept
+returns-in-Err-judging_of-clause-kept c =
+    subst (λ it. AddsTold (told c.args.state.now.answers) it c.args.state.now.memory c.outcome_of.new.memory) c.documents-documents.ensures c.outcome_of.ensures.told
+
+pub returns-in-Err-judging_of-clause-adds : goal.returns-in-Err-judging_of-clause-adds
+returns-in-Err-judging_of-clause-adds c =
+    let d = c.args.state.now in let x = c.args.octets.now in let lent = c.documents-documents.result.now in
+    subst (λ it. AddsOnly it.policy.run.work x c.bare.result.said c.bare.result.last d.memory c.outcome_of.new.memory) c.documents-documents.ensures
+    (adds_nothing lent.policy.run.work x c.bare.result.said c.bare.result.last (report_in c.in-Ok.outcome) c.in-Err-judging_of.ensures.fails d.memory c.outcome_of.new.memory c.in-Ok.ensures.adds)
+
+pub returns-in-Err-asking-clause-kept : goal.returns-in-Err-asking-clause-kept
+returns-in-Err-asking-clause-kept c =
+    subst (λ it. AddsTold (told c.args.state.now.answers) it c.args.state.now.memory c.outcome_of.new.memory) c.documents-documents.ensures c.outcome_of.ensures.told
+
+pub returns-in-Err-asking-clause-adds : goal.returns-in-Err-asking-clause-adds
+returns-in-Err-asking-clause-adds c =
+    let d = c.args.state.now in let x = c.args.octets.now in let lent = c.documents-documents.result.now in
+    subst (λ it. AddsOnly it.policy.run.work x c.bare-in-Err-asking.result.said c.bare-in-Err-asking.result.last d.memory c.outcome_of.new.memory) c.documents-documents.ensures
+    (adds_none lent.policy.run.work x c.bare-in-Err-asking.result.said c.bare-in-Err-asking.result.last d.memory c.outcome_of.new.memory c.in-Err.ensures.adds)
+
+pub returns-in-Ok-judging_of-clause-open : goal.returns-in-Ok-judging_of-clause-open
+returns-in-Ok-judging_of-clause-open c =
+    subst (λ n. n ≤ 3) (sym (ap (λ n. n.verdict) c.in-Ok-judging_of.ensures.says.0)) (is_small (report_in c.in-Ok.outcome).verdict)

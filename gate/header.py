@@ -1,0 +1,155 @@
+#!/usr/bin/env python3
+"""Takes each "Proved:" of include/fowharimu.h apart by call and status, and finds for each a clause of the exported function that has that status: in
+the clause, or in a definition of jwt_c that it cites. What is said without a status is one of the sentences below, and the call has the clauses
+that stand beside it. A rough reader of the layout of `rt fmt`: it finds that a clause is there, and not that it says the same. It ends with
+'N passed, M failed', where a call with a status, and a sentence without one, count as one."""
+import pathlib, re, sys
+
+TOP = pathlib.Path(__file__).resolve().parent.parent
+HEADER = (TOP / "include/fowharimu.h").read_text()
+CRATE = TOP / "crates/jwt_c"
+# What is said of a call without a status, or beside one, and the clauses that say it; `CALL.CLAUSE` is one of another call. With `=` it is all
+# of the sentence.
+SENTENCES = {
+    "the other holds what it held": ["another"],
+    "holds what it held": ["same"],
+    "what is held stays": ["same"],
+    "both hold what they held": ["same", "same_rule"],
+    "no claims are kept": ["claims"],
+    "the policy, the key set and the answers stay": ["alike"],
+    "what is kept of the last judging stays": ["last"],
+    "what else is kept of the last judging stays, and it asks nothing more": ["last"],
+    "exactly this answer is added to those before": ["told"],
+    "exactly that answer is added to those before": ["told"],
+    "else the answers are as before": ["told"],
+    "*report is written for FOW_REFUSED alone": ["unsaid"],
+    "an acceptance or a refusal, with all that *report says of it, is the verdict": ["judged", "verdict"],
+    "what is accepted or refused, and all that *report says of it, is the verdict": ["judged", "verdict"],
+    "HMAC is verified; for the other algorithms your answers are believed": ["judged"],
+    "where each answer is right, it is the verdict under what is right": ["judged"],
+    "the validator holds nothing": ["closed"],
+    "=nothing is held": ["closed"],
+    "no answer is kept, and the policy and the key set are as before": ["forgotten"],
+    "it remembers nothing new but its own token": ["fow_judge.remembers", "fow_proved_judge.remembers"],
+    "a verdict of fow_proved_judge is the one that its contract says, remembered or not": ["fow_proved_judge.judged"],
+    "a remembered verdict of fow_judge is what the token's claims come to now": ["fow_judge.judged", "fow_judge.remembers"],
+    "a verdict is remembered only where the memory holds all octets of the token": ["fow_judge.judged", "fow_proved_judge.judged"],
+    "it is true only where the memory held all octets of the token": ["remembered", "fow_judge.judged", "fow_proved_judge.judged"],
+    "is false where nothing is held": ["none"],
+    "true exactly where that is so; false where nothing is held": ["public", "none"],
+}
+# No clause can say that an allocation was refused.
+UNSAID = "FOW_OUT_OF_MEMORY"
+
+
+def definitions():
+    """The definitions of jwt_c by their names, each with its text."""
+    found = {}
+    for file in CRATE.glob("specs/*.antt"):
+        for block in re.split(r"\n\s*\n", file.read_text()):
+            name = re.search(r"^(?:(?:abbrev|unfoldable) )?(?:pub )?(?:record )?(\w+)", re.sub(r"^--.*\n", "", block, flags=re.MULTILINE))
+            if name:
+                found[name[1]] = block
+    return found
+
+
+def contracts():
+    """The clauses of each exported function: a name, or nothing, with its text."""
+    found = {}
+    for file in CRATE.glob("src/*.rt"):
+        for name, contract in re.findall(r'^pub extern "C" fn (\w+)\(.*?\n((?:    ensures .*?)?)^\{', file.read_text(), re.MULTILINE | re.DOTALL):
+            found[name] = dict(re.findall(r"^    ensures (\w*) ?\{(.*?)\}$", contract, re.MULTILINE | re.DOTALL))
+    return found
+
+
+def spread(clause, known):
+    """A clause with all definitions that it rests on."""
+    texts, todo, seen = [clause], [clause], set()
+    while todo:
+        for name in set(re.findall(r"\w+", todo.pop())) & known.keys() - seen:
+            seen.add(name)
+            texts.append(known[name])
+            todo.append(known[name])
+    return "\n".join(texts)
+
+
+def said():
+    """What the header says of each declared call, and what of that is proved."""
+    for comment, name in re.findall(r"/\*((?:(?!\*/).)*)\*/\n(?:const )?\w+ \*?(fow_\w+)\(", HEADER, re.DOTALL):
+        paragraphs = [re.sub(r"\s+", " ", it) for it in re.sub(r"\n \* ?", "\n", comment).split("\n\n")]
+        proved = [it[it.index("Proved") :] for it in paragraphs if "Proved" in it]
+        yield name, " ".join(paragraphs), " ".join(proved)
+
+
+def sentences(proved):
+    """The sentences of what is proved, without what is said in parentheses to be tested."""
+    text = re.sub(r"\([^()]*tested\.?\)", "", re.sub(r"^Proved:?(?: as with fow_\w+\.)?", "", proved)).strip()
+    return [it.strip(" .") for it in re.split(r"\.(?= |$)", text) if it.strip(" .")]
+
+
+class Judge:
+    """Counts what is said, and says what has no clause."""
+
+    def __init__(self):
+        self.known, self.clauses = definitions(), contracts()
+        enum = re.search(r"enum fow_status \{(.*?)\};", HEADER, re.DOTALL)[1]
+        self.statuses = re.findall(r"\b(FOW_\w+) =", enum)
+        self.passed, self.failed = 0, 0
+
+    def count(self, holds, words):
+        """Counts one, and says what is wrong with it."""
+        self.passed += holds
+        self.failed += not holds
+        if not holds:
+            print(f"include/fowharimu.h: {words}")
+
+    def has(self, call, clause):
+        """Whether the call, or the other one that is named, has a clause of that name."""
+        other, _, name = clause.rpartition(".")
+        return name in self.clauses.get(other or call, {})
+
+    def speaks_of(self, call, status, never):
+        """Whether a clause of the call has the status: that it is answered, or within what is, or never."""
+        sign = "≢" if never else "[≡≤]"
+        bound = "|≤ FOW_REFUSED" if status in ("FOW_OK", "FOW_REFUSED") else ""
+        return any(re.search(rf"{sign} (?:bare )?{status}\b{bound}", spread(it, self.known)) for it in self.clauses.get(call, {}).values())
+
+    def sentence(self, call, words):
+        """Judges one sentence."""
+        if UNSAID in words:
+            return self.count(False, f"{call}: no clause says why {UNSAID} is answered: {words}")
+        folded = words[0].lower() + words[1:]
+        hit = next((it for it in SENTENCES if it in words or it in folded or it == f"={folded}"), None)
+        named = [it for it in self.statuses if re.search(rf"\b{it}\b", words)]
+        if hit:
+            lacking = [it for it in SENTENCES[hit] if not self.has(call, it)]
+            self.count(not lacking, f"{call}: no clause {', '.join(lacking)} for: {words}")
+        for status in named:
+            self.count(self.speaks_of(call, status, "never answers" in words), f"{call}: no clause has {status}: {words}")
+        if not hit and not named:
+            self.count(False, f"{call}: nothing says which clauses say: {words}")
+
+    def call(self, name, line, proved):
+        """Judges all that is said of a call. What is C is said to be."""
+        if name not in self.clauses:
+            return self.count("It is C, and tested" in line, f"{name}: it isn't exported by jwt_c, and isn't said to be C")
+        self.count(bool(proved), f"{name}: nothing is said to be proved of it")
+        for it in proved:
+            self.sentence(name, it)
+
+
+def main():
+    """Judges the header."""
+    judge, all_said = Judge(), list(said())
+    texts = {name: proved for name, _, proved in all_said}
+    for name, line, proved in all_said:
+        as_with = re.match(r"Proved:? as with (fow_\w+)\.", proved)
+        judge.call(name, line, [*sentences(texts[as_with[1]] if as_with else ""), *sentences(proved)])
+    for name in sorted(judge.clauses.keys() - texts.keys()):
+        judge.count(False, f"{name}: it is exported, and isn't declared")
+    print(f"{judge.passed} passed, {judge.failed} failed")
+    return judge.failed > 0
+
+
+if __name__ == "__main__":
+    sys.exit(main())
