@@ -52,6 +52,7 @@ pub use Rattle.jwt_verify.specs.Verdicts
 pub use Rattle.jwt_verify.specs.declared.report.Fault.TheVariants as FaultVariants
 pub use Rattle.jwt_verify.specs.declared.report.InputFault.TheVariants as InputFaultVariants
 pub use Rattle.jwt_verify.specs.declared.report.Verdict.TheVariants as VerdictVariants
+pub use Rattle.jwt_memory.specs.Entries
 pub use Rattle.jwt_memory.specs.Kept
 pub use Rattle.jwt_memory.specs.Laws as MemoryLaws
 pub use Rattle.jwt_memory.specs.Outcomes

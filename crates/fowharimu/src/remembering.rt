@@ -2,17 +2,19 @@
 
 ghost use Rattle.std.specs.Prelude.{◌≡◌, ◌≢◌, [], IfOk, length, map};
 ghost use Rattle.std.specs.List.{AllPairs};
+ghost use Rattle.std.specs.NonZero.{non_zero_usize_get};
 ghost use Rattle.jwt_keys.specs.KeySets.{key_set};
 ghost use Rattle.jwt_verify.specs.Table.{work};
 ghost use Rattle.jwt_verify.specs.Accepted.{IsVerdict};
 ghost use Rattle.jwt_verify.specs.Laws.{IsBefore};
 ghost use Rattle.jwt_verify.specs.Paying.{IsWithin};
-ghost use Rattle.jwt_verify.specs.Reports.{FoundMemory, IsReport, AreEligible, IsBounded, terms};
+ghost use Rattle.jwt_verify.specs.Reports.{FoundMemory, IsReport, AreEligible, IsBounded, TakesMemory, terms};
 ghost use Rattle.jwt_verify.specs.declared.report.InputFault.TheVariants.{Read};
 ghost use Rattle.jwt_verify.specs.declared.report.Fault.TheVariants.{OutOfMemory, Text};
 ghost use Rattle.jwt_verify.specs.declared.report.Verdict.TheVariants.{Refused};
+ghost use Rattle.jwt_memory.specs.Entries.{HasRoomOf};
 ghost use Rattle.jwt_memory.specs.Kept.{AreKept};
-ghost use Rattle.jwt_memory.specs.Outcomes.{report_in, paid_in};
+ghost use Rattle.jwt_memory.specs.Outcomes.{report_in, paid_in, is_remembered, IsFound, KeepsOnly};
 ghost use Rattle.fowharimu.specs.Remembering.{built_in, terms_of_documents};
 
 use jwt_ecdsa::Ecdsa;
@@ -22,7 +24,8 @@ use jwt_mac::{Budget, Verifier};
 use jwt_memory::{Memory, Outcome};
 use jwt_policy::Policy;
 use jwt_rsa::Rsa;
-use jwt_verify::{Fault, Report, Terms, Verdict};
+use jwt_told::untried;
+use jwt_verify::Terms;
 use std::alloc::{AllocError, Global};
 use std::marker::Model;
 use std::num::NonZeroUsize;
@@ -42,7 +45,7 @@ use std::num::NonZeroUsize;
 /// let outcome = remembering.judge(alloc, octets, now, &mut policy.budget());
 /// ```
 ///
-/// Contracts see the policy and the keys.
+/// Contracts see the policy, the keys and the memory.
 #[derive(Drop)]
 pub struct Remembering<'p> {
     policy: &'p Policy,
@@ -51,33 +54,21 @@ pub struct Remembering<'p> {
 }
 
 impl<'p> Model for Remembering<'p> {
-    ghost use Rattle.std.specs.Prelude.{List, map};
-    ghost use Rattle.jwt_policy.specs.Settings.{Settings};
-    ghost use Rattle.jwt_keys.specs.Keys.{KeyParts};
+    ghost use Rattle.std.specs.Prelude.{map};
+    ghost use Rattle.std.specs.Coded.{codes};
+    ghost use Rattle.jwt_memory.specs.contracts.memory.Memory as kept;
+    ghost use Rattle.fowharimu.specs.Remembering.{WithMemory, built_in};
 
-    ghost Value = { Settings × List KeyParts };
+    ghost Value = { WithMemory };
+
+    ghost coded = { Prim.hlevel (codes, kept.the_row.coded) };
 
     ghost use Rattle.jwt_keys.specs.Views.{key_parts};
     ghost use Rattle.jwt_memory.specs.Kept.{AreKept};
-    ghost use Rattle.fowharimu.specs.Remembering.{built_in};
 
-    ghost view = { λ r. (r.policy.now, map key_parts r.keys.now.keys.items) };
+    ghost view = { λ r. record { policy = r.policy.now; keys = map key_parts r.keys.now.keys.items; memory = r.memory } };
 
     ghost invariant = { λ r. AreKept r.policy.now r.keys.now built_in r.memory };
-}
-
-/// The outcome where memory was refused before anything was tried.
-fn nothing_tried<'p>(alloc: Global) -> Outcome<'p>
-    ensures verdict { (report_in result).verdict ≡ Refused OutOfMemory }
-    ensures tries { (report_in result).tries.items ≡ [] }
-    ensures states { (report_in result).states.items ≡ [] }
-    ensures paid { paid_in result ≡ [] }
-{
-    Outcome::Judged(Report {
-        verdict: Verdict::Refused(Fault::OutOfMemory),
-        states: Vec::new(alloc),
-        tries: Vec::new(alloc),
-    })
 }
 
 /// The terms of a verdict by verifiers that mean what the built-in ones do.
@@ -120,6 +111,9 @@ fn judge_under<'p, B: Budget>(
         (terms under.now.policy.now under.now.keys.now under.now.moment built_in)
         octets.now (B.ceiling budget.old) (report_in result) }
     ensures read { (report_in result).verdict ≢ Refused (Text Read) }
+    ensures memory { (report_in result).verdict ≡ Refused OutOfMemory
+        → TakesMemory under.now.policy.now octets.now }
+    ensures found { IsFound (is_remembered result) memory.old octets.now (B.ceiling budget.old) }
     ensures once { AllPairs IsBefore (paid_in result) }
     ensures eligible { AreEligible
         (terms under.now.policy.now under.now.keys.now under.now.moment built_in)
@@ -132,6 +126,8 @@ fn judge_under<'p, B: Budget>(
     ensures calls { B.calls budget.new ≡ length (paid_in result) }
     ensures ceiling { B.ceiling budget.new ≡ B.ceiling budget.old }
     ensures kept { AreKept under.now.policy.now under.now.keys.now built_in memory.new }
+    ensures room { HasRoomOf memory.new memory.old }
+    ensures held { KeepsOnly octets.now (B.ceiling budget.old) (report_in result) memory.old memory.new }
 {
     jwt_memory::judge(memory, alloc, octets, under, budget)
 }
@@ -148,8 +144,10 @@ impl<'p> Remembering<'p> {
         tokens: NonZeroUsize,
         longest: usize,
     ) -> Result<Remembering<'p>, AllocError>
-        ensures policy { IfOk result (λ r. r.0 ≡ policy.now) }
-        ensures keys { IfOk result (λ r. r.1 ≡ (key_set keys.now).keys) }
+        ensures policy { IfOk result (λ r. r.policy ≡ policy.now) }
+        ensures keys { IfOk result (λ r. r.keys ≡ (key_set keys.now).keys) }
+        ensures nothing { IfOk result (λ r. r.memory.table.entries ≡ []) }
+        ensures room { IfOk result (λ r. (r.memory.table.cap ≡ non_zero_usize_get tokens) × (r.memory.longest ≡ longest)) }
     {
         let memory = Memory::new(alloc, tokens, longest)?;
         Ok(Remembering {
@@ -167,7 +165,7 @@ impl<'p> Remembering<'p> {
     ///
     /// # Refused
     /// As [`judge`](crate::judge) refuses.
-    #[tactic(auto, unfolding(jwt_verify::specs::Table::work), using(jwt_told::proofs::Blank::nothing))]
+    #[tactic(auto, unfolding(jwt_verify::specs::Table::work))]
     pub fn judge<B: Budget>(
         &mut self,
         alloc: Global,
@@ -185,30 +183,37 @@ impl<'p> Remembering<'p> {
         ensures report { IsReport (terms_of_documents self.old now)
             octets.now (B.ceiling budget.old) (report_in result) }
         ensures read { (report_in result).verdict ≢ Refused (Text Read) }
+        ensures memory { (report_in result).verdict ≡ Refused OutOfMemory
+            → TakesMemory self.old.policy octets.now }
+
+        // It is remembered only where the memory held these octets, accepted under this ceiling.
+        ensures found { IsFound (is_remembered result) self.old.memory octets.now (B.ceiling budget.old) }
 
         // What was paid in this call: no pair is tried twice, and each is eligible; the octets are within the bound, the calls within the
         // policy's ceiling.
         ensures once { AllPairs IsBefore (paid_in result) }
         ensures eligible { AreEligible (terms_of_documents self.old now) octets.now (paid_in result) }
         ensures bound { IsBounded (terms_of_documents self.old now) octets.now (paid_in result) (B.octets budget.new) }
-        ensures within { IsWithin self.old.0.max_calls (B.calls budget.new) }
+        ensures within { IsWithin self.old.policy.max_calls (B.calls budget.new) }
 
         // The budget agrees with that.
         ensures octets { B.octets budget.new ≡ work (paid_in result) }
         ensures calls { B.calls budget.new ≡ length (paid_in result) }
         ensures ceiling { B.ceiling budget.new ≡ B.ceiling budget.old }
 
-        // The policy and the keys stay.
-        ensures same { self.new ≡ self.old }
+        // The policy and the keys stay, and the room of the memory; it keeps nothing new but this token, where it is accepted now.
+        ensures same { (self.new.policy ≡ self.old.policy) × (self.new.keys ≡ self.old.keys) }
+        ensures room { HasRoomOf self.new.memory self.old.memory }
+        ensures held { KeepsOnly octets.now (B.ceiling budget.old) (report_in result) self.old.memory self.new.memory }
     {
         let Ok(rsa) = Box::new(alloc, Rsa) else {
-            return nothing_tried(alloc);
+            return Outcome::Judged(untried(alloc, octets, self.policy));
         };
         let Ok(ecdsa) = Box::new(alloc, Ecdsa) else {
-            return nothing_tried(alloc);
+            return Outcome::Judged(untried(alloc, octets, self.policy));
         };
         let Ok(ed25519) = Box::new(alloc, Ed25519) else {
-            return nothing_tried(alloc);
+            return Outcome::Judged(untried(alloc, octets, self.policy));
         };
         let verifiers: [Box<dyn Verifier>; 3] = [rsa, ecdsa, ed25519];
         let terms = built_in_terms(self.policy, self.keys, now, &verifiers);

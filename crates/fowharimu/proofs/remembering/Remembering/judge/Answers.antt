@@ -1,5 +1,7 @@
-use Rattle.std.proofs.Common.{w64}
+use Rattle.std.proofs.Common.{ap, subst, sym, w64}
 use Rattle.std.proofs.lemmas.Int.{to_z-of_z}
+use Rattle.jwt_memory.specs.Outcomes.{KeepsOnly, report_in}
+use Rattle.fowharimu.specs.Remembering.{WithMemory, terms_of_documents}
 use Rattle.fowharimu.proofs.remembering.Remembering.judge.Goals as goal
 
 pub invariant_of-self : goal.invariant_of-self
@@ -22,3 +24,24 @@ pub returns-clause-bound : goal.returns-clause-bound
 returns-clause-bound g c =
     let t = c.built_in_terms-terms.ensures in
     let h = (rw (t.policy, t.keys) at c.judge_under.ensures.bound) in rw (← c.self.view_is) h
+
+pub returns-in_default-clause-verdict : goal.returns-in_default-clause-verdict
+returns-in_default-clause-verdict g c =
+    (c.untried.ensures.report (terms_of_documents c.args.self.now c.args.now) (g.B.Budget.ceiling c.args.budget.now) (sym (ap (λ (v : WithMemory). v.policy) c.self.view_is))).verdict
+
+pub returns-in_default-new-clause-verdict : goal.returns-in_default-new-clause-verdict
+returns-in_default-new-clause-verdict g c =
+    (c.untried-in_default-new.ensures.report (terms_of_documents c.args.self.now c.args.now) (g.B.Budget.ceiling c.args.budget.now) (sym (ap (λ (v : WithMemory). v.policy) c.self.view_is))).verdict
+
+pub returns-in_default-new-2-clause-verdict : goal.returns-in_default-new-2-clause-verdict
+returns-in_default-new-2-clause-verdict g c =
+    (c.untried-in_default-new-2.ensures.report (terms_of_documents c.args.self.now c.args.now) (g.B.Budget.ceiling c.args.budget.now) (sym (ap (λ (v : WithMemory). v.policy) c.self.view_is))).verdict
+
+pub returns-clause-memory : goal.returns-clause-memory
+returns-clause-memory g c =
+    let t = c.built_in_terms-terms.ensures in
+    let h = (rw t.policy at c.judge_under.ensures.memory) in rw (← c.self.view_is) h
+
+pub returns-clause-held : goal.returns-clause-held
+returns-clause-held g c =
+    subst (λ (v : WithMemory). KeepsOnly c.args.octets.now (g.B.Budget.ceiling c.args.budget.now) (report_in c.judge_under.result) v.memory c.judge_under.new.memory) c.self.view_is c.judge_under.ensures.held
