@@ -1,34 +1,136 @@
 -- Files of several keys.
-use Rattle.std.proofs.Common.{◌≡◌, ℕ, ◌-◌, ◌≤◌, Bool, true, List, [], ◌∷◌, ◌++◌, length, Option, Result, Ok, Err, refl, sym, ap, subst, ◌∙◌, append_assoc, arith}
-use Rattle.std.specs.Prelude.{OnOk}
+use Rattle.std.proofs.Common.{◌≡◌, ℕ, zero, suc, ◌+◌, ◌-◌, ◌<◌, ◌≤◌, Bool, true, false, inr, codes, List, [], ◌∷◌, ◌++◌, length, Option, Result, Ok, Err, refl, sym, ap, subst, ◌∙◌, append_assoc, arith}
+use Rattle.std.specs.Prelude.{IfErr, OnOk}
 use Rattle.jwt_mac.specs.Verifying.{KeyOctets}
 use Rattle.key_der.specs.Der.{AreOctets, IsPublicKey}
-use Rattle.key_pem.specs.Pem.{IsBlock, trimmed}
+use Rattle.key_pem.specs.Pem.{IsBlock, IsFirstFault, IsOneBlock, IsOneFault, trimmed}
+use Rattle.key_pem.specs.declared.fault.PemFault.{PemFault}
+use Rattle.key_pem.specs.declared.fault.PemFault.TheVariants as pem
 use Rattle.key_pem.specs.declared.label.Label.{Label}
 use Rattle.key_pem.specs.declared.label.Label.TheVariants.{PublicKey, RsaPublicKey}
 use Rattle.jwt_jwk.specs.declared.fault.JwkFault.{JwkFault}
 use Rattle.jwt_jwk.specs.declared.fault.JwkFault.TheVariants.{Pem, Key, TooManyKeys, OutOfMemory}
-use Rattle.jwt_jwk.specs.Faults.{of_both}
-use Rattle.jwt_jwk.specs.Converted.{Adds, IsEncoding, IsFileOf, IsJwkOfBlock, comma}
+use Rattle.jwt_jwk.specs.Faults.{of_both, pem_fault}
+use Rattle.jwt_jwk.specs.Jwk.{ReadsAsKey}
+use Rattle.jwt_jwk.specs.Refusals.{IsDerFault, IsFault, IsKeyFault, IsNextFault, IsPemFault, IsSetFault, reading_of}
+use Rattle.jwt_jwk.specs.Converted.{Adds, AreJwks, IsEncoding, IsFileOf, IsFirst, IsJwkOfBlock, IsSetOf, comma, set_text}
 
 pub on_ok : {A E : Type 0} (r : Result A E) (P Q : Type 0) → (P → Q) → OnOk r P → OnOk r Q
 on_ok (Ok x) P Q f h = f h
 on_ok (Err e) P Q f h = tt
+
+pub on_err : {A E : Type 0} (r : Result A E) (P Q : E → Type 0) → ((e : E) → P e → Q e) → IfErr r P → IfErr r Q
+on_err (Ok x) P Q f h = tt
+on_err (Err e) P Q f h = f e h
 
 -- what the first block is, as `first_block` says it
 abbrev pub IsFound : List ℕ → Label → List ℕ → List ℕ → Type 0
 IsFound text found items after = (label : Label) (octets rest : List ℕ) → AreOctets octets → IsBlock label octets (trimmed text) rest
     → (found ≡ label) × ((items ≡ octets) × (after ≡ rest))
 
+above : (n : ℕ) → (n ≡ 0 → ⊥) → 0 < n
+above zero some = absurd (some refl)
+above (suc n) some = omega arith
+
+-- a key set of the keys of a file, which has one
+set_with : (kid : KeyOctets → Option (List ℕ)) (alg : Option (List ℕ)) (pem text : List ℕ) (keys : List KeyOctets) (jwks : List ℕ) → (trimmed pem ≡ [] → ⊥)
+    → IsFileOf keys pem → AreJwks false kid alg keys jwks → length keys ≤ 1024 → text ≡ set_text jwks → IsSetOf pem kid alg text
+set_with kid alg pem text [] jwks some file are few set = absurd (some file)
+set_with kid alg pem text (key ∷ keys) jwks some file are few set = record { first = key; others = keys; few = omega (arith, few); jwks = jwks; file = file; are = are; set = set }
+
+pub whole_set : (kid : KeyOctets → Option (List ℕ)) (alg : Option (List ℕ)) (pem before after text : List ℕ) → before ≡ codes "{\"keys\":[" → (trimmed pem ≡ [] → ⊥)
+    → Adds false kid alg 1024 pem before after → text ≡ after ++ codes "]}" → IsSetOf pem kid alg text
+whole_set kid alg pem before after text is some all ends =
+    set_with kid alg pem text all.keys all.added some all.file all.jwks all.few
+    (ends ∙ ap (λ (s : List ℕ). s ++ codes "]}") (all.appended ∙ ap (λ (s : List ℕ). s ++ all.added) is) ∙ append_assoc (codes "{\"keys\":[") all.added (codes "]}"))
+
+-- ---- why not all of a file is taken
+
+pub told : (text : List ℕ) (f : PemFault) → IsOneFault text f → IsPemFault text (pem_fault f)
+told text pem.PrivateKey h = h
+told text pem.Certificate h = h
+told text pem.Line h = h
+told text pem.Trailing h = h
+told text pem.Base64 h = h
+told text pem.OutOfMemory h = tt
+
+told_next : (left : ℕ) (text : List ℕ) (f : PemFault) → (left ≡ 0 → ⊥) → IsFirstFault text f → IsNextFault left text (pem_fault f)
+told_next left text pem.PrivateKey some h = (some, h)
+told_next left text pem.Certificate some h = (some, h)
+told_next left text pem.Line some h = (some, h)
+told_next left text pem.Trailing some h = (some, h)
+told_next left text pem.Base64 some h = (some, h)
+told_next left text pem.OutOfMemory some h = tt
+
+-- the fault of what stands at the front
+pub at_once : (most : ℕ) (text : List ℕ) (fault : JwkFault) → (trimmed text ≡ [] → ⊥) → IsNextFault most text fault → IsFault most text fault
+at_once most text fault some next =
+    let all : most ≡ most - length {A = KeyOctets} [] = omega arith in
+    record { keys = []; few = omega arith; rest = text; first = refl; some = some; next = subst (λ (n : ℕ). IsNextFault n text fault) all next }
+
+pub no_block : (most : ℕ) (text : List ℕ) (f : PemFault) → (trimmed text ≡ [] → ⊥) → (most ≡ 0 → ⊥) → IsFirstFault text f → IsFault most text (pem_fault f)
+no_block most text f some left h = at_once most text (pem_fault f) some (told_next most text f left h)
+
+pub first_made : (label : Label) (octets lent text rest jwk : List ℕ) (kid : KeyOctets → Option (List ℕ)) (alg : Option (List ℕ)) → AreOctets octets
+    → IsBlock label octets (trimmed text) rest → lent ≡ octets → (made : IsJwkOfBlock label lent kid alg jwk) → IsFirst made.key text rest
+first_made label octets lent text rest jwk kid alg are block same made =
+    record { label = label; octets = octets; are = are; public = made.public; encoded = subst (λ (o : List ℕ). IsEncoding label made.key o) same made.encoded; block = block }
+
+-- the fault of what stands behind the first key
+pub behind_first : (most : ℕ) (text rest : List ℕ) (key : KeyOctets) (fault : JwkFault) → (most ≡ 0 → ⊥) → IsFirst key text rest → IsFault (most - 1) rest fault → IsFault most text fault
+behind_first most text rest key fault left first more =
+    let fewer : most - 1 - length more.keys ≡ most - length (key ∷ more.keys) = omega arith in
+    record {
+      keys = key ∷ more.keys;
+      few = omega (arith, more.few, above most left);
+      rest = more.rest;
+      first = (rest, first, more.first);
+      some = more.some;
+      next = subst (λ (n : ℕ). IsNextFault n more.rest fault) fewer more.next;
+    }
+
+-- the fault of the first key
+pub bad_key : (most : ℕ) (text : List ℕ) (label : Label) (octets lent rest : List ℕ) (fault : JwkFault) → (trimmed text ≡ [] → ⊥) → (most ≡ 0 → ⊥)
+    → IsBlock label octets (trimmed text) rest → lent ≡ octets → IsKeyFault label lent fault → IsFault most text fault
+bad_key most text label octets lent rest (Pem f) some left block same h = absurd h
+bad_key most text label octets lent rest (Key r) some left block same h =
+    at_once most text (Key r) some (left, (label, octets, rest, block, ap (reading_of label) (sym same) ∙ h))
+bad_key most text label octets lent rest TooManyKeys some left block same h = absurd h
+bad_key most text label octets lent rest OutOfMemory some left block same h = at_once most text OutOfMemory some tt
+
+pub bad_key_alone : (text : List ℕ) (label : Label) (octets lent : List ℕ) (fault : JwkFault) → IsOneBlock label octets text → lent ≡ octets → IsKeyFault label lent fault → IsPemFault text fault
+bad_key_alone text label octets lent (Pem f) block same h = absurd h
+bad_key_alone text label octets lent (Key r) block same h = (label, octets, block, ap (reading_of label) (sym same) ∙ h)
+bad_key_alone text label octets lent TooManyKeys block same h = absurd h
+bad_key_alone text label octets lent OutOfMemory block same h = tt
+
+pub of_set : (text : List ℕ) (fault : JwkFault) → IsFault 1024 text fault → IsSetFault text fault
+of_set text (Pem f) h = inr h
+of_set text (Key r) h = inr h
+of_set text TooManyKeys h = inr h
+of_set text OutOfMemory h = tt
+
+pub both_faults : (octets : List ℕ) (first second : JwkFault) → IsDerFault octets first → IsDerFault octets (of_both first second)
+both_faults octets first (Pem f) h = h
+both_faults octets first (Key r) h = h
+both_faults octets first TooManyKeys h = h
+both_faults octets first OutOfMemory h = tt
+
 -- one JWK is appended, and then those of the keys behind
 pub one_more : (later : Bool) (kid : KeyOctets → Option (List ℕ)) (alg : Option (List ℕ)) (label : Label) (octets lent text rest jwk lent_jwk before between after : List ℕ)
     → AreOctets octets → IsBlock label octets (trimmed text) rest → lent ≡ octets → IsJwkOfBlock label lent kid alg jwk → lent_jwk ≡ jwk
-    → between ≡ before ++ (comma later ++ lent_jwk) → Adds true kid alg rest between after → Adds later kid alg text before after
-one_more later kid alg label octets lent text rest jwk lent_jwk before between after are block same made same_jwk pushed more = record {
+    → between ≡ before ++ (comma later ++ lent_jwk) → (left : ℕ) → (left ≡ 0 → ⊥) → Adds true kid alg (left - 1) rest between after → Adds later kid alg left text before after
+one_more later kid alg label octets lent text rest jwk lent_jwk before between after are block same made same_jwk pushed left some more = record {
   keys = made.key ∷ more.keys;
+  few = omega (arith, more.few, above left some);
   added = comma later ++ (jwk ++ more.added);
   file = (rest, record { label = label; octets = octets; are = are; public = made.public; encoded = subst (λ (o : List ℕ). IsEncoding label made.key o) same made.encoded; block = block }, more.file);
-  jwks = (jwk, more.added, made.read, more.jwks, refl);
+  jwks = (
+    more.added,
+    subst (ReadsAsKey (kid made.key) alg made.key) made.is made.read,
+    more.jwks,
+    ap (λ (j : List ℕ). comma later ++ (j ++ more.added)) made.is,
+  );
   appended = more.appended ∙ ap (λ (s : List ℕ). s ++ more.added) (pushed ∙ ap (λ (j : List ℕ). before ++ (comma later ++ j)) same_jwk)
       ∙ append_assoc before (comma later ++ jwk) more.added ∙ ap (λ (s : List ℕ). before ++ s) (append_assoc (comma later) jwk more.added);
 }

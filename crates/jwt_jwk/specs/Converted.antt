@@ -1,11 +1,11 @@
 -- The public key in a text, and its JWK.
-use Rattle.std.specs.Prelude.{◌≡◌, ℕ, Bool, true, false, List, [], ◌∷◌, ◌++◌, Option, Some, None, codes}
+use Rattle.std.specs.Prelude.{◌≡◌, ◌≤◌, ℕ, Bool, true, false, List, [], ◌∷◌, ◌++◌, length, Option, Some, None, codes}
 use Rattle.jwt_mac.specs.Verifying.{KeyOctets}
 use Rattle.key_der.specs.Der.{AreOctets, IsPublicKey, IsRsaText, spki}
 use Rattle.key_pem.specs.Pem.{IsBlock, IsOneBlock, trimmed}
 use Rattle.key_pem.specs.declared.label.Label.{Label}
 use Rattle.key_pem.specs.declared.label.Label.TheVariants.{PublicKey, RsaPublicKey}
-use Rattle.jwt_jwk.specs.Jwk.{ReadsAsKey, thumbprint_of_key}
+use Rattle.jwt_jwk.specs.Jwk.{ReadsAsKey, jwk_text, thumbprint_of_key}
 use Rattle.jwt_jwk.specs.declared.kid.Kid.{Kid}
 use Rattle.jwt_jwk.specs.declared.kid.Kid.TheVariants.{Absent, Name, Thumbprint}
 
@@ -20,14 +20,15 @@ abbrev pub IsEncoding : Label → KeyOctets → List ℕ → Type 0
 IsEncoding PublicKey key octets = octets ≡ spki key
 IsEncoding RsaPublicKey key octets = IsRsaText key octets
 
--- the octets are this encoding of a public key, and the text is read as that key
+-- the octets are this encoding of a public key, and the text is the JWK of that key, and read as it
 pub record IsJwkOfBlock (label : Label) (octets : List ℕ) (kid : KeyOctets → Option (List ℕ)) (alg : Option (List ℕ)) (text : List ℕ) : Type 0 where
   pub key : KeyOctets
   pub public : IsPublicKey key
   pub encoded : IsEncoding label key octets
+  pub is : text ≡ jwk_text (kid key) alg key
   pub read : ReadsAsKey (kid key) alg key text
 
--- the octets are an encoding of a public key, and the text is read as that key
+-- the octets are an encoding of a public key, and the text is the JWK of that key
 pub record IsJwkOf (octets : List ℕ) (kid : KeyOctets → Option (List ℕ)) (alg : Option (List ℕ)) (text : List ℕ) : Type 0 where
   pub label : Label
   pub jwk : IsJwkOfBlock label octets kid alg text
@@ -41,10 +42,11 @@ pub record IsPemOf (k : KeyOctets) (text : List ℕ) : Type 0 where
   pub encoded : IsEncoding label k octets
   pub block : IsOneBlock label octets text
 
--- a PEM file of a public key, and a text that is read as that key
+-- a PEM file of a public key, and a text that is the JWK of that key, and read as it
 pub record IsJwkOfPem (pem : List ℕ) (kid : KeyOctets → Option (List ℕ)) (alg : Option (List ℕ)) (text : List ℕ) : Type 0 where
   pub key : KeyOctets
   pub written : IsPemOf key pem
+  pub is : text ≡ jwk_text (kid key) alg key
   pub read : ReadsAsKey (kid key) alg key text
 
 -- ---- several keys
@@ -68,29 +70,32 @@ abbrev pub comma : Bool → List ℕ
 comma true = codes ","
 comma false = []
 
--- the text is that of JWKs with commas between, each of which is read as its key
+-- the text is that of the JWKs of these keys with commas between, and each is read as its key
 abbrev pub AreJwks : Bool → (KeyOctets → Option (List ℕ)) → Option (List ℕ) → List KeyOctets → List ℕ → Type 0
 AreJwks later kid alg [] text = text ≡ []
 AreJwks later kid alg (key ∷ keys) text =
-    (jwk rest : List ℕ) × ReadsAsKey (kid key) alg key jwk × AreJwks true kid alg keys rest × (text ≡ comma later ++ (jwk ++ rest))
+    (rest : List ℕ) × ReadsAsKey (kid key) alg key (jwk_text (kid key) alg key) × AreJwks true kid alg keys rest × (text ≡ comma later ++ (jwk_text (kid key) alg key ++ rest))
 
 -- a key set around the texts of its JWKs (RFC 7517, section 5)
 abbrev pub set_text : List ℕ → List ℕ
 set_text jwks = codes "{\"keys\":[" ++ (jwks ++ codes "]}")
 
--- the text is the key set of the keys that a PEM file has
+-- the text is the key set of the keys that a PEM file has, 1 to 1,024
 pub record IsSetOf (pem : List ℕ) (kid : KeyOctets → Option (List ℕ)) (alg : Option (List ℕ)) (text : List ℕ) : Type 0 where
-  pub keys : List KeyOctets
+  pub first : KeyOctets
+  pub others : List KeyOctets
+  pub few : length others ≤ 1023
   pub jwks : List ℕ
-  pub file : IsFileOf keys pem
-  pub are : AreJwks false kid alg keys jwks
+  pub file : IsFileOf (first ∷ others) pem
+  pub are : AreJwks false kid alg (first ∷ others) jwks
   pub set : text ≡ set_text jwks
 
 -- ---- Cited by contracts of private functions alone
 
--- from these octets to those, the JWKs of the keys of a file are appended
-pub record Adds (later : Bool) (kid : KeyOctets → Option (List ℕ)) (alg : Option (List ℕ)) (text before after : List ℕ) : Type 0 where
+-- from these octets to those, the JWKs of the keys of a file are appended, of so many at most
+pub record Adds (later : Bool) (kid : KeyOctets → Option (List ℕ)) (alg : Option (List ℕ)) (most : ℕ) (text before after : List ℕ) : Type 0 where
   pub keys : List KeyOctets
+  pub few : length keys ≤ most
   pub added : List ℕ
   pub file : IsFileOf keys text
   pub jwks : AreJwks later kid alg keys added

@@ -4,6 +4,8 @@
 pub mod Jwk
 -- the public key in a text, and its JWK
 pub mod Converted
+-- why there is no JWK
+pub mod Refusals
 -- the names of faults, and the commands that make a public key of what is refused
 pub mod FaultNames
 -- ---- What contracts of private functions alone cite, which nobody has to believe

@@ -1,10 +1,12 @@
 //! The JWK of a public key in PEM.
 
-ghost use Rattle.std.specs.Prelude.{◌≡◌, IfOk, IsOkAnd, IsOkUnless};
+ghost use Rattle.std.specs.Prelude.{◌≡◌, IfErr, IfOk, IsOkAnd, IsOkUnless};
 ghost use Rattle.jwt_mac.specs.Verifying.{KeyOctets, key_octets};
 ghost use Rattle.key_der.specs.Der.{IsPublicKey};
+ghost use Rattle.key_der.specs.Reading.{AgreesWith};
 ghost use Rattle.jwt_jwk.specs.Jwk.{optional_text};
 ghost use Rattle.jwt_jwk.specs.Faults.{pem_fault};
+ghost use Rattle.jwt_jwk.specs.Refusals.{IsKeyFault, IsPemFault, reading_of};
 ghost use Rattle.jwt_jwk.specs.Converted.{IsEncoding, IsJwkOfBlock, IsPemOf, IsJwkOfPem, kid_of};
 
 use crate::fault::JwkFault;
@@ -19,6 +21,7 @@ use std::alloc::Global;
 fn key_in(label: Label, octets: &[u8]) -> Result<KeyView<'_>, Refusal>
     ensures found { IfOk result (λ v. IsPublicKey (key_octets v) × IsEncoding label (key_octets v) octets.now) }
     ensures only { (key : KeyOctets) → IsPublicKey key → IsEncoding label key octets.now → IsOkAnd result (λ v. key_octets v ≡ key) }
+    ensures exact { AgreesWith key_octets result (reading_of label octets.now) }
 {
     match label {
         Label::PublicKey => read_public_key(octets),
@@ -51,6 +54,7 @@ pub(crate) fn jwk_of_block(
     ensures ok { IfOk result (λ v. IsJwkOfBlock label octets.now (kid_of kid.entry) (optional_text alg.entry) v.items) }
     ensures only { (key : KeyOctets) → IsPublicKey key → IsEncoding label key octets.now
         → IsOkUnless result JwkFault.OutOfMemory }
+    ensures exact { IfErr result (IsKeyFault label octets.now) }
 {
     match key_in(label, octets) {
         Ok(key) => match write(alloc, key, kid, alg) {
@@ -71,10 +75,12 @@ pub fn jwk_of_pem(
     kid: Kid<'_>,
     alg: Option<&str>,
 ) -> Result<Vec<u8>, JwkFault>
-    // What is printed is read as exactly the key that the file has.
+    // What is printed is the JWK of the key that the file has, and read as exactly that.
     ensures ok { IfOk result (λ v. IsJwkOfPem text.now (kid_of kid.entry) (optional_text alg.entry) v.items) }
     // A PEM file of one public key is refused for want of memory alone.
     ensures only { (key : KeyOctets) → IsPemOf key text.now → IsOkUnless result JwkFault.OutOfMemory }
+    // Which fault it is.
+    ensures exact { IfErr result (IsPemFault text.now) }
 {
     match only_block(alloc, text) {
         Ok((label, octets)) => jwk_of_block(alloc, label, &octets, kid, alg),

@@ -1,11 +1,12 @@
 //! The JWK of a public key in DER.
 
-ghost use Rattle.std.specs.Prelude.{◌≡◌, IfOk, IsOkUnless};
+ghost use Rattle.std.specs.Prelude.{◌≡◌, IfErr, IfOk, IsOkUnless};
 ghost use Rattle.jwt_mac.specs.Verifying.{KeyOctets};
 ghost use Rattle.key_der.specs.Der.{IsPublicKey};
 ghost use Rattle.jwt_jwk.specs.Jwk.{optional_text};
 ghost use Rattle.jwt_jwk.specs.Converted.{IsEncoding, IsJwkOf, kid_of};
 ghost use Rattle.jwt_jwk.specs.Faults.{of_both};
+ghost use Rattle.jwt_jwk.specs.Refusals.{IsDerFault};
 ghost use Rattle.key_pem.specs.declared.label.Label.{Label as AnyLabel};
 
 use crate::fault::JwkFault;
@@ -35,11 +36,13 @@ pub fn jwk_of_der(
     kid: Kid<'_>,
     alg: Option<&str>,
 ) -> Result<Vec<u8>, JwkFault>
-    // What is printed is read as exactly the key whose encoding the octets are.
+    // What is printed is the JWK of the key whose encoding the octets are, and read as exactly that.
     ensures ok { IfOk result (λ v. IsJwkOf octets.now (kid_of kid.entry) (optional_text alg.entry) v.items) }
     // The encoding of a key is refused for want of memory alone.
     ensures only { (label : AnyLabel) (key : KeyOctets) → IsPublicKey key → IsEncoding label key octets.now
         → IsOkUnless result JwkFault.OutOfMemory }
+    // Which fault it is.
+    ensures exact { IfErr result (IsDerFault octets.now) }
 {
     match jwk_of_block(alloc, Label::PublicKey, octets, kid, alg) {
         Ok(jwk) => Ok(jwk),

@@ -1,9 +1,10 @@
 //! The key set of a file with public keys in PEM.
 
-ghost use Rattle.std.specs.Prelude.{◌≡◌, ◌≤◌, ◌∷◌, ◌++◌, List, codes, length, IfOk, OnOk, IsOkUnless};
+ghost use Rattle.std.specs.Prelude.{◌≡◌, ◌≤◌, ◌∷◌, ◌++◌, List, codes, length, IfErr, IfOk, OnOk, IsOkUnless};
 ghost use Rattle.jwt_mac.specs.Verifying.{KeyOctets};
 ghost use Rattle.jwt_jwk.specs.Jwk.{optional_text};
 ghost use Rattle.jwt_jwk.specs.Converted.{Adds, IsFileOf, IsSetOf, comma, set_text, kid_of};
+ghost use Rattle.jwt_jwk.specs.Refusals.{IsFault, IsSetFault};
 
 use crate::fault::JwkFault;
 use crate::kid::Kid;
@@ -31,9 +32,10 @@ fn add_jwks(
     left: u32,
     set: &mut Vec<u8>,
 ) -> Result<(), JwkFault>
-    ensures ok { OnOk result (Adds later (kid_of kid.entry) (optional_text alg.entry) text.now set.old.items set.new.items) }
+    ensures ok { OnOk result (Adds later (kid_of kid.entry) (optional_text alg.entry) left text.now set.old.items set.new.items) }
     ensures only { (keys : List KeyOctets) → IsFileOf keys text.now → length keys ≤ left
         → IsOkUnless result JwkFault.OutOfMemory }
+    ensures exact { IfErr result (IsFault left text.now) }
 {
     if trim(text).is_empty() {
         return Ok(());
@@ -66,11 +68,13 @@ pub fn jwk_set_of_pem(
     kid: Kid<'_>,
     alg: Option<&str>,
 ) -> Result<Vec<u8>, JwkFault>
-    // What is printed has, one by one, what is read as exactly the keys that the file has.
+    // What is printed has, one by one, the JWKs of the keys that the file has, 1 to 1,024, and each is read as exactly its key.
     ensures ok { IfOk result (λ v. IsSetOf text.now (kid_of kid.entry) (optional_text alg.entry) v.items) }
     // A PEM file of at most 1,024 public keys is refused for want of memory alone.
     ensures only { (key : KeyOctets) (keys : List KeyOctets) → IsFileOf (key ∷ keys) text.now → length keys ≤ 1023
         → IsOkUnless result JwkFault.OutOfMemory }
+    // Which fault it is.
+    ensures exact { IfErr result (IsSetFault text.now) }
 {
     if trim(text).is_empty() {
         return Err(JwkFault::Pem(PemFault::Line));

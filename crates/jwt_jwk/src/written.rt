@@ -1,8 +1,8 @@
 //! Writing a key with its `kid`.
 
-ghost use Rattle.std.specs.Prelude.{IfOk};
+ghost use Rattle.std.specs.Prelude.{◌≡◌, IfOk};
 ghost use Rattle.jwt_mac.specs.Verifying.{key_octets};
-ghost use Rattle.jwt_jwk.specs.Jwk.{HasSizes, ReadsAsKey, optional_text};
+ghost use Rattle.jwt_jwk.specs.Jwk.{HasSizes, ReadsAsKey, jwk_text, optional_text};
 ghost use Rattle.jwt_jwk.specs.Converted.{kid_of};
 
 use crate::kid::Kid;
@@ -19,7 +19,8 @@ pub(crate) fn write(
     alg: Option<&str>,
 ) -> Result<Vec<u8>, TextFault>
     requires { HasSizes (key_octets key) }
-    ensures { IfOk result (λ v. ReadsAsKey (kid_of kid.entry (key_octets key.entry)) (optional_text alg.entry) (key_octets key.entry) v.items) }
+    ensures text { IfOk result (λ v. v.items ≡ jwk_text (kid_of kid.entry (key_octets key.entry)) (optional_text alg.entry) (key_octets key.entry)) }
+    ensures reads_back { IfOk result (λ v. ReadsAsKey (kid_of kid.entry (key_octets key.entry)) (optional_text alg.entry) (key_octets key.entry) v.items) }
 {
     match kid {
         Kid::Absent => write_jwk(alloc, key, None, alg),
