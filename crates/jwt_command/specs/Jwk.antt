@@ -12,6 +12,7 @@ use Rattle.jwt_jwk.specs.FaultNames.{jwk_fault_name, remedy}
 use Rattle.jwt_jwk.specs.declared.fault.JwkFault.{JwkFault}
 use Rattle.jwt_jwk.specs.declared.fault.JwkFault.TheVariants.{OutOfMemory}
 use Rattle.jwt_jwk.specs.Converted.{IsEncoding, IsFileOf, IsJwkOf, IsJwkOfPem, IsPemOf, IsSetOf, set_text}
+use Rattle.jwt_jwk.specs.Refusals.{IsDerFault, IsPemFault, IsSetFault}
 use Rattle.jwt_words.specs.InHand.{Held, unread}
 use Rattle.jwt_words.specs.Words.{JwkOrder, KidChoice, KidNamed, KidThumbprint, NoKid, SecretOrder}
 use Rattle.jwt_words.specs.declared.printing.Printing.{Printing}
@@ -52,13 +53,19 @@ AreKeysAs false false octets = (key : KeyOctets) × (keys : List KeyOctets) × I
 abbrev pub AreKeys : JwkOrder → List ℕ → Type 0
 AreKeys order = AreKeysAs order.der order.bare
 
--- the line of one fault, but for want of memory: with its name and its remedy
-abbrev pub IsRefusal : Printing → Answer → Type 0
-IsRefusal printing a = (fault : JwkFault) × (fault ≢ OutOfMemory) × (a ≡ jwk_refused printing (jwk_fault_name fault) (remedy fault))
+-- why octets aren't what is asked for
+abbrev pub IsFaultAs : Bool → Bool → List ℕ → JwkFault → Type 0
+IsFaultAs true bare octets fault = IsDerFault octets fault
+IsFaultAs false true octets fault = IsPemFault octets fault
+IsFaultAs false false octets fault = IsSetFault octets fault
+
+-- the line of the fault that octets have, but for want of memory: with its name and its remedy
+abbrev pub IsRefusal : JwkOrder → List ℕ → Answer → Type 0
+IsRefusal order octets a = (fault : JwkFault) × (fault ≢ OutOfMemory) × IsFaultAs order.der order.bare octets fault × (a ≡ jwk_refused order.printing (jwk_fault_name fault) (remedy fault))
 
 -- what is printed of octets; or they aren't what is asked for, and are refused
 abbrev pub JwkOfKeys : JwkOrder → List ℕ → Answer → Type 0
-JwkOfKeys order octets a = ((json : List ℕ) × IsPrinted order octets json × (a ≡ jwk_line json)) ⊎ ((AreKeys order octets → ⊥) × IsRefusal order.printing a)
+JwkOfKeys order octets a = ((json : List ℕ) × IsPrinted order octets json × (a ≡ jwk_line json)) ⊎ ((AreKeys order octets → ⊥) × IsRefusal order octets a)
 
 -- at most 4,194,304 octets are taken
 abbrev pub JwkOfOctets : JwkOrder → List ℕ → Answer → Type 0

@@ -1,5 +1,5 @@
 //! The command `jwk`: public keys in PEM or DER as JWKs, and new secrets.
-ghost use Rattle.std.specs.Prelude.{◌≡◌, ◌≢◌, ◌≤◌, ◌⊎◌, true, false, IfOk, IfSome, IsOkUnless, None, is_some, length, option_map};
+ghost use Rattle.std.specs.Prelude.{◌≡◌, ◌≢◌, ◌≤◌, ◌⊎◌, true, false, IfErr, IfOk, IfSome, IsOkUnless, None, is_some, length, option_map};
 ghost use Rattle.serde_json.specs.Data.{object};
 ghost use Rattle.jwt_text.specs.Intake.{TakesAtMost};
 ghost use Rattle.jwt_mac.specs.Algorithm.{digest_size, is_hmac_alg};
@@ -11,7 +11,7 @@ ghost use Rattle.jwt_jwk.specs.FaultNames.{jwk_fault_name, remedy};
 ghost use Rattle.jwt_printing.specs.Jwk.{jwk_refused};
 ghost use Rattle.jwt_printing.specs.Views.{reply_view};
 ghost use Rattle.jwt_command.specs.Documents.{last_most};
-ghost use Rattle.jwt_command.specs.Jwk.{AreKeys, AreKeysAs, IsPrinted, IsPrintedAs, JwkAnswer, JwkInHand, JwkOfInput, JwkOfKeys, JwkOfOctets, bare_or_set, jwk_most, kid_by, secret_answer, secret_jwk, secret_line, fresh_secret};
+ghost use Rattle.jwt_command.specs.Jwk.{AreKeys, AreKeysAs, IsFaultAs, IsPrinted, IsPrintedAs, JwkAnswer, JwkInHand, JwkOfInput, JwkOfKeys, JwkOfOctets, bare_or_set, jwk_most, kid_by, secret_answer, secret_jwk, secret_line, fresh_secret};
 
 use crate::input::whole::read_input;
 use jwt_jwk::{
@@ -57,6 +57,7 @@ fn of_der(
 ) -> Result<Vec<u8>, JwkFault>
     ensures ok { IfOk result (λ v. IsPrintedAs true bare (kid_of kid.entry) (optional_text alg.entry) octets.now v.items) }
     ensures only { AreKeysAs true bare octets.now → IsOkUnless result JwkFault.OutOfMemory }
+    ensures exact { IfErr result (IsFaultAs true bare octets.now) }
 {
     match jwk_of_der(alloc, octets, kid, alg) {
         Ok(json) => match bare_or_set(alloc, bare, json) {
@@ -77,6 +78,7 @@ fn of_pem(
 ) -> Result<Vec<u8>, JwkFault>
     ensures ok { IfOk result (λ v. IsPrintedAs false bare (kid_of kid.entry) (optional_text alg.entry) octets.now v.items) }
     ensures only { AreKeysAs false bare octets.now → IsOkUnless result JwkFault.OutOfMemory }
+    ensures exact { IfErr result (IsFaultAs false bare octets.now) }
 {
     if bare {
         jwk_of_pem(alloc, octets, kid, alg)
@@ -89,6 +91,7 @@ fn of_pem(
 fn of_keys(alloc: Global, order: JwkOrder<'_>, octets: &[u8]) -> Result<Vec<u8>, JwkFault>
     ensures ok { IfOk result (λ v. IsPrinted (jwk_view order.entry) octets.now v.items) }
     ensures only { AreKeys (jwk_view order.entry) octets.now → IsOkUnless result JwkFault.OutOfMemory }
+    ensures exact { IfErr result (IsFaultAs (jwk_view order.entry).der (jwk_view order.entry).bare octets.now) }
 {
     let kid = kid_by(order.kid);
     if order.der {
