@@ -19,7 +19,7 @@ HasDate seconds = (int_lt seconds first_date ≡ false) × IsTimestampNanos (nan
 abbrev pub IsDate : ℤ → List ℕ → Type 0
 IsDate seconds text = (moment : DateTime) × (civil_nanos moment ≡ nanoseconds seconds) × (text ≡ iso_datetime_text moment ++ codes "Z")
 
--- none where it has none
+-- the date where it has one, else none
 abbrev pub IsDateOf : ℤ → Option (List ℕ) → Type 0
 IsDateOf seconds None = HasDate seconds → ⊥
-IsDateOf seconds (Some text) = IsDate seconds text
+IsDateOf seconds (Some text) = HasDate seconds × IsDate seconds text

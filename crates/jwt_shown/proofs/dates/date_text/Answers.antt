@@ -6,4 +6,4 @@ use Rattle.jwt_shown.proofs.dates.date_text.Goals as goal
 pub returns-in_ok-format-in-Ok : goal.returns-in_ok-format-in-Ok
 returns-in_ok-format-in-Ok c =
     let same : civil_nanos c.to_datetime-date.result ≡ nanoseconds c.args.seconds = search rules in
-    (c.to_datetime-date.result, same, search rules)
+    (search rules, (c.to_datetime-date.result, same, search rules))
