@@ -12,8 +12,8 @@ struct SetRow {
     gives: Result<&'static str, JwkFault>,
 }
 
-// The keys are RFC 8410's, section 10.1, and one of P-256 by OpenSSL.
-static ROWS: [SetRow; 11] = [
+// The keys are RFC 8410's, section 10.1, one of P-256 by OpenSSL, and the neutral point of Ed25519.
+static ROWS: [SetRow; 12] = [
     SetRow {
         pem: "-----BEGIN PUBLIC KEY-----\r\nMCowBQYDK2VwAyEAGb9ECWmEzf6FQbrBZ9w7lshQhqowtrbLDFw4rXAxZuE=\r\n-----END PUBLIC KEY-----\r\n",
         gives: Ok(
@@ -57,6 +57,10 @@ static ROWS: [SetRow; 11] = [
         gives: Err(JwkFault::Pem(PemFault::Line)),
     },
     // Base64 that isn't canonical: the last character has spare bits.
+    SetRow {
+        pem: "-----BEGIN PUBLIC KEY-----MCowBQYDK2VwAyEAAQAAAAAAAAAAAAAAAAAAAAAAAAAAAAAAAAAAAAAAAAA=-----END PUBLIC KEY-----",
+        gives: Err(JwkFault::Key(Refusal::OffCurve)),
+    },
     SetRow {
         pem: "-----BEGIN PUBLIC KEY-----MCowBQYDK2VwAyEAGb9ECWmEzf6FQbrBZ9w7lshQhqowtrbLDFw4rXAxZuF=-----END PUBLIC KEY-----",
         gives: Err(JwkFault::Pem(PemFault::Base64)),

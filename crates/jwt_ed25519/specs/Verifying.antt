@@ -15,6 +15,14 @@ is_neutral P = P.X == 0 && P.Y == P.Z
 unfoldable pub is_small : Coordinates → Bool
 is_small A = is_neutral (double (double (double A)))
 
+-- only such a key verifies anything here: it decodes, and isn't of small order
+abbrev is_point : Option Coordinates → Bool
+is_point None = false
+is_point (Some A) = not (is_small A)
+
+abbrev pub is_key : List ℕ → Bool
+is_key octets = is_point (decoded octets)
+
 -- k, from the octets of R and of the key (step 2)
 unfoldable pub challenge : List ℕ → List ℕ → List ℕ → ℕ
 challenge r key message = number_of (sha512_of (r ++ key ++ message)) % L

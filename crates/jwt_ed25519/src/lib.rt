@@ -17,7 +17,7 @@
 #![tactic(auto)]
 
 pub use verifier::Ed25519;
-pub use verifying::verifies;
+pub use verifying::{is_key, verifies};
 
 mod decoding;
 mod encoding;

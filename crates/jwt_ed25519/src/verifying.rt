@@ -4,7 +4,7 @@ ghost use Rattle.std.specs.Prelude.{◌≡◌, length};
 ghost use Rattle.jwt_mac.specs.Hmac.{all_octets};
 ghost use Rattle.jwt_ed25519.specs.Elements.{coordinates};
 ghost use Rattle.jwt_ed25519.specs.Limbs.{number};
-ghost use Rattle.jwt_ed25519.specs.Verifying.{challenge, equation_holds, is_signature};
+ghost use Rattle.jwt_ed25519.specs.Verifying.{challenge, equation_holds, is_key, is_signature};
 
 use crate::decoding::decode;
 use crate::encoding::is_encoding;
@@ -33,6 +33,16 @@ fn holds(a: EdwardsPoint, r: &[u8], s: Limbs, k: Limbs) -> bool
             .add(a.negated().multiple(k)),
         r,
     )
+}
+
+/// Whether octets are a key that verifies anything here: they decode to a point (RFC 8032, section 5.1.3) that isn't of small order.
+pub fn is_key(octets: &[u8]) -> bool
+    ensures { result ≡ is_key octets.now }
+{
+    match decode(octets) {
+        Some(a) => !a.is_small(),
+        None => false,
+    }
 }
 
 /// Whether it is the signature of the message that the three parts make, joined, by the public key whose octets these are (RFC

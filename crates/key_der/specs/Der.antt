@@ -5,6 +5,7 @@ use Rattle.std.specs.List.{flat_map}
 use Rattle.ecdsa.specs.Curves as curves
 use Rattle.ecdsa.specs.Ecdsa.{is_public_key}
 use Rattle.jwt_rsa.specs.PublicKey.{is_key}
+use Rattle.jwt_ed25519.specs.Verifying.{is_key as is_key_of_ed25519}
 use Rattle.rsa_number.specs.Octets.{os2ip}
 use Rattle.jwt_mac.specs.Verifying.{KeyOctets, OctKey, RsaKey, EcKey, OkpKey}
 use Rattle.jwt_mac.specs.declared.key_view.EcCurve.{EcCurve}
@@ -138,12 +139,14 @@ is_on_curve P256 x y = is_public_key curves.P256 32 x y
 is_on_curve P384 x y = is_public_key curves.P384 48 x y
 is_on_curve P521 x y = is_public_key curves.P521 66 x y
 
--- a verifier takes such a key: an RSA key of the sizes of RFC 7518, section 3.3, as `jwt_rsa` has them, and a point of its curve
+-- Such a key may verify something: an RSA key of the sizes of RFC 7518, section 3.3, as `jwt_rsa` has them; a point of its curve; and of Ed25519
+-- one that isn't of small order (`jwt_ed25519`). Of Ed448 there is no verifier here, and nothing more is asked: another one may take the key.
 abbrev pub is_fit : KeyOctets → Bool
 is_fit (OctKey k) = false
 is_fit (RsaKey n e) = is_key (os2ip n) (os2ip e)
 is_fit (EcKey curve x y) = is_on_curve curve x y
-is_fit (OkpKey curve x) = true
+is_fit (OkpKey Ed25519 x) = is_key_of_ed25519 x
+is_fit (OkpKey Ed448 x) = true
 
 -- a public key that may be read here
 pub record IsPublicKey (key : KeyOctets) : Type 0 where

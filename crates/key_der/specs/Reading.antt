@@ -150,14 +150,14 @@ decoded_key octets = do
   kind ← kind_of parts.0
   read_key kind parts.1
 
--- why no verifier takes such a key
+-- why such a key verifies nothing
 abbrev pub why_unfit : KeyOctets → Refusal
 why_unfit (RsaKey n e) = KeySize
 why_unfit (EcKey curve x y) = OffCurve
 why_unfit (OkpKey curve x) = OffCurve
 why_unfit (OctKey k) = KeySize
 
--- the key, if a verifier takes it
+-- the key, if it may verify something
 unfoldable pub fitting : KeyOctets → Result KeyOctets Refusal
 fitting key = if is_fit key then Ok key else Err (why_unfit key)
 

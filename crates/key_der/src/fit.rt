@@ -1,7 +1,7 @@
-//! The keys that a verifier takes.
+//! The keys that may verify something.
 
 ghost use Rattle.std.specs.Prelude.{◌≡◌, ◌^◌, ◌%◌, ◌==◌, ◌&&◌, nat_le, nat_lt};
-ghost use Rattle.jwt_mac.specs.Verifying.{key_octets};
+ghost use Rattle.jwt_mac.specs.Verifying.{OkpKey, key_octets};
 ghost use Rattle.jwt_rsa.specs.PublicKey.{is_key};
 ghost use Rattle.key_der.specs.Der.{is_fit, is_on_curve};
 ghost use Rattle.key_der.specs.Reading.{AgreesWith, fitting, why_unfit};
@@ -9,7 +9,8 @@ ghost use Rattle.rsa_number.specs.Octets.{os2ip};
 
 use crate::refusal::Refusal;
 use ecdsa::{is_p256_key, is_p384_key, is_p521_key};
-use jwt_mac::{EcCurve, KeyView};
+use jwt_ed25519::is_key;
+use jwt_mac::{EcCurve, EdCurve, KeyView};
 use rsa_number::{Modulus, number};
 
 /// Whether an RSA key has the sizes that the verifiers take.
@@ -36,7 +37,17 @@ fn is_on_curve(curve: EcCurve, x: &[u8], y: &[u8]) -> bool
     }
 }
 
-/// Whether a verifier takes such a key.
+/// Whether a key of Ed25519 decodes, and isn't of small order. Of Ed448 nothing is asked.
+fn is_okp_fit(curve: EdCurve, x: &[u8]) -> bool
+    ensures { result ≡ is_fit (OkpKey curve x.now) }
+{
+    match curve {
+        EdCurve::Ed25519 => is_key(x),
+        EdCurve::Ed448 => true,
+    }
+}
+
+/// Whether such a key may verify something.
 fn is_fit(key: &KeyView<'_>) -> bool
     ensures { result ≡ is_fit (key_octets key.now) }
 {
@@ -44,11 +55,11 @@ fn is_fit(key: &KeyView<'_>) -> bool
         KeyView::Oct { .. } => false,
         KeyView::Rsa { n, e } => is_rsa_fit(n, e),
         KeyView::Ec { curve, x, y } => is_on_curve(*curve, x, y),
-        KeyView::Okp { .. } => true,
+        KeyView::Okp { curve, x } => is_okp_fit(*curve, x),
     }
 }
 
-/// Why no verifier takes such a key.
+/// Why such a key verifies nothing.
 fn unfit(key: &KeyView<'_>) -> Refusal
     ensures { result ≡ why_unfit (key_octets key.now) }
 {
@@ -58,7 +69,7 @@ fn unfit(key: &KeyView<'_>) -> Refusal
     }
 }
 
-/// The key, if a verifier takes it.
+/// The key, if it may verify something.
 #[tactic(auto, unfolding(crate::specs::Reading::fitting))]
 pub fn fitting(key: KeyView<'_>) -> Result<KeyView<'_>, Refusal>
     ensures { AgreesWith key_octets result (fitting (key_octets key.entry)) }

@@ -44,7 +44,7 @@ fn encoded(octets: &[u8]) -> Result<KeyView<'_>, Refusal>
     key_of(kind, key)
 }
 
-/// The same, if a verifier takes the key.
+/// The same, if the key may verify something.
 #[tactic(auto, unfolding(crate::specs::Reading::read))]
 fn read(octets: &[u8]) -> Result<KeyView<'_>, Refusal>
     ensures { AgreesWith key_octets result (read octets.now) }
@@ -53,7 +53,7 @@ fn read(octets: &[u8]) -> Result<KeyView<'_>, Refusal>
     fitting(key)
 }
 
-/// The RSA key of which octets are the RSAPublicKey, if a verifier takes it.
+/// The RSA key of which octets are the RSAPublicKey, if it may verify something.
 #[tactic(auto, unfolding(crate::specs::Reading::read_rsa))]
 fn read_rsa(octets: &[u8]) -> Result<KeyView<'_>, Refusal>
     ensures { AgreesWith key_octets result (read_rsa octets.now) }
@@ -66,7 +66,8 @@ fn read_rsa(octets: &[u8]) -> Result<KeyView<'_>, Refusal>
 /// uncompressed point of P-256, P-384 or P-521 (RFC 5480), a key of Ed25519 or Ed448 (RFC 8410).
 ///
 /// # Errors
-/// The first fault from left to right, then whether a verifier takes such a key.
+/// The first fault from left to right, then whether such a key may verify something. A key of Ed448 is taken by its size: no verifier of this
+/// repository takes its signatures, and another one may.
 pub fn read_public_key(octets: &[u8]) -> Result<KeyView<'_>, Refusal>
     // What is read is a key, and the octets are its encoding.
     ensures found { IfOk result (λ v. IsPublicKey (key_octets v) × (octets.now ≡ spki (key_octets v))) }
@@ -82,7 +83,7 @@ pub fn read_public_key(octets: &[u8]) -> Result<KeyView<'_>, Refusal>
 /// The RSA key whose RSAPublicKey (RFC 8017, appendix A.1.1) these octets are, in DER, lent.
 ///
 /// # Errors
-/// The first fault from left to right, then whether a verifier takes such a key.
+/// The first fault from left to right, then whether such a key may verify something.
 pub fn read_rsa_public_key(octets: &[u8]) -> Result<KeyView<'_>, Refusal>
     // What is read is a key, and the octets are its encoding.
     ensures found { IfOk result (λ v. IsPublicKey (key_octets v) × IsRsaText (key_octets v) octets.now) }

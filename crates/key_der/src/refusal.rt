@@ -21,7 +21,7 @@ pub enum Refusal {
     Point,
     /// The point is compressed.
     Compressed,
-    /// The point isn't on its curve.
+    /// The point isn't on its curve, or, of Ed25519, its octets are no point or one of small order.
     OffCurve,
     /// No verifier takes an RSA key of this size: its modulus is odd and of 2,048 to 8,192 bits, its exponent odd, at least 3 and of
     /// at most eight octets.
