@@ -17,13 +17,14 @@ mod crypto;
 mod error;
 mod issuers;
 mod seat;
+mod seats;
 
 pub use access::Access;
 pub use error::{Error, Part};
 pub use issuers::Issuers;
 
 use seat::{Named, Seat, Terms};
-use std::sync::{Mutex, MutexGuard, PoisonError};
+use seats::Seats;
 use std::time::{SystemTime, UNIX_EPOCH};
 
 /// The claims of an accepted token. Those are equal whose payloads are.
@@ -56,19 +57,8 @@ impl Claims {
 /// A policy and a key set, by which tokens are judged. Threads share it, and judge side by side.
 #[derive(Debug)]
 pub struct Validator {
-    seats: Mutex<Seats>,
+    seats: Seats,
     terms: Terms,
-}
-
-/// What is held where no call is under way. It is locked to take a seat and to give it back.
-#[derive(Debug)]
-struct Seats {
-    /// The policy and the key set, which every seat holds too.
-    documents: Seat,
-    /// How many tokens of how many octets each seat remembers.
-    remembers: (usize, usize),
-    /// Those that were given back: at most as many as calls were under way at once.
-    free: Vec<Seat>,
 }
 
 impl Validator {
@@ -104,24 +94,20 @@ impl Validator {
         let terms = documents.terms()?;
         Ok(Validator {
             terms,
-            seats: Mutex::new(Seats {
-                documents,
-                remembers: (0, 0),
-                free: Vec::new(),
-            }),
+            seats: Seats::new(documents),
         })
     }
 
     /// Remembers from now on so many accepted tokens, none longer than so many octets; the least used goes first. One that comes again is
-    /// found by all its octets, and only its claims are looked at. Each call that is under way at once has a memory of its own. Accepted
-    /// tokens lie in memory until they go, and aren't wiped.
+    /// found by all its octets, and only its claims are looked at. There are two memories for each processor, and one more for each call beyond
+    /// these that was under way at once; a thread comes back to the one that it had last. Accepted tokens lie in memory until they go, and aren't
+    /// wiped.
     #[must_use]
     pub fn remembering(self, tokens: usize, octets: usize) -> Validator {
-        let mut seats = self.seats();
-        seats.remembers = (tokens, octets);
-        seats.free.clear();
-        drop(seats);
-        self
+        Validator {
+            seats: self.seats.remembering(tokens, octets),
+            ..self
+        }
     }
 
     /// The issuer that the policy allows; `None` where it allows any, or several.
@@ -154,10 +140,7 @@ impl Validator {
     }
 
     fn named(&self, token: &[u8]) -> Result<Named, Error> {
-        let mut seat = self.take()?;
-        let named = seat.named(token);
-        self.seats().free.push(seat);
-        named
+        self.seats.call(|seat| seat.named(token))?
     }
 
     /// The claims of a token that is accepted at the clock's moment.
@@ -198,26 +181,7 @@ impl Validator {
     }
 
     fn claims(&self, token: &[u8], now: i64, access: Option<&Access>) -> Result<Claims, Error> {
-        let mut seat = self.take()?;
-        let claims = seat.claims(token, now, access);
-        // Where a call panics, its seat is closed in place of being given back.
-        self.seats().free.push(seat);
-        claims
-    }
-
-    /// A seat that no other call has.
-    fn take(&self) -> Result<Seat, Error> {
-        let mut seats = self.seats();
-        let (tokens, octets) = seats.remembers;
-        match seats.free.pop() {
-            Some(seat) => Ok(seat),
-            None => seats.documents.open_beside(tokens, octets),
-        }
-    }
-
-    /// Nothing that is done under the lock leaves the seats half written, so a panic in another thread is no reason to stop.
-    fn seats(&self) -> MutexGuard<'_, Seats> {
-        self.seats.lock().unwrap_or_else(PoisonError::into_inner)
+        self.seats.call(|seat| seat.claims(token, now, access))?
     }
 }
 
