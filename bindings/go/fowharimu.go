@@ -131,7 +131,8 @@ func (v *Validator) validate(token string, now time.Time, check func(*seat) erro
 		return Claims{}, err
 	}
 	defer v.give(s)
-	_, refusal, err := s.judge(token, now)
+	said, payload, status := s.held.validate(token, now.Unix())
+	refusal, err := s.refused(said)
 	if err != nil {
 		return Claims{}, err
 	}
@@ -141,7 +142,6 @@ func (v *Validator) validate(token string, now time.Time, check func(*seat) erro
 	if err := check(s); err != nil {
 		return Claims{}, err
 	}
-	payload, status := s.held.payload(token)
 	if status != statusOK {
 		return Claims{}, ErrOutOfMemory
 	}
@@ -243,16 +243,21 @@ func (v *Validator) Close() error {
 // judge gives what is said of a token first, and the refusal, which is nil where the token is accepted.
 func (s *seat) judge(token string, now time.Time) (verdict, Refusal, error) {
 	said := s.held.judge(token, now.Unix())
+	refusal, err := s.refused(said)
+	return said, refusal, err
+}
+
+// refused gives the refusal that the token which was judged last met with, which is nil where it is accepted. The error is ErrOutOfMemory.
+func (s *seat) refused(said verdict) (Refusal, error) {
 	switch said.status {
 	case statusOK:
-		return said, nil, nil
+		return nil, nil
 	case statusRefused:
-		refusal, err := s.refusal(said)
-		return said, refusal, err
+		return s.refusal(said)
 	case statusAsks:
-		return said, &UndecidedError{said.signature, said.key}, nil
+		return &UndecidedError{said.signature, said.key}, nil
 	default:
-		return said, nil, ErrOutOfMemory
+		return nil, ErrOutOfMemory
 	}
 }
 

@@ -81,9 +81,19 @@ static fow_report held_judge(held *it, _GoString_ token, int64_t now)
 	return report;
 }
 
-static uint32_t held_payload(held *it, _GoString_ token, uint8_t *out, size_t room, size_t *written)
+// A report, and where the token is accepted what fow_payload answers and how much it wrote.
+typedef struct validated {
+	fow_report report;
+	uint32_t status;
+	size_t written;
+} validated;
+
+static validated held_validate(held *it, _GoString_ token, int64_t now, uint8_t *out, size_t room)
 {
-	return fow_payload(&it->validator, at(token), _GoStringLen(token), out, room, written);
+	validated said = { .report = held_judge(it, token, now) };
+	if (said.report.verdict == FOW_OK)
+		said.status = fow_payload(&it->validator, at(token), _GoStringLen(token), out, room, &said.written);
+	return said;
 }
 
 static uint32_t held_header(held *it, _GoString_ token, uint32_t signature, uint8_t *out, size_t room, size_t *written)
@@ -237,11 +247,13 @@ func verdictOf(report C.fow_report) verdict {
 	}
 }
 
-// payload gives the octets of the payload of a token that was judged, and the status.
-func (h *held) payload(token string) ([]byte, int) {
-	return writtenTo(len(token)+1, func(out *C.uint8_t, room C.size_t, written *C.size_t) C.uint32_t {
-		return C.held_payload(h.at, token, out, room, written)
-	})
+// validate judges a token, and where it is accepted gives the octets of its payload too, and the status of that: in one call of C, since each takes
+// Go some time.
+func (h *held) validate(token string, now int64) (verdict, []byte, int) {
+	// A payload has fewer octets than its token.
+	out := make([]byte, len(token)+1)
+	said := C.held_validate(h.at, token, C.int64_t(now), (*C.uint8_t)(unsafe.Pointer(&out[0])), C.size_t(len(out)))
+	return verdictOf(said.report), out[:said.written], int(said.status)
 }
 
 // header gives the octets of a protected header that nobody vouches for, and the status. No signature has a number that 32 bits don't have.
