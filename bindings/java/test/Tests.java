@@ -20,6 +20,7 @@ import java.util.concurrent.Callable;
 import java.util.concurrent.ExecutorService;
 import java.util.concurrent.Executors;
 import java.util.concurrent.Future;
+import java.util.concurrent.atomic.AtomicReference;
 import java.util.stream.Collectors;
 import java.util.stream.Stream;
 
@@ -73,8 +74,8 @@ final class Tests {
 
     private void all() throws Exception {
         for (Test it : new Test[] {
-            this::eachToken, this::ed448, this::clock, this::verdict, this::remembering, this::refusals, this::surrogates, this::documents, this::questions,
-            this::mistakes, this::closing, this::issuing, this::freeing, this::threads, this::closingMeanwhile, this::ruleMet, this::denials,
+            this::eachToken, this::ed448, this::clock, this::verdict, this::remembering, this::seats, this::refusals, this::surrogates, this::documents,
+            this::questions, this::mistakes, this::closing, this::issuing, this::freeing, this::threads, this::closingMeanwhile, this::ruleMet, this::denials,
             this::denialIsNoRefusal, this::rulesRefused, this::rulesOfTheDocuments, this::ruleMistakes, this::ruleClosing, this::ruleFreeing,
             this::ruleThreads, this::ruleClosingMeanwhile, this::terms, this::issuers, this::urls, this::times,
             this::longestTimes
@@ -266,6 +267,25 @@ final class Tests {
             equal(said.states().get(0).state(), SignatureState.State.VERIFIED);
             equal(said.states().get(0).key().getAsInt(), 0);
             equal(said.tries(), List.of(new Try(0, 0, said.work())));
+        }
+    }
+
+    /** A thread comes back to the seat that it had last, which remembers its tokens, as long as no other thread has its place. */
+    private void seats() throws Exception {
+        String token = token(hmac);
+        try (Validator it = new Validator(read(hmac, "policy"), read(hmac, "keys"), Validator.MOST_QUESTIONS, new Remember(10, 4096))) {
+            equal(it.judge(token, NOW).remembered(), false);
+            AtomicReference<List<Boolean>> other = new AtomicReference<>();
+            Runnable twice = () -> other.set(List.of(it.judge(token, NOW).remembered(), it.judge(token, NOW).remembered()));
+            Thread thread;
+            do {
+                thread = new Thread(twice);
+                // (there are at least four places)
+            } while ((thread.getId() - Thread.currentThread().getId()) % 4 == 0);
+            thread.start();
+            thread.join();
+            equal(other.get(), List.of(false, true));
+            equal(it.judge(token, NOW).remembered(), true);
         }
     }
 

@@ -2,7 +2,8 @@ package org.example.fowharimu;
 
 /**
  * How many accepted tokens are remembered. One that comes again is found by all its octets, and only its claims are looked at; the least used
- * goes first. Each call that is under way at once has a memory of its own. Accepted tokens lie in memory until they go, and aren't wiped.
+ * goes first. A validator has two to four such memories for each processor, and one more for each call beyond these that was under way at once: a
+ * thread comes back to the one that it had last. Accepted tokens lie in memory until they go, and aren't wiped.
  *
  * @param tokens how many tokens; 0 for none
  * @param octets how many octets the longest of them has
