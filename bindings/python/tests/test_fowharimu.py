@@ -576,6 +576,18 @@ class Threads(unittest.TestCase):
                     thread.join()
             self.assertLessEqual(len(validator._seats._free), 8)
 
+    def test_the_interpreter_s_lock_is_kept_for_a_short_token_and_few_secrets_alone(self) -> None:
+        secret = {"kty": "oct", "k": "A" * 43}
+        for algorithm, keys, short in [("HS256", [secret], 4_096), ("HS256", [secret] * 90, -1), ("RS256", [], 4_096)]:
+            with self.subTest(algorithm, keys=len(keys)), Validator({"algs": [algorithm]}, {"keys": keys}) as validator:
+                self.assertEqual(validator._seats.take().short, short)
+        with validator_of(TOP / "bindings/tokens/RS256") as validator:
+            self.assertEqual(validator._seats.take().short, -1)
+        with Validator({"algs": ["HS256"], "limit": 8_192}, {"keys": [secret]}) as validator:
+            for length in (1, 5_000):
+                token = validator.issue({"sub": "a" * length})
+                self.assertEqual(validator.validate(token), {"sub": "a" * length})
+
     def test_a_call_that_is_under_way_ends_where_the_validator_is_closed(self) -> None:
         validator, token = validator_of(HMAC), token_of(HMAC)
         free, taken = validator._seats.take(), validator._seats.take()

@@ -42,7 +42,7 @@ from ._faults import (
     Undecided,
     Unreadable,
 )
-from ._seats import Seat, Seats, said, written
+from ._seats import SHORT, Seat, Seats, said, written
 from ._texts import Document, Text, document_of, octets_of
 
 __all__ = [
@@ -179,13 +179,14 @@ class Validator:
             raise MemoryError
         if status != _library.OK:
             raise self._document_refused(fault.value, policy_octets)
-        self._check_questions(documents, most_questions)
+        questions = self._questions(documents, most_questions)
         self._issuer = written(65_536, self._library.fow_sole_issuer, documents.held)
         self._is_public = bool(self._library.fow_documents_are_public(documents.held))
         limit = ctypes.c_uint32()
         self._library.fow_token_limit(documents.held, limit)
         self._limit = limit.value
-        self._seats = Seats(documents, (tokens, octets))
+        # (a signature by a public key, and a try of many secrets, take long enough for another thread to go on)
+        self._seats = Seats(documents, (tokens, octets), SHORT if questions == 0 and len(key_octets) <= SHORT else -1)
 
     def validate(self, token: Text, now: Optional[SupportsIndex] = None, access: Optional[Access] = None) -> Claims:
         """The claims of a token that is accepted at a moment, in seconds since 1970-01-01T00:00:00Z; without one, at the clock's. With an
@@ -332,13 +333,14 @@ class Validator:
     def __reduce_ex__(self, protocol: SupportsIndex) -> NoReturn:
         raise TypeError("a Validator isn't copied or pickled: what it holds belongs to it alone")
 
-    def _check_questions(self, documents: Seat, allowed: Optional[int]) -> None:
-        """Raises TooManyQuestions where one token could raise more than are allowed."""
+    def _questions(self, documents: Seat, allowed: Optional[int]) -> int:
+        """How many questions one token can raise. Raises TooManyQuestions where they are more than are allowed."""
         most = ctypes.c_uint32()
         if self._library.fow_most_questions(documents.held, most) != _library.OK:
             raise Closed
         if allowed is not None and most.value > allowed:
             raise TooManyQuestions(most.value, allowed)
+        return most.value
 
     def _refusal(self, seat: Seat, report: _library.CReport) -> TokenRefused:
         if report.verdict == _library.ASKS:

@@ -119,11 +119,24 @@ def load() -> ctypes.CDLL:
     interface, and OSError where there is none."""
     library = ctypes.CDLL(os.environ.get("FOWHARIMU_LIBRARY") or _shipped() or _installed())
     _compare(library)
+    _declare(library)
+    return library
+
+
+@functools.lru_cache(maxsize=None)
+def load_holding() -> ctypes.CDLL:
+    """The same library, whose calls keep the interpreter's lock: for what takes less time than to give the lock away and to wait for it."""
+    library = ctypes.PyDLL(load()._name)
+    _declare(library)
+    return library
+
+
+def _declare(library: ctypes.CDLL) -> None:
+    """Says what the functions take and give."""
     signatures = {**_SIGNATURES, **_OPENSSL_SIGNATURES} if is_over_openssl(library) else _SIGNATURES
     for function, (result, arguments) in signatures.items():
         getattr(library, function).restype = result
         getattr(library, function).argtypes = arguments
-    return library
 
 
 def is_over_openssl(library: ctypes.CDLL) -> bool:

@@ -22,6 +22,10 @@ _is_forking = False
 # The octets of room that a payload is first given. A longer one gets more.
 _ROOM = 1_024
 
+# The longest token, and the longest key set of secrets, for which the interpreter's lock is kept: both are gone through in less time than the lock
+# takes to come back.
+SHORT = 4_096
+
 # How long a fork waits for calls that are under way, in seconds: each ends by itself, and takes some milliseconds at most as a rule.
 _PATIENCE = 10.0
 
@@ -78,10 +82,11 @@ class Seat:
     """A validator of the library, and what OpenSSL made of its keys. It is used by one call at a time. What it holds is freed with it, without a
     lock: Python may do so at any moment, in any thread."""
 
-    __slots__ = ("library", "held", "crypto", "is_over_openssl", "report", "room", "view", "length")
+    __slots__ = ("library", "holding", "short", "held", "crypto", "is_over_openssl", "report", "room", "view", "length")
 
-    def __init__(self) -> None:
-        self.library = _library.load()
+    def __init__(self, short: int = -1) -> None:
+        """`short` is the length of the longest token for which the interpreter's lock is kept."""
+        self.library, self.holding, self.short = _library.load(), _library.load_holding(), short
         self.is_over_openssl = _library.is_over_openssl(self.library)
         self.held = _library.CValidator()
         self.crypto = _library.COpenssl()
@@ -92,10 +97,11 @@ class Seat:
     def judge(self, octets: bytes, moment: int) -> _library.CReport:
         """The report on a token, until the next call: OpenSSL verifies public keys where the library is over it, and else the library's proved
         verifiers do. Raises MemoryError where memory is refused."""
+        library = self.holding if len(octets) <= self.short else self.library
         if self.is_over_openssl:
-            verdict = self.library.fow_openssl_judge(self.crypto, self.held, octets, len(octets), moment, self.report)
+            verdict = library.fow_openssl_judge(self.crypto, self.held, octets, len(octets), moment, self.report)
         else:
-            verdict = self.library.fow_proved_judge(self.held, octets, len(octets), moment, self.report)
+            verdict = library.fow_proved_judge(self.held, octets, len(octets), moment, self.report)
         if verdict > _library.ASKS:
             raise MemoryError
         return self.report
@@ -107,9 +113,10 @@ class Seat:
     def payload(self, octets: bytes) -> bytes:
         """The payload of the token that was judged last, and accepted. Raises MemoryError where memory is refused."""
         size = len(octets)
+        library = self.holding if size <= SHORT else self.library
         if size > len(self.room):
             self._make_room(size)
-        if self.library.fow_payload(self.held, octets, size, self.room, len(self.room), self.length) != _library.OK:
+        if library.fow_payload(self.held, octets, size, self.room, len(self.room), self.length) != _library.OK:
             raise MemoryError
         return bytes(self.view[: self.length.value])
 
@@ -137,9 +144,10 @@ class Seats:
     taken even then is lost: it may be half written, and is never looked at.
     """
 
-    def __init__(self, documents: Seat, remember: Tuple[int, int]) -> None:
+    def __init__(self, documents: Seat, remember: Tuple[int, int], short: int) -> None:
         self._documents = documents
         self._remember = remember
+        self._short = short
         self._free: List[Seat] = []
         self._is_closed = False
 
@@ -171,7 +179,7 @@ class Seats:
         with _opening:
             if self._is_closed:
                 raise Closed
-            seat = Seat()
+            seat = Seat(self._short)
             if seat.library.fow_open_beside(seat.held, self._documents.held) != _library.OK:
                 raise MemoryError
             if seat.library.fow_remember(seat.held, *self._remember) != _library.OK:
