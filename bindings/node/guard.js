@@ -2,6 +2,7 @@
 /** Lets HTTP requests through where their token is accepted (RFC 6750). guard.d.ts says what each call does. */
 
 const { Access, Denied, TokenRefused } = require('.');
+const { ofKind, own } = require('./options.js');
 
 const INVALID_REQUEST = 'Bearer error="invalid_request"';
 const INVALID_TOKEN = 'Bearer error="invalid_token"';
@@ -53,16 +54,19 @@ function answer(response, error) {
   return true;
 }
 
-/** Refuses what would leave an access rule out: a misspelled name, a rule that isn't there, or one that stands for the words. */
-function checkWords(how) {
+/** The words of a guard. Refuses what would leave an access rule out: a misspelled name, a rule that isn't there, or one that stands for the words. */
+function checkedWords(how) {
   if (how instanceof Access) throw new TypeError('an access rule is handed in as { access }');
-  for (const name of Object.keys(how)) if (!WORDS.includes(name)) throw new TypeError(`a guard takes ${WORDS.join(', ')}, and not ${name}`);
-  if ('access' in how && !(how.access instanceof Access)) throw new TypeError('access has to be an Access');
+  const words = own(how, WORDS, 'a guard');
+  if ('access' in words && !(words.access instanceof Access)) throw new TypeError('access has to be an Access');
+  ofKind('string', words, 'realm');
+  ofKind('boolean', words, 'hidesToken');
+  ofKind('function', words, 'onRefusal');
+  return words;
 }
 
 function guard(validator, how = {}) {
-  checkWords(how);
-  const { access, realm = 'jwt', hidesToken = false, onRefusal = () => {} } = how;
+  const { access, realm = 'jwt', hidesToken = false, onRefusal = () => {} } = checkedWords(how);
   if (!QUOTABLE.test(realm)) throw new TypeError('a realm has printable characters of ASCII, and neither quotation marks nor backslashes');
   return (request, response, next) => {
     const values = authorizations(request);

@@ -54,6 +54,7 @@ export interface Remember {
   tokens: number;
   octets: number;
 }
+/** How a validator is opened: a plain object, as all options are, with no other member. */
 export interface Opening {
   /**
    * Which tokens are remembered: none without it. One that comes again is found by all its octets, and only its claims are looked at. Accepted

@@ -1,12 +1,16 @@
 'use strict';
 /** Validates JSON Web Tokens (RFC 7519) by a library that is proved correct, public-key signatures too. index.d.ts says what each call does. */
 
+const { isPlain, ofKind, own } = require('./options.js');
+
 const OK = 0, REFUSED = 1, OUT_OF_MEMORY = 3;
 /** FOW_NO_FAULT and FOW_DENIED_SCOPE_MISSING of fowharimu.h. */
 const NO_FAULT = 0, SCOPE_MISSING = 1001;
 /** FOW_MOST_QUESTIONS of fowharimu.h. */
 const MOST_QUESTIONS = 64;
 const NOTHING_REMEMBERED = { tokens: 0, octets: 0 };
+/** The names of options. */
+const OPENING = ['mostQuestions', 'remember'], REMEMBER = ['tokens', 'octets'], ASKING = ['access', 'now'], ISSUING = ['key', 'alg', 'form', 'typ'];
 const GREATEST_NUMBER = 2 ** 32 - 1;
 const PARTS = { 1: 'payload', 2: 'protected', 3: 'signature' };
 const STATES = { 1: 'barred', 2: 'no key', 3: 'bad signature', 4: 'verified', 5: 'not reached', 6: 'stopped' };
@@ -44,7 +48,8 @@ for (const [name, kind] of Object.entries(ERRORS)) named(kind, name);
 
 /** The functions of addon.c: those of the file that FOWHARIMU_NODE names, or of the one in this package. */
 function load() {
-  const file = process.env.FOWHARIMU_NODE;
+  // (what isn't in the environment would be looked for in Object.prototype)
+  const file = Object.hasOwn(process.env, 'FOWHARIMU_NODE') ? process.env.FOWHARIMU_NODE : '';
   if (file) return require(file);
   if (process.platform !== 'linux' || process.arch !== 'x64') {
     throw new FowharimuError(`fowharimu has a library for linux-x64, and this is ${process.platform}-${process.arch}`);
@@ -56,11 +61,6 @@ const native = load();
 const isBinary = (it) => ArrayBuffer.isView(it) || it instanceof ArrayBuffer || it instanceof SharedArrayBuffer;
 // (of what is binary only a Uint8Array is taken, and addon.c says so)
 const octets = (document) => (typeof document === 'string' || isBinary(document) ? document : JSON.stringify(document, wholly));
-
-function isPlain(object) {
-  const kind = Object.getPrototypeOf(object);
-  return Array.isArray(object) || kind === null || Object.getPrototypeOf(kind) === null;
-}
 
 /** Refuses in a document what JSON.stringify leaves out, or writes as `{}`, such as a promise or a map: a policy or a rule would ask for less. */
 function wholly(name, value) {
@@ -147,7 +147,8 @@ function takeNoMore(others) {
 function asked(how, others) {
   takeNoMore(others);
   if (typeof how !== 'object' || how === null) return { now: how };
-  return { now: how.now, rule: ruleOf(how.access) };
+  const { access, now } = own(how, ASKING, 'a call');
+  return { now, rule: ruleOf(access) };
 }
 
 class Validator {
@@ -156,8 +157,11 @@ class Validator {
   #terms;
   #report = new Float64Array(8);
 
-  constructor(policy, keys, { mostQuestions = MOST_QUESTIONS, remember: { tokens, octets: longest } = NOTHING_REMEMBERED } = {}) {
+  constructor(policy, keys, options = {}) {
     compareLibrary();
+    const { mostQuestions = MOST_QUESTIONS, remember = NOTHING_REMEMBERED } = own(options, OPENING, 'a validator');
+    ofKind('number', { mostQuestions }, 'mostQuestions');
+    const { tokens, octets: longest } = own(remember, REMEMBER, 'remember');
     const room = [whole(tokens, 'remember.tokens'), whole(longest, 'remember.octets')];
     const text = octets(policy), held = native.open(text, octets(keys));
     if (typeof held === 'number') throw documentRefused(held, text);
@@ -212,7 +216,8 @@ class Validator {
     return native.named(this.#open(), token);
   }
 
-  issue(claims, { key = 0, alg = 'HS256', form = 'compact', typ = '' } = {}) {
+  issue(claims, options = {}) {
+    const { key = 0, alg = 'HS256', form = 'compact', typ = '' } = own(options, ISSUING, 'issue');
     if (!Object.hasOwn(HMAC, alg) || !Object.hasOwn(FORMS, form)) throw new RangeError(`no algorithm or form ${alg}, ${form}`);
     if (typeof typ !== 'string') throw new TypeError('typ has to be a string');
     const number = whole(key, "a key's number");

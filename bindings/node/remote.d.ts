@@ -1,7 +1,7 @@
 /** Key sets that stand at a URL, by the rules of docs/REMOTE-KEYS.md: `require('fowharimu/remote')`. */
 import { Asking, Claims, Document, FowharimuError, Moment, Opening, Report, Token, TokenRefused } from './index';
 
-/** How keys are fetched. Times are in milliseconds, from 0 on; one that is undefined is as without it. */
+/** How keys are fetched: a plain object. Times are in milliseconds, from 0 on; one that is undefined is as without it. */
 export interface Remote extends Opening {
   /** The age at which keys are fetched again, in the background: ten minutes without it. */
   refreshAfter?: number;
@@ -13,7 +13,7 @@ export interface Remote extends Opening {
   timeout?: number;
   /** Whether `http:` is taken too. */
   allowHttp?: boolean;
-  /** The certificates of the authorities that are trusted, in PEM: those that Node trusts without it. */
+  /** The certificates of the authorities that are trusted, in PEM, and not empty: those that Node trusts without it. */
   ca?: string | Uint8Array | (string | Uint8Array)[];
   /** Called after each fetch, with the URL without its query, how many octets were had, and why it failed, if it did. What it throws is a warning of the process. */
   onFetch?: (url: string, octets: number, error: Error | null) => void;
@@ -32,9 +32,9 @@ export class KeysTooOld extends TokenRefused {}
  */
 export class RemoteKeys {
   /**
-   * Fetches a key set. Rejects with TypeError for a URL that isn't https, has no host, or has a name or a password in it, and for a policy with an
-   * HMAC algorithm; with RangeError for a time that is none; with KeysUnavailable where the keys can't be fetched; and with what `new Validator`
-   * throws. A policy that is changed later doesn't change what is judged.
+   * Fetches a key set. Rejects with TypeError for a URL that isn't https, has no host, or has a name or a password in it, for a policy with an HMAC
+   * algorithm, and for an option that is none; with RangeError for a time that is none; with KeysUnavailable where the keys can't be fetched; and with
+   * what `new Validator` throws. A policy that is changed later doesn't change what is judged.
    */
   static open(policy: Document, url: string, options?: Remote): Promise<RemoteKeys>;
   /**
@@ -46,7 +46,10 @@ export class RemoteKeys {
   private constructor();
   /** Why the last fetch failed; null where it didn't. */
   readonly error: Error | null;
-  /** As `Validator.validate`. Rejects with KeysTooOld too. */
+  /**
+   * As `Validator.validate`. Rejects with KeysTooOld too. A token that is refused as `NoKey` or `BadSignature` waits for a fetch: at most four do, one for
+   * each `kid`, and the others are refused at once.
+   */
   validate(token: Token, how?: Moment | Asking): Promise<Claims>;
   /** As `Validator.judge`. Where the keys are too old and none can be fetched, the report has the refusal KeysTooOld and nothing else. */
   judge(token: Token, now?: Moment): Promise<Report>;

@@ -1,21 +1,38 @@
 'use strict';
 /** Key sets that stand at a URL, by the rules of docs/REMOTE-KEYS.md. remote.d.ts says what each call does. */
 
+const { constants } = require('node:crypto');
 const http = require('node:http');
 const https = require('node:https');
 const tls = require('node:tls');
+const { urlToHttpOptions } = require('node:url');
 const { isUint8Array } = require('node:util').types;
 const { Validator, Closed, FowharimuError, SignatureRefused, TokenRefused, textMember } = require('./index.js');
+const { ofKind, own } = require('./options.js');
 
 /** The most octets that a key set, or what tells where it stands, may have. */
 const MOST = 4_194_304;
 const MOST_REDIRECTS = 5;
 const REDIRECTS = [301, 302, 303, 307, 308];
 const HEADERS = { accept: 'application/jwk-set+json, application/json', 'accept-encoding': 'identity' };
+const PORTS = { 'https:': 443, 'http:': 80 };
+/** What Node would else take from its environment, or from a prototype: each option of a request that decides whom it reaches, and what is checked. */
+const REQUEST = {
+  method: 'GET', headers: HEADERS, agent: false, setHost: true, insecureHTTPParser: false, maxHeaderSize: 16_384,
+  rejectUnauthorized: true, checkServerIdentity: tls.checkServerIdentity,
+  auth: undefined, createConnection: undefined, family: undefined, localAddress: undefined, localPort: undefined, lookup: undefined, session: undefined,
+  socket: undefined, socketPath: undefined, timeout: undefined,
+};
+/** The same of TLS. */
+const SECURE = { minVersion: 'TLSv1.2', maxVersion: 'TLSv1.3', ciphers: constants.defaultCoreCipherList };
 /** The times in milliseconds, where none are given. */
 const TIMES = { refreshAfter: 600_000, cooldown: 30_000, maxAge: 3_600_000, timeout: 5_000 };
+/** The names of options, those of a validator among them. */
+const REMOTE = [...Object.keys(TIMES), 'allowHttp', 'ca', 'onFetch', 'mostQuestions', 'remember'];
 /** The longest time that a timer takes. */
 const LONGEST = 2 ** 31 - 1;
+/** The most tokens that wait for one fetch. */
+const MOST_WAITING = 4;
 
 class KeysUnavailable extends FowharimuError {}
 class KeysTooOld extends TokenRefused {}
@@ -49,8 +66,12 @@ function checkedUrl(text, allowHttp) {
 }
 
 /** The options, with those times that aren't given. A comparison with what is no number would never say that keys are too old. */
-function timed(options) {
-  const how = { ...options };
+function chosen(options) {
+  const how = own(options, REMOTE, 'RemoteKeys');
+  ofKind('boolean', how, 'allowHttp');
+  ofKind('function', how, 'onFetch');
+  // (of one that is empty Node makes the authorities of the system)
+  if (how.ca !== undefined && !(how.ca?.length > 0)) throw new TypeError('ca has to have certificates');
   for (const [name, otherwise] of Object.entries(TIMES)) {
     how[name] ??= otherwise;
     if (!(typeof how[name] === 'number' && how[name] >= 0)) throw new RangeError(`${name} has to be a number of milliseconds from 0`);
@@ -65,9 +86,19 @@ function kept(policy) {
   return typeof policy === 'string' ? policy : JSON.stringify(policy);
 }
 
+/** The options that are those of a validator. */
+function validating({ mostQuestions, remember }) {
+  return { mostQuestions, remember };
+}
+
+/** The authorities that are trusted, and how: made once, since it holds all of them. */
+function secured({ ca }) {
+  return tls.createSecureContext({ __proto__: null, ...SECURE, ca });
+}
+
 /** Refuses a policy with an HMAC algorithm, or one that doesn't name exactly the issuer, where there is one. */
-function checkPolicy(policy, issuer) {
-  const read = new Validator(policy, '{"keys":[]}');
+function checkPolicy(policy, how, issuer) {
+  const read = new Validator(policy, '{"keys":[]}', validating(how));
   read.close();
   if (!read.isPublic) throw new TypeError('a policy with an HMAC algorithm has no keys by URL, since what is fetched is public');
   if (issuer !== undefined && read.issuer !== issuer) throw new TypeError('the policy has to name the issuer in issuers, and no other');
@@ -75,10 +106,12 @@ function checkPolicy(policy, issuer) {
 
 /** One answer, as it comes. */
 function answer(at, { secureContext, signal, onSocket }) {
-  const { get } = at.protocol === 'https:' ? https : http;
+  const { get } = at.protocol === 'https:' ? https : http, port = at.port === '' ? PORTS[at.protocol] : Number(at.port);
+  const options = { __proto__: null, ...urlToHttpOptions(at), ...REQUEST, port, defaultPort: port, secureContext, signal };
   return new Promise((resolve, reject) => {
-    const request = get(at, { agent: false, secureContext, headers: HEADERS, signal }, resolve);
-    request.on('socket', onSocket).on('error', reject);
+    const request = get(options, resolve);
+    // (one that is closed without an answer, as by a status of 101, makes no error)
+    request.on('socket', onSocket).on('error', reject).on('close', () => reject(new Error('it gives no answer')));
   });
 }
 
@@ -87,7 +120,7 @@ async function get(from, how) {
   let at = from, response;
   for (let hops = 0; ; hops++) {
     response = await answer(at, how);
-    if (!REDIRECTS.includes(response.statusCode) || response.headers.location === undefined) break;
+    if (!REDIRECTS.includes(response.statusCode) || !Object.hasOwn(response.headers, 'location')) break;
     response.destroy();
     const to = urlOf(response.headers.location, at);
     if (to?.origin !== from.origin || to.username !== '' || to.password !== '') throw new Error('it redirects to another origin');
@@ -110,35 +143,64 @@ async function get(from, how) {
 
 /** The URL of an issuer's keys, which its metadata tell. */
 async function keysUrl(issuer, at, how) {
-  const path = at.pathname.replace(/\/$/, ''), signal = AbortSignal.timeout(Math.ceil(how.timeout)), words = { secureContext: tls.createSecureContext({ ca: how.ca }), signal, onSocket() {} };
-  const text = await get(new URL(`${path}/.well-known/openid-configuration`, at), words).catch((error) => {
-    if (error.status !== 404) throw error;
-    return get(new URL(`/.well-known/oauth-authorization-server${path}`, at), words);
-  });
+  const path = at.pathname.replace(/\/$/, ''), secureContext = secured(how);
+  const read = async (words) => {
+    const told = { ...words, secureContext };
+    return get(new URL(`${path}/.well-known/openid-configuration`, at), told).catch((error) => {
+      if (error.status !== 404) throw error;
+      return get(new URL(`/.well-known/oauth-authorization-server${path}`, at), told);
+    });
+  };
+  const fetch = new Fetch(read, how.timeout);
+  fetch.hold();
+  const text = await fetch.octets;
   if (textMember(text, 'issuer') !== issuer) throw new Error('the metadata are of another issuer');
   return checkedUrl(textMember(text, 'jwks_uri') ?? '', how.allowHttp).href;
 }
 
-/** One fetch. While only the background waits for it, it doesn't keep the process alive. */
-class Fetch {
-  #isWaitedFor = false;
-  #socket;
+/** The `kid` of a token, for which nobody vouches; empty where there is none. */
+function kidOf(validator, token) {
+  const header = validator.unverifiedHeader(token) ?? {};
+  return Object.hasOwn(header, 'kid') && typeof header.kid === 'string' ? header.kid : '';
+}
 
-  constructor(run, timeout) {
-    const stop = new AbortController(), { signal } = stop;
-    const timer = setTimeout(() => stop.abort(), timeout).unref();
-    this.stop = () => stop.abort();
+/** One fetch. It is over at its deadline, whatever the transport does. While only the background waits for it, it doesn't keep the process alive. */
+class Fetch {
+  #isHeld = false;
+  #socket;
+  #timer;
+  #kids = new Set();
+
+  constructor(read, timeout) {
+    const stop = new AbortController();
+    const late = new Promise((_, reject) => {
+      this.end = (why) => {
+        reject(why);
+        stop.abort();
+      };
+    });
+    this.#timer = setTimeout(() => this.end(new Error('it takes too long')), timeout).unref();
     const onSocket = (socket) => {
       this.#socket = socket;
-      if (!this.#isWaitedFor) socket.unref();
+      if (!this.#isHeld) socket.unref();
     };
-    this.done = run({ signal, onSocket }).finally(() => clearTimeout(timer));
+    /** What comes. */
+    this.octets = Promise.race([read({ signal: stop.signal, onSocket }), late]).finally(() => clearTimeout(this.#timer));
   }
 
-  wait() {
-    this.#isWaitedFor = true;
+  /** Keeps the process alive until it is over. */
+  hold() {
+    if (this.#isHeld) return;
+    this.#isHeld = true;
+    this.#timer.ref();
     this.#socket?.ref();
-    return this.done;
+  }
+
+  /** Whether a token of this `kid` may wait: few do, since anyone can send tokens for which a key is lacking. */
+  admits(kid) {
+    if (this.#kids.size >= MOST_WAITING || this.#kids.has(kid)) return false;
+    this.#kids.add(kid);
+    return true;
   }
 }
 
@@ -149,50 +211,51 @@ class RemoteKeys {
   #options;
   #validator;
   #fetch;
+  #done;
   #got = -Infinity;
   #tried = -Infinity;
   #isClosed = false;
   error = null;
 
   static async open(policy, url, options = {}) {
-    const how = timed(options);
-    checkPolicy(policy);
+    const how = chosen(options);
+    checkPolicy(policy, how);
     return RemoteKeys.#begun(kept(policy), checkedUrl(url, how.allowHttp), how);
   }
 
   static async discover(policy, issuer, options = {}) {
-    const how = timed(options);
-    checkPolicy(policy, issuer);
-    const own = kept(policy), at = checkedUrl(issuer, how.allowHttp);
+    const how = chosen(options);
+    checkPolicy(policy, how, issuer);
+    const its = kept(policy), at = checkedUrl(issuer, how.allowHttp);
     let url;
     try {
       url = await keysUrl(issuer, at, how);
     } catch (error) {
       throw unavailable(error);
     }
-    return RemoteKeys.#begun(own, new URL(url), how);
+    return RemoteKeys.#begun(its, new URL(url), how);
   }
 
   static async #begun(policy, at, how) {
     const it = new RemoteKeys();
-    const { refreshAfter, cooldown, maxAge, timeout, allowHttp, ca, onFetch, ...others } = how;
+    const { refreshAfter, cooldown, maxAge, timeout, onFetch } = how;
     it.#policy = policy;
     it.#at = at;
-    // (made once, since it holds all authorities)
-    it.#how = { refreshAfter, cooldown, maxAge, timeout, onFetch, secureContext: tls.createSecureContext({ ca }) };
-    it.#options = others;
+    // (a greatest age that is below the age of refreshing makes keys old enough to be fetched, too)
+    it.#how = { refreshAfter: Math.min(refreshAfter, maxAge), cooldown, maxAge, timeout, onFetch, secureContext: secured(how) };
+    it.#options = validating(how);
     if (!(await it.refresh())) throw unavailable(it.error);
     return it;
   }
 
   async validate(token, how, ...others) {
-    return this.#by((validator) => validator.validate(token, how, ...others));
+    return this.#by(token, (validator) => validator.validate(token, how, ...others));
   }
 
   async judge(token, now, ...others) {
     let report;
     try {
-      await this.#by((validator) => {
+      await this.#by(token, (validator) => {
         report = validator.judge(token, now, ...others);
         if (report.refusal) throw report.refusal;
       });
@@ -217,12 +280,12 @@ class RemoteKeys {
 
   async refresh() {
     if (this.#isClosed) throw new Closed('the keys are closed');
-    return (this.#fetch ?? this.#begin()).wait();
+    return this.#wait(this.#fetch ?? this.#begin());
   }
 
   close() {
     this.#isClosed = true;
-    this.#fetch?.stop();
+    this.#fetch?.end(new Closed('the keys are closed'));
     this.#validator?.close();
     this.#validator = undefined;
   }
@@ -234,32 +297,30 @@ class RemoteKeys {
   }
 
   /** Judges by the keys, and once more by newer ones where these may change what came of it and can be had. */
-  async #by(judge) {
-    const used = await this.#current();
+  async #by(token, judge) {
+    if (this.#isOld(this.#how.refreshAfter)) await this.#renewed(token);
+    // (a validator is used at once: while others are awaited it may be closed)
+    const used = this.#open();
     try {
       return judge(used);
     } catch (error) {
       if (!(error instanceof SignatureRefused) || !['NoKey', 'BadSignature'].includes(error.fault)) throw error;
-      await (this.#validator === used ? this.#begunFetch()?.wait() : undefined);
+      await this.#waitFor(this.#begunFetch(), used, token);
       if (this.#validator === used || this.#validator === undefined) throw error;
       return judge(this.#validator);
     }
   }
 
-  /** The validator by which a token is judged first. */
-  async #current() {
-    if (this.#isClosed) throw new Closed('the keys are closed');
-    if (this.#age() >= this.#how.refreshAfter) {
-      const fetch = this.#begunFetch();
-      if (this.#age() >= this.#how.maxAge) await fetch?.wait();
-      if (this.#age() >= this.#how.maxAge) throw new KeysTooOld("the keys are too old, and newer ones can't be fetched", { fault: 'KeysTooOld' });
-    }
-    if (this.#isClosed) throw new Closed('the keys are closed');
-    return this.#validator;
+  /** Has a fetch begin, and waits for it where the keys are too old. */
+  async #renewed(token) {
+    const fetch = this.#begunFetch();
+    if (!this.#isOld(this.#how.maxAge)) return;
+    await this.#waitFor(fetch, this.#open(), token);
+    if (this.#isOld(this.#how.maxAge)) throw new KeysTooOld("the keys are too old, and newer ones can't be fetched", { fault: 'KeysTooOld' });
   }
 
-  #age() {
-    return performance.now() - this.#got;
+  #isOld(age) {
+    return performance.now() - this.#got >= age;
   }
 
   /** The fetch that is under way, or a new one where the cool-down is over. */
@@ -270,18 +331,30 @@ class RemoteKeys {
 
   #begin() {
     this.#tried = performance.now();
-    this.#fetch = new Fetch((words) => this.#run(words), this.#how.timeout);
+    const { secureContext, timeout } = this.#how;
+    this.#fetch = new Fetch((words) => get(this.#at, { ...words, secureContext }), timeout);
+    this.#done = this.#run(this.#fetch);
     return this.#fetch;
   }
 
+  /** Waits for a fetch, where there is one for which this token may wait. */
+  async #waitFor(fetch, used, token) {
+    if (fetch?.admits(kidOf(used, token))) await this.#wait(fetch);
+  }
+
+  /** Waits for the fetch that is under way, and tells whether it went well. */
+  #wait(fetch) {
+    fetch.hold();
+    return this.#done;
+  }
+
   /** Whether a fetch went well. */
-  async #run(words) {
+  async #run(fetch) {
     let octets = 0;
     try {
-      const keys = await get(this.#at, { ...words, secureContext: this.#how.secureContext });
+      const keys = await fetch.octets;
       octets = keys.length;
-      const validator = new Validator(this.#policy, keys, this.#options);
-      this.#exchange(validator);
+      this.#exchange(new Validator(this.#policy, keys, this.#options));
       this.error = null;
     } catch (error) {
       this.error = error;

@@ -46,6 +46,17 @@ async function judged(token, now) {
   return 'accepted';
 }
 
+/** How many tokens are answered at once, and how many later, where all are judged at the same time. */
+async function crowd([path, now]) {
+  const tokens = fs.readFileSync(path, 'latin1').trimEnd().split('\n'), begun = performance.now();
+  let atOnce = 0;
+  await Promise.all(tokens.map(async (it) => {
+    await judged(it, Number(now));
+    if (performance.now() - begun < 1200) atOnce++;
+  }));
+  return `${atOnce} ${tokens.length - atOnce}`;
+}
+
 /** So many calls at a time, each after the one before it, until they are told to rest. */
 class Load {
   judged = 0;
@@ -78,6 +89,7 @@ const ANSWERS = {
   discover: (words) => opened(RemoteKeys.discover, words),
   issuers: openedIssuers,
   validate: validated,
+  crowd,
   load: (words) => ((load = new Load(words)), 'loading'),
   rest: () => load.rest(),
   // (so that what is resident is what is held)

@@ -1,9 +1,10 @@
 'use strict';
 const assert = require('node:assert');
-const { spawnSync } = require('node:child_process');
+const { spawn, spawnSync } = require('node:child_process');
 const { once } = require('node:events');
 const fs = require('node:fs');
 const http = require('node:http');
+const net = require('node:net');
 const path = require('node:path');
 const test = require('node:test');
 const { Worker, isMainThread, workerData, parentPort } = require('node:worker_threads');
@@ -152,7 +153,7 @@ const testTimes = () => withKeysAt(async (url) => {
   for (const options of [...wrong, { timeout: Infinity }, { timeout: 2 ** 31 }]) {
     for (const open of [RemoteKeys.open, RemoteKeys.discover]) await assert.rejects(open(policy, url, { allowHttp: true, ...options }), RangeError);
   }
-  const absent = { refreshAfter: undefined, cooldown: null, maxAge: undefined, timeout: undefined };
+  const absent = { refreshAfter: undefined, cooldown: null, maxAge: undefined, timeout: undefined, allowHttp: true };
   for (const [options, isOld] of [[absent, false], [{ refreshAfter: 0, maxAge: 0 }, true], [{ maxAge: Infinity, timeout: 2 ** 31 - 1.5 }, false]]) {
     const keys = await RemoteKeys.open(policy, url, { allowHttp: true, ...options });
     if (isOld) await assert.rejects(keys.validate(tokenOf(RSA), NOW), KeysTooOld);
@@ -181,8 +182,116 @@ function testGuardWords() {
   for (const how of [{ access: undefined }, { acces: access }, { access: {} }, { access, hideToken: true }, access]) {
     assert.throws(() => guard(validator, how), TypeError);
   }
+  for (const how of [{ realm: 7 }, { hidesToken: 'no' }, { onRefusal: [] }, null, [], Object.create({ access })]) {
+    assert.throws(() => guard(validator, how), TypeError);
+  }
   for (const how of [undefined, {}, { access, realm: 'a', hidesToken: true, onRefusal() {} }]) assert.strictEqual(typeof guard(validator, how), 'function');
 }
+
+/** Options are read as they stand in a plain object: no name that isn't known, no member of a prototype, no other kind than theirs. */
+async function testOptions() {
+  const { RemoteKeys } = require('../remote.js'), policy = { algs: ['RS256'] }, keys = { keys: [] };
+  const validator = validatorOf(HMAC), token = tokenOf(HMAC), access = new fow.Access({}), remember = { tokens: 1, octets: 4096 };
+  const calls = [
+    [(how) => new fow.Validator(policy, keys, how), { mostQuestions: 8, remember }],
+    [(how) => new fow.Validator(policy, keys, { remember: how }), remember],
+    [(how) => validator.validate(token, how), { access, now: NOW }],
+    [(how) => validator.issue({}, how), { alg: 'HS256', form: 'compact', key: 0, typ: 'at+jwt' }],
+  ];
+  class Derived {}
+  // (an option that a class has for all that are made of it)
+  Derived.prototype.remember = remember;
+  for (const [call, how] of calls) {
+    for (const it of [how, { __proto__: null, ...how }]) call(it);
+    const hidden = Object.defineProperty({ ...how }, 'hidden', { value: 1 });
+    for (const it of [{ ...how, other: 1 }, { ...how, [Symbol('a')]: 1 }, hidden, Object.create(how), [how], Object.assign(new Derived(), how)]) {
+      assert.throws(() => call(it), TypeError);
+    }
+  }
+  const url = 'http://127.0.0.1:1/keys', wrong = [{ maxage: 1 }, Object.create({ allowHttp: true }), null, { allowHttp: 1 }, { onFetch: {} }, { remember: 7 }];
+  for (const how of [...wrong, { ca: '' }, { ca: [] }, { ca: null }]) {
+    for (const open of [RemoteKeys.open, RemoteKeys.discover]) await assert.rejects(open(policy, url, how), TypeError);
+  }
+  assert.throws(() => new fow.Validator(policy, keys, { mostQuestions: '64' }), TypeError);
+}
+
+/** The library is the one that the environment names, and none that a prototype does. */
+function testPlantedLibrary() {
+  const script = `Object.prototype.FOWHARIMU_NODE = '/planted'; require(${JSON.stringify(path.resolve(__dirname, '..'))})`;
+  const { FOWHARIMU_NODE, ...env } = process.env, done = spawnSync(process.execPath, ['-e', script], { env });
+  assert.ok(!done.stderr.includes("'/planted'"), `${done.stderr}`);
+}
+
+/** Answers by what a socket is sent, over a server on the loopback whose URL is handed on. */
+async function withServer(answer, tried) {
+  const sockets = new Set();
+  const server = net.createServer((socket) => {
+    sockets.add(socket.on('error', () => {}));
+    socket.once('data', () => answer(socket));
+  }).listen(0, '127.0.0.1');
+  await once(server, 'listening');
+  try {
+    await tried(`http://127.0.0.1:${server.address().port}/keys`);
+  } finally {
+    for (const it of sockets) it.destroy();
+    server.close();
+  }
+}
+
+const SWITCHING = 'HTTP/1.1 101 Switching Protocols\r\nConnection: Upgrade\r\nUpgrade: other\r\n\r\n';
+
+/** A fetch is over at its deadline, also one of which Node's client says nothing more: a process that has nothing else to do is told so. */
+const testNoAnswer = () => withServer((socket) => socket.write(SWITCHING), async (url) => {
+  const script = `require(${JSON.stringify(path.resolve(__dirname, '../remote.js'))}).RemoteKeys
+    .open({ algs: ['RS256'] }, ${JSON.stringify(url)}, { allowHttp: true, timeout: 500 }).catch((error) => console.log(error.name))`;
+  const child = spawn(process.execPath, ['-e', script], { stdio: ['ignore', 'pipe', 'inherit'] }), said = [];
+  child.stdout.on('data', (it) => said.push(it));
+  assert.deepStrictEqual([...(await once(child, 'close')), String(Buffer.concat(said))], [0, null, 'KeysUnavailable\n']);
+});
+
+/** Of tokens for which a key is lacking at most four wait for a fetch, one for each `kid`. The others are refused at once. */
+async function testFewWait() {
+  const { RemoteKeys } = require('../remote.js'), keys = read(RSA, 'keys'), answered = [];
+  let fetches = 0;
+  const answer = (socket) => fetches++ === 0 && socket.end(`HTTP/1.1 200 OK\r\nContent-Length: ${keys.length}\r\n\r\n${keys}`);
+  await withServer(answer, async (url) => {
+    const remote = await RemoteKeys.open({ algs: ['RS256'] }, url, { allowHttp: true, timeout: 1000, cooldown: 0 }), token = tokenOf(RSA);
+    const ask = (it, name) => remote.validate(it, NOW).then(() => answered.push(name), (error) => answered.push(error.fault));
+    const header = (kid) => Buffer.from(JSON.stringify({ alg: 'RS256', kid })).toString('base64url');
+    const forged = ['a', 'a', 'b', 'c', 'd', 'e', 'f'].map((kid) => `${header(kid)}.${token.split('.')[1]}.AAAA`);
+    const all = Promise.all([...forged, changed(token)].map((it) => ask(it)));
+    await ask(token, 'accepted');
+    // (a second one of a kid, a fifth kid and a sixth, and one without any)
+    assert.deepStrictEqual(answered, ['NoKey', 'NoKey', 'NoKey', 'BadSignature', 'accepted']);
+    await all;
+    assert.deepStrictEqual([answered.length, fetches], [9, 2]);
+    remote.close();
+  });
+}
+
+/** A call that begins while keys are exchanged is judged by those that are there then. */
+const testExchange = () => withKeysAt(async (url) => {
+  const { RemoteKeys } = require('../remote.js'), keys = await RemoteKeys.open({ algs: ['RS256'] }, url, { allowHttp: true }), token = tokenOf(RSA);
+  const { concat } = Buffer, calls = [];
+  const call = (count) => {
+    calls.push(keys.validate(token, NOW));
+    if (count > 0) queueMicrotask(() => call(count - 1));
+  };
+  // (what came is put together some steps before the exchange: a call begins in each of these)
+  Buffer.concat = (...them) => {
+    call(30);
+    return concat.apply(Buffer, them);
+  };
+  try {
+    assert.ok(await keys.refresh());
+  } finally {
+    Buffer.concat = concat;
+  }
+  await new Promise(setImmediate);
+  assert.ok(calls.length > 10);
+  for (const claims of await Promise.all(calls)) assert.strictEqual(claims.iss, 'joe');
+  keys.close();
+});
 
 /** What stands behind a guard that hides the token finds it nowhere, also where the headers were read before. */
 async function testHiding() {
@@ -387,9 +496,8 @@ function testMistakenRules() {
   const others = [undefined, null, {}, '{}', true, fow.Access, Object.create(fow.Access.prototype), structuredClone(access), validator];
   const error = { name: 'TypeError', message: 'access has to be an Access' };
   for (const it of others) assert.throws(() => validator.validate(token, { access: it, now: NOW }), error);
-  for (const how of [{}, { now: NOW }, { acess: access, now: NOW }, access, [access], new Date(0)]) {
-    assert.throws(() => validator.validate(token, how), error);
-  }
+  for (const how of [{}, { now: NOW }]) assert.throws(() => validator.validate(token, how), error);
+  for (const how of [{ acess: access, now: NOW }, access, [access], new Date(0)]) assert.throws(() => validator.validate(token, how), TypeError);
   for (const now of [1.5, NaN, null, `${NOW}`, { now: NOW }]) assert.throws(() => validator.validate(token, { access, now }), RangeError);
   assert.throws(() => validator.judge(token, { access, now: NOW }), RangeError);
   for (const call of ['validate', 'validateText', 'judge']) {
@@ -564,6 +672,11 @@ if (!isMainThread) {
   test('a guard where Promise was replaced', testGuardUnderAnotherPromise);
   test('a guard without the rule that is meant', testGuardWords);
   test('a token that a guard hides', testHiding);
+  test('options are read strictly', testOptions);
+  test('a library that a prototype names', testPlantedLibrary);
+  test('an issuer that gives no answer', testNoAnswer);
+  test('few tokens wait for a fetch', testFewWait);
+  test('a call while keys are exchanged', testExchange);
   test('whoever is told of a fetch throws', testToldInVain);
   test('a policy of keys by URL that changes', testKeptPolicy);
   test('the times of keys by URL', testTimes);
