@@ -54,7 +54,8 @@ def judged(validator: Validator, token: bytes, now: int, access: Optional[Access
     tries = ",".join(f"{it.signature}/{it.key}/{it.cost}" for it in report.tries)
     refusal, claims = report.refusal, "-"
     try:
-        claims = spelled(json.dumps(validator.validate(token, now, access)))
+        rule = {} if access is None else {"access": access}
+        claims = spelled(json.dumps(validator.validate(token, now, **rule)))
     except Denied as denial:
         if not report.accepted or access is None or denial.scopes != access.scopes:
             raise

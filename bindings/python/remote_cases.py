@@ -2,6 +2,7 @@
 import ssl
 import sys
 import threading
+import time
 from typing import Any, List, Optional, Union
 
 from fowharimu import Closed, PolicyRefused, TokenRefused, Validator
@@ -34,6 +35,27 @@ class Load:
         for it in self.threads:
             it.join()
         return f"{self.judged} {self.wrong}"
+
+
+def crowd(keys: RemoteKeys, tokens: List[str], now: int) -> str:
+    """How many tokens are answered at once, and how many later, where all are judged at the same time."""
+    took: List[float] = []
+
+    def ask(token: str) -> None:
+        try:
+            keys.validate(token, now)
+        except TokenRefused:
+            pass
+        took.append(time.monotonic() - begun)
+
+    threads = [threading.Thread(target=ask, args=(it,)) for it in tokens]
+    begun = time.monotonic()
+    for it in threads:
+        it.start()
+    for it in threads:
+        it.join()
+    at_once = sum(it < 1.2 for it in took)
+    return f"{at_once} {len(took) - at_once}"
 
 
 class Driver:
@@ -83,6 +105,9 @@ class Driver:
             with open(words[0]) as file:
                 self.load = Load(self.keys, file.read(), int(words[1]), int(words[2]))
             return "loading"
+        if do == "crowd":
+            with open(words[0]) as file:
+                return crowd(self.keys, file.read().split(), int(words[1]))
         if do == "rest":
             assert self.load is not None
             return self.load.rest()

@@ -7,9 +7,11 @@ import copy
 import gc
 import hmac
 import json
+import math
 import os
 import pathlib
 import pickle
+import signal
 import sys
 import threading
 import time
@@ -38,7 +40,9 @@ from fowharimu import (
     Validator,
     _library,
     _object,
+    _seats,
 )
+from fowharimu._access import NO_RULE
 from fowharimu.issuers import Issuers
 
 TOP = pathlib.Path(__file__).resolve().parents[3]
@@ -129,7 +133,7 @@ class Rules(unittest.TestCase):
     def test_an_accepted_token_that_meets_a_rule(self) -> None:
         rule = Access({"scopes": ["joe"], "scope_claim": "iss", "claims": {"iss": ["joe", "ann"], "exp": [NOW + 1], "http://example.com/is_root": [True]}})
         with validator_of(HMAC) as validator:
-            for access in (rule, Access("{}"), Access(b"{}"), None):
+            for access in (rule, Access("{}"), Access(b"{}"), NO_RULE):
                 self.assertEqual(validator.validate(token_of(HMAC), NOW, access=access)["iss"], "joe")
 
     def test_a_denial_tells_what_is_missing(self) -> None:
@@ -218,6 +222,14 @@ class Rules(unittest.TestCase):
                 thread.join()
         self.assertEqual(wrong, [])
         self.assertLessEqual(len(access._free), 8)
+
+    def test_a_rule_that_is_none_is_no_permission(self) -> None:
+        named = Validator({"algs": ["HS256"], "issuers": ["joe"]}, HMAC.with_suffix(".keys").read_bytes())
+        with validator_of(HMAC) as validator, Issuers({"joe": named}) as issuers:
+            for judging in (validator, issuers):
+                for rule in (None, {}, False, "{}"):
+                    with self.subTest(judging, rule=rule), self.assertRaises(TypeError):
+                        judging.validate(token_of(HMAC), NOW, rule)  # type: ignore[arg-type]
 
     def test_a_failed_call_is_no_permission(self) -> None:
         with validator_of(HMAC) as validator:
@@ -375,6 +387,21 @@ class Arguments(unittest.TestCase):
                 Validator({"algs": ["HS256"]}, wrong)
             with self.assertRaises(TypeError):
                 self.validator.issue(wrong)
+
+    def test_no_method_of_a_subclass_says_how_long_a_text_is(self) -> None:
+        class Octets(bytes):
+            def __len__(self) -> int:
+                return 1_000_000_000
+
+        class Characters(str):
+            def encode(self, *_: Any) -> bytes:  # type: ignore[override]
+                return Octets(str.encode(self))
+
+        token = token_of(HMAC)
+        policy, keys = (HMAC.with_suffix(it).read_bytes() for it in (".policy", ".keys"))
+        with Validator(Octets(policy), Octets(keys)) as validator:
+            for it in (Octets(token.encode()), Characters(token), memoryview(Octets(token.encode()))):
+                self.assertEqual(validator.validate(it, NOW)["iss"], "joe")
 
     def test_a_lone_surrogate_is_a_refusal(self) -> None:
         for token in (json.loads('"a.b.\\ud800"'), b"a.b.\xff".decode("utf-8", "surrogateescape"), "\udfff", '{"\ud800":1}'):
@@ -581,7 +608,7 @@ class Threads(unittest.TestCase):
         for algorithm, keys, short in [("HS256", [secret], 4_096), ("HS256", [secret] * 90, -1), ("RS256", [], 4_096)]:
             with self.subTest(algorithm, keys=len(keys)), Validator({"algs": [algorithm]}, {"keys": keys}) as validator:
                 self.assertEqual(validator._seats.take().short, short)
-        with validator_of(TOP / "bindings/tokens/RS256") as validator:
+        with validator_of(TOP / "tests/tokens/RS256") as validator:
             self.assertEqual(validator._seats.take().short, -1)
         with Validator({"algs": ["HS256"], "limit": 8_192}, {"keys": [secret]}) as validator:
             for length in (1, 5_000):
@@ -660,6 +687,64 @@ class Forks(unittest.TestCase):
             children = [self.in_child(lambda: validator.validate(token, NOW)["iss"] == "joe") for _ in range(4)]
             self.assertEqual([self.ends_well(it) for it in children], [True] * 4)
             self.assertEqual(validator.validate(token, NOW)["iss"], "joe")
+
+    def test_a_call_that_a_signal_cuts_off_holds_up_no_fork(self) -> None:
+        class Cut(Exception):
+            pass
+
+        def cut(_: int, frame: Any) -> None:
+            # (only where a seat is taken, used or given back)
+            if frame is not None and frame.f_code.co_filename == _seats.__file__ and frame.f_code.co_name in ("take", "give", "call", "judge", "_begin", "_end"):
+                raise Cut
+
+        times: List[float] = []
+
+        def fork() -> None:
+            begun = time.monotonic()
+            ended = self.ends_well(self.in_child(lambda: True))
+            times.append(time.monotonic() - begun if ended else math.inf)
+
+        token, count, until = token_of(HMAC), 0, time.monotonic() + 2
+        before = signal.signal(signal.SIGALRM, cut)
+        with validator_of(HMAC) as validator:
+            signal.setitimer(signal.ITIMER_REAL, 0.0005, 0.0005)
+            try:
+                while time.monotonic() < until:
+                    try:
+                        validator.validate(token, NOW)
+                    except Cut:
+                        count += 1
+            finally:
+                signal.setitimer(signal.ITIMER_REAL, 0)
+                signal.signal(signal.SIGALRM, before)
+            thread = threading.Thread(target=fork)
+            thread.start()
+            thread.join()
+            self.assertEqual(validator.validate(token, NOW)["iss"], "joe")
+        self.assertGreater(count, 20)
+        self.assertLess(times[0], 5)
+
+    def test_a_fork_waits_for_a_call(self) -> None:
+        with validator_of(HMAC) as validator:
+            begun, over, ended = threading.Event(), threading.Event(), threading.Event()
+
+            def work(_: Any) -> None:
+                begun.set()
+                over.wait()
+
+            def fork() -> None:
+                self.assertTrue(self.ends_well(self.in_child(lambda: True)))
+                ended.set()
+
+            threads = [threading.Thread(target=validator._seats.call, args=(work,)), threading.Thread(target=fork)]
+            threads[0].start()
+            begun.wait()
+            threads[1].start()
+            self.assertFalse(ended.wait(0.3))
+            over.set()
+            self.assertTrue(ended.wait(5))
+            for it in threads:
+                it.join()
 
     def test_a_child_waits_for_no_lock_of_its_parent(self) -> None:
         for name in (HMAC, TOP / "tests/tokens/PS256"):

@@ -96,6 +96,15 @@ class Wsgi(unittest.TestCase):
             self.through(SignatureRefused("BadSignature", 0))
         self.assertIn("BadSignature", logged.output[0])
 
+    def test_a_rule_that_is_looked_up_and_not_found_is_refused(self) -> None:
+        rules: Dict[str, Any] = {}
+        for guard in (wsgi.Guard, asgi.Guard):
+            for rule in (rules.get("read"), {"scopes": ["read"]}, False):
+                with self.subTest(guard, rule=rule), self.assertRaises(TypeError):
+                    guard(behind, Stand(), rule)  # type: ignore[arg-type]
+                with self.subTest(guard, rule=rule), self.assertRaises(TypeError):
+                    guard(behind, Stand(), access=rule)  # type: ignore[arg-type]
+
     def test_a_realm_is_a_quoted_string(self) -> None:
         for realm in ('a"b', "a\\b", "a\nb", "\u00e9"):
             with self.subTest(realm), self.assertRaises(ValueError):

@@ -3,7 +3,11 @@
 from __future__ import annotations
 
 import asyncio
+import base64
+import contextlib
 import http.server
+import io
+import json
 import logging
 import math
 import pathlib
@@ -13,6 +17,7 @@ import unittest
 from typing import Any, Callable, List
 
 from fowharimu import asgi
+from fowharimu._access import NO_RULE
 from fowharimu.issuers import Issuers
 from fowharimu.remote import KeysTooOld, KeysUnavailable, RemoteKeys
 
@@ -65,36 +70,83 @@ class Waiting(unittest.TestCase):
         self.keys = RemoteKeys(policy, f"http://127.0.0.1:{server.server_port}/keys", allow_http=True, cooldown=1.5, timeout=1)
         self.addCleanup(self.keys.close)
 
-    def test_a_token_that_waits_for_a_fetch_holds_up_no_other(self) -> None:
+    def test_few_tokens_wait_for_a_fetch_and_no_thread_does(self) -> None:
         # (it has expired, and is refused for that alone)
         known = (TOP / "tests/tokens/RS256.jwt").read_text().strip()
-        forged = known[:-8] + "AAAAAAAA"
+        forged = [forged_as(f"{it % 8}", known) for it in range(64)]
         time.sleep(1.6)
         guard = asgi.Guard(unreached, Issuers({"joe": self.keys}))
         with self.assertLogs("fowharimu", "WARNING"):
-            done = asyncio.run(self.asked(guard, [forged] * 64, known))
-        self.assertEqual(done, [known, *[forged] * 64])
+            done = asyncio.run(self.asked(guard, forged, known))
+        self.assertEqual((done[:61], sorted(done[61:])), ([*forged[4:], known], forged[:4]))
 
-    def test_keys_that_are_too_old_are_waited_for_in_a_thread(self) -> None:
+    def test_keys_that_are_too_old(self) -> None:
+        known = (TOP / "tests/tokens/RS256.jwt").read_text().strip()
         self.keys._max_age = 0
-        self.assertIsNone(self.keys._validate_at_once("a.b.c", None))
-        with self.assertRaises(KeysTooOld):
-            self.keys.validate("a.b.c")
+        for ask in (self.keys.validate, lambda token: self.keys._validate_at_once(token, NO_RULE)):
+            with self.assertRaises(KeysTooOld):
+                ask(known)
+        time.sleep(1.6)
+        guard = asgi.Guard(unreached, self.keys)
+        with self.assertLogs("fowharimu", "WARNING"):
+            self.assertEqual(asyncio.run(self.asked(guard, [known] * 8, known, 503)), [known] * 9)
 
-    async def asked(self, guard: asgi.Guard, first: List[str], last: str) -> List[str]:
-        """Tokens in the order in which they are answered."""
+    def test_who_waits_may_go_away(self) -> None:
+        known = (TOP / "tests/tokens/RS256.jwt").read_text().strip()
+        time.sleep(1.6)
+        guard = asgi.Guard(unreached, self.keys)
+
+        async def impatient() -> None:
+            with self.assertRaises(asyncio.TimeoutError):
+                await asyncio.wait_for(self.asked(guard, [], forged_as("a", known)), 0.2)
+
+        with self.assertLogs("fowharimu", "WARNING"):
+            asyncio.run(impatient())
+            # (its loop is closed when the fetch ends)
+            self.assertFalse(self.keys.refresh())
+
+    def test_who_is_told_of_a_fetch_may_ask_and_may_raise(self) -> None:
+        keys, asked = self.keys, []
+
+        class Asking(logging.Filter):
+            def filter(self, record: logging.LogRecord) -> bool:
+                asked.append(keys.unverified_issuer("a.b.c"))
+                keys._begun(keys._validator)
+                raise LookupError("told in vain")
+
+        log, asking = logging.getLogger("fowharimu"), Asking()
+        log.addFilter(asking)
+        self.addCleanup(log.removeFilter, asking)
+        with contextlib.redirect_stderr(io.StringIO()) as told:
+            self.assertFalse(keys.refresh())
+            for _ in range(100):
+                if asked and "told in vain" in told.getvalue():
+                    break
+                time.sleep(0.02)
+        self.assertEqual(asked, [None])
+        self.assertIn("told in vain", told.getvalue())
+
+    async def asked(self, guard: asgi.Guard, first: List[str], last: str, status: int = 401) -> List[str]:
+        """Tokens in the order in which they are answered, none of them in a thread of asyncio's."""
         done: List[str] = []
 
         async def ask(token: str) -> None:
             async def send(message: Any) -> None:
                 if message["type"] == "http.response.start":
-                    self.assertEqual(message["status"], 401)
+                    self.assertEqual(message["status"], status)
                     done.append(token)
 
             await guard({"type": "http", "headers": [(b"authorization", b"Bearer " + token.encode())]}, unreached, send)
 
         await asyncio.gather(*map(ask, first), ask(last))
+        self.assertEqual([it.name for it in threading.enumerate() if it.name.startswith("asyncio")], [])
         return done
+
+
+def forged_as(kid: str, known: str) -> str:
+    """A token with the payload of another, for which no key is there."""
+    header = base64.urlsafe_b64encode(json.dumps({"alg": "RS256", "kid": kid}).encode()).decode().rstrip("=")
+    return f"{header}.{known.split('.')[1]}.AAAA"
 
 
 async def unreached(*_: Any) -> Any:

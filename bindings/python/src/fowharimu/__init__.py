@@ -22,7 +22,7 @@ from types import TracebackType
 from typing import Any, Dict, List, NoReturn, Optional, SupportsIndex, Tuple, Type
 
 from . import _library
-from ._access import Access
+from ._access import NO_RULE, Access, Rule, checked
 from ._faults import (
     AccessRefused,
     AnotherLibrary,
@@ -188,45 +188,42 @@ class Validator:
         # (a signature by a public key, and a try of many secrets, take long enough for another thread to go on)
         self._seats = Seats(documents, (tokens, octets), SHORT if questions == 0 and len(key_octets) <= SHORT else -1)
 
-    def validate(self, token: Text, now: Optional[SupportsIndex] = None, access: Optional[Access] = None) -> Claims:
+    def validate(self, token: Text, now: Optional[SupportsIndex] = None, access: Rule = NO_RULE) -> Claims:
         """The claims of a token that is accepted at a moment, in seconds since 1970-01-01T00:00:00Z; without one, at the clock's. With an
         access rule, only where they meet it.
 
-        Raises TokenRefused, Denied where the rule isn't met, Closed, MemoryError where memory is refused, TypeError for a token that is neither str nor bytes-like, and
-        ValueError for a moment that 64 bits don't have.
+        Raises TokenRefused, Denied where the rule isn't met, Closed, MemoryError where memory is refused, TypeError for a token that is neither
+        str nor bytes-like and for an access rule that is none, such as None, and ValueError for a moment that 64 bits don't have.
         """
         octets, moment = octets_of(token, "a token"), _moment(now)
-        seat = self._seats.take()
-        try:
-            report = seat.judge(octets, moment)
-            if report.verdict != _library.OK:
-                raise self._refusal(seat, report)
-            denial = None if access is None else access.denial(seat)
-            if denial is not None:
-                raise denial
-            payload = seat.payload(octets)
-        finally:
-            self._seats.give(seat)
-        return _object(payload, "Claims")
+        return _object(self._seats.call(self._payload, octets, moment, checked(access)), "Claims")
+
+    def _payload(self, seat: Seat, octets: bytes, moment: int, access: Rule) -> bytes:
+        """The payload of a token that is accepted, and whose claims meet the access rule. Raises TokenRefused, Denied and MemoryError."""
+        report = seat.judge(octets, moment)
+        if report.verdict != _library.OK:
+            raise self._refusal(seat, report)
+        denial = None if access is NO_RULE else access.denial(seat)
+        if denial is not None:
+            raise denial
+        return seat.payload(octets)
 
     def judge(self, token: Text, now: Optional[SupportsIndex] = None) -> Report:
         """All that is said of a token: its verdict, its signatures, and each try with its cost. Raises as `validate` does, TokenRefused
         aside: a refusal stands in the report."""
-        octets, moment = octets_of(token, "a token"), _moment(now)
-        seat = self._seats.take()
-        try:
-            report = seat.judge(octets, moment)
-            return Report(
-                refusal=None if report.verdict == _library.OK else self._refusal(seat, report),
-                signature=report.signature,
-                key=report.key,
-                work=report.work,
-                states=self._states(seat),
-                tries=self._tries(seat, report.tries),
-                remembered=seat.is_remembered(),
-            )
-        finally:
-            self._seats.give(seat)
+        return self._seats.call(self._report, octets_of(token, "a token"), _moment(now))
+
+    def _report(self, seat: Seat, octets: bytes, moment: int) -> Report:
+        report = seat.judge(octets, moment)
+        return Report(
+            refusal=None if report.verdict == _library.OK else self._refusal(seat, report),
+            signature=report.signature,
+            key=report.key,
+            work=report.work,
+            states=self._states(seat),
+            tries=self._tries(seat, report.tries),
+            remembered=seat.is_remembered(),
+        )
 
     def unverified_header(self, token: Text, signature: SupportsIndex = 0) -> Optional[Dict[str, Any]]:
         """The protected header of the signature of this number; None where there is none. Anyone may have written it.
@@ -234,14 +231,13 @@ class Validator:
         Raises Closed, Unreadable, MemoryError, TypeError and ValueError, as `validate` does.
         """
         octets, number = octets_of(token, "a token"), _number(signature, "a signature's number", 0, 2**32 - 1)
-        seat = self._seats.take()
-        try:
-            header = written(
-                len(octets) + 1, self._library.fow_unverified_header, seat.held, octets, len(octets), number
-            )
-        finally:
-            self._seats.give(seat)
+        header = self._header(octets, number)
         return None if header is None else _object(header or b"{}", "Header")
+
+    def _header(self, octets: bytes, number: int = 0) -> Optional[bytes]:
+        """The octets of the protected header of the signature of this number; None where there is none."""
+        function = self._library.fow_unverified_header
+        return self._seats.call(lambda seat: written(len(octets) + 1, function, seat.held, octets, len(octets), number))
 
     @property
     def issuer(self) -> Optional[str]:
@@ -267,13 +263,8 @@ class Validator:
 
     def _named(self, octets: bytes) -> Tuple[bool, Optional[str]]:
         """Whether the octets are a token under the policy, and the issuer that it names."""
-        seat = self._seats.take()
-        try:
-            status, issuer = said(
-                len(octets) + 1, self._library.fow_unverified_issuer, seat.held, octets, len(octets)
-            )
-        finally:
-            self._seats.give(seat)
+        function = self._library.fow_unverified_issuer
+        status, issuer = self._seats.call(lambda seat: said(len(octets) + 1, function, seat.held, octets, len(octets)))
         return status != _library.ABSENT, issuer.decode() if status == _library.OK else None
 
     def issue(
@@ -288,29 +279,15 @@ class Validator:
         number, algorithm, form_number = _number(key, "a key's number", 0, 2**32 - 1), _HMAC[alg], _FORMS[form]
         report = _library.CReport()
 
-        def issue_into(out: Any, room: int, length: Any) -> int:
-            return int(
-                self._library.fow_issue(
-                    seat.held,
-                    algorithm,
-                    form_number,
-                    number,
-                    typ_octets,
-                    len(typ_octets),
-                    octets,
-                    len(octets),
-                    out,
-                    room,
-                    length,
-                    report,
-                )
-            )
+        def issue_by(seat: Seat) -> Optional[bytes]:
+            given = (typ_octets, len(typ_octets), octets, len(octets))
 
-        seat = self._seats.take()
-        try:
-            token = written(2 * len(octets) + 2 * len(typ_octets) + 1_024, issue_into)
-        finally:
-            self._seats.give(seat)
+            def issue_into(*out: Any) -> int:
+                return int(self._library.fow_issue(seat.held, algorithm, form_number, number, *given, *out, report))
+
+            return written(2 * len(octets) + 2 * len(typ_octets) + 1_024, issue_into)
+
+        token = self._seats.call(issue_by)
         if token is None:
             raise IssueRefused(self._name(report.fault), report.signature)
         return token.decode()

@@ -3,7 +3,8 @@
 from __future__ import annotations
 
 import ctypes
-from typing import List, NoReturn, Optional, SupportsIndex, Tuple
+import enum
+from typing import List, NoReturn, Optional, SupportsIndex, Tuple, Union
 
 from . import _library
 from ._faults import AccessRefused, Denied
@@ -97,3 +98,20 @@ class Access:
         while (scope := written(256, held.library.fow_access_scope, held.held, len(scopes))) is not None:
             scopes.append(scope.decode())
         return tuple(scopes)
+
+
+class NoRule(enum.Enum):
+    """What stands where no access rule is asked for. It isn't None, which a rule may be that was looked up and not found."""
+
+    NO_RULE = enum.auto()
+
+
+NO_RULE = NoRule.NO_RULE
+Rule = Union[Access, NoRule]
+
+
+def checked(access: Rule) -> Rule:
+    """An access rule, or NO_RULE. Raises TypeError for anything else."""
+    if access is not NO_RULE and not isinstance(access, Access):
+        raise TypeError("access has to be an Access: where no rule is meant, it is left out")
+    return access

@@ -4,9 +4,11 @@ from __future__ import annotations
 
 import logging
 import re
-from typing import Callable, List, Optional, Protocol, TypeVar
+from typing import Any, Callable, Dict, List, Optional, Protocol, TypeVar, Union
 
-from . import Access, Claims, Denied, TokenRefused, Undecided, Validator
+from . import Claims, Denied, TokenRefused, Undecided, Validator
+from ._access import NO_RULE, Rule, checked
+from ._waiting import Waiting
 
 _LOG = logging.getLogger("fowharimu")
 # (of no octets the library says that the token is empty)
@@ -21,7 +23,7 @@ _Said = TypeVar("_Said")
 class Validates(Protocol):
     """What a guard asks: a `Validator`, `RemoteKeys`, or `Issuers`."""
 
-    def validate(self, token: str, now: None = None, access: Optional[Access] = None) -> Claims: ...
+    def validate(self, token: str, now: None = None, access: Rule = NO_RULE) -> Claims: ...
 
 
 class Challenged(Exception):
@@ -36,32 +38,40 @@ class Challenged(Exception):
 class Bearer:
     """Asks a validator, and an access rule where there is one, for the token behind the scheme Bearer."""
 
-    def __init__(self, validator: Validates, access: Optional[Access], realm: str) -> None:
+    def __init__(self, validator: Validates, access: Rule, realm: str) -> None:
         if not _QUOTABLE.fullmatch(realm):
             raise ValueError("a realm has printable characters of ASCII, and neither quotation marks nor backslashes")
         self._validator = validator
-        self._access = access
+        self._access = checked(access)
+        # (what stands for a validator may know no rules)
+        self._words: Dict[str, Any] = {} if access is NO_RULE else {"access": access}
         self._realm = realm
 
     def claims(self, values: List[str]) -> Claims:
         """The claims of the request whose headers Authorization have these values. Raises Challenged, and MemoryError, Closed and Undecided where
         nothing is said of the token: a server answers these by 500."""
-        return self._told(self._token(values), lambda token: self._validator.validate(token, access=self._access))
+        token = self._token(values)
+        return self._told(lambda: self._validator.validate(token, **self._words))
 
-    def claims_at_once(self, values: List[str]) -> Optional[Claims]:
-        """The same, and None where something may have to be waited for, as keys by URL that are fetched for a token."""
-        return self._told(self._token(values), self._at_once)
+    def claims_at_once(self, values: List[str]) -> Union[Claims, Waiting, None]:
+        """The same, but for waiting: a token that waits for a fetch of keys, and None for what may have to be waited for in a thread."""
+        token = self._token(values)
+        return self._told(lambda: self._at_once(token))
 
-    def _at_once(self, token: str) -> Optional[Claims]:
+    def claims_at_last(self, waiting: Waiting) -> Claims:
+        """The claims of a token that waited, when its fetch is over. Raises as `claims` does."""
+        return self._told(waiting.claims)
+
+    def _at_once(self, token: str) -> Union[Claims, Waiting, None]:
         if isinstance(self._validator, Validator):
-            return self._validator.validate(token, access=self._access)
+            return self._validator.validate(token, **self._words)
         judge = getattr(self._validator, "_validate_at_once", None)
         return None if judge is None else judge(token, self._access)
 
-    def _told(self, token: str, judge: Callable[[str], _Said]) -> _Said:
+    def _told(self, judge: Callable[[], _Said]) -> _Said:
         """What is said of a token; where it isn't accepted, the answer."""
         try:
-            return judge(token)
+            return judge()
         except Undecided:
             raise
         except Denied as denial:

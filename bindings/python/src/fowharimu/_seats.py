@@ -4,19 +4,21 @@ from __future__ import annotations
 
 import ctypes
 import os
+import sys
 import threading
 import time
-from typing import Callable, List, Optional, Tuple
+from types import FrameType
+from typing import Any, Callable, List, Optional, Tuple, TypeVar
 
 from . import _library
 from ._faults import Closed
 
+_Result = TypeVar("_Result")
+
 # What is held while a seat is opened, which needs the documents for itself, and while the process forks. A judging holds nothing.
 _opening = threading.RLock()
 
-# The threads that have a call under way, and whether the process is about to fork. A list's `append`, `remove`, `pop` and copy are one
-# step each.
-_under_way: List[int] = []
+# Whether the process is about to fork.
 _is_forking = False
 
 # The octets of room that a payload is first given. A longer one gets more.
@@ -30,32 +32,33 @@ SHORT = 4_096
 _PATIENCE = 10.0
 
 
-def _begin() -> None:
-    """Notes a call of this thread. Where the process is about to fork, it waits until that is done."""
-    thread = threading.get_ident()
-    _under_way.append(thread)
-    while _is_forking:
-        _under_way.remove(thread)
-        with _opening:
-            _under_way.append(thread)
-
-
-def _end() -> None:
-    """Notes that a call of this thread is over. In a child process, after fork, it may have been forgotten."""
-    try:
-        _under_way.remove(threading.get_ident())
-    except ValueError:
+def _wait_for_fork() -> None:
+    """Waits until a fork is done."""
+    with _opening:
         pass
+
+
+def _has_call(frame: Optional[FrameType]) -> bool:
+    """Whether a thread that has got this far has a call under way. One that waits for the lock has none: a fork, which has it, would wait for that call."""
+    while frame is not None:
+        if frame.f_code in _WAITING:
+            return False
+        if frame.f_code is _CALL:
+            return True
+        frame = frame.f_back
+    return False
 
 
 def _before_fork() -> None:
     """Waits until no other thread opens a seat or judges: so the child has the documents whole, and no lock within OpenSSL is held in it for
-    ever."""
+    ever. Where each thread stands says what is under way: a note of it would stay where a signal cuts a call off."""
     global _is_forking
     _opening.acquire()
     _is_forking = True
-    thread, until = threading.get_ident(), time.monotonic() + _PATIENCE
-    while any(it != thread for it in list(_under_way)) and time.monotonic() < until:
+    own, until = threading.get_ident(), time.monotonic() + _PATIENCE
+    while time.monotonic() < until:
+        if not any(_has_call(frame) for thread, frame in sys._current_frames().items() if thread != own):
+            return
         time.sleep(0.0002)
 
 
@@ -67,11 +70,10 @@ def _after_fork_in_parent() -> None:
 
 
 def _after_fork_in_child() -> None:
-    """The child has one thread: what others held or had under way is forgotten."""
+    """The child has one thread: what others held is forgotten."""
     global _opening, _is_forking
     _opening = threading.RLock()
     _is_forking = False
-    _under_way.clear()
 
 
 if hasattr(os, "register_at_fork"):
@@ -151,11 +153,20 @@ class Seats:
         self._free: List[Seat] = []
         self._is_closed = False
 
+    def call(self, work: Callable[..., _Result], *words: Any) -> _Result:
+        """What comes of some work with a seat that no other call has, and with these words. Raises Closed, and MemoryError where memory is refused. A
+        seat whose call is cut off before it is given back, as by a signal, is freed."""
+        while _is_forking:
+            _wait_for_fork()
+        seat = self.take()
+        try:
+            return work(seat, *words)
+        finally:
+            self.give(seat)
+
     def take(self) -> Seat:
-        """A seat that no other call has. Raises Closed, and MemoryError where memory is refused."""
-        # (who waits for the lock isn't noted: a fork, which has it, would wait for that call)
+        """A seat that no other call has. Raises as `call` does."""
         seat = self._pop() or self._open()
-        _begin()
         if self._is_closed:
             self.give(seat)
             raise Closed
@@ -166,7 +177,6 @@ class Seats:
         self._free.append(seat)
         if self._is_closed:
             self._close_free()
-        _end()
 
     def close(self) -> None:
         """Frees what is held; what calls under way have, when they end."""
@@ -196,6 +206,11 @@ class Seats:
             return self._free.pop()
         except IndexError:
             return None
+
+
+# What a thread has among its frames while it has a call under way, and what it has above that where it waits.
+_CALL = Seats.call.__code__
+_WAITING = (_wait_for_fork.__code__, Seats._open.__code__)
 
 
 def said(room: int, function: Callable[..., int], *arguments: object) -> Tuple[int, bytes]:

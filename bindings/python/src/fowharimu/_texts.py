@@ -12,10 +12,11 @@ Document = Union[Text, Dict[str, Any]]
 def octets_of(text: Text, what: str) -> bytes:
     """The octets of a text or of what is bytes-like. A lone surrogate, which UTF-8 doesn't have, becomes octets that the library refuses.
     Raises TypeError for anything else, an `int` too."""
-    if isinstance(text, bytes):
+    # (of a subclass a method may say another length than its octets have, which the library would read: they are copied)
+    if type(text) is bytes:
         return text
     if isinstance(text, str):
-        return text.encode("utf-8", "surrogatepass")
+        return str.encode(text, "utf-8", "surrogatepass")
     try:
         return bytes(memoryview(text))
     except TypeError:

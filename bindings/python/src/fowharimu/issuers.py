@@ -11,8 +11,10 @@ from __future__ import annotations
 from types import TracebackType
 from typing import Mapping, Optional, SupportsIndex, Type, Union
 
-from . import Access, Claims, ClaimsRefused, Report, TokenRefused, Validator
+from . import Claims, ClaimsRefused, Report, TokenRefused, Validator
+from ._access import NO_RULE, Rule
 from ._texts import Text, octets_of
+from ._waiting import Waiting
 from .remote import RemoteKeys
 
 __all__ = ["Issuers"]
@@ -40,7 +42,7 @@ class Issuers:
             raise ValueError("there has to be an issuer")
         self._reader = order[0][1]
 
-    def validate(self, token: Text, now: Optional[SupportsIndex] = None, access: Optional[Access] = None) -> Claims:
+    def validate(self, token: Text, now: Optional[SupportsIndex] = None, access: Rule = NO_RULE) -> Claims:
         """As Validator.validate, by the validator of the issuer that the token names. Raises ClaimsRefused with the fault Issuer where there is none."""
         octets = octets_of(token, "a token")
         chosen = self._chosen(octets)
@@ -48,7 +50,7 @@ class Issuers:
             raise _refused()
         return chosen.validate(octets, now, access)
 
-    def _validate_at_once(self, token: Text, access: Optional[Access]) -> Optional[Claims]:
+    def _validate_at_once(self, token: Text, access: Rule) -> Union[Claims, Waiting]:
         """As of RemoteKeys."""
         octets = octets_of(token, "a token")
         chosen = self._chosen(octets)

@@ -18,17 +18,20 @@ import socket
 import ssl
 import threading
 import time
+import traceback
 import urllib.error
 import urllib.parse
 import urllib.request
 import weakref
 from types import TracebackType
-from typing import Any, Callable, Dict, Optional, SupportsIndex, Tuple, Type
+from typing import Any, Callable, Dict, List, Optional, Set, SupportsIndex, Tuple, Type, Union
 
-from . import Access, Claims, Closed, FowharimuError, Report, SignatureRefused, TokenRefused, Validator
+from . import Claims, Closed, FowharimuError, Report, SignatureRefused, TokenRefused, Validator
+from ._access import NO_RULE, Rule
 from ._library import load
 from ._seats import written
-from ._texts import Document, Text, document_of
+from ._texts import Document, Text, document_of, octets_of
+from ._waiting import Waiting
 
 __all__ = ["KeysTooOld", "KeysUnavailable", "RemoteKeys"]
 
@@ -36,6 +39,12 @@ _log = logging.getLogger("fowharimu")
 
 # The most octets that a key set, or what tells where it stands, may have.
 _MOST = 4_194_304
+
+# The most redirections within the origin that are followed.
+_MOST_REDIRECTS = 5
+
+# The most tokens that wait for one fetch.
+_MOST_WAITING = 4
 
 # The greatest of each time, in seconds: a connection takes no longer deadline.
 _GREATEST = {"refresh_after": math.inf, "cooldown": math.inf, "max_age": math.inf, "timeout": 2_147_483}
@@ -85,13 +94,22 @@ def _checked(url: str, allow_http: bool) -> str:
 
 
 class _SameOrigin(urllib.request.HTTPRedirectHandler):
-    """Follows a redirection to the same scheme, host and port alone."""
+    """Follows redirections to the same scheme, host and port alone, and few of them in one fetch."""
+
+    # (they are counted below, whether they lead to the same URL or to others)
+    max_repeats = max_redirections = _MOST_REDIRECTS + 1
+
+    def __init__(self) -> None:
+        self._followed = 0
 
     def redirect_request(
         self, req: urllib.request.Request, fp: Any, code: int, msg: str, headers: Any, newurl: str
     ) -> Optional[urllib.request.Request]:
         if _origin(newurl) != _origin(req.full_url):
             raise urllib.error.URLError("it redirects to another origin")
+        self._followed += 1
+        if self._followed > _MOST_REDIRECTS:
+            raise urllib.error.URLError("it redirects too often")
         return super().redirect_request(req, fp, code, msg, headers, newurl)
 
     def http_error_302(self, req: urllib.request.Request, fp: Any, code: int, msg: str, headers: Any) -> Any:
@@ -107,6 +125,9 @@ class _Fetch:
 
     def __init__(self, timeout: float) -> None:
         self.done = threading.Event()
+        self._kids: Set[str] = set()
+        self._told: List[Callable[[], None]] = []
+        self._telling = threading.Lock()
         self._ends = time.monotonic() + timeout
         self._held: Optional[socket.socket] = None
         self._timer = threading.Timer(timeout, self.end)
@@ -120,7 +141,11 @@ class _Fetch:
     def end(self) -> None:
         """Says that it is over, and shuts its connection where one is open."""
         self._timer.cancel()
-        self.done.set()
+        with self._telling:
+            self.done.set()
+            told, self._told = self._told, []
+        for ended in told:
+            ended()
         held = self._held
         if held is not None:
             try:
@@ -128,6 +153,21 @@ class _Fetch:
                 socket.socket.shutdown(held, socket.SHUT_RDWR)
             except OSError:
                 pass
+
+    def tell(self, ended: Callable[[], None]) -> None:
+        """Calls this once when it is over, in whatever thread ends it."""
+        with self._telling:
+            if not self.done.is_set():
+                self._told.append(ended)
+                return
+        ended()
+
+    def admits(self, kid: str) -> bool:
+        """Whether a token of this `kid` may wait: few do, since anyone can send tokens for which a key is lacking."""
+        if len(self._kids) >= _MOST_WAITING or kid in self._kids:
+            return False
+        self._kids.add(kid)
+        return True
 
     def get(self, url: str, context: Optional[ssl.SSLContext], allow_http: bool) -> bytes:
         """What stands at the URL. Raises OSError, ValueError and HTTPException where it can't be had in time."""
@@ -155,6 +195,7 @@ class _Fetch:
         with self._answer(opener, url) as response:
             if response.status != 200:
                 raise ValueError(f"its status is {response.status}")
+            _check_lengths(response.headers.get_all("Content-Length", []))
             while True:
                 part = response.read1(65_536)
                 # (a connection that was shut may look like an answer that is whole)
@@ -192,12 +233,26 @@ class _Fetch:
         return connection
 
 
+def _check_lengths(lengths: List[str]) -> None:
+    """Raises ValueError for two lengths of an answer, or one that is none (RFC 9110, section 8.6): who else reads it may read another one."""
+    if len(set(lengths)) > 1 or not all(re.fullmatch("[0-9]+[ \t]*", it) for it in lengths):
+        raise ValueError("it has lengths that are none")
+
+
+def _secured() -> ssl.SSLContext:
+    """What trusts the authorities of the system. What is checked is said here, whatever is configured elsewhere."""
+    context = ssl.create_default_context()
+    context.check_hostname, context.verify_mode = True, ssl.CERT_REQUIRED
+    context.minimum_version = ssl.TLSVersion.TLSv1_2
+    return context
+
+
 class _Https(urllib.request.HTTPSHandler):
     """Opens connections that their fetch may shut."""
 
     def __init__(self, fetch: _Fetch, context: Optional[ssl.SSLContext]) -> None:
         super().__init__()
-        self._fetch, self._given = fetch, context or ssl.create_default_context()
+        self._fetch, self._given = fetch, context or _secured()
 
     def https_open(self, req: urllib.request.Request) -> http.client.HTTPResponse:
         return self.do_open(
@@ -247,6 +302,24 @@ def _asks_for_keys(refusal: Optional[TokenRefused]) -> bool:
     return isinstance(refusal, SignatureRefused) and refusal.fault in ("NoKey", "BadSignature")
 
 
+def _kid_of(validator: Validator, token: bytes) -> str:
+    """The `kid` of a token, for which nobody vouches; empty where there is none."""
+    try:
+        header = validator._header(token)
+    except Closed:
+        # (newer keys are there already)
+        return ""
+    return (None if header is None else _member(header, b"kid")) or ""
+
+
+def _tell(level: int, message: str, *words: object) -> None:
+    """Tells the logger what became of a fetch. Whoever is told may raise, which says nothing of a token."""
+    try:
+        _log.log(level, message, *words)
+    except Exception:
+        traceback.print_exc()
+
+
 def _member(document: bytes, name: bytes) -> Optional[str]:
     """The text of a member of a JSON object, as the library reads it; None where there is none."""
     text = written(len(document) + 1, load().fow_text_member, document, len(document), name, len(name))
@@ -256,8 +329,8 @@ def _member(document: bytes, name: bytes) -> Optional[str]:
 class RemoteKeys:
     """A policy, and a key set at a URL, which is fetched at once, and again as docs/REMOTE-KEYS.md says: in the background after `refresh_after`
     seconds; where a token is refused for want of a key or by a bad signature, at most once in `cooldown` seconds. Where that fails, the
-    keys stay until they are `max_age` seconds old. A fetch takes `timeout` seconds at most, by TLS with `context`. Threads may share it; after
-    fork, parent and child each go on by themselves.
+    keys stay until they are `max_age` seconds old. A fetch takes `timeout` seconds at most, by TLS with `context`. At most four tokens wait for
+    one, one for each `kid`; the others are refused at once. Threads may share it; after fork, parent and child each go on by themselves.
 
     `options` are those of `Validator`.
 
@@ -282,7 +355,8 @@ class RemoteKeys:
         _check_times(refresh_after=refresh_after, cooldown=cooldown, max_age=max_age, timeout=timeout)
         self._refresh_after, self._cooldown, self._max_age = refresh_after, cooldown, max_age
         self._timeout, self._allow_http, self._context, self._options = timeout, allow_http, context, options
-        self._lock = threading.Lock()
+        # (whoever is told of a fetch may ask for it)
+        self._lock = threading.RLock()
         self._fetch: Optional[_Fetch] = None
         self._validator: Optional[Validator] = None
         self._closed = False
@@ -311,38 +385,60 @@ class RemoteKeys:
             raise KeysUnavailable(str(error)) from error
         return cls(policy, url, **how)
 
-    def validate(self, token: Text, now: Optional[SupportsIndex] = None, access: Optional[Access] = None) -> Claims:
+    def validate(self, token: Text, now: Optional[SupportsIndex] = None, access: Rule = NO_RULE) -> Claims:
         """As Validator.validate. Raises KeysTooOld too, where the keys are too old and none can be fetched."""
-        used = self._current()
+        octets = octets_of(token, "a token")
+        used = self._current(octets)
         try:
-            return used.validate(token, now, access)
+            return used.validate(octets, now, access)
         except SignatureRefused as refusal:
-            newer = self._newer(used, refusal)
+            newer = self._newer(used, refusal, octets)
             if newer is None:
                 raise
-        return newer.validate(token, now, access)
+        return newer.validate(octets, now, access)
 
-    def _validate_at_once(self, token: Text, access: Optional[Access]) -> Optional[Claims]:
-        """As validate, where nothing has to be waited for; else None, and a fetch is under way as a rule."""
+    def _validate_at_once(self, token: Text, access: Rule) -> Union[Claims, Waiting]:
+        """As validate, but for waiting: that is who asks to do."""
+        octets = octets_of(token, "a token")
         used = self._young()
         if used is None:
-            return None
+            return self._at_last(self._admitted(self._held(), octets), lambda: self._fresh().validate(octets, None, access))
         try:
-            return used.validate(token, None, access)
+            return used.validate(octets, None, access)
         except SignatureRefused as refusal:
-            if _asks_for_keys(refusal) and (self._validator is not used or self._begun() is not None):
-                return None
-            raise
+            if not _asks_for_keys(refusal):
+                raise
+            why = refusal.with_traceback(None)
+
+        def judge() -> Claims:
+            newer = self._other(used)
+            if newer is None:
+                raise why
+            return newer.validate(octets, None, access)
+
+        return self._at_last(self._admitted(used, octets), judge)
+
+    def _at_last(self, fetch: Optional[_Fetch], judge: Callable[[], Claims]) -> Union[Claims, Waiting]:
+        """What is judged when a fetch is over; at once where none is waited for."""
+        if fetch is None:
+            return judge()
+
+        def judge_then() -> Claims:
+            self._expire(fetch)
+            return judge()
+
+        return Waiting(fetch, judge_then)
 
     def judge(self, token: Text, now: Optional[SupportsIndex] = None) -> Report:
         """As Validator.judge. Where the keys are too old and none can be fetched, the report has the refusal KeysTooOld and nothing else."""
+        octets = octets_of(token, "a token")
         try:
-            used = self._current()
+            used = self._current(octets)
         except KeysTooOld as refusal:
             return Report(refusal=refusal, signature=0, key=0, work=0, states=[], tries=[])
-        report = used.judge(token, now)
-        newer = self._newer(used, report.refusal)
-        return report if newer is None else newer.judge(token, now)
+        report = used.judge(octets, now)
+        newer = self._newer(used, report.refusal, octets)
+        return report if newer is None else newer.judge(octets, now)
 
     @property
     def issuer(self) -> Optional[str]:
@@ -401,47 +497,68 @@ class RemoteKeys:
         # (before a fetch begins, so that it is the old one)
         validator, age = self._validator, _clock() - self._got
         if age >= self._refresh_after:
-            self._begun()
+            self._begun(validator)
         if age >= self._max_age:
             return None
         if validator is None:
             raise Closed
         return validator
 
-    def _current(self) -> Validator:
+    def _current(self, octets: bytes) -> Validator:
         """The validator by which a token is judged first. Raises KeysTooOld, and Closed."""
         young = self._young()
         if young is not None:
             return young
-        fetch = self._begun()
-        if fetch is not None:
-            self._wait(fetch)
+        self._wait(self._admitted(self._held(), octets))
+        return self._fresh()
+
+    def _fresh(self) -> Validator:
+        """The validator that is held, whose keys aren't too old. Raises KeysTooOld, and Closed."""
         if _clock() - self._got >= self._max_age:
             raise KeysTooOld("KeysTooOld")
         return self._held()
 
-    def _newer(self, used: Validator, refusal: Optional[TokenRefused]) -> Optional[Validator]:
+    def _newer(self, used: Validator, refusal: Optional[TokenRefused], octets: bytes) -> Optional[Validator]:
         """Another validator than the one that was used, where newer keys may change the refusal and are there or can be fetched."""
         if not _asks_for_keys(refusal):
             return None
-        if self._validator is used:
-            fetch = self._begun()
-            if fetch is not None:
-                self._wait(fetch)
-        return None if self._validator is used else self._validator
+        self._wait(self._admitted(used, octets))
+        return self._other(used)
 
-    def _begun(self) -> Optional[_Fetch]:
-        """The fetch that is under way, or a new one where the cool-down is over; else None."""
+    def _other(self, used: Validator) -> Optional[Validator]:
+        """Another validator than the one that was used, where there is one."""
+        held = self._validator
+        return None if held is used else held
+
+    def _admitted(self, used: Validator, octets: bytes) -> Optional[_Fetch]:
+        """The fetch for which a token may wait, which is under way or begins; else None."""
+        fetch = self._begun(used)
+        if fetch is None:
+            return None
+        kid = _kid_of(used, octets)
         with self._lock:
+            return fetch if fetch.admits(kid) else None
+
+    def _begun(self, used: Optional[Validator]) -> Optional[_Fetch]:
+        """The fetch that is under way, or a new one where the cool-down is over; None where there is none, and where others than these keys are held
+        already."""
+        with self._lock:
+            if self._validator is not used:
+                return None
             if self._fetch is not None and self._fetch.left == 0:
                 self._fail(self._fetch, TimeoutError("it takes too long"))
             if self._fetch is None and not self._closed and _clock() - self._tried >= self._cooldown:
                 self._begin()
             return self._fetch
 
-    def _wait(self, fetch: _Fetch) -> None:
-        """Waits until the fetch is over, and no longer than its deadline."""
-        fetch.done.wait(fetch.left)
+    def _wait(self, fetch: Optional[_Fetch]) -> None:
+        """Waits until a fetch is over, where there is one, and no longer than its deadline."""
+        if fetch is not None:
+            fetch.done.wait(fetch.left)
+            self._expire(fetch)
+
+    def _expire(self, fetch: _Fetch) -> None:
+        """Ends a fetch whose deadline is over."""
         if fetch.left == 0:
             # (its thread may still wait for the name of the host to be resolved, which nothing can end)
             with self._lock:
@@ -466,24 +583,29 @@ class RemoteKeys:
             with self._lock:
                 self._fail(fetch, error)
             return
+        is_taken = False
         with self._lock:
             if fetch is self._fetch:
                 # The old one is freed when the last call that uses it has ended, since nothing else names it then.
                 self._validator, self._got, self.error, self._fetch = validator, _clock(), None, None
-                _log.info("the key set at %s was fetched, %d octets", _shown(self._url), len(keys))
+                is_taken = True
         fetch.end()
+        if is_taken:
+            _tell(logging.INFO, "the key set at %s was fetched, %d octets", _shown(self._url), len(keys))
 
     def _fail(self, fetch: _Fetch, error: BaseException) -> None:
         """Notes that a fetch failed. The lock is held."""
-        if fetch is self._fetch:
+        is_it = fetch is self._fetch
+        if is_it:
             self._fetch, self.error = None, error
-            # (in one line: a server may have written a part of it)
-            _log.warning("the key set at %s can't be fetched: %s", _shown(self._url), " ".join(str(error).split()))
         fetch.end()
+        if is_it:
+            # (in one line: a server may have written a part of it)
+            _tell(logging.WARNING, "the key set at %s can't be fetched: %s", _shown(self._url), " ".join(str(error).split()))
 
     def _after_fork(self) -> None:
         """In a child the threads of the parent are gone, and with them a fetch that was under way."""
-        self._lock, self._fetch = threading.Lock(), None
+        self._lock, self._fetch = threading.RLock(), None
 
 
 def _shown(url: str) -> str:

@@ -7,9 +7,9 @@ The claims are `request.environ["fowharimu.claims"]`. A server joins two headers
 
 from __future__ import annotations
 
-from typing import Any, Callable, Dict, Iterable, Optional
+from typing import Any, Callable, Dict, Iterable
 
-from . import Access
+from ._access import NO_RULE, Rule
 from ._bearer import Bearer, Challenged, Validates
 
 Environ = Dict[str, Any]
@@ -22,15 +22,17 @@ _STATUS = {400: "400 Bad Request", 401: "401 Unauthorized", 403: "403 Forbidden"
 class Guard:
     """An application before another, which is asked only where the request's token is accepted now, and its claims meet the access rule.
 
-    Else the answer is 400, 401 or 403, with `WWW-Authenticate` (RFC 6750, section 3), or 503 where keys by URL are too old. Where nothing is said of a token, for want of memory, the
-    exception is the server's, which answers 500. With `hides_token` the application isn't shown `Authorization`.
+    Else the answer is 400, 401 or 403, with `WWW-Authenticate` (RFC 6750, section 3), or 503 where keys by URL are too old. Where nothing is said of a
+    token, for want of memory, the exception is the server's, which answers 500. With `hides_token` the application isn't shown `Authorization`.
+
+    Raises TypeError for an access rule that is none, such as None: where no rule is meant, it is left out.
     """
 
     def __init__(
         self,
         application: Application,
         validator: Validates,
-        access: Optional[Access] = None,
+        access: Rule = NO_RULE,
         *,
         realm: str = "jwt",
         hides_token: bool = False,
