@@ -47,11 +47,23 @@ final class TomcatApp {
         context.addFilterMap(map);
     }
 
+    /** A rule that is looked up and not found lets nobody through: no guard is made of it. */
+    private static void mistake(Runnable making) {
+        try {
+            making.run();
+        } catch (NullPointerException e) {
+            return;
+        }
+        throw new AssertionError("a guard without its rule");
+    }
+
     public static void main(String[] words) throws Exception {
         Path folder = Path.of(words[0]);
         Validator validator = open(folder);
         Validator closed = open(folder);
         closed.close();
+        mistake(() -> new Guard(validator, (Access) null));
+        mistake(() -> new Guard(validator, null, "jwt", true));
         Tomcat tomcat = new Tomcat();
         tomcat.setBaseDir(Files.createTempDirectory("tomcat").toString());
         tomcat.setPort(0);
@@ -63,7 +75,7 @@ final class TomcatApp {
         guard(context, "", new Guard(validator));
         guard(context, "/scope", new Guard(validator, new Access(Files.readAllBytes(folder.resolve("scope.json")))));
         guard(context, "/role", new Guard(validator, new Access(Files.readAllBytes(folder.resolve("role.json")))));
-        guard(context, "/hidden", new Guard(validator, null, "jwt", true));
+        guard(context, "/hidden", new Guard(validator, "jwt", true));
         guard(context, "/closed", new Guard(closed));
         tomcat.start();
         System.out.println("listening on 127.0.0.1:" + tomcat.getConnector().getLocalPort());

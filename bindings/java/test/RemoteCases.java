@@ -54,6 +54,8 @@ final class RemoteCases {
                 return openedIssuers(words);
             case "validate":
                 return judged(Files.readAllBytes(Path.of(words[0])), Long.parseLong(words[1]));
+            case "crowd":
+                return crowd(Files.readAllLines(Path.of(words[0])), Long.parseLong(words[1]));
             case "load":
                 load = new Load(Files.readAllBytes(Path.of(words[0])), Long.parseLong(words[1]), Integer.parseInt(words[2]));
                 return "loading";
@@ -110,6 +112,27 @@ final class RemoteCases {
             return "Closed";
         }
         return "accepted";
+    }
+
+    /** How many tokens are answered at once, and how many later, where all are judged at the same time. */
+    private String crowd(List<String> tokens, long now) throws InterruptedException {
+        AtomicLong atOnce = new AtomicLong();
+        List<Thread> threads = new ArrayList<>();
+        long begun = System.nanoTime();
+        for (String it : tokens) {
+            Thread thread = new Thread(() -> {
+                judged(it.getBytes(StandardCharsets.UTF_8), now);
+                if (System.nanoTime() - begun < 1_200_000_000) {
+                    atOnce.incrementAndGet();
+                }
+            });
+            threads.add(thread);
+            thread.start();
+        }
+        for (Thread it : threads) {
+            it.join();
+        }
+        return atOnce + " " + (tokens.size() - atOnce.get());
     }
 
     /** What trusts the authority in this file, and no other. */

@@ -78,7 +78,7 @@ final class Tests {
             this::questions, this::mistakes, this::closing, this::issuing, this::freeing, this::threads, this::closingMeanwhile, this::ruleMet, this::denials,
             this::denialIsNoRefusal, this::rulesRefused, this::rulesOfTheDocuments, this::ruleMistakes, this::ruleClosing, this::ruleFreeing,
             this::ruleThreads, this::ruleClosingMeanwhile, this::terms, this::issuers, this::urls, this::times,
-            this::longestTimes
+            this::longestTimes, this::clients
         }) {
             it.run();
             passed++;
@@ -163,10 +163,8 @@ final class Tests {
         fetching(Collections.nCopies(4, Duration.ZERO));
     }
 
-    /** By the longest times that are taken, keys are fetched and tokens are judged, also one that asks for a fetch. */
-    private void longestTimes() throws Exception {
-        Path name = top.resolve("tests/tokens/RS256");
-        byte[] keys = read(name, "keys");
+    /** A server on the loopback that has these keys under /keys. */
+    private static HttpServer serving(byte[] keys) throws Exception {
         HttpServer server = HttpServer.create(new InetSocketAddress(InetAddress.getLoopbackAddress(), 0), 0);
         server.createContext("/keys", exchange -> {
             exchange.sendResponseHeaders(200, keys.length);
@@ -174,6 +172,32 @@ final class Tests {
             exchange.close();
         });
         server.start();
+        return server;
+    }
+
+    /** Keys by URL that trust the same share what fetches them: one thread waits for all their connections. */
+    private void clients() throws Exception {
+        Path name = top.resolve("tests/tokens/RS256");
+        HttpServer server = serving(read(name, "keys"));
+        Fetching how = fetching(Collections.nCopies(4, Duration.ofDays(1)));
+        String url = "http://127.0.0.1:" + server.getAddress().getPort() + "/keys";
+        List<RemoteKeys> all = new ArrayList<>();
+        for (int n = 0; n < 20; n++) {
+            all.add(new RemoteKeys(read(name, "policy"), url, how));
+        }
+        long waiting = Thread.getAllStackTraces().keySet().stream().filter(it -> it.getName().contains("SelectorManager")).count();
+        check(waiting <= 2, waiting + " threads wait");
+        for (RemoteKeys it : all) {
+            check(it.judge(token(name), NOW).accepted(), "by a shared client");
+            it.close();
+        }
+        server.stop(0);
+    }
+
+    /** By the longest times that are taken, keys are fetched and tokens are judged, also one that asks for a fetch. */
+    private void longestTimes() throws Exception {
+        Path name = top.resolve("tests/tokens/RS256");
+        HttpServer server = serving(read(name, "keys"));
         Fetching how = fetching(Collections.nCopies(4, Duration.ofDays(36_500)));
         String url = "http://127.0.0.1:" + server.getAddress().getPort() + "/keys";
         try (RemoteKeys it = new RemoteKeys(read(name, "policy"), url, how)) {

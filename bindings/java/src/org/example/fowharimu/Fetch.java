@@ -4,18 +4,24 @@ import java.io.ByteArrayOutputStream;
 import java.io.IOException;
 import java.io.InterruptedIOException;
 import java.io.UncheckedIOException;
+import java.lang.ref.WeakReference;
 import java.net.URI;
 import java.net.URISyntaxException;
 import java.net.http.HttpClient;
+import java.net.http.HttpHeaders;
 import java.net.http.HttpRequest;
 import java.net.http.HttpResponse;
 import java.net.http.HttpTimeoutException;
 import java.nio.ByteBuffer;
+import java.security.NoSuchAlgorithmException;
 import java.time.Duration;
+import java.util.HashSet;
 import java.util.List;
 import java.util.Locale;
+import java.util.Map;
 import java.util.Optional;
 import java.util.Set;
+import java.util.WeakHashMap;
 import java.util.concurrent.CancellationException;
 import java.util.concurrent.CompletableFuture;
 import java.util.concurrent.CountDownLatch;
@@ -23,6 +29,9 @@ import java.util.concurrent.ExecutionException;
 import java.util.concurrent.Flow;
 import java.util.concurrent.TimeUnit;
 import java.util.concurrent.TimeoutException;
+import java.util.stream.Stream;
+import javax.net.ssl.SSLContext;
+import javax.net.ssl.SSLParameters;
 
 /** One fetch, which ends at its deadline. */
 final class Fetch {
@@ -31,6 +40,11 @@ final class Fetch {
 
     private static final int MOST_REDIRECTS = 5;
     private static final Set<Integer> REDIRECTS = Set.of(301, 302, 303, 307, 308);
+    /** The most tokens that wait for one fetch. */
+    private static final int MOST_WAITING = 4;
+
+    /** The clients by what they trust, as long as somebody holds them: each has threads and descriptors of its own. */
+    private static final Map<SSLContext, WeakReference<HttpClient>> CLIENTS = new WeakHashMap<>();
 
     private final long ends;
     private final CountDownLatch over = new CountDownLatch(1);
@@ -38,6 +52,8 @@ final class Fetch {
     private volatile boolean isDropped;
     /** Whether it went well; it is written before it is over. */
     private volatile boolean isGood;
+    /** The {@code kid} of each token that waits for it. */
+    private final Set<String> kids = new HashSet<>();
 
     Fetch(Duration timeout) {
         ends = System.nanoTime() + timeout.toNanos();
@@ -70,14 +86,42 @@ final class Fetch {
         throw new IllegalArgumentException("the URL of a key set is https, and has a host and neither a name nor a password");
     }
 
-    /** A client that uses no proxy, and follows no redirection by itself. */
+    /** A client that uses no proxy, and follows no redirection by itself: the one that others have who trust the same. */
     static HttpClient client(Fetching how) {
-        HttpClient.Builder client = HttpClient.newBuilder()
+        SSLContext tls = how.tls().orElseGet(Fetch::system);
+        synchronized (CLIENTS) {
+            WeakReference<HttpClient> held = CLIENTS.get(tls);
+            HttpClient client = held == null ? null : held.get();
+            if (client == null) {
+                client = client(tls);
+                CLIENTS.put(tls, new WeakReference<>(client));
+            }
+            return client;
+        }
+    }
+
+    private static HttpClient client(SSLContext tls) {
+        // (properties of the system may change what is checked where nothing is said of it)
+        SSLParameters checks = tls.getDefaultSSLParameters();
+        List<String> supported = List.of(tls.getSupportedSSLParameters().getProtocols());
+        checks.setProtocols(Stream.of("TLSv1.3", "TLSv1.2").filter(supported::contains).toArray(String[]::new));
+        checks.setEndpointIdentificationAlgorithm("HTTPS");
+        return HttpClient.newBuilder()
                 .version(HttpClient.Version.HTTP_1_1)
                 .followRedirects(HttpClient.Redirect.NEVER)
-                .proxy(HttpClient.Builder.NO_PROXY);
-        how.tls().ifPresent(client::sslContext);
-        return client.build();
+                .proxy(HttpClient.Builder.NO_PROXY)
+                .sslContext(tls)
+                .sslParameters(checks)
+                .build();
+    }
+
+    /** What trusts the authorities of the system. */
+    private static SSLContext system() {
+        try {
+            return SSLContext.getDefault();
+        } catch (NoSuchAlgorithmException e) {
+            throw new IllegalStateException("the system has no TLS", e);
+        }
     }
 
     /** What stands at a URL, with redirections within its origin followed. */
@@ -94,6 +138,11 @@ final class Fetch {
             }
             at = next(from, at, to.get());
         }
+    }
+
+    /** Whether a token of this {@code kid} may wait: few do, since anyone can send tokens for which a key is lacking. */
+    synchronized boolean admits(String kid) {
+        return kids.size() < MOST_WAITING && kids.add(kid);
     }
 
     /** Says that it is over, and whether it went well. */
@@ -129,7 +178,16 @@ final class Fetch {
         if (response.statusCode() != 200) {
             throw new StatusException(response.statusCode());
         }
+        checkLengths(response.headers());
         return response.body();
+    }
+
+    /** Refuses an answer with two lengths, or one that is none (RFC 9110, section 8.6): who else reads it may read another one. */
+    private static void checkLengths(HttpHeaders headers) throws IOException {
+        List<String> lengths = headers.allValues("Content-Length");
+        if (Set.copyOf(lengths).size() > 1 || !lengths.stream().allMatch(it -> it.matches("[0-9]+"))) {
+            throw new IOException("it has lengths that are none");
+        }
     }
 
     /** Where a redirection leads, which has to be the same origin. */

@@ -10,9 +10,10 @@ import java.util.Objects;
 import java.util.Optional;
 
 /**
- * A policy, and a key set at a URL, which is fetched at once, and again as {@code docs/REMOTE-KEYS.md} says: in the background; where a token is refused for want
- * of a key or by a bad signature, at most once a cool-down. Where that fails, the keys stay until they are too old: from then on each token is refused by
- * the kind {@link Refused.Kind#KEYS_TOO_OLD}. Threads share it. A call on closed keys throws IllegalStateException.
+ * A policy, and a key set at a URL, which is fetched at once, and again as {@code docs/REMOTE-KEYS.md} says: in the background; where a token is refused for
+ * want of a key or by a bad signature, at most once a cool-down. For a fetch at most four tokens wait, one for each {@code kid}; the others are refused at once.
+ * Where a fetch fails, the keys stay until they are too old: from then on each token is refused by the kind {@link Refused.Kind#KEYS_TOO_OLD}. Threads share
+ * it. A call on closed keys throws IllegalStateException.
  *
  * <pre>{@code
  * try (RemoteKeys keys = new RemoteKeys(policy, "https://issuer.example/keys")) {
@@ -119,14 +120,14 @@ public final class RemoteKeys implements Judging {
     /** As {@link Validator#validate(byte[], long)}. The refusal may be of the kind {@link Refused.Kind#KEYS_TOO_OLD} too. */
     @Override
     public String validate(byte[] token, long now) throws Refused {
-        return by((Validator it) -> it.validate(token, now));
+        return by(token, (Validator it) -> it.validate(token, now));
     }
 
     /** As {@link Validator#validate(byte[], long, Access)}. The refusal may be of the kind {@link Refused.Kind#KEYS_TOO_OLD} too. */
     @Override
     public String validate(byte[] token, long now, Access access) throws Refused, Denied {
         Call<String, Denied> call = it -> it.validate(token, now, access);
-        return by(call);
+        return by(token, call);
     }
 
     /** As {@link Validator#judge(byte[], long)}. Where the keys are too old and none can be fetched, the verdict has that refusal and nothing else. */
@@ -134,9 +135,9 @@ public final class RemoteKeys implements Judging {
     public Verdict judge(byte[] token, long now) {
         Call<Verdict, RuntimeException> call = it -> it.judge(token, now);
         try {
-            Validator used = current();
+            Validator used = current(token);
             Verdict verdict = onceMore(used, call);
-            Validator newer = verdict.accepted() ? null : newer(used, verdict.refusal().get());
+            Validator newer = verdict.accepted() ? null : newer(used, verdict.refusal().get(), token);
             return newer == null ? verdict : onceMore(newer, call);
         } catch (Refused tooOld) {
             return Issuers.refused(tooOld);
@@ -203,12 +204,12 @@ public final class RemoteKeys implements Judging {
     }
 
     /** What comes of a call on the keys, and on newer ones where these may change it and can be had. */
-    private <T, E extends Exception> T by(Call<T, E> call) throws Refused, E {
-        Validator used = current();
+    private <T, E extends Exception> T by(byte[] token, Call<T, E> call) throws Refused, E {
+        Validator used = current(token);
         try {
             return onceMore(used, call);
         } catch (Refused refusal) {
-            Validator newer = newer(used, refusal);
+            Validator newer = newer(used, refusal, token);
             if (newer == null) {
                 throw refusal;
             }
@@ -241,19 +242,18 @@ public final class RemoteKeys implements Judging {
     }
 
     /** The validator by which a token is judged first. */
-    private Validator current() throws Refused {
+    private Validator current(byte[] token) throws Refused {
         // (before a fetch begins, so that it is the old one)
         Validator used = held();
-        if (isYounger(how.refreshAfter())) {
+        boolean isTooOld = !isYounger(how.maxAge());
+        if (!isTooOld && isYounger(how.refreshAfter())) {
             return used;
         }
-        Fetch under = begun();
-        if (isYounger(how.maxAge())) {
+        Fetch under = begun(used);
+        if (!isTooOld) {
             return used;
         }
-        if (under != null) {
-            under.await();
-        }
+        waitFor(under, used, token);
         if (!isYounger(how.maxAge())) {
             throw new Refused(Refused.Kind.KEYS_TOO_OLD, "KeysTooOld", null, 0, 0);
         }
@@ -265,21 +265,39 @@ public final class RemoteKeys implements Judging {
     }
 
     /** Another validator than the one that was used, where newer keys may change the refusal and are there or can be fetched; else null. */
-    private Validator newer(Validator used, Refused refusal) {
+    private Validator newer(Validator used, Refused refusal, byte[] token) {
         boolean asks = refusal.kind() == Refused.Kind.SIGNATURE && (refusal.fault().equals("NoKey") || refusal.fault().equals("BadSignature"));
         if (!asks) {
             return null;
         }
-        Fetch under = validator == used ? begun() : null;
-        if (under != null) {
-            under.await();
-        }
+        waitFor(begun(used), used, token);
         Validator it = validator;
         return it == used ? null : it;
     }
 
-    /** The fetch that is under way, or a new one where the cool-down is over; else null. */
-    private synchronized Fetch begun() {
+    /** Waits for a fetch, where there is one for which this token may wait. */
+    private static void waitFor(Fetch under, Validator used, byte[] token) {
+        if (under != null && under.admits(kid(used, token))) {
+            under.await();
+        }
+    }
+
+    /** The {@code kid} of a token, for which nobody vouches; empty where there is none. */
+    private static String kid(Validator it, byte[] token) {
+        try {
+            byte[] header = it.header(Objects.requireNonNull(token, "token"), 0);
+            return header == null ? "" : Objects.requireNonNullElse(member(header, "kid"), "");
+        } catch (IllegalStateException e) {
+            // (newer keys are there already)
+            return "";
+        }
+    }
+
+    /** The fetch that is under way, or a new one where the cool-down is over; null where there is none, and where others than these are held already. */
+    private synchronized Fetch begun(Validator used) {
+        if (validator != used) {
+            return null;
+        }
         if (fetch == null && !isClosed && System.nanoTime() - tried >= how.cooldown().toNanos()) {
             begin();
         }

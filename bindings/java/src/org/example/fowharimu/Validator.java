@@ -251,7 +251,12 @@ public final class Validator implements Judging {
         if (signature < 0) {
             throw new IllegalArgumentException("a signature's number has to be 0 or more");
         }
-        return with(seat -> Optional.ofNullable(Text.of(Native.header(seat.at, octets, signature))));
+        return Optional.ofNullable(Text.of(header(octets, signature)));
+    }
+
+    /** As {@link #unverifiedHeader}, by a token's octets; null for nothing. */
+    byte[] header(byte[] token, int signature) {
+        return with(seat -> Native.header(seat.at, token, signature));
     }
 
     @Override

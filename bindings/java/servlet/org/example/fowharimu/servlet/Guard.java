@@ -10,6 +10,8 @@ import jakarta.servlet.http.HttpServletResponse;
 import java.io.IOException;
 import java.util.Collections;
 import java.util.List;
+import java.util.Objects;
+import java.util.Optional;
 import java.util.regex.Matcher;
 import java.util.regex.Pattern;
 import org.example.fowharimu.Access;
@@ -41,7 +43,7 @@ public class Guard implements Filter {
     private static final Pattern QUOTABLE = Pattern.compile("[ !#-\\[\\]-~]*");
 
     private final Judging validator;
-    private final Access access;
+    private final Optional<Access> access;
     private final String realm;
     private final boolean hidesToken;
 
@@ -51,14 +53,27 @@ public class Guard implements Filter {
      * @param validator what judges the tokens, which the filter doesn't close
      */
     public Guard(Judging validator) {
-        this(validator, null);
+        this(validator, "jwt", false);
+    }
+
+    /**
+     * A filter that asks for an accepted token.
+     *
+     * @param validator what judges the tokens, which the filter doesn't close
+     * @param realm the realm that a request without a token is told
+     * @param hidesToken whether what is behind isn't shown {@code Authorization}
+     * @throws IllegalArgumentException for a realm that a quoted string can't have
+     */
+    public Guard(Judging validator, String realm, boolean hidesToken) {
+        this(validator, Optional.empty(), realm, hidesToken);
     }
 
     /**
      * A filter that asks for an accepted token whose claims meet an access rule.
      *
      * @param validator what judges the tokens, which the filter doesn't close
-     * @param access the access rule; null where there is none
+     * @param access the access rule
+     * @throws NullPointerException where there is none, as where a rule is looked up and isn't found
      */
     public Guard(Judging validator, Access access) {
         this(validator, access, "jwt", false);
@@ -68,16 +83,21 @@ public class Guard implements Filter {
      * A filter that asks for an accepted token whose claims meet an access rule.
      *
      * @param validator what judges the tokens, which the filter doesn't close
-     * @param access the access rule; null where there is none
+     * @param access the access rule
      * @param realm the realm that a request without a token is told
      * @param hidesToken whether what is behind isn't shown {@code Authorization}
      * @throws IllegalArgumentException for a realm that a quoted string can't have
+     * @throws NullPointerException where there is no access rule
      */
     public Guard(Judging validator, Access access, String realm, boolean hidesToken) {
+        this(validator, Optional.of(Objects.requireNonNull(access, "access")), realm, hidesToken);
+    }
+
+    private Guard(Judging validator, Optional<Access> access, String realm, boolean hidesToken) {
         if (!QUOTABLE.matcher(realm).matches()) {
             throw new IllegalArgumentException("a realm has printable characters of ASCII, and neither quotation marks nor backslashes");
         }
-        this.validator = validator;
+        this.validator = Objects.requireNonNull(validator, "validator");
         this.access = access;
         this.realm = realm;
         this.hidesToken = hidesToken;
@@ -118,7 +138,7 @@ public class Guard implements Filter {
             return false;
         }
         try {
-            request.setAttribute(CLAIMS, access == null ? validator.validate(token) : validator.validate(token, access));
+            request.setAttribute(CLAIMS, access.isEmpty() ? validator.validate(token) : validator.validate(token, access.get()));
             return true;
         } catch (Refused refusal) {
             refused(request, refusal);
