@@ -99,6 +99,10 @@ func (i *Issuers) Close() error {
 // chosen gives what judges a token: the reader, where it is none, and else what stands under the issuer that it names. The error is a *ClaimsError
 // where there is nothing, ErrOutOfMemory or ErrClosed.
 func (i *Issuers) chosen(token string) (Judging, error) {
+	// Issuers that NewIssuers didn't make have no reader.
+	if i.reader == nil {
+		return nil, ErrClosed
+	}
 	issuer, status, err := i.reader.namedIssuer(token)
 	if err != nil {
 		return nil, err

@@ -107,6 +107,9 @@ func TestIssuers(t *testing.T) {
 		if report, err := issuers.Judge(token); err != fowharimu.ErrClosed || report.Accepted() {
 			t.Error(err, report)
 		}
+		if _, err := new(fowharimu.Issuers).Validate(token); err != fowharimu.ErrClosed {
+			t.Error(err)
+		}
 		if _, _, err := other.UnverifiedIssuer(token); err != fowharimu.ErrClosed {
 			t.Error(err)
 		}

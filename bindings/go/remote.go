@@ -6,8 +6,10 @@ import (
 	"errors"
 	"fmt"
 	"io"
+	"log"
 	"net/http"
 	"net/url"
+	"runtime/debug"
 	"strings"
 	"sync"
 	"sync/atomic"
@@ -19,6 +21,12 @@ const mostFetched = 4_194_304
 
 // mostRedirects is how many redirections within the origin are followed.
 const mostRedirects = 5
+
+// mostWaiting is the most tokens that wait for one fetch.
+const mostWaiting = 4
+
+// mostHeaders is the most octets that the headers of an answer may have.
+const mostHeaders = 65_536
 
 // ErrURL says that keys aren't fetched from this URL: it isn't https, has no host, or has a name or a password in it.
 var ErrURL = errors.New("fowharimu: no URL of a key set: it is https, and has a host and neither a name nor a password")
@@ -59,14 +67,15 @@ type Remote struct {
 	MaxAge       time.Duration // the age at which keys are too old; an hour
 	Timeout      time.Duration // of a whole fetch; 5 seconds
 	AllowHTTP    bool
-	TLS          *tls.Config // nil: the system's authorities
-	// OnFetch is called after each fetch, with the URL without its query, how many octets were had, and why it failed, if it did.
+	TLS          *tls.Config // nil: the system's authorities; TLS 1.2 at least, unless it says otherwise
+	// OnFetch is called after each fetch, with the URL without its query, how many octets were had, and why it failed, if it did. Where it panics,
+	// that is logged.
 	OnFetch func(url string, octets int, err error)
 }
 
 // RemoteKeys is a policy, and a key set at a URL, which is fetched at once, and again as docs/REMOTE-KEYS.md says: in the background; where a token is
-// refused for want of a key or by a bad signature, at most once a cool-down. Where that fails, the keys stay until they are too old. Goroutines
-// may share it.
+// refused for want of a key or by a bad signature, at most once a cool-down. For a fetch at most four tokens wait, one for each kid; the others are
+// refused at once. Where a fetch fails, the keys stay until they are too old. Goroutines may share it.
 type RemoteKeys struct {
 	policy    []byte
 	address   string
@@ -87,6 +96,16 @@ type RemoteKeys struct {
 type fetch struct {
 	done   chan struct{} // closed when it is over
 	cancel context.CancelFunc
+	kids   map[string]bool // those of the tokens that wait for it; the mutex of the keys guards it
+}
+
+// admits says whether a token of this kid may wait: few do, since anyone can send tokens for which a key is lacking.
+func (f *fetch) admits(kid string) bool {
+	if len(f.kids) >= mostWaiting || f.kids[kid] {
+		return false
+	}
+	f.kids[kid] = true
+	return true
 }
 
 // OpenRemote fetches a key set. The error is ErrURL, ErrTime, ErrPolicyByURL, an *UnavailableError, or that of Open. The policy and the options are
@@ -148,7 +167,7 @@ func (r *RemoteKeys) Validate(token string) (Claims, error) { return r.ValidateA
 
 // ValidateAt is Validator.ValidateAt. The error may be a *TooOldError too.
 func (r *RemoteKeys) ValidateAt(token string, now time.Time) (claims Claims, err error) {
-	err = r.by(func(v *Validator) (err error) {
+	err = r.by(token, func(v *Validator) (err error) {
 		claims, err = v.ValidateAt(token, now)
 		return err
 	})
@@ -162,7 +181,7 @@ func (r *RemoteKeys) ValidateFor(token string, access *Access) (Claims, error) {
 
 // ValidateForAt is Validator.ValidateForAt. The error may be a *TooOldError too.
 func (r *RemoteKeys) ValidateForAt(token string, now time.Time, access *Access) (claims Claims, err error) {
-	err = r.by(func(v *Validator) (err error) {
+	err = r.by(token, func(v *Validator) (err error) {
 		claims, err = v.ValidateForAt(token, now, access)
 		return err
 	})
@@ -175,7 +194,7 @@ func (r *RemoteKeys) Judge(token string) (Report, error) { return r.JudgeAt(toke
 // JudgeAt is Validator.JudgeAt. Where the keys are too old and none can be fetched, the report has the refusal *TooOldError and nothing else.
 func (r *RemoteKeys) JudgeAt(token string, now time.Time) (report Report, err error) {
 	var refusal Refusal
-	err = r.by(func(v *Validator) (err error) {
+	err = r.by(token, func(v *Validator) (err error) {
 		if report, err = v.JudgeAt(token, now); err != nil {
 			return err
 		}
@@ -219,7 +238,8 @@ func (r *RemoteKeys) namedIssuer(token string) (issuer string, status int, err e
 // the keys are as before then.
 func (r *RemoteKeys) Refresh() error {
 	r.mutex.Lock()
-	if r.closed {
+	// RemoteKeys that weren't opened have no client.
+	if r.closed || r.client == nil {
 		r.mutex.Unlock()
 		return ErrClosed
 	}
@@ -249,14 +269,14 @@ func (r *RemoteKeys) Close() error {
 }
 
 // by judges by the keys, and once more by newer ones where these may change what came of it and can be had.
-func (r *RemoteKeys) by(judge func(*Validator) error) error {
-	used, err := r.current()
+func (r *RemoteKeys) by(token string, judge func(*Validator) error) error {
+	used, err := r.current(token)
 	if err != nil {
 		return err
 	}
 	err = r.onceMore(used, judge)
 	if asksForKeys(err) {
-		r.renew(used)
+		r.renew(used, token)
 		if newer := r.validator.Load(); newer != nil && newer != used {
 			err = r.onceMore(newer, judge)
 		}
@@ -284,45 +304,65 @@ func asksForKeys(err error) bool {
 }
 
 // current gives the validator by which a token is judged first.
-func (r *RemoteKeys) current() (*Validator, error) {
+func (r *RemoteKeys) current(token string) (*Validator, error) {
 	r.mutex.Lock()
 	// (before a fetch begins, so that it is the old one)
 	v := r.validator.Load()
+	if v == nil {
+		r.mutex.Unlock()
+		return nil, ErrClosed
+	}
 	var under *fetch
 	if time.Since(r.got) >= r.how.RefreshAfter {
 		under = r.begun()
 	}
 	isOld := time.Since(r.got) >= r.how.MaxAge
 	r.mutex.Unlock()
-	if isOld {
-		if under != nil {
-			<-under.done
-		}
-		r.mutex.Lock()
-		isOld = time.Since(r.got) >= r.how.MaxAge
-		r.mutex.Unlock()
-		if isOld {
-			return nil, new(TooOldError)
-		}
-		v = r.validator.Load()
+	if !isOld {
+		return v, nil
 	}
-	if v == nil {
+	r.waitFor(under, v, token)
+	r.mutex.Lock()
+	defer r.mutex.Unlock()
+	if time.Since(r.got) >= r.how.MaxAge {
+		return nil, new(TooOldError)
+	}
+	if v = r.validator.Load(); v == nil {
 		return nil, ErrClosed
 	}
 	return v, nil
 }
 
-// renew waits for newer keys than those that were used, where a fetch is under way or may begin.
-func (r *RemoteKeys) renew(used *Validator) {
+// renew waits for newer keys than those that were used, where a fetch is under way or may begin, and the token may wait for it.
+func (r *RemoteKeys) renew(used *Validator, token string) {
 	r.mutex.Lock()
 	var under *fetch
 	if r.validator.Load() == used {
 		under = r.begun()
 	}
 	r.mutex.Unlock()
-	if under != nil {
+	r.waitFor(under, used, token)
+}
+
+// waitFor waits for a fetch, where there is one for which this token may wait.
+func (r *RemoteKeys) waitFor(under *fetch, used *Validator, token string) {
+	if under == nil {
+		return
+	}
+	kid := kidOf(used, token)
+	r.mutex.Lock()
+	admits := under.admits(kid)
+	r.mutex.Unlock()
+	if admits {
 		<-under.done
 	}
+}
+
+// kidOf gives the kid of a token, for which nobody vouches; it is empty where there is none.
+func kidOf(v *Validator, token string) string {
+	header, _, _ := v.UnverifiedHeader(token, 0)
+	kid, _, _ := memberOf(header, "kid")
+	return kid
 }
 
 // begun gives the fetch that is under way, or a new one where the cool-down is over. The mutex is held.
@@ -336,7 +376,7 @@ func (r *RemoteKeys) begun() *fetch {
 // begin begins a fetch. The mutex is held.
 func (r *RemoteKeys) begin() {
 	ctx, cancel := context.WithTimeout(context.Background(), r.how.Timeout)
-	under := &fetch{make(chan struct{}), cancel}
+	under := &fetch{make(chan struct{}), cancel, make(map[string]bool)}
 	r.tried, r.fetch = time.Now(), under
 	go r.run(ctx, under)
 }
@@ -350,9 +390,20 @@ func (r *RemoteKeys) run(ctx context.Context, under *fetch) {
 	r.exchange(newer, err)
 	under.cancel()
 	close(under.done)
-	if r.how.OnFetch != nil {
-		r.how.OnFetch(withoutQuery(r.address), len(keys), err)
+	r.tell(len(keys), err)
+}
+
+// tell tells what became of a fetch. Whoever is told may panic, which says nothing of a token, and isn't the end of the process.
+func (r *RemoteKeys) tell(octets int, err error) {
+	if r.how.OnFetch == nil {
+		return
 	}
+	defer func() {
+		if why := recover(); why != nil {
+			log.Printf("fowharimu: OnFetch panicked: %v\n%s", why, debug.Stack())
+		}
+	}()
+	r.how.OnFetch(withoutQuery(r.address), octets, err)
 }
 
 // exchange takes the new validator, where there is one, in place of the old one, and ends the fetch.
@@ -484,8 +535,21 @@ func get(ctx context.Context, client *http.Client, address string) ([]byte, erro
 
 // client gives a client that uses no proxy, and follows redirections within the origin alone.
 func (how Remote) client() *http.Client {
+	secure := how.TLS.Clone()
+	if secure == nil {
+		secure = new(tls.Config)
+	}
+	if secure.MinVersion == 0 {
+		secure.MinVersion = tls.VersionTLS12
+	}
 	return &http.Client{
-		Transport:     &http.Transport{TLSClientConfig: how.TLS.Clone(), DisableCompression: true, DisableKeepAlives: true},
+		Transport: &http.Transport{
+			Proxy:                  nil,
+			TLSClientConfig:        secure,
+			DisableCompression:     true,
+			DisableKeepAlives:      true,
+			MaxResponseHeaderBytes: mostHeaders,
+		},
 		CheckRedirect: sameOrigin,
 	}
 }
@@ -509,7 +573,7 @@ func origin(at *url.URL) [3]string {
 	return [3]string{at.Scheme, strings.ToLower(at.Hostname()), port}
 }
 
-// orDefaults has each time that is named. The error is ErrTime.
+// orDefaults has each time that is named. Keys that are too old are old enough to be fetched, too. The error is ErrTime.
 func (how Remote) orDefaults() (Remote, error) {
 	for at, otherwise := range map[*time.Duration]time.Duration{
 		&how.RefreshAfter: 10 * time.Minute,
@@ -523,6 +587,9 @@ func (how Remote) orDefaults() (Remote, error) {
 		if *at == 0 {
 			*at = otherwise
 		}
+	}
+	if how.RefreshAfter > how.MaxAge {
+		how.RefreshAfter = how.MaxAge
 	}
 	return how, nil
 }

@@ -2,8 +2,11 @@ package fowharimu_test
 
 import (
 	"errors"
+	"io"
+	"log"
 	"net/http"
 	"net/http/httptest"
+	"os"
 	"strings"
 	"testing"
 	"time"
@@ -71,4 +74,44 @@ func TestTimesAreNotNegative(t *testing.T) {
 			}
 		}
 	}
+}
+
+func TestKeysThatWereNeverOpenedAreClosed(t *testing.T) {
+	keys := new(fowharimu.RemoteKeys)
+	for n := 0; n < 2; n++ {
+		_, err := keys.Validate("a.b.c")
+		report, judged := keys.Judge("a.b.c")
+		_, _, named := keys.UnverifiedIssuer("a.b.c")
+		for _, err := range []error{err, judged, named, keys.Refresh()} {
+			if err != fowharimu.ErrClosed || report.Accepted() {
+				t.Error(err)
+			}
+		}
+		if err := keys.Close(); err != nil {
+			t.Error(err)
+		}
+	}
+}
+
+func TestWhoIsToldOfAFetchMayPanic(t *testing.T) {
+	told := make(chan bool, 2)
+	how := fowharimu.Remote{AllowHTTP: true, OnFetch: func(string, int, error) {
+		told <- true
+		panic("told in vain")
+	}}
+	log.SetOutput(io.Discard)
+	defer log.SetOutput(os.Stderr)
+	keys, err := fowharimu.OpenRemote([]byte(`{"algs":["RS256"]}`), keysAt(t), how)
+	if err != nil {
+		t.Fatal(err)
+	}
+	defer keys.Close()
+	if err := keys.Refresh(); err != nil {
+		t.Error(err)
+	}
+	if _, err := keys.ValidateAt(string(octets(t, rsa+".jwt")), now); err != nil {
+		t.Error(err)
+	}
+	<-told
+	<-told
 }

@@ -47,8 +47,12 @@ func Access(rule *fowharimu.Access) Option {
 	return func(g *guard) { g.access, g.asks = rule, true }
 }
 
-// Realm is the realm that a request without a token is told: jwt without this. It has no quotation mark and no backslash.
+// Realm is the realm that a request without a token is told: jwt without this. It panics for one that a quoted string can't have: a realm has printable
+// characters of ASCII, and neither quotation marks nor backslashes.
 func Realm(realm string) Option {
+	if strings.IndexFunc(realm, isUnquotable) >= 0 {
+		panic("guard: a realm has printable characters of ASCII, and neither quotation marks nor backslashes")
+	}
 	return func(g *guard) { g.realm = realm }
 }
 
@@ -164,6 +168,10 @@ func bearer(value string) (string, bool) {
 func isB64token(token string) bool {
 	padless := strings.TrimRight(token, "=")
 	return (padless != "" || token == "") && strings.IndexFunc(padless, isOther) < 0
+}
+
+func isUnquotable(c rune) bool {
+	return c < ' ' || c > '~' || c == '"' || c == '\\'
 }
 
 func isOther(c rune) bool {

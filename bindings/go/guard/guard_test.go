@@ -32,6 +32,21 @@ func TestRefusalsAreTold(t *testing.T) {
 	}
 }
 
+// TestRealmsAreQuoted has realms that would end the quoted string before its end, or the header.
+func TestRealmsAreQuoted(t *testing.T) {
+	for _, realm := range []string{`a", error="b`, `a\`, "a\r\nb", "é", "\x7f", "\xff"} {
+		func() {
+			defer func() {
+				if recover() == nil {
+					t.Errorf("%q is taken", realm)
+				}
+			}()
+			Realm(realm)
+		}()
+	}
+	Realm("a shop's, [the one] of ~ann")
+}
+
 // TestClosed has a validator that says nothing: nobody is let through.
 func TestClosed(t *testing.T) {
 	validator := open(t)

@@ -60,6 +60,8 @@ func (d *driver) answer(words []string) string {
 			go d.load.run(d.keys, text(words[1]), moment(words[2]))
 		}
 		return "loading"
+	case "crowd":
+		return d.crowd(strings.Fields(text(words[1])), moment(words[2]))
 	case "rest":
 		d.load.over.Store(true)
 		d.load.running.Wait()
@@ -147,6 +149,27 @@ func (d *driver) validate(path, now string) string {
 	default:
 		return err.Error()
 	}
+}
+
+// crowd says how many tokens are answered at once, and how many later, where all are judged at the same time.
+func (d *driver) crowd(tokens []string, now time.Time) string {
+	var atOnce, later atomic.Int64
+	var running sync.WaitGroup
+	running.Add(len(tokens))
+	begun := time.Now()
+	for _, it := range tokens {
+		go func(token string) {
+			defer running.Done()
+			d.by(token, now)
+			if time.Since(begun) < 1200*time.Millisecond {
+				atOnce.Add(1)
+			} else {
+				later.Add(1)
+			}
+		}(it)
+	}
+	running.Wait()
+	return fmt.Sprint(atOnce.Load(), later.Load())
 }
 
 func text(path string) string {
