@@ -27,19 +27,48 @@ def openssl(room, *words):
 
 
 def certificates(room):
-    """Makes an authority of the test's own, and three certificates: one for localhost, one for it that has expired, one of another name."""
+    """Makes an authority of the test's own, one that nobody asks, and three certificates: one for localhost, one for it that has expired, one of another
+    name."""
     room = pathlib.Path(room)
     (room / "config").write_text(AUTHORITY.format(room=room))
     (room / "index").write_text("")
     (room / "serial").write_text("01\n")
     openssl(room, "req", "-x509", "-newkey", "rsa:2048", "-nodes", "-keyout", "ca.key", "-out", "ca.pem", "-subj", "/CN=tests", "-days", "2",
             "-addext", "basicConstraints=critical,CA:TRUE", "-addext", "keyUsage=keyCertSign")
+    openssl(room, "req", "-x509", "-newkey", "rsa:2048", "-nodes", "-keyout", "stranger.key", "-out", "stranger.pem", "-subj", "/CN=stranger", "-days", "2")
     for name, host, ends in (("good", "localhost", "21001231000000Z"), ("expired", "localhost", "20200102000000Z"), ("other", "elsewhere.example", "21001231000000Z")):
         openssl(room, "req", "-newkey", "rsa:2048", "-nodes", "-keyout", f"{name}.key", "-out", f"{name}.csr", "-subj", f"/CN={name}",
                 "-addext", f"subjectAltName=DNS:{host}")
         openssl(room, "ca", "-batch", "-notext", "-config", "config", "-keyfile", "ca.key", "-cert", "ca.pem", "-startdate", "20200101000000Z",
                 "-enddate", ends, "-in", f"{name}.csr", "-out", f"{name}.pem")
     return room
+
+
+# Answers that are sent as they stand, by their names: the octets that come first, and those that come again and again then; None ends the connection in
+# place of these. KEYS stands for the key set, and SIZE for how many octets it has.
+RAW = {
+    "switching": (b"HTTP/1.1 101 Switching Protocols\r\nConnection: Upgrade\r\nUpgrade: other\r\n\r\n", b""),
+    "switching, and on": (b"HTTP/1.1 101 Switching Protocols\r\nConnection: Upgrade\r\nUpgrade: other\r\n\r\n", b"HTTP/1.1 200 OK\r\n\r\n"),
+    "continue": (b"", b"HTTP/1.1 100 Continue\r\n\r\n"),
+    "processing": (b"", b"HTTP/1.1 102 Processing\r\n\r\n"),
+    "hints": (b"", b"HTTP/1.1 103 Early Hints\r\nLink: </keys>\r\n\r\n"),
+    "headers": (b"HTTP/1.1 200 OK\r\n", b"X-More: a\r\n"),
+    "a long header": (b"HTTP/1.1 200 OK\r\nX-Long: ", b"a" * 1_024),
+    "a long status": (b"HTTP/1.1 200 ", b"a" * 1_024),
+    "blank lines": (b"", b"\r\n"),
+    "0.9": (b"KEYS", b""),
+    "0.9, and on": (b"KEYS", b" "),
+    "2.0": (b"HTTP/2.0 200 OK\r\nContent-Length: SIZE\r\n\r\nKEYS", None),
+    "two lengths": (b"HTTP/1.1 200 OK\r\nContent-Length: SIZE\r\nContent-Length: 5\r\n\r\nKEYS", None),
+    "two lengths, the other way": (b"HTTP/1.1 200 OK\r\nContent-Length: 5\r\nContent-Length: SIZE\r\n\r\nKEYS", None),
+    "lengths in a list": (b"HTTP/1.1 200 OK\r\nContent-Length: SIZE, 5\r\n\r\nKEYS", None),
+    "a length below 0": (b"HTTP/1.1 200 OK\r\nContent-Length: -1\r\n\r\nKEYS", None),
+    "a length that is none": (b"HTTP/1.1 200 OK\r\nContent-Length: SIZEx\r\n\r\nKEYS", None),
+    "a length beyond 64 bits": (b"HTTP/1.1 200 OK\r\nContent-Length: 99999999999999999999\r\n\r\nKEYS", None),
+    "a length that is too long": (b"HTTP/1.1 200 OK\r\nContent-Length: 99999\r\n\r\nKEYS", b""),
+    "a chunk below 0": (b"HTTP/1.1 200 OK\r\nTransfer-Encoding: chunked\r\n\r\n-1\r\nKEYS\r\n0\r\n\r\n", None),
+    "silence": (b"", b""),
+}
 
 
 class Handler(http.server.BaseHTTPRequestHandler):
@@ -54,11 +83,34 @@ class Handler(http.server.BaseHTTPRequestHandler):
         issuer = self.server.issuer
         issuer.seen.append(self.path)
         self.close_connection = True
-        document = issuer.documents.get(self.path)
+        document = issuer.documents.get(self.path.partition("?")[0])
         if document is None:
             return self.answer(404, b"")
         kind = issuer.mode if self.path.startswith("/keys") else "ok"
+        if kind in RAW:
+            return self.raw(document, *RAW[kind])
         getattr(self, f"answer_{kind}")(document)
+
+    def raw(self, document, first, again):
+        """These octets as they stand, and others again and again then, until who asked goes away; None ends the connection in place of these."""
+        try:
+            self.wfile.write(first.replace(b"KEYS", document).replace(b"SIZE", str(len(document)).encode()))
+            while again is not None:
+                self.wfile.write(again)
+                # (as soon as who asked has gone, nothing is read; a connection that is quiet too long is let go)
+                if self.is_gone(0.005 if again else 5):
+                    return
+        except OSError:
+            pass
+
+    def is_gone(self, seconds):
+        self.connection.settimeout(seconds)
+        try:
+            return not self.connection.recv(1)
+        except TimeoutError:
+            return seconds > 1
+        finally:
+            self.connection.settimeout(None)
 
     def answer(self, status, body, kind="application/json", length=None, headers=()):
         self.send_response(status)
@@ -147,6 +199,13 @@ class Handler(http.server.BaseHTTPRequestHandler):
     def answer_loop(self, document):
         self.redirect("/keys")
 
+    def answer_hops(self, document):
+        """So many redirections within the origin, each to another place, as the issuer is told, and then the keys."""
+        hop = int(self.path.partition("?")[2] or 0)
+        if hop == self.server.issuer.hops:
+            return self.answer_ok(document)
+        self.redirect(f"/keys?{hop + 1}")
+
     def redirect(self, place):
         self.answer(302, b"", headers=[("Location", place)])
 
@@ -163,7 +222,7 @@ class Issuer:
     """The issuer: over HTTP, and over TLS with each of the three certificates."""
 
     def __init__(self, room):
-        self.mode, self.documents, self.seen = "ok", {}, []
+        self.mode, self.hops, self.documents, self.seen = "ok", 0, {}, []
         self.plain = self.served(None)
         self.good, self.expired, self.other = (self.served(self.context(room, it)) for it in ("good", "expired", "other"))
 
