@@ -469,7 +469,7 @@ class Arguments(unittest.TestCase):
             self.assertEqual(validator.validate(signed('{"alg":"HS256"}', wide), NOW), json.loads(wide))
         if hasattr(sys, "get_int_max_str_digits"):
             with self.assertRaises(Unreadable) as caught:
-                _object(long.encode(), "Claims")
+                _object(long, "Claims")
             self.assertEqual(caught.exception.octets, long.encode())
 
 
@@ -654,6 +654,54 @@ class Threads(unittest.TestCase):
             self.assertEqual((wrong, validator._seats._free), ([], []))
 
 
+@unittest.skipUnless(_seats._calls or "FOWHARIMU_CALLS" in os.environ, "the module of native/_calls.c isn't built")
+class Calls(unittest.TestCase):
+    """The module that judges and writes a payload in one call; FOWHARIMU_CALLS says that it has to be there."""
+
+    def test_each_seat_has_it(self) -> None:
+        with validator_of(HMAC) as validator:
+            self.assertIsInstance(validator._seats.take().calls, _seats._calls.Calls)
+
+    def test_a_payload_of_any_length(self) -> None:
+        secret = {"kty": "oct", "k": "A" * 43}
+        with Validator({"algs": ["HS256"], "limit": 1_048_576}, {"keys": [secret]}) as validator:
+            # (on both sides of the room that it has without asking for memory, and of the length for which the interpreter's lock is kept)
+            for length in (0, 1, *range(1_400, 1_480), *range(2_980, 3_020), 700_000):
+                claims = {"sub": "\u00e9" + "a" * length}
+                self.assertEqual(validator.validate(validator.issue(claims)), claims)
+
+    def test_mistakes_are_told(self) -> None:
+        calls = _seats._calls.Calls
+        for words in ((), (1, 2), ("a",) * 7, (0,) * 8):
+            with self.subTest(words), self.assertRaises(TypeError):
+                calls(*words)
+        with self.assertRaises(TypeError):
+            calls(0, 0, 0, 0, 0, 0, held=0)
+        with self.assertRaises(TypeError):
+            calls.__new__(calls).validate(b"a.b.c", NOW)
+        with validator_of(HMAC) as validator:
+            seat = validator._seats.take()
+            it = seat.calls
+            for wrong in (("a.b.c", NOW), (b"a.b.c",), (bytearray(b"a.b.c"), "1"), (None, NOW)):
+                with self.subTest(wrong), self.assertRaises(TypeError):
+                    it.validate(*wrong)
+            with self.assertRaises(OverflowError):
+                it.validate(b"a.b.c", 2**63)
+            self.assertIsNone(it.validate(b"a.b.c", NOW))
+
+    def test_nothing_is_kept(self) -> None:
+        with validator_of(HMAC) as validator:
+            seat, token = validator._seats.take(), token_of(HMAC).encode()
+            for it in (token, token[:-9] + b"AAAAAAAAA", b"a" * 3_000):
+                for _ in range(100):
+                    seat.accepted(it, NOW)
+                before = sys.getrefcount(it), sys.getrefcount(None)
+                for _ in range(1_000):
+                    seat.accepted(it, NOW)
+                after = sys.getrefcount(it), sys.getrefcount(None)
+                self.assertLess(max(after[0] - before[0], abs(after[1] - before[1])), 500)
+
+
 @unittest.skipUnless(hasattr(os, "fork"), "there is no fork")
 class Forks(unittest.TestCase):
     SECONDS = 20
@@ -694,7 +742,8 @@ class Forks(unittest.TestCase):
 
         def cut(_: int, frame: Any) -> None:
             # (only where a seat is taken, used or given back)
-            if frame is not None and frame.f_code.co_filename == _seats.__file__ and frame.f_code.co_name in ("take", "give", "call", "judge", "_begin", "_end"):
+            code = frame.f_code
+            if code.co_filename == _seats.__file__ and code.co_name in ("take", "give", "call", "judge", "accepted", "_begin", "_end"):
                 raise Cut
 
         times: List[float] = []

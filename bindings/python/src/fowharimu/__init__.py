@@ -132,12 +132,12 @@ def _moment(now: Optional[SupportsIndex]) -> int:
     return time.time_ns() // 1_000_000_000 if now is None else _number(now, "now", -(2**63), 2**63 - 1)
 
 
-def _object(octets: bytes, what: str) -> Dict[str, Any]:
+def _object(text: str, what: str) -> Dict[str, Any]:
     """The object that a JSON text spells. Raises Unreadable where Python's `json` doesn't take it, though the library does."""
     try:
-        members: Dict[str, Any] = _decode(octets.decode())
+        members: Dict[str, Any] = _decode(text)
     except ValueError:
-        raise Unreadable(what, octets) from None
+        raise Unreadable(what, text.encode()) from None
     return members
 
 
@@ -198,15 +198,15 @@ class Validator:
         octets, moment = octets_of(token, "a token"), _moment(now)
         return _object(self._seats.call(self._payload, octets, moment, checked(access)), "Claims")
 
-    def _payload(self, seat: Seat, octets: bytes, moment: int, access: Rule) -> bytes:
+    def _payload(self, seat: Seat, octets: bytes, moment: int, access: Rule) -> str:
         """The payload of a token that is accepted, and whose claims meet the access rule. Raises TokenRefused, Denied and MemoryError."""
-        report = seat.judge(octets, moment)
-        if report.verdict != _library.OK:
-            raise self._refusal(seat, report)
+        payload = seat.accepted(octets, moment)
+        if payload is None:
+            raise self._refusal(seat, seat.report)
         denial = None if access is NO_RULE else access.denial(seat)
         if denial is not None:
             raise denial
-        return seat.payload(octets)
+        return payload
 
     def judge(self, token: Text, now: Optional[SupportsIndex] = None) -> Report:
         """All that is said of a token: its verdict, its signatures, and each try with its cost. Raises as `validate` does, TokenRefused
@@ -232,7 +232,7 @@ class Validator:
         """
         octets, number = octets_of(token, "a token"), _number(signature, "a signature's number", 0, 2**32 - 1)
         header = self._header(octets, number)
-        return None if header is None else _object(header or b"{}", "Header")
+        return None if header is None else _object((header or b"{}").decode(), "Header")
 
     def _header(self, octets: bytes, number: int = 0) -> Optional[bytes]:
         """The octets of the protected header of the signature of this number; None where there is none."""

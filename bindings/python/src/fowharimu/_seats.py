@@ -13,6 +13,12 @@ from typing import Any, Callable, List, Optional, Tuple, TypeVar
 from . import _library
 from ._faults import Closed
 
+try:
+    from . import _calls
+except ImportError:
+    # (where it isn't built, ctypes makes two calls of its one)
+    _calls = None  # type: ignore[assignment]
+
 _Result = TypeVar("_Result")
 
 # What is held while a seat is opened, which needs the documents for itself, and while the process forks. A judging holds nothing.
@@ -84,7 +90,7 @@ class Seat:
     """A validator of the library, and what OpenSSL made of its keys. It is used by one call at a time. What it holds is freed with it, without a
     lock: Python may do so at any moment, in any thread."""
 
-    __slots__ = ("library", "holding", "short", "held", "crypto", "is_over_openssl", "report", "room", "view", "length")
+    __slots__ = ("library", "holding", "short", "held", "crypto", "is_over_openssl", "report", "room", "view", "length", "calls")
 
     def __init__(self, short: int = -1) -> None:
         """`short` is the length of the longest token for which the interpreter's lock is kept."""
@@ -95,6 +101,21 @@ class Seat:
         self.report = _library.CReport()
         self.length = ctypes.c_size_t()
         self._make_room(_ROOM)
+        self.calls = None if _calls is None else _calls.Calls(*self._addresses(), short)
+
+    def _addresses(self) -> Tuple[int, int, int, int, int, int]:
+        """Where the library has its functions, and the seat what they change."""
+        functions = (self.library.fow_proved_judge, self.library.fow_payload)
+        alone, payload = (ctypes.cast(it, ctypes.c_void_p).value or 0 for it in functions)
+        over = ctypes.cast(self.library.fow_openssl_judge, ctypes.c_void_p).value or 0 if self.is_over_openssl else 0
+        crypto, held, report = (ctypes.addressof(it) for it in (self.crypto, self.held, self.report))
+        return over, alone, payload, crypto, held, report
+
+    def accepted(self, octets: bytes, moment: int) -> Optional[str]:
+        """The payload of a token that is accepted; None where it isn't, and `report` says why. Raises MemoryError where memory is refused."""
+        if self.calls is not None:
+            return self.calls.validate(octets, moment)
+        return self.payload(octets).decode() if self.judge(octets, moment).verdict == _library.OK else None
 
     def judge(self, octets: bytes, moment: int) -> _library.CReport:
         """The report on a token, until the next call: OpenSSL verifies public keys where the library is over it, and else the library's proved
