@@ -10,7 +10,7 @@ use Rattle.jwt_keys.specs.Keys.{KeyParts}
 use Rattle.jwt_jws.specs.Token.{Token}
 use Rattle.jwt_policy.specs.Settings.{Settings}
 use Rattle.jwt_verify.specs.declared.report.Fault.{Fault}
-use Rattle.jwt_c.specs.declared.status.TheConstants.{FOW_OUT_OF_MEMORY, FOW_ABSENT, FOW_UNNAMED}
+use Rattle.jwt_c.specs.declared.status.TheConstants.{FOW_OUT_OF_MEMORY, FOW_UNNAMED}
 use Rattle.jwt_c.specs.Asking.{is_secret}
 use Rattle.jwt_c.specs.Written.{IsAbsent, Puts}
 

@@ -15,7 +15,6 @@ use Rattle.jwt_jwk.specs.Converted.{IsEncoding, IsFileOf, IsJwkOf, IsJwkOfPem, I
 use Rattle.jwt_jwk.specs.Refusals.{IsDerFault, IsPemFault, IsSetFault}
 use Rattle.jwt_words.specs.InHand.{Held, unread}
 use Rattle.jwt_words.specs.Words.{JwkOrder, KidChoice, KidNamed, KidThumbprint, NoKid, SecretOrder}
-use Rattle.jwt_words.specs.declared.printing.Printing.{Printing}
 use Rattle.jwt_printing.specs.Jwk.{jwk_line, jwk_refused, random_failed}
 use Rattle.jwt_printing.specs.Printed.{Answer, out_of_memory}
 use Rattle.jwt_printing.specs.Printer.{printed_file_fault, printer}

@@ -1,4 +1,4 @@
-use Rattle.std.proofs.Common.{rules, ◌≡◌, ◌==◌, ◌∷◌, ℕ, List, ap, length, ◌∙◌, arith}
+use Rattle.std.proofs.Common.{rules, ◌==◌, ◌∷◌, ℕ, List, ap, length, ◌∙◌, arith}
 use Rattle.std.proofs.lemmas.Bool.{both_ways}
 use Rattle.jwt_jwk.specs.Jwk.{optional_text}
 use Rattle.jwt_jwk.specs.Converted.{kid_of}
