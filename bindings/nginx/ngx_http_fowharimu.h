@@ -20,8 +20,28 @@
 #define NGX_HTTP_FOWHARIMU_TOKENS      1000
 #define NGX_HTTP_FOWHARIMU_OCTETS      4096
 
-/* in the place of a variable's index: the header Authorization */
-#define NGX_HTTP_FOWHARIMU_BEARER      -2
+/* how many questions one token may raise, where nothing is said */
+#define NGX_HTTP_FOWHARIMU_QUESTIONS   FOW_MOST_QUESTIONS
+
+/* how long a token of "jwt_issue" lives, in seconds, where nothing is said */
+#define NGX_HTTP_FOWHARIMU_LIFETIME    60
+
+
+/* where the token of a request is */
+typedef enum {
+    NGX_HTTP_FOWHARIMU_BEARER = 0,              /* in "Authorization" */
+    NGX_HTTP_FOWHARIMU_HEADER,
+    NGX_HTTP_FOWHARIMU_COOKIE,
+    NGX_HTTP_FOWHARIMU_ARGUMENT,
+    NGX_HTTP_FOWHARIMU_VARIABLE
+} ngx_http_fowharimu_kind_e;
+
+
+typedef struct {
+    ngx_http_fowharimu_kind_e        kind;
+    ngx_str_t                        name;      /* of a header, .. */
+    ngx_int_t                        index;     /* of a variable */
+} ngx_http_fowharimu_place_t;
 
 
 typedef struct {
@@ -56,16 +76,26 @@ typedef struct {
 } ngx_http_fowharimu_grounds_t;
 
 
-/* what a worker looks at again, and what it then opens */
+/* what a worker looks at again, and the policy that stands beside it */
 typedef struct {
     ngx_event_t                      event;
     ngx_http_fowharimu_file_t        file;
     ngx_str_t                        policy;
-    ngx_int_t                        tokens;    /* that are remembered */
-    size_t                           octets;
-    ngx_http_fowharimu_validator_t  *validator;
+    uint32_t                         most;      /* questions of one token */
+    ngx_array_t                      openings;  /* by pointers */
     unsigned                         missing:1; /* and the log has it */
 } ngx_http_fowharimu_watch_t;
+
+
+/* a validator with the documents that it was opened on */
+typedef struct {
+    ngx_str_t                        policy;
+    ngx_str_t                        keys;
+    ngx_int_t                        tokens;    /* that are remembered */
+    size_t                           octets;
+    uint32_t                         most;
+    ngx_http_fowharimu_validator_t  *validator;
+} ngx_http_fowharimu_opening_t;
 
 
 typedef struct {
@@ -89,13 +119,38 @@ typedef struct {
 } ngx_http_fowharimu_rule_t;
 
 
+/* a line "jwt_header" */
 typedef struct {
-    ngx_array_t                      claims;    /* ngx_str_t: named by variables */
+    ngx_str_t                        name;
+    u_char                          *lowcase;
+    ngx_uint_t                       hash;
+    ngx_uint_t                       claim;     /* its number */
+    ngx_str_t                        otherwise; /* where it is absent */
+} ngx_http_fowharimu_header_t;
+
+
+/* "jwt_issue": who signs, and what is always said, as it stands in JSON */
+typedef struct {
+    fow_validator                    handle;
+    uint32_t                         alg;
+    ngx_str_t                        head;
+    size_t                           length;    /* of a token that was tried */
+    time_t                           lifetime;
+    unsigned                         off:1;
+} ngx_http_fowharimu_issue_t;
+
+
+typedef struct {
+    ngx_array_t                      claims;    /* ngx_str_t: named somewhere */
     ngx_array_t                      indexes;   /* ngx_uint_t: of variables */
     ngx_array_t                      watches;   /* by pointers */
+    ngx_array_t                      openings;  /* by pointers */
+    ngx_array_t                      asked;     /* ngx_str_t: "auth_request" */
+    ngx_array_t                      limited;   /* ngx_str_t: locations */
     unsigned                         named:1;   /* some document is */
     unsigned                         enabled:1;
     unsigned                         payload:1; /* a variable names it */
+    unsigned                         changes:1; /* what goes on */
 } ngx_http_fowharimu_main_conf_t;
 
 
@@ -107,26 +162,51 @@ typedef struct {
     ngx_uint_t                       line;
     ngx_http_fowharimu_grounds_t     grounds;   /* of "jwt_policy", "jwt_keys" */
     ngx_http_fowharimu_issuers_t    *issuers;
-    ngx_int_t                        token;
-    ngx_str_t                        argument;  /* that the token is */
+    ngx_http_fowharimu_place_t      *token;
+    ngx_flag_t                       strip;     /* the token doesn't go on */
+    ngx_array_t                     *headers;   /* of "jwt_header" */
+    ngx_http_fowharimu_issue_t      *issue;
+    ngx_array_t                     *issued;    /* ngx_str_t: its claims */
     ngx_http_fowharimu_rule_t       *rule;      /* of "jwt_access" */
     ngx_array_t                     *demands;   /* such rules, by pointers */
     ngx_int_t                        tokens;    /* that are remembered */
     size_t                           octets;    /* of the longest of them */
+    ngx_uint_t                       most;      /* questions of one token */
 } ngx_http_fowharimu_loc_conf_t;
 
 
-/* what is kept of the last judging of a request; an empty text is absent */
+/* what is known of a token; an empty text is absent */
 typedef struct {
-    ngx_http_request_t              *request;
-    ngx_http_fowharimu_validator_t  *validator; /* that judges it */
+    ngx_http_fowharimu_loc_conf_t   *conf;      /* by which it was judged */
+    ngx_http_fowharimu_validator_t  *validator;
+    time_t                           moment;
+    ngx_int_t                        found;     /* as the token was looked for */
+    ngx_int_t                        status;    /* NGX_OK: it is accepted */
+    char                            *challenge;
+    ngx_str_t                        token;
     ngx_str_t                        verdict;
     ngx_str_t                        fault;
     ngx_str_t                        payload;   /* in base64url */
+    ngx_str_t                        issued;    /* with the scheme "Bearer" */
     uint64_t                         tries;     /* that were paid */
     uint64_t                         work;
     uint64_t                         remembered;
+    u_char                           digits[3][NGX_INT64_LEN];
     ngx_str_t                       *claims;    /* in the order of the names */
+    unsigned                         passed:1;  /* the access phase, by it */
+} ngx_http_fowharimu_judged_t;
+
+
+/* of a request or subrequest; an internal redirect doesn't end it */
+typedef struct {
+    ngx_http_request_t              *request;
+    ngx_http_fowharimu_judged_t      last;
+    ngx_list_t                       headers;   /* as they were sent */
+    ngx_str_t                        args;
+    ngx_str_t                        stripped;  /* the same without the token */
+    unsigned                         under_way:1;
+    unsigned                         changed:1; /* others go on than .headers */
+    unsigned                         cut:1;     /* .stripped go on */
 } ngx_http_fowharimu_ctx_t;
 
 /* what the name of a variable with a claim begins with */
@@ -136,21 +216,50 @@ typedef struct {
 ngx_int_t ngx_http_fowharimu_access_handler(ngx_http_request_t *r);
 ngx_int_t ngx_http_fowharimu_subrequest_handler(ngx_http_request_t *r);
 ngx_int_t ngx_http_fowharimu_answer_handler(ngx_http_request_t *r);
-ngx_http_fowharimu_ctx_t *ngx_http_fowharimu_get_ctx(
-    ngx_http_request_t *r);
-ngx_int_t ngx_http_fowharimu_text_variable(ngx_http_request_t *r,
-    ngx_http_variable_value_t *v, uintptr_t data);
-ngx_int_t ngx_http_fowharimu_number_variable(ngx_http_request_t *r,
-    ngx_http_variable_value_t *v, uintptr_t data);
-ngx_int_t ngx_http_fowharimu_claim_variable(ngx_http_request_t *r,
-    ngx_http_variable_value_t *v, uintptr_t data);
-ngx_int_t ngx_http_fowharimu_set_variable(ngx_http_request_t *r,
-    ngx_http_variable_value_t *v, uintptr_t data);
+ngx_http_fowharimu_judged_t *ngx_http_fowharimu_judged(ngx_http_request_t *r);
+ngx_http_fowharimu_judged_t *ngx_http_fowharimu_accepted_here(
+    ngx_http_request_t *r, ngx_http_fowharimu_loc_conf_t *lcf);
+ngx_http_fowharimu_ctx_t *ngx_http_fowharimu_find_ctx(ngx_http_request_t *r,
+    ngx_http_request_t *owner);
+ngx_http_fowharimu_ctx_t *ngx_http_fowharimu_own_ctx(ngx_http_request_t *r);
+ngx_int_t ngx_http_fowharimu_token(ngx_http_request_t *r,
+    ngx_http_fowharimu_loc_conf_t *lcf, ngx_str_t *token);
+ngx_table_elt_t *ngx_http_fowharimu_next_header(ngx_list_part_t **part,
+    ngx_uint_t *i);
+ngx_uint_t ngx_http_fowharimu_is_header(ngx_table_elt_t *header,
+    const char *name);
+ngx_uint_t ngx_http_fowharimu_is_same_header(ngx_str_t *key, ngx_str_t *name);
+ngx_uint_t ngx_http_fowharimu_is_token_header(ngx_table_elt_t *header,
+    ngx_http_fowharimu_place_t *place);
+ngx_int_t ngx_http_fowharimu_without(ngx_http_request_t *r, ngx_str_t *list,
+    u_char separator, ngx_str_t *name, ngx_str_t *rest);
+ngx_list_t *ngx_http_fowharimu_sent_headers(ngx_http_request_t *r);
+ngx_str_t *ngx_http_fowharimu_sent_args(ngx_http_request_t *r);
+char *ngx_http_fowharimu_set_token(ngx_conf_t *cf, ngx_command_t *cmd,
+    void *conf);
+ngx_int_t ngx_http_fowharimu_change_handler(ngx_http_request_t *r);
+char *ngx_http_fowharimu_set_header(ngx_conf_t *cf, ngx_command_t *cmd,
+    void *conf);
+char *ngx_http_fowharimu_set_strip(ngx_conf_t *cf, ngx_command_t *cmd,
+    void *conf);
+char *ngx_http_fowharimu_merge_changes(ngx_conf_t *cf,
+    ngx_http_fowharimu_loc_conf_t *prev, ngx_http_fowharimu_loc_conf_t *conf);
+char *ngx_http_fowharimu_set_issue(ngx_conf_t *cf, ngx_command_t *cmd,
+    void *conf);
+char *ngx_http_fowharimu_set_issued(ngx_conf_t *cf, ngx_command_t *cmd,
+    void *conf);
+const char *ngx_http_fowharimu_issue(ngx_http_request_t *r,
+    ngx_http_fowharimu_loc_conf_t *lcf, ngx_http_fowharimu_judged_t *judged);
+void ngx_http_fowharimu_forget_variables(ngx_http_request_t *r);
+ngx_int_t ngx_http_fowharimu_derive_variables(ngx_conf_t *cf);
+ngx_int_t ngx_http_fowharimu_note_variables(ngx_cycle_t *cycle);
+ngx_int_t ngx_http_fowharimu_note_claim(ngx_http_fowharimu_main_conf_t *mcf,
+    ngx_str_t *name);
 ngx_int_t ngx_http_fowharimu_add_variables(ngx_conf_t *cf);
 ngx_int_t ngx_http_fowharimu_open(ngx_conf_t *cf,
     ngx_http_fowharimu_loc_conf_t *lcf);
 ngx_int_t ngx_http_fowharimu_watch(ngx_conf_t *cf,
-    ngx_http_fowharimu_loc_conf_t *lcf, ngx_http_fowharimu_grounds_t *grounds);
+    ngx_http_fowharimu_file_t *file, ngx_http_fowharimu_opening_t *opening);
 ngx_int_t ngx_http_fowharimu_init_process(ngx_cycle_t *cycle);
 ngx_int_t ngx_http_fowharimu_read_fd(ngx_fd_t fd, size_t size,
     ngx_str_t *document);
@@ -167,6 +276,8 @@ char *ngx_http_fowharimu_access(ngx_conf_t *cf, ngx_command_t *cmd,
     void *conf);
 char *ngx_http_fowharimu_require(ngx_conf_t *cf, ngx_command_t *cmd,
     void *conf);
+u_char *ngx_http_fowharimu_put_text(u_char *p, ngx_str_t *text,
+    ngx_uint_t pointer);
 char *ngx_http_fowharimu_claim_set(ngx_conf_t *cf, ngx_command_t *cmd,
     void *conf);
 

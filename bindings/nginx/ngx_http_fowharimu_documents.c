@@ -10,6 +10,13 @@ static ngx_int_t ngx_http_fowharimu_names(ngx_conf_t *cf,
     ngx_http_fowharimu_issuer_t *issuer);
 static ngx_int_t ngx_http_fowharimu_open_grounds(ngx_conf_t *cf,
     ngx_http_fowharimu_loc_conf_t *lcf, ngx_http_fowharimu_grounds_t *grounds);
+static ngx_http_fowharimu_opening_t *ngx_http_fowharimu_new_opening(
+    ngx_conf_t *cf, ngx_http_fowharimu_loc_conf_t *lcf,
+    ngx_http_fowharimu_grounds_t *grounds);
+static ngx_int_t ngx_http_fowharimu_open_validator(ngx_conf_t *cf,
+    ngx_http_fowharimu_opening_t *opening);
+static ngx_int_t ngx_http_fowharimu_is_bounded(ngx_conf_t *cf,
+    ngx_http_fowharimu_opening_t *opening);
 static ngx_int_t ngx_http_fowharimu_is_readable(ngx_conf_t *cf,
     ngx_str_t *name);
 static void ngx_http_fowharimu_close(void *data);
@@ -35,6 +42,10 @@ ngx_http_fowharimu_open(ngx_conf_t *cf, ngx_http_fowharimu_loc_conf_t *lcf)
     if (lcf->tokens == NGX_CONF_UNSET) {
         lcf->tokens = NGX_HTTP_FOWHARIMU_TOKENS;
         lcf->octets = NGX_HTTP_FOWHARIMU_OCTETS;
+    }
+
+    if (lcf->most == NGX_CONF_UNSET_UINT) {
+        lcf->most = NGX_HTTP_FOWHARIMU_QUESTIONS;
     }
 
     return lcf->issuers
@@ -129,9 +140,7 @@ static ngx_int_t
 ngx_http_fowharimu_open_grounds(ngx_conf_t *cf,
     ngx_http_fowharimu_loc_conf_t *lcf, ngx_http_fowharimu_grounds_t *grounds)
 {
-    uint32_t                         fault, most;
-    ngx_pool_cleanup_t              *cln;
-    ngx_http_fowharimu_validator_t  *validator;
+    ngx_http_fowharimu_opening_t  *opening;
 
     if (grounds->validator || grounds->policy.data == NULL
         || grounds->keys.data == NULL)
@@ -143,20 +152,92 @@ ngx_http_fowharimu_open_grounds(ngx_conf_t *cf,
         return NGX_ERROR;
     }
 
+    opening = ngx_http_fowharimu_new_opening(cf, lcf, grounds);
+
+    if (opening == NULL
+        || ngx_http_fowharimu_open_validator(cf, opening) != NGX_OK
+        || ngx_http_fowharimu_is_bounded(cf, opening) != NGX_OK)
+    {
+        return NGX_ERROR;
+    }
+
+    grounds->validator = opening->validator;
+
+    return grounds->file
+           ? ngx_http_fowharimu_watch(cf, grounds->file, opening) : NGX_OK;
+}
+
+
+static ngx_http_fowharimu_opening_t *
+ngx_http_fowharimu_new_opening(ngx_conf_t *cf,
+    ngx_http_fowharimu_loc_conf_t *lcf, ngx_http_fowharimu_grounds_t *grounds)
+{
+    ngx_pool_cleanup_t               *cln;
+    ngx_http_fowharimu_opening_t     *opening;
+    ngx_http_fowharimu_validator_t   *validator;
+
+    opening = ngx_pcalloc(cf->pool, sizeof(ngx_http_fowharimu_opening_t));
     cln = ngx_pool_cleanup_add(cf->pool,
                                sizeof(ngx_http_fowharimu_validator_t));
-    if (cln == NULL) {
-        return NGX_ERROR;
+
+    if (opening == NULL || cln == NULL) {
+        return NULL;
     }
 
     validator = cln->data;
     ngx_memzero(validator, sizeof(ngx_http_fowharimu_validator_t));
     cln->handler = ngx_http_fowharimu_close;
 
-    if (fow_open(&validator->handle, grounds->policy.data, grounds->policy.len,
-                 grounds->keys.data, grounds->keys.len, &fault)
-        != FOW_OK)
-    {
+    opening->policy = grounds->policy;
+    opening->keys = grounds->keys;
+    opening->tokens = lcf->tokens;
+    opening->octets = lcf->octets;
+    opening->most = lcf->most;
+    opening->validator = validator;
+
+    return opening;
+}
+
+
+/* documents that are open already aren't read again */
+
+static ngx_int_t
+ngx_http_fowharimu_open_validator(ngx_conf_t *cf,
+    ngx_http_fowharimu_opening_t *opening)
+{
+    uint32_t                          fault, status;
+    ngx_uint_t                        i;
+    fow_validator                    *handle;
+    ngx_http_fowharimu_opening_t    **other;
+    ngx_http_fowharimu_main_conf_t   *mcf;
+
+    mcf = ngx_http_conf_get_module_main_conf(cf, ngx_http_fowharimu_module);
+    handle = &opening->validator->handle;
+    other = mcf->openings.elts;
+    fault = FOW_NO_FAULT;
+
+    for (i = 0; i < mcf->openings.nelts; i++) {
+
+        if (ngx_memn2cmp(other[i]->policy.data, opening->policy.data,
+                         other[i]->policy.len, opening->policy.len)
+            == 0
+            && ngx_memn2cmp(other[i]->keys.data, opening->keys.data,
+                            other[i]->keys.len, opening->keys.len)
+               == 0)
+        {
+            break;
+        }
+    }
+
+    if (i < mcf->openings.nelts) {
+        status = fow_open_beside(handle, &other[i]->validator->handle);
+
+    } else {
+        status = fow_open(handle, opening->policy.data, opening->policy.len,
+                          opening->keys.data, opening->keys.len, &fault);
+    }
+
+    if (status != FOW_OK) {
         /* each document was taken alone, so it is memory that is wanting */
         ngx_conf_log_error(NGX_LOG_EMERG, cf, 0,
                            "\"jwt_policy\" and \"jwt_keys\" can't be opened: "
@@ -164,24 +245,42 @@ ngx_http_fowharimu_open_grounds(ngx_conf_t *cf,
         return NGX_ERROR;
     }
 
-    if (fow_remember(&validator->handle, lcf->tokens, lcf->octets) != FOW_OK) {
+    if (fow_remember(handle, opening->tokens, opening->octets) != FOW_OK) {
         ngx_conf_log_error(NGX_LOG_EMERG, cf, 0,
                            "\"jwt_remember\" lacks memory");
         return NGX_ERROR;
     }
 
-    grounds->validator = validator;
-
-    if (fow_most_questions(&validator->handle, &most) == FOW_OK
-        && most > FOW_MOST_QUESTIONS)
-    {
-        ngx_conf_log_error(NGX_LOG_WARN, cf, 0,
-                           "one token can raise %uD questions about public "
-                           "keys: \"max_calls\" in the policy bounds them",
-                           most);
+    other = ngx_array_push(&mcf->openings);
+    if (other == NULL) {
+        return NGX_ERROR;
     }
 
-    return grounds->file ? ngx_http_fowharimu_watch(cf, lcf, grounds) : NGX_OK;
+    *other = opening;
+
+    return NGX_OK;
+}
+
+
+static ngx_int_t
+ngx_http_fowharimu_is_bounded(ngx_conf_t *cf,
+    ngx_http_fowharimu_opening_t *opening)
+{
+    uint32_t  most;
+
+    if (fow_most_questions(&opening->validator->handle, &most) == FOW_OK
+        && most <= opening->most)
+    {
+        return NGX_OK;
+    }
+
+    ngx_conf_log_error(NGX_LOG_EMERG, cf, 0,
+                       "one token can raise %uD questions about public keys, "
+                       "and %uD are let: \"max_calls\" in the policy bounds "
+                       "them, or \"jwt_most_questions\" lets more", most,
+                       opening->most);
+
+    return NGX_ERROR;
 }
 
 

@@ -1,7 +1,8 @@
 
 /*
  * Judges the JSON Web Token of a request by the library Fowharimu, in the
- * access phase.  README.md beside this file documents the directives.
+ * access phase or where a variable is read before.  README.md beside this file
+ * documents the directives.
  *
  * Documents are read, and validators opened, with the configuration, by the
  * master process.  A worker has them by fork: its copy of that memory is its
@@ -13,7 +14,10 @@
 
 
 static ngx_int_t ngx_http_fowharimu_init(ngx_conf_t *cf);
-static ngx_int_t ngx_http_fowharimu_init_module(ngx_cycle_t *cycle);
+static ngx_int_t ngx_http_fowharimu_add_handlers(ngx_conf_t *cf);
+static ngx_int_t ngx_http_fowharimu_put_first(ngx_array_t *handlers,
+    ngx_http_handler_pt handler);
+static void ngx_http_fowharimu_warn_of_methods(ngx_conf_t *cf);
 static void *ngx_http_fowharimu_create_main_conf(ngx_conf_t *cf);
 static void *ngx_http_fowharimu_create_loc_conf(ngx_conf_t *cf);
 static char *ngx_http_fowharimu_merge_loc_conf(ngx_conf_t *cf, void *parent,
@@ -22,6 +26,10 @@ static char *ngx_http_fowharimu_merge_grounds(ngx_conf_t *cf,
     ngx_http_fowharimu_loc_conf_t *prev, ngx_http_fowharimu_loc_conf_t *conf);
 static ngx_http_fowharimu_issuers_t *ngx_http_fowharimu_copy_issuers(
     ngx_conf_t *cf, ngx_http_fowharimu_issuers_t *issuers);
+static ngx_int_t ngx_http_fowharimu_note_methods(ngx_conf_t *cf,
+    ngx_http_fowharimu_loc_conf_t *prev, ngx_http_fowharimu_loc_conf_t *conf);
+static void *ngx_http_fowharimu_conf_of(ngx_conf_t *cf,
+    ngx_http_conf_ctx_t *ctx, const char *name);
 static ngx_uint_t ngx_http_fowharimu_is_open(ngx_conf_t *cf);
 static ngx_uint_t ngx_http_fowharimu_is_answered(void *conf);
 static size_t ngx_http_fowharimu_code_size(u_char *p, size_t rest);
@@ -33,7 +41,7 @@ static char *ngx_http_fowharimu_keys(ngx_conf_t *cf, ngx_command_t *cmd,
     void *conf);
 static char *ngx_http_fowharimu_issuer(ngx_conf_t *cf, ngx_command_t *cmd,
     void *conf);
-static char *ngx_http_fowharimu_set_token(ngx_conf_t *cf, ngx_command_t *cmd,
+static char *ngx_http_fowharimu_most(ngx_conf_t *cf, ngx_command_t *cmd,
     void *conf);
 static char *ngx_http_fowharimu_remember(ngx_conf_t *cf, ngx_command_t *cmd,
     void *conf);
@@ -104,8 +112,43 @@ static ngx_command_t  ngx_http_fowharimu_commands[] = {
       0,
       NULL },
 
+    { ngx_string("jwt_most_questions"),
+      NGX_HTTP_FOWHARIMU_CONF|NGX_CONF_TAKE1,
+      ngx_http_fowharimu_most,
+      NGX_HTTP_LOC_CONF_OFFSET,
+      0,
+      NULL },
+
+    { ngx_string("jwt_header"),
+      NGX_HTTP_FOWHARIMU_CONF|NGX_CONF_TAKE2|NGX_CONF_TAKE3,
+      ngx_http_fowharimu_set_header,
+      NGX_HTTP_LOC_CONF_OFFSET,
+      0,
+      NULL },
+
+    { ngx_string("jwt_strip"),
+      NGX_HTTP_FOWHARIMU_CONF|NGX_CONF_FLAG,
+      ngx_http_fowharimu_set_strip,
+      NGX_HTTP_LOC_CONF_OFFSET,
+      offsetof(ngx_http_fowharimu_loc_conf_t, strip),
+      NULL },
+
+    { ngx_string("jwt_issue"),
+      NGX_HTTP_FOWHARIMU_CONF|NGX_CONF_TAKE1|NGX_CONF_TAKE3|NGX_CONF_TAKE4,
+      ngx_http_fowharimu_set_issue,
+      NGX_HTTP_LOC_CONF_OFFSET,
+      0,
+      NULL },
+
+    { ngx_string("jwt_issue_claims"),
+      NGX_HTTP_FOWHARIMU_CONF|NGX_CONF_1MORE,
+      ngx_http_fowharimu_set_issued,
+      NGX_HTTP_LOC_CONF_OFFSET,
+      0,
+      NULL },
+
     { ngx_string("jwt_claim_set"),
-      NGX_HTTP_MAIN_CONF|NGX_CONF_TAKE2,
+      NGX_HTTP_MAIN_CONF|NGX_CONF_TAKE2|NGX_CONF_TAKE3,
       ngx_http_fowharimu_claim_set,
       NGX_HTTP_MAIN_CONF_OFFSET,
       0,
@@ -143,7 +186,7 @@ ngx_module_t  ngx_http_fowharimu_module = {
     ngx_http_fowharimu_commands,           /* module directives */
     NGX_HTTP_MODULE,                       /* module type */
     NULL,                                  /* init master */
-    ngx_http_fowharimu_init_module,        /* init module */
+    ngx_http_fowharimu_note_variables,     /* init module */
     ngx_http_fowharimu_init_process,       /* init process */
     NULL,                                  /* init thread */
     NULL,                                  /* exit thread */
@@ -156,21 +199,34 @@ ngx_module_t  ngx_http_fowharimu_module = {
 static ngx_int_t
 ngx_http_fowharimu_init(ngx_conf_t *cf)
 {
+    ngx_http_fowharimu_main_conf_t  *mcf;
+
+    mcf = ngx_http_conf_get_module_main_conf(cf, ngx_http_fowharimu_module);
+
+    if (!mcf->enabled && mcf->named) {
+        ngx_log_error(NGX_LOG_WARN, cf->log, 0,
+                      "\"jwt\" is on nowhere: no token is asked for");
+    }
+
+    ngx_http_fowharimu_warn_of_methods(cf);
+
+    if (mcf->enabled && ngx_http_fowharimu_derive_variables(cf) != NGX_OK) {
+        return NGX_ERROR;
+    }
+
+    return mcf->enabled || mcf->changes ? ngx_http_fowharimu_add_handlers(cf)
+                                        : NGX_OK;
+}
+
+
+static ngx_int_t
+ngx_http_fowharimu_add_handlers(ngx_conf_t *cf)
+{
     ngx_http_handler_pt             *h;
     ngx_http_core_main_conf_t       *cmcf;
     ngx_http_fowharimu_main_conf_t  *mcf;
 
     mcf = ngx_http_conf_get_module_main_conf(cf, ngx_http_fowharimu_module);
-
-    if (!mcf->enabled) {
-        if (mcf->named) {
-            ngx_log_error(NGX_LOG_WARN, cf->log, 0,
-                          "\"jwt\" is on nowhere: no token is asked for");
-        }
-
-        return NGX_OK;
-    }
-
     cmcf = ngx_http_conf_get_module_main_conf(cf, ngx_http_core_module);
 
     h = ngx_array_push(&cmcf->phases[NGX_HTTP_ACCESS_PHASE].handlers);
@@ -187,64 +243,67 @@ ngx_http_fowharimu_init(ngx_conf_t *cf)
 
     *h = ngx_http_fowharimu_subrequest_handler;
 
+    /* (the handlers of a phase run from the last to the first) */
+
+    return mcf->changes
+           ? ngx_http_fowharimu_put_first(
+                           &cmcf->phases[NGX_HTTP_PRECONTENT_PHASE].handlers,
+                           ngx_http_fowharimu_change_handler)
+           : NGX_OK;
+}
+
+
+static ngx_int_t
+ngx_http_fowharimu_put_first(ngx_array_t *handlers, ngx_http_handler_pt handler)
+{
+    ngx_http_handler_pt  *h;
+
+    if (ngx_array_push(handlers) == NULL) {
+        return NGX_ERROR;
+    }
+
+    h = handlers->elts;
+
+    ngx_memmove(&h[1], &h[0],
+                (handlers->nelts - 1) * sizeof(ngx_http_handler_pt));
+
+    h[0] = handler;
+
     return NGX_OK;
 }
 
 
-/* notes the module's variables, and the claims that some of them name */
+/* "auth_request" asks by GET, whatever the client's method is */
 
-static ngx_int_t
-ngx_http_fowharimu_init_module(ngx_cycle_t *cycle)
+static void
+ngx_http_fowharimu_warn_of_methods(ngx_conf_t *cf)
 {
-    ngx_str_t                       *name;
-    ngx_uint_t                      *index, i;
-    ngx_http_variable_t             *v;
-    ngx_http_core_main_conf_t       *cmcf;
+    ngx_str_t                       *asked, *limited;
+    ngx_uint_t                       i, k;
     ngx_http_fowharimu_main_conf_t  *mcf;
 
-    cmcf = ngx_http_cycle_get_module_main_conf(cycle, ngx_http_core_module);
-    mcf = ngx_http_cycle_get_module_main_conf(cycle, ngx_http_fowharimu_module);
+    mcf = ngx_http_conf_get_module_main_conf(cf, ngx_http_fowharimu_module);
 
-    if (cmcf == NULL || mcf == NULL) {
-        return NGX_OK;
-    }
+    limited = mcf->limited.elts;
+    asked = mcf->asked.elts;
 
-    v = cmcf->variables.elts;
+    for (i = 0; i < mcf->limited.nelts; i++) {
 
-    for (i = 0; i < cmcf->variables.nelts; i++) {
+        for (k = 0; k < mcf->asked.nelts; k++) {
 
-        if (v[i].get_handler == ngx_http_fowharimu_claim_variable) {
-            name = ngx_array_push(&mcf->claims);
-            if (name == NULL) {
-                return NGX_ERROR;
+            if (ngx_memn2cmp(limited[i].data, asked[k].data, limited[i].len,
+                             asked[k].len)
+                == 0)
+            {
+                ngx_log_error(NGX_LOG_WARN, cf->log, 0,
+                              "location \"%V\" says in \"limit_except\" "
+                              "whose token is accepted, and \"auth_request\" "
+                              "asks it by GET, whatever the client's method is",
+                              &limited[i]);
+                break;
             }
-
-            *name = v[i].name;
-            name->len -= sizeof(NGX_HTTP_FOWHARIMU_PREFIX) - 1;
-            name->data += sizeof(NGX_HTTP_FOWHARIMU_PREFIX) - 1;
-
-        } else if (v[i].get_handler != ngx_http_fowharimu_text_variable
-                   && v[i].get_handler != ngx_http_fowharimu_number_variable
-                   && v[i].get_handler != ngx_http_fowharimu_set_variable)
-        {
-            continue;
         }
-
-        if (v[i].get_handler == ngx_http_fowharimu_text_variable
-            && v[i].data == offsetof(ngx_http_fowharimu_ctx_t, payload))
-        {
-            mcf->payload = 1;
-        }
-
-        index = ngx_array_push(&mcf->indexes);
-        if (index == NULL) {
-            return NGX_ERROR;
-        }
-
-        *index = i;
     }
-
-    return NGX_OK;
 }
 
 
@@ -259,6 +318,12 @@ ngx_http_fowharimu_create_main_conf(ngx_conf_t *cf)
     }
 
     if (ngx_array_init(&mcf->claims, cf->pool, 4, sizeof(ngx_str_t)) != NGX_OK
+        || ngx_array_init(&mcf->asked, cf->pool, 4, sizeof(ngx_str_t)) != NGX_OK
+        || ngx_array_init(&mcf->limited, cf->pool, 4, sizeof(ngx_str_t))
+           != NGX_OK
+        || ngx_array_init(&mcf->openings, cf->pool, 4,
+                          sizeof(ngx_http_fowharimu_opening_t *))
+           != NGX_OK
         || ngx_array_init(&mcf->indexes, cf->pool, 4, sizeof(ngx_uint_t))
            != NGX_OK
         || ngx_array_init(&mcf->watches, cf->pool, 4,
@@ -291,15 +356,19 @@ ngx_http_fowharimu_create_loc_conf(ngx_conf_t *cf)
      *     lcf->line = 0;
      *     lcf->grounds = { { 0, NULL }, { 0, NULL }, NULL, NULL };
      *     lcf->issuers = NULL;
-     *     lcf->argument = { 0, NULL };
+     *     lcf->headers = NULL;
      */
 
     lcf->enable = NGX_CONF_UNSET;
-    lcf->token = NGX_CONF_UNSET;
+    lcf->token = NGX_CONF_UNSET_PTR;
+    lcf->strip = NGX_CONF_UNSET;
+    lcf->issue = NGX_CONF_UNSET_PTR;
+    lcf->issued = NGX_CONF_UNSET_PTR;
     lcf->rule = NGX_CONF_UNSET_PTR;
     lcf->demands = NGX_CONF_UNSET_PTR;
     lcf->tokens = NGX_CONF_UNSET;
     lcf->octets = NGX_CONF_UNSET_SIZE;
+    lcf->most = NGX_CONF_UNSET_UINT;
 
     return lcf;
 }
@@ -346,14 +415,16 @@ ngx_http_fowharimu_merge_loc_conf(ngx_conf_t *cf, void *parent, void *child)
         conf->line = prev->line;
     }
 
-    if (conf->token == NGX_CONF_UNSET) {
-        conf->argument = prev->argument;
-    }
-
     ngx_conf_merge_value(conf->enable, prev->enable, 0);
-    ngx_conf_merge_value(conf->token, prev->token, NGX_HTTP_FOWHARIMU_BEARER);
+    ngx_conf_merge_ptr_value(conf->token, prev->token, NULL);
     ngx_conf_merge_ptr_value(conf->rule, prev->rule, NULL);
     ngx_conf_merge_ptr_value(conf->demands, prev->demands, NULL);
+
+    if (ngx_http_fowharimu_merge_changes(cf, prev, conf) != NGX_CONF_OK
+        || ngx_http_fowharimu_note_methods(cf, prev, conf) != NGX_OK)
+    {
+        return NGX_CONF_ERROR;
+    }
 
     if (!conf->enable) {
         return NGX_CONF_OK;
@@ -392,7 +463,7 @@ static char *
 ngx_http_fowharimu_merge_grounds(ngx_conf_t *cf,
     ngx_http_fowharimu_loc_conf_t *prev, ngx_http_fowharimu_loc_conf_t *conf)
 {
-    ngx_uint_t                     own;
+    ngx_uint_t                     own, is_alike;
     ngx_http_fowharimu_grounds_t  *grounds;
 
     grounds = &conf->grounds;
@@ -409,8 +480,11 @@ ngx_http_fowharimu_merge_grounds(ngx_conf_t *cf,
         return NGX_CONF_ERROR;
     }
 
+    is_alike = conf->tokens == NGX_CONF_UNSET
+               && conf->most == NGX_CONF_UNSET_UINT;
+
     if (conf->issuers == NULL && !own && prev->issuers) {
-        conf->issuers = conf->tokens == NGX_CONF_UNSET
+        conf->issuers = is_alike
                         ? prev->issuers
                         : ngx_http_fowharimu_copy_issuers(cf, prev->issuers);
         if (conf->issuers == NULL) {
@@ -420,7 +494,7 @@ ngx_http_fowharimu_merge_grounds(ngx_conf_t *cf,
 
     if (conf->issuers == NULL) {
 
-        if (!own && conf->tokens == NGX_CONF_UNSET) {
+        if (!own && is_alike) {
             grounds->validator = prev->grounds.validator;
         }
 
@@ -438,6 +512,8 @@ ngx_http_fowharimu_merge_grounds(ngx_conf_t *cf,
                          NGX_HTTP_FOWHARIMU_TOKENS);
     ngx_conf_merge_size_value(conf->octets, prev->octets,
                               NGX_HTTP_FOWHARIMU_OCTETS);
+    ngx_conf_merge_uint_value(conf->most, prev->most,
+                              NGX_HTTP_FOWHARIMU_QUESTIONS);
 
     return ngx_http_fowharimu_open(cf, conf) == NGX_OK ? NGX_CONF_OK
                                                        : NGX_CONF_ERROR;
@@ -488,28 +564,91 @@ ngx_http_fowharimu_copy_issuers(ngx_conf_t *cf,
 static ngx_uint_t
 ngx_http_fowharimu_is_open(ngx_conf_t *cf)
 {
-    ngx_uint_t                  i;
-    ngx_module_t              **modules;
-    ngx_http_conf_ctx_t        *ctx;
     ngx_http_core_srv_conf_t   *cscf;
 
-    ctx = cf->ctx;
+    static const char  rewrite[] = "ngx_http_rewrite_module";
+
     cscf = ngx_http_conf_get_module_srv_conf(cf, ngx_http_core_module);
+
+    return ngx_http_fowharimu_is_answered(
+                             ngx_http_fowharimu_conf_of(cf, cf->ctx, rewrite))
+           || ngx_http_fowharimu_is_answered(
+                          ngx_http_fowharimu_conf_of(cf, cscf->ctx, rewrite));
+}
+
+
+/* what a module of nginx has at this level, by the module's name */
+
+static void *
+ngx_http_fowharimu_conf_of(ngx_conf_t *cf, ngx_http_conf_ctx_t *ctx,
+    const char *name)
+{
+    ngx_uint_t      i;
+    ngx_module_t  **modules;
+
     modules = cf->cycle->modules;
 
-    for (i = 0; modules[i]; i++) {
+    for (i = 0; ctx && modules[i]; i++) {
 
-        if (ngx_strcmp(modules[i]->name, "ngx_http_rewrite_module") != 0) {
-            continue;
+        if (ngx_strcmp(modules[i]->name, name) == 0) {
+            return ctx->loc_conf[modules[i]->ctx_index];
         }
-
-        return ngx_http_fowharimu_is_answered(
-                                     ctx->loc_conf[modules[i]->ctx_index])
-               || (cscf->ctx && ngx_http_fowharimu_is_answered(
-                              cscf->ctx->loc_conf[modules[i]->ctx_index]));
     }
 
-    return 0;
+    return NULL;
+}
+
+
+/*
+ * Notes whom "auth_request" asks, whose configuration begins with that place,
+ * and the locations whose "limit_except" has a token judged in another way.
+ */
+
+static ngx_int_t
+ngx_http_fowharimu_note_methods(ngx_conf_t *cf,
+    ngx_http_fowharimu_loc_conf_t *prev, ngx_http_fowharimu_loc_conf_t *conf)
+{
+    u_char                          *args;
+    ngx_str_t                       *uri, *noted;
+    ngx_http_core_loc_conf_t        *clcf;
+    ngx_http_fowharimu_main_conf_t  *mcf;
+
+    mcf = ngx_http_conf_get_module_main_conf(cf, ngx_http_fowharimu_module);
+    clcf = ngx_http_conf_get_module_loc_conf(cf, ngx_http_core_module);
+
+    if (clcf->lmt_excpt
+        && (conf->enable != prev->enable || conf->rule != prev->rule
+            || conf->demands != prev->demands
+            || conf->grounds.validator != prev->grounds.validator
+            || conf->issuers != prev->issuers))
+    {
+        noted = ngx_array_push(&mcf->limited);
+        if (noted == NULL) {
+            return NGX_ERROR;
+        }
+
+        *noted = clcf->name;
+    }
+
+    uri = ngx_http_fowharimu_conf_of(cf, cf->ctx,
+                                     "ngx_http_auth_request_module");
+
+    if (uri && uri->len) {
+        noted = ngx_array_push(&mcf->asked);
+        if (noted == NULL) {
+            return NGX_ERROR;
+        }
+
+        *noted = *uri;
+
+        args = ngx_strlchr(uri->data, uri->data + uri->len, '?');
+
+        if (args) {
+            noted->len = args - uri->data;
+        }
+    }
+
+    return NGX_OK;
 }
 
 
@@ -743,51 +882,6 @@ ngx_http_fowharimu_issuer(ngx_conf_t *cf, ngx_command_t *cmd, void *conf)
 }
 
 
-static char *
-ngx_http_fowharimu_set_token(ngx_conf_t *cf, ngx_command_t *cmd, void *conf)
-{
-    ngx_http_fowharimu_loc_conf_t *lcf = conf;
-
-    ngx_str_t  *value;
-
-    if (lcf->token != NGX_CONF_UNSET) {
-        return "is duplicate";
-    }
-
-    value = cf->args->elts;
-
-    if (ngx_strcmp(value[1].data, "bearer") == 0) {
-        lcf->token = NGX_HTTP_FOWHARIMU_BEARER;
-        return NGX_CONF_OK;
-    }
-
-    if (value[1].len < 2 || value[1].data[0] != '$') {
-        ngx_conf_log_error(NGX_LOG_EMERG, cf, 0,
-                           "invalid variable name \"%V\"", &value[1]);
-        return NGX_CONF_ERROR;
-    }
-
-    value[1].len--;
-    value[1].data++;
-
-    lcf->token = ngx_http_get_variable_index(cf, &value[1]);
-    if (lcf->token == NGX_ERROR) {
-        return NGX_CONF_ERROR;
-    }
-
-    if (value[1].len > sizeof("arg_") - 1
-        && ngx_strncasecmp(value[1].data, (u_char *) "arg_",
-                           sizeof("arg_") - 1)
-           == 0)
-    {
-        lcf->argument.len = value[1].len - (sizeof("arg_") - 1);
-        lcf->argument.data = value[1].data + sizeof("arg_") - 1;
-    }
-
-    return NGX_CONF_OK;
-}
-
-
 /* "jwt_remember off", or a number of tokens and the size of the longest */
 
 static char *
@@ -825,6 +919,35 @@ ngx_http_fowharimu_remember(ngx_conf_t *cf, ngx_command_t *cmd, void *conf)
 
     lcf->tokens = tokens;
     lcf->octets = octets;
+
+    return NGX_CONF_OK;
+}
+
+
+/* "jwt_most_questions number" */
+
+static char *
+ngx_http_fowharimu_most(ngx_conf_t *cf, ngx_command_t *cmd, void *conf)
+{
+    ngx_http_fowharimu_loc_conf_t *lcf = conf;
+
+    ngx_int_t   most;
+    ngx_str_t  *value;
+
+    if (lcf->most != NGX_CONF_UNSET_UINT) {
+        return "is duplicate";
+    }
+
+    value = cf->args->elts;
+    most = ngx_atoi(value[1].data, value[1].len);
+
+    /* (no policy and key set let one token raise more) */
+
+    if (most == NGX_ERROR || most > 32768) {
+        return "takes a number of at most 32768";
+    }
+
+    lcf->most = most;
 
     return NGX_CONF_OK;
 }

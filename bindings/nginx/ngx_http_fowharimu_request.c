@@ -5,64 +5,56 @@
 
 
 static ngx_int_t ngx_http_fowharimu_is_accepted(ngx_http_request_t *r);
-static ngx_int_t ngx_http_fowharimu_token(ngx_http_request_t *r,
-    ngx_http_fowharimu_loc_conf_t *lcf, ngx_str_t *token);
-static ngx_int_t ngx_http_fowharimu_is_twice(ngx_http_request_t *r,
-    ngx_str_t *argument);
-static ngx_int_t ngx_http_fowharimu_is_named(u_char *p, u_char *last,
-    ngx_str_t *argument);
-static ngx_int_t ngx_http_fowharimu_bearer(ngx_http_request_t *r,
-    ngx_str_t *token);
+static void ngx_http_fowharimu_judge(ngx_http_request_t *r,
+    ngx_http_fowharimu_loc_conf_t *lcf, ngx_http_fowharimu_ctx_t *ctx);
+static ngx_uint_t ngx_http_fowharimu_is_judged_so(
+    ngx_http_fowharimu_judged_t *judged, ngx_http_fowharimu_loc_conf_t *lcf,
+    ngx_int_t found, ngx_str_t *token);
+static ngx_uint_t ngx_http_fowharimu_is_same_conf(
+    ngx_http_fowharimu_loc_conf_t *one, ngx_http_fowharimu_loc_conf_t *other);
+static ngx_int_t ngx_http_fowharimu_verdict(ngx_http_request_t *r,
+    ngx_http_fowharimu_loc_conf_t *lcf, ngx_http_fowharimu_judged_t *judged);
 static ngx_int_t ngx_http_fowharimu_is_b64token(ngx_str_t *token);
-static ngx_int_t ngx_http_fowharimu_judge(ngx_http_request_t *r,
-    ngx_http_fowharimu_loc_conf_t *lcf, ngx_http_fowharimu_ctx_t *ctx,
-    ngx_str_t *token);
+static ngx_int_t ngx_http_fowharimu_judge_token(ngx_http_request_t *r,
+    ngx_http_fowharimu_loc_conf_t *lcf, ngx_http_fowharimu_judged_t *judged);
 static ngx_int_t ngx_http_fowharimu_choose(ngx_http_request_t *r,
-    ngx_http_fowharimu_loc_conf_t *lcf, ngx_http_fowharimu_ctx_t *ctx,
-    ngx_str_t *token);
+    ngx_http_fowharimu_loc_conf_t *lcf, ngx_http_fowharimu_judged_t *judged);
 static ngx_http_fowharimu_validator_t *ngx_http_fowharimu_validator_of(
     ngx_http_fowharimu_issuers_t *issuers, ngx_str_t *name);
 static ngx_int_t ngx_http_fowharimu_accepted(ngx_http_request_t *r,
-    ngx_http_fowharimu_loc_conf_t *lcf, ngx_http_fowharimu_ctx_t *ctx,
-    ngx_str_t *token);
+    ngx_http_fowharimu_loc_conf_t *lcf, ngx_http_fowharimu_judged_t *judged);
+static ngx_int_t ngx_http_fowharimu_meets_rules(ngx_http_request_t *r,
+    ngx_http_fowharimu_loc_conf_t *lcf, ngx_http_fowharimu_judged_t *judged);
 static ngx_int_t ngx_http_fowharimu_permit(ngx_http_request_t *r,
-    ngx_http_fowharimu_loc_conf_t *lcf, ngx_http_fowharimu_ctx_t *ctx,
-    ngx_http_fowharimu_rule_t *rule);
+    ngx_http_fowharimu_judged_t *judged, ngx_http_fowharimu_rule_t *rule);
 static void ngx_http_fowharimu_log_denial(ngx_http_request_t *r,
-    ngx_http_fowharimu_ctx_t *ctx, ngx_http_fowharimu_rule_t *rule,
+    ngx_http_fowharimu_judged_t *judged, ngx_http_fowharimu_rule_t *rule,
     uint32_t denial);
 static ngx_int_t ngx_http_fowharimu_keep_claims(ngx_http_request_t *r,
-    ngx_http_fowharimu_loc_conf_t *lcf, ngx_http_fowharimu_ctx_t *ctx,
-    ngx_str_t *room);
+    ngx_http_fowharimu_judged_t *judged, ngx_str_t *room);
 static ngx_int_t ngx_http_fowharimu_keep_claim(ngx_http_request_t *r,
     ngx_str_t *claim, ngx_str_t *kept);
+static ngx_uint_t ngx_http_fowharimu_is_trimmed(ngx_str_t *text);
 static ngx_int_t ngx_http_fowharimu_keep_payload(ngx_http_request_t *r,
-    ngx_http_fowharimu_loc_conf_t *lcf, ngx_http_fowharimu_ctx_t *ctx,
-    ngx_str_t *token, ngx_str_t *room);
+    ngx_http_fowharimu_judged_t *judged, ngx_str_t *room);
 static ngx_int_t ngx_http_fowharimu_claim(
     ngx_http_fowharimu_validator_t *validator, ngx_str_t *name,
     ngx_str_t *claim);
 static ngx_int_t ngx_http_fowharimu_read_text(u_char **p, u_char *last,
     ngx_str_t *text);
 static ngx_int_t ngx_http_fowharimu_refuse_token(ngx_http_request_t *r,
-    ngx_http_fowharimu_ctx_t *ctx, const char *fault);
+    ngx_http_fowharimu_judged_t *judged, const char *fault);
 static ngx_int_t ngx_http_fowharimu_refuse(ngx_http_request_t *r,
-    ngx_int_t status, char *challenge);
+    ngx_http_fowharimu_judged_t *judged);
 static ngx_int_t ngx_http_fowharimu_fail(ngx_http_request_t *r,
-    ngx_http_fowharimu_ctx_t *ctx, char *fault);
+    ngx_http_fowharimu_judged_t *judged, const char *fault);
 static void ngx_http_fowharimu_set_text(ngx_str_t *text, const char *value);
-static ngx_http_fowharimu_ctx_t *ngx_http_fowharimu_new_ctx(
-    ngx_http_request_t *r);
-static ngx_http_fowharimu_ctx_t *ngx_http_fowharimu_find_ctx(
-    ngx_http_request_t *r, ngx_http_request_t *owner);
 static void ngx_http_fowharimu_cleanup(void *data);
 
 
 ngx_int_t
 ngx_http_fowharimu_access_handler(ngx_http_request_t *r)
 {
-    ngx_int_t                       rc;
-    ngx_str_t                       token;
     ngx_http_fowharimu_ctx_t       *ctx;
     ngx_http_fowharimu_loc_conf_t  *lcf;
 
@@ -72,40 +64,20 @@ ngx_http_fowharimu_access_handler(ngx_http_request_t *r)
         return NGX_DECLINED;
     }
 
-    ctx = ngx_http_fowharimu_new_ctx(r);
+    ctx = ngx_http_fowharimu_own_ctx(r);
     if (ctx == NULL) {
         return NGX_HTTP_INTERNAL_SERVER_ERROR;
     }
 
-    rc = ngx_http_fowharimu_token(r, lcf, &token);
+    ngx_http_fowharimu_judge(r, lcf, ctx);
 
-    if (rc == NGX_OK) {
-
-        if (lcf->token == NGX_HTTP_FOWHARIMU_BEARER
-            && !ngx_http_fowharimu_is_b64token(&token))
-        {
-            return ngx_http_fowharimu_refuse_token(r, ctx, "Form");
-        }
-
-        return ngx_http_fowharimu_judge(r, lcf, ctx, &token);
+    if (ctx->last.status != NGX_OK) {
+        return ngx_http_fowharimu_refuse(r, &ctx->last);
     }
 
-    if (rc == NGX_DECLINED) {
-        ngx_str_set(&ctx->verdict, "absent");
-        return ngx_http_fowharimu_refuse(r, NGX_HTTP_UNAUTHORIZED,
-                                         "Bearer realm=\"jwt\"");
-    }
+    ctx->last.passed = 1;
 
-    if (rc == NGX_ABORT) {
-        ngx_str_set(&ctx->verdict, "refused");
-        ngx_http_fowharimu_set_text(&ctx->fault,
-                                    lcf->token == NGX_HTTP_FOWHARIMU_BEARER
-                                    ? "HeaderTwice" : "ArgumentTwice");
-        return ngx_http_fowharimu_refuse(r, NGX_HTTP_BAD_REQUEST,
-                                         "Bearer error=\"invalid_request\"");
-    }
-
-    return ngx_http_fowharimu_fail(r, ctx, "NoVariable");
+    return NGX_OK;
 }
 
 
@@ -168,188 +140,180 @@ ngx_http_fowharimu_answer_handler(ngx_http_request_t *r)
 static ngx_int_t
 ngx_http_fowharimu_is_accepted(ngx_http_request_t *r)
 {
-    ngx_http_fowharimu_ctx_t  *ctx;
+    ngx_http_fowharimu_ctx_t       *ctx;
+    ngx_http_fowharimu_loc_conf_t  *lcf;
 
     ctx = ngx_http_get_module_ctx(r, ngx_http_fowharimu_module);
+    lcf = ngx_http_get_module_loc_conf(r, ngx_http_fowharimu_module);
 
-    return ctx
-           && ctx->verdict.len == sizeof("accepted") - 1
-           && ngx_memcmp(ctx->verdict.data, "accepted", sizeof("accepted") - 1)
-              == 0;
-}
-
-
-/* NGX_DECLINED: there is no token; NGX_ABORT: it stands twice */
-
-static ngx_int_t
-ngx_http_fowharimu_token(ngx_http_request_t *r,
-    ngx_http_fowharimu_loc_conf_t *lcf, ngx_str_t *token)
-{
-    ngx_http_variable_value_t  *v;
-
-    if (lcf->token == NGX_HTTP_FOWHARIMU_BEARER) {
-        return ngx_http_fowharimu_bearer(r, token);
-    }
-
-    if (lcf->argument.len
-        && ngx_http_fowharimu_is_twice(r, &lcf->argument))
-    {
-        return NGX_ABORT;
-    }
-
-    v = ngx_http_get_flushed_variable(r, lcf->token);
-
-    if (v == NULL) {
-        return NGX_ERROR;
-    }
-
-    if (v->not_found || v->len == 0) {
-        return NGX_DECLINED;
-    }
-
-    token->len = v->len;
-    token->data = v->data;
-
-    return NGX_OK;
+    return ctx && ctx->last.passed && lcf->enable
+           && ngx_http_fowharimu_is_same_conf(ctx->last.conf, lcf);
 }
 
 
 /*
- * Whether more than one argument of the request has that name: then nginx and
- * what is behind it may each take another one for the token.
+ * What is known of the token, for a variable: where it wasn't judged in this
+ * location, it is judged now, in whatever phase; but for a request whose headers
+ * nginx didn't read to their end, and where the answer has gone.  Of a location
+ * where "jwt" is off it is what is known from before, of a subrequest what is
+ * known of the main one.
  */
 
-static ngx_int_t
-ngx_http_fowharimu_is_twice(ngx_http_request_t *r, ngx_str_t *argument)
+ngx_http_fowharimu_judged_t *
+ngx_http_fowharimu_judged(ngx_http_request_t *r)
 {
-    u_char      *p, *last, *end;
-    ngx_uint_t   count;
+    ngx_http_fowharimu_ctx_t       *ctx;
+    ngx_http_fowharimu_loc_conf_t  *lcf;
 
-    count = 0;
-    p = r->args.data;
-    last = p + r->args.len;
+    lcf = ngx_http_get_module_loc_conf(r, ngx_http_fowharimu_module);
 
-    while (p < last) {
-        end = ngx_strlchr(p, last, '&');
-
-        if (end == NULL) {
-            end = last;
-        }
-
-        count += ngx_http_fowharimu_is_named(p, end, argument);
-
-        if (end == last) {
-            break;
-        }
-
-        p = end + 1;
-    }
-
-    return count > 1;
-}
-
-
-/*
- * Whether an argument has that name, in any case of its letters, as nginx
- * looks for it, and by its octets or escaped.
- */
-
-static ngx_int_t
-ngx_http_fowharimu_is_named(u_char *p, u_char *last, ngx_str_t *argument)
-{
-    size_t     n;
-    u_char     c;
-    ngx_int_t  value;
-
-    for (n = 0; p < last && *p != '='; n++) {
-        c = *p++;
-
-        if (c == '%' && last - p >= 2) {
-            value = ngx_hextoi(p, 2);
-
-            if (value != NGX_ERROR) {
-                c = (u_char) value;
-                p += 2;
-            }
-        }
-
-        if (n >= argument->len
-            || ngx_tolower(c) != ngx_tolower(argument->data[n]))
-        {
-            return 0;
-        }
-    }
-
-    return n == argument->len;
-}
-
-
-/* the credentials of the scheme Bearer, RFC 6750, section 2.1 */
-
-static ngx_int_t
-ngx_http_fowharimu_bearer(ngx_http_request_t *r, ngx_str_t *token)
-{
-    ngx_str_t         value;
-    ngx_uint_t        i;
-    ngx_list_part_t  *part;
-    ngx_table_elt_t  *header;
-
-    value.len = 0;
-    value.data = NULL;
-
-    part = &r->headers_in.headers.part;
-    header = part->elts;
-
-    for (i = 0; /* void */ ; i++) {
-
-        if (i >= part->nelts) {
-            if (part->next == NULL) {
-                break;
-            }
-
-            part = part->next;
-            header = part->elts;
-            i = 0;
-        }
-
-        if (header[i].key.len != sizeof("Authorization") - 1
-            || ngx_strncasecmp(header[i].key.data, (u_char *) "Authorization",
-                               sizeof("Authorization") - 1)
-               != 0)
-        {
-            continue;
-        }
-
-        if (value.data) {
-            return NGX_ABORT;
-        }
-
-        value = header[i].value;
-    }
-
-    if (value.len < sizeof("Bearer") - 1
-        || ngx_strncasecmp(value.data, (u_char *) "Bearer",
-                           sizeof("Bearer") - 1)
-           != 0)
+    if (lcf->enable && !r->header_sent
+        && r->main->http_state != NGX_HTTP_READING_REQUEST_STATE)
     {
-        return NGX_DECLINED;
+        ctx = ngx_http_fowharimu_own_ctx(r);
+
+        if (ctx == NULL || ctx->under_way) {
+            return NULL;
+        }
+
+        if (!ctx->last.passed
+            || !ngx_http_fowharimu_is_same_conf(ctx->last.conf, lcf))
+        {
+            ngx_http_fowharimu_judge(r, lcf, ctx);
+        }
+
+        return &ctx->last;
     }
 
-    value.len -= sizeof("Bearer") - 1;
-    value.data += sizeof("Bearer") - 1;
+    ctx = ngx_http_fowharimu_find_ctx(r, r);
 
-    if (value.len && *value.data != ' ') {
-        return NGX_DECLINED;
+    if ((ctx == NULL || ctx->last.conf == NULL) && r != r->main) {
+        ctx = ngx_http_fowharimu_find_ctx(r, r->main);
     }
 
-    while (value.len && *value.data == ' ') {
-        value.len--;
-        value.data++;
+    return ctx && ctx->last.conf ? &ctx->last : NULL;
+}
+
+
+/* the same, where this location accepts the token; else NULL */
+
+ngx_http_fowharimu_judged_t *
+ngx_http_fowharimu_accepted_here(ngx_http_request_t *r,
+    ngx_http_fowharimu_loc_conf_t *lcf)
+{
+    ngx_http_fowharimu_judged_t  *judged;
+
+    judged = lcf->enable ? ngx_http_fowharimu_judged(r) : NULL;
+
+    return judged && judged->status == NGX_OK
+           && ngx_http_fowharimu_is_same_conf(judged->conf, lcf)
+           ? judged : NULL;
+}
+
+
+/* judges the token of a request, unless it was judged so within this second */
+
+static void
+ngx_http_fowharimu_judge(ngx_http_request_t *r,
+    ngx_http_fowharimu_loc_conf_t *lcf, ngx_http_fowharimu_ctx_t *ctx)
+{
+    ngx_int_t                     found;
+    ngx_str_t                     token;
+    ngx_http_fowharimu_judged_t  *judged;
+
+    judged = &ctx->last;
+
+    /* (the token may be a variable that asks for what is known of the token) */
+
+    ctx->under_way = 1;
+    found = ngx_http_fowharimu_token(r, lcf, &token);
+    ctx->under_way = 0;
+
+    if (ngx_http_fowharimu_is_judged_so(judged, lcf, found, &token)) {
+        return;
     }
 
-    *token = value;
+    ngx_memzero(judged, sizeof(ngx_http_fowharimu_judged_t));
 
-    return NGX_OK;
+    judged->conf = lcf;
+    judged->moment = ngx_time();
+    judged->found = found;
+    judged->token = token;
+
+    ngx_http_fowharimu_forget_variables(r);
+
+    judged->status = ngx_http_fowharimu_verdict(r, lcf, judged);
+}
+
+
+static ngx_uint_t
+ngx_http_fowharimu_is_judged_so(ngx_http_fowharimu_judged_t *judged,
+    ngx_http_fowharimu_loc_conf_t *lcf, ngx_int_t found, ngx_str_t *token)
+{
+    return judged->conf
+           && ngx_http_fowharimu_is_same_conf(judged->conf, lcf)
+           && judged->moment == ngx_time()
+           && judged->found == found
+           && judged->token.len == token->len
+           && (token->len == 0
+               || ngx_memcmp(judged->token.data, token->data, token->len) == 0);
+}
+
+
+/* whether a token is judged alike by both, as within a location and its "if" */
+
+static ngx_uint_t
+ngx_http_fowharimu_is_same_conf(ngx_http_fowharimu_loc_conf_t *one,
+    ngx_http_fowharimu_loc_conf_t *other)
+{
+    return one == other
+           || (one->grounds.validator == other->grounds.validator
+               && one->issuers == other->issuers
+               && one->token == other->token
+               && one->rule == other->rule
+               && one->demands == other->demands
+               && one->issue == other->issue
+               && one->issued == other->issued);
+}
+
+
+static ngx_int_t
+ngx_http_fowharimu_verdict(ngx_http_request_t *r,
+    ngx_http_fowharimu_loc_conf_t *lcf, ngx_http_fowharimu_judged_t *judged)
+{
+    ngx_uint_t  kind;
+
+    static const char  *twice[] = {
+        "HeaderTwice", "HeaderTwice", "CookieTwice", "ArgumentTwice"
+    };
+
+    kind = lcf->token ? lcf->token->kind : NGX_HTTP_FOWHARIMU_BEARER;
+
+    switch (judged->found) {
+
+    case NGX_OK:
+        if (kind == NGX_HTTP_FOWHARIMU_BEARER
+            && !ngx_http_fowharimu_is_b64token(&judged->token))
+        {
+            return ngx_http_fowharimu_refuse_token(r, judged, "Form");
+        }
+
+        return ngx_http_fowharimu_judge_token(r, lcf, judged);
+
+    case NGX_DECLINED:
+        ngx_str_set(&judged->verdict, "absent");
+        judged->challenge = "Bearer realm=\"jwt\"";
+        return NGX_HTTP_UNAUTHORIZED;
+
+    case NGX_ABORT:
+        ngx_str_set(&judged->verdict, "refused");
+        ngx_http_fowharimu_set_text(&judged->fault, twice[kind]);
+        judged->challenge = "Bearer error=\"invalid_request\"";
+        return NGX_HTTP_BAD_REQUEST;
+
+    default:
+        return ngx_http_fowharimu_fail(r, judged, "NoVariable");
+    }
 }
 
 
@@ -388,55 +352,54 @@ ngx_http_fowharimu_is_b64token(ngx_str_t *token)
 
 
 static ngx_int_t
-ngx_http_fowharimu_judge(ngx_http_request_t *r,
-    ngx_http_fowharimu_loc_conf_t *lcf, ngx_http_fowharimu_ctx_t *ctx,
-    ngx_str_t *token)
+ngx_http_fowharimu_judge_token(ngx_http_request_t *r,
+    ngx_http_fowharimu_loc_conf_t *lcf, ngx_http_fowharimu_judged_t *judged)
 {
     ngx_int_t                        rc;
     fow_report                       report;
     ngx_http_fowharimu_validator_t  *validator;
 
-    rc = ngx_http_fowharimu_choose(r, lcf, ctx, token);
+    rc = ngx_http_fowharimu_choose(r, lcf, judged);
 
     if (rc == NGX_DECLINED) {
-        return ngx_http_fowharimu_refuse_token(r, ctx,
+        return ngx_http_fowharimu_refuse_token(r, judged,
                                             fow_fault_name(FOW_CLAIM_ISSUER));
     }
 
     if (rc != NGX_OK) {
-        return ngx_http_fowharimu_fail(r, ctx, "OutOfMemory");
+        return ngx_http_fowharimu_fail(r, judged, "OutOfMemory");
     }
 
-    validator = ctx->validator;
+    validator = judged->validator;
     ngx_memzero(&report, sizeof(fow_report));
 
     (void) fow_openssl_judge(&validator->crypto, &validator->handle,
-                             token->data, token->len, (int64_t) ngx_time(),
-                             &report);
+                             judged->token.data, judged->token.len,
+                             (int64_t) judged->moment, &report);
 
     /* the report of a token that is remembered has what was paid before */
 
-    ctx->remembered = fow_remembered(&validator->handle);
-    ctx->tries = ctx->remembered ? 0 : report.tries;
-    ctx->work = ctx->remembered ? 0 : report.work;
+    judged->remembered = fow_remembered(&validator->handle);
+    judged->tries = judged->remembered ? 0 : report.tries;
+    judged->work = judged->remembered ? 0 : report.work;
 
     switch (report.verdict) {
 
     case FOW_OK:
-        return ngx_http_fowharimu_accepted(r, lcf, ctx, token);
+        return ngx_http_fowharimu_accepted(r, lcf, judged);
 
     case FOW_REFUSED:
-        return ngx_http_fowharimu_refuse_token(r, ctx,
+        return ngx_http_fowharimu_refuse_token(r, judged,
                                                fow_fault_name(report.fault));
 
     case FOW_ASKS:
-        return ngx_http_fowharimu_fail(r, ctx, "Unanswered");
+        return ngx_http_fowharimu_fail(r, judged, "Unanswered");
 
     case FOW_OUT_OF_MEMORY:
-        return ngx_http_fowharimu_fail(r, ctx, "OutOfMemory");
+        return ngx_http_fowharimu_fail(r, judged, "OutOfMemory");
 
     default:
-        return ngx_http_fowharimu_fail(r, ctx, "NotOpen");
+        return ngx_http_fowharimu_fail(r, judged, "NotOpen");
     }
 }
 
@@ -450,17 +413,17 @@ ngx_http_fowharimu_judge(ngx_http_request_t *r,
 
 static ngx_int_t
 ngx_http_fowharimu_choose(ngx_http_request_t *r,
-    ngx_http_fowharimu_loc_conf_t *lcf, ngx_http_fowharimu_ctx_t *ctx,
-    ngx_str_t *token)
+    ngx_http_fowharimu_loc_conf_t *lcf, ngx_http_fowharimu_judged_t *judged)
 {
     uint32_t                       status;
-    ngx_str_t                      name;
+    ngx_str_t                      name, *token;
     ngx_http_fowharimu_issuers_t  *issuers;
 
+    token = &judged->token;
     issuers = lcf->issuers;
 
     if (issuers == NULL) {
-        ctx->validator = lcf->grounds.validator;
+        judged->validator = lcf->grounds.validator;
         return NGX_OK;
     }
 
@@ -476,13 +439,13 @@ ngx_http_fowharimu_choose(ngx_http_request_t *r,
                                    token->len, name.data, token->len + 1,
                                    &name.len);
 
-    ctx->validator = status == FOW_ABSENT ? issuers->reader
+    judged->validator = status == FOW_ABSENT ? issuers->reader
                      : status == FOW_OK
                      ? ngx_http_fowharimu_validator_of(issuers, &name) : NULL;
 
     (void) ngx_pfree(r->pool, name.data);
 
-    if (ctx->validator) {
+    if (judged->validator) {
         return NGX_OK;
     }
 
@@ -516,61 +479,85 @@ ngx_http_fowharimu_validator_of(ngx_http_fowharimu_issuers_t *issuers,
 
 static ngx_int_t
 ngx_http_fowharimu_accepted(ngx_http_request_t *r,
-    ngx_http_fowharimu_loc_conf_t *lcf, ngx_http_fowharimu_ctx_t *ctx,
-    ngx_str_t *token)
+    ngx_http_fowharimu_loc_conf_t *lcf, ngx_http_fowharimu_judged_t *judged)
 {
     ngx_int_t                        rc;
     ngx_str_t                        room;
-    ngx_uint_t                       i;
-    ngx_http_fowharimu_rule_t      **demand;
+    const char                      *fault;
     ngx_http_fowharimu_main_conf_t  *mcf;
 
     mcf = ngx_http_get_module_main_conf(r, ngx_http_fowharimu_module);
 
+    rc = ngx_http_fowharimu_meets_rules(r, lcf, judged);
+
+    if (rc != NGX_OK) {
+        return rc;
+    }
+
+    fault = lcf->issue ? ngx_http_fowharimu_issue(r, lcf, judged) : NULL;
+
+    if (fault) {
+        return ngx_http_fowharimu_fail(r, judged, fault);
+    }
+
+    /* without room where nothing names a claim or the payload */
+
+    if (mcf->claims.nelts == 0 && !mcf->payload) {
+        ngx_str_set(&judged->verdict, "accepted");
+        return NGX_OK;
+    }
+
+    /* a claim's compact text is no longer than the payload that it is in */
+
+    room.len = judged->token.len + NGX_INT64_LEN;
+    room.data = ngx_pnalloc(r->pool, room.len);
+    if (room.data == NULL) {
+        return ngx_http_fowharimu_fail(r, judged, "OutOfMemory");
+    }
+
+    if (ngx_http_fowharimu_keep_claims(r, judged, &room) != NGX_OK
+        || ngx_http_fowharimu_keep_payload(r, judged, &room) != NGX_OK)
+    {
+        return ngx_http_fowharimu_fail(r, judged, "OutOfMemory");
+    }
+
+    (void) ngx_pfree(r->pool, room.data);
+
+    ngx_str_set(&judged->verdict, "accepted");
+
+    return NGX_OK;
+}
+
+
+static ngx_int_t
+ngx_http_fowharimu_meets_rules(ngx_http_request_t *r,
+    ngx_http_fowharimu_loc_conf_t *lcf, ngx_http_fowharimu_judged_t *judged)
+{
+    ngx_int_t                    rc;
+    ngx_uint_t                   i;
+    ngx_http_fowharimu_rule_t  **demand;
+
     if (lcf->rule) {
-        rc = ngx_http_fowharimu_permit(r, lcf, ctx, lcf->rule);
+        rc = ngx_http_fowharimu_permit(r, judged, lcf->rule);
 
         if (rc != NGX_OK) {
             return rc;
         }
     }
 
-    if (lcf->demands) {
-        demand = lcf->demands->elts;
-
-        for (i = 0; i < lcf->demands->nelts; i++) {
-            rc = ngx_http_fowharimu_permit(r, lcf, ctx, demand[i]);
-
-            if (rc != NGX_OK) {
-                return rc;
-            }
-        }
-    }
-
-    /* without room where no variable names a claim or the payload */
-
-    if (mcf->claims.nelts == 0 && !mcf->payload) {
-        ngx_str_set(&ctx->verdict, "accepted");
+    if (lcf->demands == NULL) {
         return NGX_OK;
     }
 
-    /* a claim's compact text is no longer than the payload that it is in */
+    demand = lcf->demands->elts;
 
-    room.len = token->len + NGX_INT64_LEN;
-    room.data = ngx_pnalloc(r->pool, room.len);
-    if (room.data == NULL) {
-        return ngx_http_fowharimu_fail(r, ctx, "OutOfMemory");
+    for (i = 0; i < lcf->demands->nelts; i++) {
+        rc = ngx_http_fowharimu_permit(r, judged, demand[i]);
+
+        if (rc != NGX_OK) {
+            return rc;
+        }
     }
-
-    if (ngx_http_fowharimu_keep_claims(r, lcf, ctx, &room) != NGX_OK
-        || ngx_http_fowharimu_keep_payload(r, lcf, ctx, token, &room) != NGX_OK)
-    {
-        return ngx_http_fowharimu_fail(r, ctx, "OutOfMemory");
-    }
-
-    (void) ngx_pfree(r->pool, room.data);
-
-    ngx_str_set(&ctx->verdict, "accepted");
 
     return NGX_OK;
 }
@@ -580,15 +567,13 @@ ngx_http_fowharimu_accepted(ngx_http_request_t *r,
 
 static ngx_int_t
 ngx_http_fowharimu_permit(ngx_http_request_t *r,
-    ngx_http_fowharimu_loc_conf_t *lcf, ngx_http_fowharimu_ctx_t *ctx,
-    ngx_http_fowharimu_rule_t *rule)
+    ngx_http_fowharimu_judged_t *judged, ngx_http_fowharimu_rule_t *rule)
 {
-    char      *challenge;
-    uint32_t   denial;
+    uint32_t  denial;
 
     denial = FOW_NO_FAULT;
 
-    switch (fow_denied(&ctx->validator->handle, &rule->handle, &denial)) {
+    switch (fow_denied(&judged->validator->handle, &rule->handle, &denial)) {
 
     case FOW_OK:
         return NGX_OK;
@@ -597,29 +582,30 @@ ngx_http_fowharimu_permit(ngx_http_request_t *r,
         break;
 
     default:
-        return ngx_http_fowharimu_fail(r, ctx, "NotOpen");
+        return ngx_http_fowharimu_fail(r, judged, "NotOpen");
     }
 
-    ngx_str_set(&ctx->verdict, "forbidden");
+    ngx_str_set(&judged->verdict, "forbidden");
 
     if (rule->claim.data == NULL) {
-        ngx_http_fowharimu_set_text(&ctx->fault, fow_fault_name(denial));
+        ngx_http_fowharimu_set_text(&judged->fault, fow_fault_name(denial));
     }
 
-    ngx_http_fowharimu_log_denial(r, ctx, rule, denial);
+    ngx_http_fowharimu_log_denial(r, judged, rule, denial);
 
     /* RFC 6750, section 3.1 */
 
-    challenge = denial == FOW_DENIED_SCOPE_MISSING
-                ? rule->challenge : "Bearer error=\"insufficient_scope\"";
+    judged->challenge = denial == FOW_DENIED_SCOPE_MISSING
+                        ? rule->challenge
+                        : "Bearer error=\"insufficient_scope\"";
 
-    return ngx_http_fowharimu_refuse(r, NGX_HTTP_FORBIDDEN, challenge);
+    return NGX_HTTP_FORBIDDEN;
 }
 
 
 static void
 ngx_http_fowharimu_log_denial(ngx_http_request_t *r,
-    ngx_http_fowharimu_ctx_t *ctx, ngx_http_fowharimu_rule_t *rule,
+    ngx_http_fowharimu_judged_t *judged, ngx_http_fowharimu_rule_t *rule,
     uint32_t denial)
 {
     size_t     len;
@@ -637,7 +623,7 @@ ngx_http_fowharimu_log_denial(ngx_http_request_t *r,
 
     /* (a longer name is left out) */
 
-    if (fow_denied_name(&ctx->validator->handle, &rule->handle, room,
+    if (fow_denied_name(&judged->validator->handle, &rule->handle, room,
                         sizeof(room), &len)
         != FOW_OK)
     {
@@ -660,8 +646,7 @@ ngx_http_fowharimu_log_denial(ngx_http_request_t *r,
 
 static ngx_int_t
 ngx_http_fowharimu_keep_claims(ngx_http_request_t *r,
-    ngx_http_fowharimu_loc_conf_t *lcf, ngx_http_fowharimu_ctx_t *ctx,
-    ngx_str_t *room)
+    ngx_http_fowharimu_judged_t *judged, ngx_str_t *room)
 {
     ngx_int_t                        rc;
     ngx_str_t                       *name, claim;
@@ -674,8 +659,9 @@ ngx_http_fowharimu_keep_claims(ngx_http_request_t *r,
         return NGX_OK;
     }
 
-    ctx->claims = ngx_pcalloc(r->pool, mcf->claims.nelts * sizeof(ngx_str_t));
-    if (ctx->claims == NULL) {
+    judged->claims = ngx_pcalloc(r->pool,
+                                 mcf->claims.nelts * sizeof(ngx_str_t));
+    if (judged->claims == NULL) {
         return NGX_ERROR;
     }
 
@@ -683,14 +669,14 @@ ngx_http_fowharimu_keep_claims(ngx_http_request_t *r,
 
     for (i = 0; i < mcf->claims.nelts; i++) {
         claim = *room;
-        rc = ngx_http_fowharimu_claim(ctx->validator, &name[i], &claim);
+        rc = ngx_http_fowharimu_claim(judged->validator, &name[i], &claim);
 
         if (rc == NGX_OK) {
-            rc = ngx_http_fowharimu_keep_claim(r, &claim, &ctx->claims[i]);
+            rc = ngx_http_fowharimu_keep_claim(r, &claim, &judged->claims[i]);
         }
 
         if (rc == NGX_ERROR) {
-            ctx->claims = NULL;
+            judged->claims = NULL;
             return NGX_ERROR;
         }
     }
@@ -723,9 +709,7 @@ ngx_http_fowharimu_keep_claim(ngx_http_request_t *r, ngx_str_t *claim,
             return NGX_DECLINED;
         }
 
-        if (text.len
-            && (text.data[0] == ' ' || text.data[text.len - 1] == ' '))
-        {
+        if (!ngx_http_fowharimu_is_trimmed(&text)) {
             return NGX_DECLINED;
         }
     }
@@ -741,12 +725,49 @@ ngx_http_fowharimu_keep_claim(ngx_http_request_t *r, ngx_str_t *claim,
 }
 
 
+/*
+ * Whether a text has no space at an end, and none of the signs that Unicode has
+ * for spaces and ends of lines, which some readers take away as well.
+ */
+
+static ngx_uint_t
+ngx_http_fowharimu_is_trimmed(ngx_str_t *text)
+{
+    size_t      len;
+    u_char     *last;
+    ngx_uint_t  i;
+
+    static const char  *spaces[] = {
+        " ", "\302\205", "\302\240", "\341\232\200", "\342\200\200",
+        "\342\200\201", "\342\200\202", "\342\200\203", "\342\200\204",
+        "\342\200\205", "\342\200\206", "\342\200\207", "\342\200\210",
+        "\342\200\211", "\342\200\212", "\342\200\213", "\342\200\250",
+        "\342\200\251", "\342\200\257", "\342\201\237", "\343\200\200",
+        "\357\273\277"
+    };
+
+    last = text->data + text->len;
+
+    for (i = 0; i < sizeof(spaces) / sizeof(spaces[0]); i++) {
+        len = ngx_strlen(spaces[i]);
+
+        if (text->len >= len
+            && (ngx_memcmp(text->data, spaces[i], len) == 0
+                || ngx_memcmp(last - len, spaces[i], len) == 0))
+        {
+            return 0;
+        }
+    }
+
+    return 1;
+}
+
+
 /* the octets of the payload, which the token may spell otherwise */
 
 static ngx_int_t
 ngx_http_fowharimu_keep_payload(ngx_http_request_t *r,
-    ngx_http_fowharimu_loc_conf_t *lcf, ngx_http_fowharimu_ctx_t *ctx,
-    ngx_str_t *token, ngx_str_t *room)
+    ngx_http_fowharimu_judged_t *judged, ngx_str_t *room)
 {
     size_t                           len;
     ngx_str_t                        payload, kept;
@@ -758,8 +779,8 @@ ngx_http_fowharimu_keep_payload(ngx_http_request_t *r,
         return NGX_OK;
     }
 
-    if (fow_payload(&ctx->validator->handle, token->data, token->len,
-                    room->data, room->len, &len)
+    if (fow_payload(&judged->validator->handle, judged->token.data,
+                    judged->token.len, room->data, room->len, &len)
         != FOW_OK)
     {
         return NGX_ERROR;
@@ -775,7 +796,7 @@ ngx_http_fowharimu_keep_payload(ngx_http_request_t *r,
 
     ngx_encode_base64url(&kept, &payload);
 
-    ctx->payload = kept;
+    judged->payload = kept;
 
     return NGX_OK;
 }
@@ -859,26 +880,31 @@ ngx_http_fowharimu_read_text(u_char **p, u_char *last, ngx_str_t *text)
 
 static ngx_int_t
 ngx_http_fowharimu_refuse_token(ngx_http_request_t *r,
-    ngx_http_fowharimu_ctx_t *ctx, const char *fault)
+    ngx_http_fowharimu_judged_t *judged, const char *fault)
 {
-    ngx_str_set(&ctx->verdict, "refused");
-    ngx_http_fowharimu_set_text(&ctx->fault, fault);
+    ngx_str_set(&judged->verdict, "refused");
+    ngx_http_fowharimu_set_text(&judged->fault, fault);
+
+    judged->challenge = "Bearer error=\"invalid_token\"";
 
     ngx_log_error(NGX_LOG_INFO, r->connection->log, 0,
-                  "jwt: the token is refused: %V", &ctx->fault);
+                  "jwt: the token is refused: %V", &judged->fault);
 
-    return ngx_http_fowharimu_refuse(r, NGX_HTTP_UNAUTHORIZED,
-                                     "Bearer error=\"invalid_token\"");
+    return NGX_HTTP_UNAUTHORIZED;
 }
 
 
 /* RFC 6750, section 3; a challenge of an earlier refusal is written over */
 
 static ngx_int_t
-ngx_http_fowharimu_refuse(ngx_http_request_t *r, ngx_int_t status,
-    char *challenge)
+ngx_http_fowharimu_refuse(ngx_http_request_t *r,
+    ngx_http_fowharimu_judged_t *judged)
 {
     ngx_table_elt_t  *h;
+
+    if (judged->challenge == NULL) {
+        return judged->status;
+    }
 
     h = r->headers_out.www_authenticate;
 
@@ -899,23 +925,23 @@ ngx_http_fowharimu_refuse(ngx_http_request_t *r, ngx_int_t status,
     }
 
     h->hash = 1;
-    ngx_http_fowharimu_set_text(&h->value, challenge);
+    ngx_http_fowharimu_set_text(&h->value, judged->challenge);
 
-    return status;
+    return judged->status;
 }
 
 
 /* no verdict could be had: the request isn't let through */
 
 static ngx_int_t
-ngx_http_fowharimu_fail(ngx_http_request_t *r, ngx_http_fowharimu_ctx_t *ctx,
-    char *fault)
+ngx_http_fowharimu_fail(ngx_http_request_t *r,
+    ngx_http_fowharimu_judged_t *judged, const char *fault)
 {
-    ngx_str_set(&ctx->verdict, "failed");
-    ngx_http_fowharimu_set_text(&ctx->fault, fault);
+    ngx_str_set(&judged->verdict, "failed");
+    ngx_http_fowharimu_set_text(&judged->fault, fault);
 
     ngx_log_error(NGX_LOG_ERR, r->connection->log, 0,
-                  "jwt: the token can't be judged: %V", &ctx->fault);
+                  "jwt: the token can't be judged: %V", &judged->fault);
 
     return NGX_HTTP_INTERNAL_SERVER_ERROR;
 }
@@ -929,15 +955,19 @@ ngx_http_fowharimu_set_text(ngx_str_t *text, const char *value)
 }
 
 
-/* what is known of a token is unknown again where a request is judged anew */
+/* what is known of a request's token, and of what goes on; NULL: no memory */
 
-static ngx_http_fowharimu_ctx_t *
-ngx_http_fowharimu_new_ctx(ngx_http_request_t *r)
+ngx_http_fowharimu_ctx_t *
+ngx_http_fowharimu_own_ctx(ngx_http_request_t *r)
 {
-    ngx_uint_t                      *index, i;
-    ngx_pool_cleanup_t              *cln;
-    ngx_http_fowharimu_ctx_t        *ctx;
-    ngx_http_fowharimu_main_conf_t  *mcf;
+    ngx_pool_cleanup_t        *cln;
+    ngx_http_fowharimu_ctx_t  *ctx;
+
+    ctx = ngx_http_get_module_ctx(r, ngx_http_fowharimu_module);
+
+    if (ctx) {
+        return ctx;
+    }
 
     ctx = ngx_http_fowharimu_find_ctx(r, r);
 
@@ -949,41 +979,16 @@ ngx_http_fowharimu_new_ctx(ngx_http_request_t *r)
 
         cln->handler = ngx_http_fowharimu_cleanup;
         ctx = cln->data;
+
+        ngx_memzero(ctx, sizeof(ngx_http_fowharimu_ctx_t));
+        ctx->request = r;
     }
 
-    ngx_memzero(ctx, sizeof(ngx_http_fowharimu_ctx_t));
-    ctx->request = r;
+    /* (a location before an internal redirect may have let it through) */
+
+    ctx->last.passed = 0;
 
     ngx_http_set_ctx(r, ctx, ngx_http_fowharimu_module);
-
-    mcf = ngx_http_get_module_main_conf(r, ngx_http_fowharimu_module);
-    index = mcf->indexes.elts;
-
-    for (i = 0; i < mcf->indexes.nelts; i++) {
-        r->variables[index[i]].valid = 0;
-        r->variables[index[i]].not_found = 0;
-    }
-
-    return ctx;
-}
-
-
-/* of a subrequest that wasn't judged itself: what is known of the main one */
-
-ngx_http_fowharimu_ctx_t *
-ngx_http_fowharimu_get_ctx(ngx_http_request_t *r)
-{
-    ngx_http_fowharimu_ctx_t  *ctx;
-
-    ctx = ngx_http_get_module_ctx(r, ngx_http_fowharimu_module);
-
-    if (ctx == NULL) {
-        ctx = ngx_http_fowharimu_find_ctx(r, r);
-    }
-
-    if (ctx == NULL && r != r->main) {
-        ctx = ngx_http_fowharimu_find_ctx(r, r->main);
-    }
 
     return ctx;
 }
@@ -991,7 +996,7 @@ ngx_http_fowharimu_get_ctx(ngx_http_request_t *r)
 
 /* an internal redirect clears module contexts; the pool's cleanups stay */
 
-static ngx_http_fowharimu_ctx_t *
+ngx_http_fowharimu_ctx_t *
 ngx_http_fowharimu_find_ctx(ngx_http_request_t *r, ngx_http_request_t *owner)
 {
     ngx_pool_cleanup_t        *cln;

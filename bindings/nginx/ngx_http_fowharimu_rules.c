@@ -6,8 +6,6 @@
 
 static ngx_int_t ngx_http_fowharimu_rule_text(ngx_conf_t *cf, ngx_str_t *value,
     ngx_uint_t n, ngx_str_t *document);
-static u_char *ngx_http_fowharimu_put_text(u_char *p, ngx_str_t *text,
-    ngx_uint_t pointer);
 static ngx_uint_t ngx_http_fowharimu_is_whole(ngx_str_t *value);
 static ngx_http_fowharimu_rule_t *ngx_http_fowharimu_open_rule(ngx_conf_t *cf,
     ngx_str_t *name, ngx_str_t *document);
@@ -161,7 +159,7 @@ ngx_http_fowharimu_rule_text(ngx_conf_t *cf, ngx_str_t *value, ngx_uint_t n,
  * written as the JSON Pointer to it (RFC 6901), which a rule would take it for.
  */
 
-static u_char *
+u_char *
 ngx_http_fowharimu_put_text(u_char *p, ngx_str_t *text, ngx_uint_t pointer)
 {
     u_char      c;

@@ -14,6 +14,16 @@ static void ngx_http_fowharimu_miss(ngx_http_fowharimu_watch_t *watch,
     ngx_err_t err, ngx_log_t *log);
 static void ngx_http_fowharimu_exchange(ngx_http_fowharimu_watch_t *watch,
     ngx_str_t *keys, ngx_log_t *log);
+static uint32_t ngx_http_fowharimu_open_newer(
+    ngx_http_fowharimu_watch_t *watch, ngx_str_t *keys, fow_validator *newer,
+    uint32_t *fault);
+static const char *ngx_http_fowharimu_refused_keys(
+    ngx_http_fowharimu_watch_t *watch, fow_validator *newer, uint32_t status,
+    uint32_t fault);
+static ngx_http_fowharimu_watch_t *ngx_http_fowharimu_find_watch(
+    ngx_conf_t *cf, ngx_http_fowharimu_file_t *file, ngx_str_t *policy);
+static ngx_http_fowharimu_watch_t *ngx_http_fowharimu_new_watch(
+    ngx_conf_t *cf, ngx_http_fowharimu_file_t *file, ngx_str_t *policy);
 
 
 /*
@@ -22,20 +32,80 @@ static void ngx_http_fowharimu_exchange(ngx_http_fowharimu_watch_t *watch,
  */
 
 ngx_int_t
-ngx_http_fowharimu_watch(ngx_conf_t *cf, ngx_http_fowharimu_loc_conf_t *lcf,
-    ngx_http_fowharimu_grounds_t *grounds)
+ngx_http_fowharimu_watch(ngx_conf_t *cf, ngx_http_fowharimu_file_t *file,
+    ngx_http_fowharimu_opening_t *opening)
+{
+    ngx_http_fowharimu_watch_t     *watch;
+    ngx_http_fowharimu_opening_t  **place;
+
+    if (!fow_documents_are_public(&opening->validator->handle)) {
+        ngx_log_error(NGX_LOG_EMERG, cf->log, 0,
+                      "\"%V\" is looked at again, and is no file of public "
+                      "keys: \"algs\" in the policy has an HMAC algorithm, or "
+                      "the set a key of kty oct", &file->name);
+        return NGX_ERROR;
+    }
+
+    watch = ngx_http_fowharimu_find_watch(cf, file, &opening->policy);
+
+    if (watch == NULL) {
+        watch = ngx_http_fowharimu_new_watch(cf, file, &opening->policy);
+        if (watch == NULL) {
+            return NGX_ERROR;
+        }
+    }
+
+    place = ngx_array_push(&watch->openings);
+    if (place == NULL) {
+        return NGX_ERROR;
+    }
+
+    *place = opening;
+
+    watch->most = ngx_min(watch->most, opening->most);
+    watch->file.interval = ngx_min(watch->file.interval, file->interval);
+
+    return NGX_OK;
+}
+
+
+/* one for a file and a policy: it is read once for all that stand on both */
+
+static ngx_http_fowharimu_watch_t *
+ngx_http_fowharimu_find_watch(ngx_conf_t *cf, ngx_http_fowharimu_file_t *file,
+    ngx_str_t *policy)
+{
+    ngx_uint_t                        i;
+    ngx_http_fowharimu_watch_t      **watch;
+    ngx_http_fowharimu_main_conf_t   *mcf;
+
+    mcf = ngx_http_conf_get_module_main_conf(cf, ngx_http_fowharimu_module);
+    watch = mcf->watches.elts;
+
+    for (i = 0; i < mcf->watches.nelts; i++) {
+
+        if (ngx_memn2cmp(watch[i]->file.name.data, file->name.data,
+                         watch[i]->file.name.len, file->name.len)
+            == 0
+            && ngx_memn2cmp(watch[i]->policy.data, policy->data,
+                            watch[i]->policy.len, policy->len)
+               == 0)
+        {
+            return watch[i];
+        }
+    }
+
+    return NULL;
+}
+
+
+static ngx_http_fowharimu_watch_t *
+ngx_http_fowharimu_new_watch(ngx_conf_t *cf, ngx_http_fowharimu_file_t *file,
+    ngx_str_t *policy)
 {
     ngx_pool_cleanup_t               *cln;
     ngx_http_fowharimu_watch_t       *watch, **place;
     ngx_http_fowharimu_main_conf_t   *mcf;
-
-    if (!fow_documents_are_public(&grounds->validator->handle)) {
-        ngx_log_error(NGX_LOG_EMERG, cf->log, 0,
-                      "\"%V\" is looked at again, and is no file of public "
-                      "keys: \"algs\" in the policy has an HMAC algorithm, or "
-                      "the set a key of kty oct", &grounds->file->name);
-        return NGX_ERROR;
-    }
 
     mcf = ngx_http_conf_get_module_main_conf(cf, ngx_http_fowharimu_module);
 
@@ -43,7 +113,7 @@ ngx_http_fowharimu_watch(ngx_conf_t *cf, ngx_http_fowharimu_loc_conf_t *lcf,
     cln = ngx_pool_cleanup_add(cf->pool, sizeof(ngx_http_fowharimu_watch_t));
 
     if (place == NULL || cln == NULL) {
-        return NGX_ERROR;
+        return NULL;
     }
 
     watch = cln->data;
@@ -51,15 +121,20 @@ ngx_http_fowharimu_watch(ngx_conf_t *cf, ngx_http_fowharimu_loc_conf_t *lcf,
     cln->handler = ngx_http_fowharimu_unwatch;
     *place = watch;
 
-    watch->file = *grounds->file;
-    watch->tokens = lcf->tokens;
-    watch->octets = lcf->octets;
-    watch->validator = grounds->validator;
+    watch->file = *file;
+    watch->most = (uint32_t) -1;
+    watch->policy.len = policy->len;
+    watch->policy.data = ngx_pstrdup(cf->pool, policy);
 
-    watch->policy.len = grounds->policy.len;
-    watch->policy.data = ngx_pstrdup(cf->pool, &grounds->policy);
+    if (watch->policy.data == NULL
+        || ngx_array_init(&watch->openings, cf->pool, 2,
+                          sizeof(ngx_http_fowharimu_opening_t *))
+           != NGX_OK)
+    {
+        return NULL;
+    }
 
-    return watch->policy.data ? NGX_OK : NGX_ERROR;
+    return watch;
 }
 
 
@@ -232,57 +307,117 @@ ngx_http_fowharimu_read_fd(ngx_fd_t fd, size_t size, ngx_str_t *document)
 
 /*
  * Takes new keys in place of the old ones, where they aren't refused.  No call
- * on the validator is under way: a worker does one thing at a time.
+ * on a validator is under way: a worker does one thing at a time.
  */
 
 static void
 ngx_http_fowharimu_exchange(ngx_http_fowharimu_watch_t *watch,
     ngx_str_t *keys, ngx_log_t *log)
 {
-    uint32_t        fault, most, status;
-    const char     *why;
-    fow_validator   newer = FOW_VALIDATOR_INIT;
+    uint32_t                        fault, status;
+    const char                     *why;
+    ngx_uint_t                      i;
+    fow_validator                  *newer;
+    ngx_http_fowharimu_opening_t  **opening;
+
+    newer = ngx_calloc(watch->openings.nelts * sizeof(fow_validator), log);
 
     fault = FOW_NO_FAULT;
-    status = fow_open(&newer, watch->policy.data, watch->policy.len, keys->data,
-                      keys->len, &fault);
-
-    if (status == FOW_OK) {
-        status = fow_remember(&newer, watch->tokens, watch->octets);
-    }
+    status = newer ? ngx_http_fowharimu_open_newer(watch, keys, newer, &fault)
+                   : FOW_OUT_OF_MEMORY;
 
     if (status != FOW_OK && status != FOW_REFUSED) {
         /* as if it had never been looked at */
         ngx_memzero(&watch->file.stamp, sizeof(ngx_http_fowharimu_stamp_t));
     }
 
-    why = status == FOW_REFUSED ? fow_fault_name(fault)
-          : status != FOW_OK ? "OutOfMemory"
-          : !fow_documents_are_public(&newer) ? "a key of kty oct" : NULL;
+    why = ngx_http_fowharimu_refused_keys(watch, newer, status, fault);
+    opening = watch->openings.elts;
+
+    for (i = 0; newer && i < watch->openings.nelts; i++) {
+
+        if (why) {
+            fow_close(&newer[i]);
+            continue;
+        }
+
+        fow_openssl_clear(&opening[i]->validator->crypto);
+        fow_close(&opening[i]->validator->handle);
+        opening[i]->validator->handle = newer[i];
+    }
+
+    ngx_free(newer);
 
     if (why) {
-        fow_close(&newer);
         ngx_log_error(NGX_LOG_ERR, log, 0,
                       "jwt: the keys stay as they were: \"%V\" is refused: %s",
                       &watch->file.name, why);
         return;
     }
 
-    fow_openssl_clear(&watch->validator->crypto);
-    fow_close(&watch->validator->handle);
-    watch->validator->handle = newer;
-
     ngx_log_error(NGX_LOG_NOTICE, log, 0, "jwt: new keys of \"%V\" are taken",
                   &watch->file.name);
+}
 
-    if (fow_most_questions(&watch->validator->handle, &most) == FOW_OK
-        && most > FOW_MOST_QUESTIONS)
-    {
-        ngx_log_error(NGX_LOG_WARN, log, 0,
-                      "jwt: one token can raise %uD questions about public "
-                      "keys of \"%V\": \"max_calls\" in the policy bounds "
-                      "them", most, &watch->file.name);
+
+/* the documents are read for the first, and the others stand beside it */
+
+static uint32_t
+ngx_http_fowharimu_open_newer(ngx_http_fowharimu_watch_t *watch,
+    ngx_str_t *keys, fow_validator *newer, uint32_t *fault)
+{
+    uint32_t                        status;
+    ngx_uint_t                      i;
+    ngx_http_fowharimu_opening_t  **opening;
+
+    opening = watch->openings.elts;
+
+    for (i = 0; i < watch->openings.nelts; i++) {
+
+        status = i ? fow_open_beside(&newer[i], &newer[0])
+                   : fow_open(&newer[0], watch->policy.data, watch->policy.len,
+                              keys->data, keys->len, fault);
+
+        if (status == FOW_OK) {
+            status = fow_remember(&newer[i], opening[i]->tokens,
+                                  opening[i]->octets);
+        }
+
+        if (status != FOW_OK) {
+            return status;
+        }
     }
+
+    return FOW_OK;
+}
+
+
+/* why the new keys aren't taken, or NULL */
+
+static const char *
+ngx_http_fowharimu_refused_keys(ngx_http_fowharimu_watch_t *watch,
+    fow_validator *newer, uint32_t status, uint32_t fault)
+{
+    uint32_t  most;
+
+    if (status == FOW_REFUSED) {
+        return fow_fault_name(fault);
+    }
+
+    if (status != FOW_OK) {
+        return "OutOfMemory";
+    }
+
+    if (!fow_documents_are_public(&newer[0])) {
+        return "a key of kty oct";
+    }
+
+    if (fow_most_questions(&newer[0], &most) != FOW_OK || most > watch->most) {
+        return "one token could raise more questions than \"max_calls\" or "
+               "\"jwt_most_questions\" let it";
+    }
+
+    return NULL;
 }
 
 
