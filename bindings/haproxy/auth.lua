@@ -1,7 +1,8 @@
 -- HAProxy 2.6 asks the endpoint of bindings/nginx/verify.conf: `http-request lua.verify URL`, and then a refusal unless txn.verified is true.
 -- It sends the one header Authorization, and for the log who asks for what. txn.verified is true where 204 is answered, and nothing else makes
 -- it so: no answer in half a second, for which HAProxy asks four times, two headers, another status. txn.status and txn.challenge are for the
--- refusal; txn.user, txn.scope and txn.payload are what an acceptance says. docs/GATEWAYS.md has the configuration.
+-- refusal; txn.user, txn.scope and txn.payload are what an acceptance says, and txn.authorization is the gateway's own token, or "-".
+-- docs/GATEWAYS.md has the configuration.
 core.register_action("verify", { "http-req" }, function(txn, url)
     local function refuse(status, challenge)
         txn:set_var("txn.verified", false)
@@ -24,5 +25,6 @@ core.register_action("verify", { "http-req" }, function(txn, url)
     txn:set_var("txn.user", said("x-user"))
     txn:set_var("txn.scope", said("x-scope"))
     txn:set_var("txn.payload", said("x-jwt-payload"))
+    txn:set_var("txn.authorization", said("authorization"))
     txn:set_var("txn.verified", true)
 end, 1)
