@@ -6,9 +6,9 @@
 
 static void ngx_http_fowharimu_unwatch(void *data);
 static void ngx_http_fowharimu_look(ngx_event_t *event);
-static void ngx_http_fowharimu_look_again(ngx_http_fowharimu_watch_t *watch,
-    ngx_log_t *log);
-static void ngx_http_fowharimu_look_at(ngx_http_fowharimu_watch_t *watch,
+static ngx_uint_t ngx_http_fowharimu_look_again(
+    ngx_http_fowharimu_watch_t *watch, ngx_log_t *log);
+static ngx_uint_t ngx_http_fowharimu_look_at(ngx_http_fowharimu_watch_t *watch,
     ngx_fd_t fd, ngx_log_t *log);
 static void ngx_http_fowharimu_miss(ngx_http_fowharimu_watch_t *watch,
     ngx_err_t err, ngx_log_t *log);
@@ -188,36 +188,55 @@ ngx_http_fowharimu_init_process(ngx_cycle_t *cycle)
 }
 
 
+/*
+ * One file is read at a time: the next one waits until what has come meanwhile
+ * is served.
+ */
+
 static void
 ngx_http_fowharimu_look(ngx_event_t *event)
 {
     ngx_http_fowharimu_watch_t  *watch = event->data;
 
-    ngx_http_fowharimu_look_again(watch, event->log);
+    static ngx_msec_t  read;
+
+    if (read == ngx_current_msec) {
+        ngx_add_timer(event, 1);
+        return;
+    }
+
+    if (ngx_http_fowharimu_look_again(watch, event->log)) {
+        read = ngx_current_msec;
+    }
 
     ngx_add_timer(event, watch->file.interval);
 }
 
 
-static void
+/* whether the file was read */
+
+static ngx_uint_t
 ngx_http_fowharimu_look_again(ngx_http_fowharimu_watch_t *watch, ngx_log_t *log)
 {
-    ngx_fd_t  fd;
+    ngx_fd_t    fd;
+    ngx_uint_t  read;
 
     fd = ngx_open_file(watch->file.name.data,
                        NGX_FILE_RDONLY|NGX_FILE_NONBLOCK, NGX_FILE_OPEN, 0);
 
     if (fd == NGX_INVALID_FILE) {
         ngx_http_fowharimu_miss(watch, ngx_errno, log);
-        return;
+        return 0;
     }
 
-    ngx_http_fowharimu_look_at(watch, fd, log);
+    read = ngx_http_fowharimu_look_at(watch, fd, log);
 
     if (ngx_close_file(fd) == NGX_FILE_ERROR) {
         ngx_log_error(NGX_LOG_ALERT, log, ngx_errno,
                       ngx_close_file_n " \"%V\" failed", &watch->file.name);
     }
+
+    return read;
 }
 
 
@@ -226,7 +245,7 @@ ngx_http_fowharimu_look_again(ngx_http_fowharimu_watch_t *watch, ngx_log_t *log)
  * What memory was refused for is read at the next look.
  */
 
-static void
+static ngx_uint_t
 ngx_http_fowharimu_look_at(ngx_http_fowharimu_watch_t *watch, ngx_fd_t fd,
     ngx_log_t *log)
 {
@@ -237,7 +256,7 @@ ngx_http_fowharimu_look_at(ngx_http_fowharimu_watch_t *watch, ngx_fd_t fd,
 
     if (ngx_fd_info(fd, &fi) == NGX_FILE_ERROR || !ngx_is_file(&fi)) {
         ngx_http_fowharimu_miss(watch, 0, log);
-        return;
+        return 0;
     }
 
     ngx_http_fowharimu_set_stamp(&stamp, &fi);
@@ -246,14 +265,14 @@ ngx_http_fowharimu_look_at(ngx_http_fowharimu_watch_t *watch, ngx_fd_t fd,
         && ngx_memcmp(&stamp, &watch->file.stamp,
                       sizeof(ngx_http_fowharimu_stamp_t)) == 0)
     {
-        return;
+        return 0;
     }
 
     size = ngx_min((size_t) ngx_file_size(&fi), NGX_HTTP_FOWHARIMU_MAX_KEYS + 1);
 
     keys.data = ngx_alloc(size + 1, log);
     if (keys.data == NULL) {
-        return;
+        return 0;
     }
 
     watch->missing = 0;
@@ -267,6 +286,8 @@ ngx_http_fowharimu_look_at(ngx_http_fowharimu_watch_t *watch, ngx_fd_t fd,
     }
 
     ngx_free(keys.data);
+
+    return 1;
 }
 
 
