@@ -10,8 +10,9 @@ const CALLS: u64 = 64;
 
 fn main() -> Result<(), Box<dyn error::Error>> {
     let words: Vec<String> = env::args().skip(1).collect();
-    let [threads, seconds, name] = words.as_slice() else {
-        return Err("usage: rates THREADS SECONDS NAME".into());
+    let (threads, seconds, name) = match words.as_slice() {
+        [threads, seconds, name] => (threads, seconds, name),
+        _ => return Err("usage: rates THREADS SECONDS NAME".into()),
     };
     let policy = fs::read(format!("{name}.policy"))?;
     let validator = Validator::open(&policy, &fs::read(format!("{name}.keys"))?)?;

@@ -205,8 +205,9 @@ impl Seat {
         let place = usize::try_from(number)
             .ok()
             .and_then(|it| it.checked_sub(1));
-        let Some(place) = place else {
-            return Ok(None);
+        let place = match place {
+            Some(place) => place,
+            None => return Ok(None),
         };
         if let Some(name) = CLAIMS.get(place) {
             return Ok(Some((*name).to_owned()));
