@@ -6,7 +6,7 @@
 #   make fuzz SECONDS=               attacks the library for C, each way for so many seconds (Debian: clang, libclang-rt-14-dev)
 #   make node                        builds build/node/fowharimu.node, the addon for Node (Debian: nodejs, libnode-dev)
 #   make java                        builds build/java/fowharimu-VERSION.jar (Debian: openjdk-17-jdk-headless)
-#   make dist                        writes a release into build/dist, of what ./check passed: it needs no kit where it is unpacked
+#   make dist KEY=                   writes a release into build/dist, of what ./check passed: it needs no kit where it is unpacked; signed by that key of gpg
 #   make check-dist                  installs what is in build/dist where there is no kit, and has each caller answer all cases
 #   make deb                         makes a release, and Debian packages of it (Debian: dpkg-dev, debhelper, lintian, nginx-dev)
 #   make nginx                       builds build/nginx/ngx_http_fowharimu_module.so (Debian: nginx-dev)
@@ -139,7 +139,7 @@ $(BUILD)/java/fowharimu-$(VERSION).jar: $(shell find bindings/java -type f) incl
 java: $(BUILD)/java/fowharimu-$(VERSION).jar
 
 dist: all
-	packaging/release/dist $(BUILD)/dist
+	KEY='$(KEY)' packaging/release/dist $(BUILD)/dist
 
 check-dist:
 	packaging/release/check $(BUILD)/dist
