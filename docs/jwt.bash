@@ -17,9 +17,13 @@ _jwt() {
         issue:--typ | mac:--k | mac:--limit | show:--limit | show:--now | verify:--now | jwk:--kid) ;;
         mac:*) choices="--k --key-file --limit" ;;
         keys:*) choices="--json" ;;
-        show:*) choices="--limit --json --pretty --now" ;;
+        show:*)
+            choices="--limit --json --pretty --now"
+            mapfile -t COMPREPLY < <(compgen -W "$choices" -- "$word"; compgen -f -- "$word")
+            return
+            ;;
         policy:*) choices="--policy --keys --json" ;;
-        verify:*) choices="--now --public-keys --lines --json --policy --keys --access --token" ;;
+        verify:*) choices="--now --public-keys --lines --json --policy --keys --access --token --trim" ;;
         issue:*) choices="--alg --typ --form --keys" ;;
         jwk:*) choices="--file --der --alg --kid --kid-thumbprint --bare --new --json" ;;
         esac

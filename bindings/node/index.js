@@ -1,6 +1,7 @@
 'use strict';
 /** Validates JSON Web Tokens (RFC 7519) by a library that is proved correct, public-key signatures too. index.d.ts says what each call does. */
 
+const meanings = require('./meanings.js');
 const { isPlain, ofKind, own } = require('./options.js');
 
 const OK = 0, REFUSED = 1, OUT_OF_MEMORY = 3;
@@ -78,16 +79,21 @@ function compareLibrary() {
   throw new AnotherLibrary(`the library ${version} has interface ${loaded}, and this package was made for ${madeFor}`, { madeFor, loaded, version });
 }
 
+/** The name of a fault, and what it means; behind it whose name it speaks of, where it speaks of one. */
+function told(fault, meaning, name) {
+  return `${fault}${meaning === undefined ? '' : ` (${meaning})`}${name === undefined ? '' : `: ${JSON.stringify(name)}`}`;
+}
+
 function documentRefused(number, policy) {
   const fault = native.faultName(number);
-  if (Math.trunc(number / 100) === 2) return new KeysRefused(`the key set is refused: ${fault}`, { fault });
+  if (Math.trunc(number / 100) === 2) return new KeysRefused(`the key set is refused: ${told(fault, meanings.keys[fault])}`, { fault });
   const member = native.refusedMember(policy);
-  return new PolicyRefused(`the policy is refused: ${fault}${member === undefined ? '' : ` ${JSON.stringify(member)}`}`, { fault, member });
+  return new PolicyRefused(`the policy is refused: ${told(fault, meanings.policy[fault], member)}`, { fault, member });
 }
 
 function accessRefused(number, rule) {
   const fault = native.faultName(number), member = native.refusedInAccess(rule);
-  return new AccessRefused(`the access rule is refused: ${fault}${member === undefined ? '' : ` ${JSON.stringify(member)}`}`, { fault, member });
+  return new AccessRefused(`the access rule is refused: ${told(fault, meanings.access[fault], member)}`, { fault, member });
 }
 
 /** A moment as the library takes it: it is never wrapped or rounded. */
@@ -227,7 +233,7 @@ class Validator {
     // (what is neither issued nor refused is a `typ` that is no text in UTF-8)
     if (status !== REFUSED) throw new RangeError('typ has to be a text without lone surrogates');
     const name = native.faultName(fault);
-    throw new IssueRefused(`nothing is issued: ${name}`, { fault: name, signature, claim: CLAIMS[claim] });
+    throw new IssueRefused(`nothing is issued: ${told(name, meanings.issue[name] ?? meanings.token[name])}`, { fault: name, signature, claim: CLAIMS[claim] });
   }
 
   close() {
@@ -252,14 +258,14 @@ class Validator {
     if (number === NO_FAULT) return null;
     const fault = native.faultName(number), name = native.deniedName(this.#held, held), isScope = number === SCOPE_MISSING;
     const members = { fault, scope: isScope ? name : undefined, claim: isScope ? undefined : name, scopes };
-    return new Denied(`the token is denied: ${fault}, ${isScope ? 'scope' : 'claim'} ${JSON.stringify(name)}`, members);
+    return new Denied(`the token is denied: ${told(fault, meanings.denied[fault], name)}`, members);
   }
 
   #refusal(verdict) {
     if (verdict === OUT_OF_MEMORY) throw new Error('an allocation was refused');
     if (verdict !== REFUSED) throw new Closed('the validator is closed');
     const [, number, part, signature, key, claim] = this.#report;
-    const fault = native.faultName(number), said = `the token is refused: ${fault}`;
+    const fault = native.faultName(number), said = `the token is refused: ${told(fault, meanings.token[fault])}`;
     switch (Math.trunc(number / 100)) {
       case 3: return new TooLong(said, { fault });
       case 4: return new FormRefused(said, { fault, part: PARTS[part], signature });
@@ -270,7 +276,7 @@ class Validator {
   }
 
   #claimsRefused(said, fault, claim) {
-    return new ClaimsRefused(claim === undefined ? said : `${said}, claim ${JSON.stringify(claim)}`, { fault, claim });
+    return new ClaimsRefused(claim === undefined ? said : `${said}: ${JSON.stringify(claim)}`, { fault, claim });
   }
 
   #states() {

@@ -1,10 +1,11 @@
 'use strict';
 /** Several issuers, each with a policy and keys of its own. issuers.d.ts says what each call does. */
 
+const meanings = require('./meanings.js');
 const { Validator, ClaimsRefused } = require('./index.js');
 const { RemoteKeys } = require('./remote.js');
 
-const refused = () => new ClaimsRefused('the token is refused: Issuer', { fault: 'Issuer', claim: undefined });
+const refused = () => new ClaimsRefused(`the token is refused: Issuer (${meanings.token.Issuer})`, { fault: 'Issuer', claim: undefined });
 
 /** By the limit, and then by the issuer's octets. */
 function compare([issuer, one], [other, another]) {

@@ -9,6 +9,7 @@ const path = require('node:path');
 const test = require('node:test');
 const { Worker, isMainThread, workerData, parentPort } = require('node:worker_threads');
 const fow = require('..');
+const meanings = require('../meanings.js');
 
 const TOP = process.env.FOWHARIMU_TOP ?? path.resolve(__dirname, '../../..');
 const NOW = 1300819379;
@@ -416,15 +417,15 @@ function testGranted() {
 function testDenied() {
   const validator = validatorOf(HMAC), token = tokenOf(HMAC), long = `/${'a'.repeat(5000)}`;
   const scope = undefined, claim = undefined, scopes = [], message = 'the token is denied: ';
-  for (const [rule, said, words] of [
-    [{ scopes: ['read', 'write'], claims: { iss: ['ann'] } }, { fault: 'ScopeMissing', scope: 'read', claim, scopes: ['read', 'write'] }, 'scope "read"'],
-    [{ scopes: ['joe', 'write'], scope_claim: 'iss' }, { fault: 'ScopeMissing', scope: 'write', claim, scopes: ['joe', 'write'] }, 'scope "write"'],
-    [{ claims: { iss: ['ann'], sub: ['x'] } }, { fault: 'ClaimNotAllowed', scope, claim: 'iss', scopes }, 'claim "iss"'],
-    [{ claims: { '': ['x'] } }, { fault: 'ClaimMissing', scope, claim: '', scopes }, 'claim ""'],
-    [{ claims: { röle: ['x'] } }, { fault: 'ClaimMissing', scope, claim: 'röle', scopes }, 'claim "röle"'],
-    [{ claims: { [long]: [1] } }, { fault: 'ClaimMissing', scope, claim: long, scopes }, `claim "${long}"`],
+  for (const [rule, said, meaning, name] of [
+    [{ scopes: ['read', 'write'], claims: { iss: ['ann'] } }, { fault: 'ScopeMissing', scope: 'read', claim, scopes: ['read', 'write'] }, "this scope isn't granted", 'read'],
+    [{ scopes: ['joe', 'write'], scope_claim: 'iss' }, { fault: 'ScopeMissing', scope: 'write', claim, scopes: ['joe', 'write'] }, "this scope isn't granted", 'write'],
+    [{ claims: { iss: ['ann'], sub: ['x'] } }, { fault: 'ClaimNotAllowed', scope, claim: 'iss', scopes }, 'this claim has no value that is allowed', 'iss'],
+    [{ claims: { '': ['x'] } }, { fault: 'ClaimMissing', scope, claim: '', scopes }, 'this claim is absent', ''],
+    [{ claims: { röle: ['x'] } }, { fault: 'ClaimMissing', scope, claim: 'röle', scopes }, 'this claim is absent', 'röle'],
+    [{ claims: { [long]: [1] } }, { fault: 'ClaimMissing', scope, claim: long, scopes }, 'this claim is absent', long],
   ]) {
-    const how = { access: new fow.Access(rule), now: NOW }, error = { name: 'Denied', message: `${message}${said.fault}, ${words}`, ...said };
+    const how = { access: new fow.Access(rule), now: NOW }, error = { name: 'Denied', message: `${message}${said.fault} (${meaning}): "${name}"`, ...said };
     for (const call of ['validate', 'validateText']) assert.throws(() => validator[call](token, how), error);
     assert.deepStrictEqual(how.access.scopes, said.scopes);
   }
@@ -436,7 +437,9 @@ function testDenialIsNoRefusal() {
   const validator = validatorOf(HMAC), token = tokenOf(HMAC);
   const [denies, grants] = [{ scopes: ['read'] }, {}].map((it) => new fow.Access(it));
   for (const access of [denies, grants]) {
-    assert.throws(() => validator.validate(token, { access, now: NOW + 3600 }), { name: 'ClaimsRefused', fault: 'Expired' });
+    assert.throws(() => validator.validate(token, { access, now: NOW + 3600 }), {
+      name: 'ClaimsRefused', fault: 'Expired', message: 'the token is refused: Expired (the moment is at or after `exp` and the leeway)',
+    });
     assert.throws(() => validator.validate(changed(token), { access, now: NOW }), fow.SignatureRefused);
   }
   assert.throws(() => validator.validate(token, { access: denies, now: NOW }), fow.Denied);
@@ -463,7 +466,7 @@ function testRefusedRules() {
     [{ claims: { '/~2': [1] } }, 'ClaimRange', '/~2'],
     [' '.repeat(65537), 'TooLong'],
   ]) {
-    const message = `the access rule is refused: ${fault}${member === undefined ? '' : ` "${member}"`}`;
+    const message = `the access rule is refused: ${fault} (${meanings.access[fault]})${member === undefined ? '' : `: "${member}"`}`;
     assert.throws(() => new fow.Access(rule), { name: 'AccessRefused', message, fault, member });
   }
 }

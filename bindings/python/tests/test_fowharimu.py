@@ -140,7 +140,7 @@ class Rules(unittest.TestCase):
         denial = self.denial({"scopes": ["read", "write"], "claims": {"iss": ["ann"]}})
         self.assertEqual(denial.args, ("ScopeMissing", "read", None, ("read", "write")))
         self.assertEqual((denial.fault, denial.scope, denial.claim, denial.scopes), denial.args)
-        self.assertEqual(str(denial), "the token is denied: ScopeMissing 'read'")
+        self.assertEqual(str(denial), "the token is denied: ScopeMissing (this scope isn't granted): 'read'")
         self.assertEqual(self.denial({"claims": {"iss": ["ann"], "sub": ["x"]}}).args, ("ClaimNotAllowed", None, "iss", ()))
         self.assertEqual(self.denial({"claims": {"": ["x"]}}).args, ("ClaimMissing", None, "", ()))
         long = "/" + "a" * 5000
@@ -261,6 +261,7 @@ class Tokens(unittest.TestCase):
         with validator_of(HMAC) as validator, self.assertRaises(ClaimsRefused) as caught:
             validator.validate(token_of(HMAC))
         self.assertEqual(caught.exception.fault, "Expired")
+        self.assertEqual(str(caught.exception), "the token is refused: Expired (the moment is at or after `exp` and the leeway)")
 
     def test_a_report_has_each_try(self) -> None:
         with validator_of(HMAC) as validator:

@@ -43,9 +43,13 @@ policy_advises _ policy = false
 abbrev pub lacks_key : List Alg → List Meaning → List KeyParts → Bool
 lacks_key algs verifiers keys = list_any (λ algorithm. key_count verifiers keys algorithm == 0) algs
 
+-- two keys can verify one of the algorithms
+abbrev pub shares_alg : List Alg → List Meaning → List KeyParts → Bool
+shares_alg algs verifiers keys = list_any (λ algorithm. nat_lt 1 (key_count verifiers keys algorithm)) algs
+
 abbrev pub set_advises : Advice → Settings → List Meaning → List KeyParts → Bool
 set_advises AlgWithoutKey policy verifiers keys = lacks_key policy.run.algs verifiers keys
-set_advises NoKid policy verifiers keys = nat_lt 1 (length keys) && not policy.header.need_kid
+set_advises NoKid policy verifiers keys = shares_alg policy.run.algs verifiers keys && not policy.header.need_kid
 set_advises LowWork policy verifiers keys = nat_lt policy.run.work (greatest_cost Work policy verifiers keys)
 set_advises LowCalls policy verifiers keys = some_passes (λ ceiling. nat_lt ceiling (greatest_cost Calls policy verifiers keys)) policy.max_calls
 set_advises ManyCalls policy verifiers keys = option_map_or (λ ceiling. nat_lt 32 ceiling) policy.max_calls true && nat_lt 32 (greatest_cost Calls policy verifiers keys)

@@ -1,6 +1,6 @@
 //! The advice on a policy and its keys.
 
-ghost use Rattle.std.specs.Prelude.{◌≡◌, ◌==◌, false, IfOk, filter, map, not, slice_get};
+ghost use Rattle.std.specs.Prelude.{◌≡◌, ◌==◌, false, IfOk, filter, map, nat_lt, not, slice_get};
 ghost use Rattle.std.specs.List.{list_any};
 ghost use Rattle.std.specs.Option.{option_map_or};
 ghost use Rattle.jwt_mac.specs.Algorithm.{is_hmac_alg};
@@ -8,7 +8,7 @@ ghost use Rattle.jwt_keys.specs.KeySets.{key_set};
 ghost use Rattle.jwt_keys.specs.Numbers.{numbers};
 ghost use Rattle.jwt_keys.specs.Views.{key_parts};
 ghost use Rattle.jwt_advice.specs.Uses.{key_count};
-ghost use Rattle.jwt_advice.specs.Advised.{policy_advises, mixes, set_advises, lacks_key, concerns, is_twice, stands_twice, advises, every_advice, advice_name};
+ghost use Rattle.jwt_advice.specs.Advised.{policy_advises, mixes, set_advises, lacks_key, shares_alg, concerns, is_twice, stands_twice, advises, every_advice, advice_name};
 
 use crate::costs::{Cost, most};
 use crate::rsa_keys::is_refused_rsa;
@@ -200,7 +200,7 @@ pub(crate) fn set_advises(
 {
     match advice {
         Advice::AlgWithoutKey => lacks_key(policy.algs(), keys, verifiers),
-        Advice::NoKid => keys.len() > 1 && !policy.need_kid(),
+        Advice::NoKid => !policy.need_kid() && shares_alg(policy.algs(), keys, verifiers),
         Advice::LowWork => policy.work() < most(Cost::Work, policy, keys, verifiers),
         Advice::LowCalls => match policy.max_calls() {
             Some(ceiling) => u64::from(ceiling) < most(Cost::Calls, policy, keys, verifiers),
@@ -229,6 +229,28 @@ fn lacks_key(algs: &[Alg], keys: &KeySet, verifiers: &[Box<dyn Verifier>]) -> bo
         }
     }
     false
+}
+
+/// Whether one of the algorithms is one that two keys can verify.
+#[tactic(auto, using(std::proofs::lemmas::List::at_drop_more, std::proofs::lemmas::List::at_drop_all))]
+fn shares_alg(algs: &[Alg], keys: &KeySet, verifiers: &[Box<dyn Verifier>]) -> bool
+    ensures { result
+        ≡ shares_alg algs.now (map meaning verifiers.now) (key_set keys.now).keys }
+{
+    for alg in algs {
+        if has_two_keys(*alg, keys, verifiers) {
+            return true;
+        }
+    }
+    false
+}
+
+/// Whether two keys can verify signatures by the algorithm.
+fn has_two_keys(alg: Alg, keys: &KeySet, verifiers: &[Box<dyn Verifier>]) -> bool
+    ensures { result
+        ≡ nat_lt 1 (key_count (map meaning verifiers.now) (key_set keys.now).keys alg) }
+{
+    key_count(verifiers, keys, alg) > 1
 }
 
 /// Whether no key can verify signatures by the algorithm.

@@ -220,7 +220,7 @@ struct Advised {
     prints: &'static [&'static str],
 }
 
-static ADVISED: [Advised; 18] = [
+static ADVISED: [Advised; 19] = [
     Advised {
         policy: r#"{"algs":["HS256"],"typ":"JWT","issuers":["ann"],"audiences":["api"],"required":["exp"],"max_signatures":1}"#,
         keys: r#"{"keys":[{"kty":"oct","k":"<KEY_A>"}]}"#,
@@ -310,6 +310,16 @@ static ADVISED: [Advised; 18] = [
             "cost work=16704 calls=2",
             "ceilings work=1048576 max_calls=-",
             "advice NoKid",
+        ],
+    },
+    Advised {
+        policy: r#"{"algs":["HS256","HS512"],"typ":"JWT","issuers":["ann"],"audiences":["api"],"required":["exp"],"max_signatures":1}"#,
+        keys: r#"{"keys":[{"kty":"oct","alg":"HS256","k":"<KEY_A>"},{"kty":"oct","alg":"HS512","k":"QLJEESZB3XjdT5O2yRkN1G4AmRlNWkQle3761u-f9Gg9oe2gJERIyzQ6poj10-_XMU2v5YCsC8vxFa7Kno3BFA"}]}"#,
+        prints: &[
+            "alg HS256 keys=1",
+            "alg HS512 keys=1",
+            "cost work=8384 calls=1",
+            "ceilings work=1048576 max_calls=-",
         ],
     },
     Advised {

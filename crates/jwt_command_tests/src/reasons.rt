@@ -1,5 +1,7 @@
 //! The reasons on standard error why a document is refused.
-use jwt_reasons::{access_reason, keys_reason, policy_reason, token_reason};
+use jwt_reasons::{
+    access_reason, around_token, keys_reason, policy_reason, token_reason, token_sentences,
+};
 use std::alloc::Global;
 use std::process::Abort;
 use std::test::Fail;
@@ -47,7 +49,7 @@ static POLICIES: [(&str, &str); 12] = [
     ),
 ];
 
-static KEY_SETS: [(&str, &str); 6] = [
+static KEY_SETS: [(&str, &str); 7] = [
     (r#"{"keys":[]}"#, ""),
     (r#"{"keys":7}"#, r#"it is no object with a list "keys""#),
     (
@@ -63,6 +65,84 @@ static KEY_SETS: [(&str, &str); 6] = [
         "line 1, column 10: no JSON text goes on so",
     ),
     ("{\"keys\":[}", "line 1, column 10: no JSON text goes on so"),
+    (
+        "-----BEGIN PUBLIC KEY-----\n",
+        "it is PEM: jwt jwk --file FILE makes a key set of it",
+    ),
+];
+
+/// Texts that are no JSON, and the column, in their one line, at which they can't be, or aren't read as, JSON.
+static PLACES: [(&str, &str); 17] = [
+    (r#"{"keys":[]},"#, "12: no JSON text goes on so"),
+    (r#"{"keys":[]} {"#, "13: no JSON text goes on so"),
+    (r#"{{"keys":[]}"#, "2: no JSON text goes on so"),
+    ("{1", "2: no JSON text goes on so"),
+    ("{\"keys\":[}\n", "10: no JSON text goes on so"),
+    (r#"{"a" 1}"#, "6: no JSON text goes on so"),
+    (r#"{"a","b"}"#, "5: no JSON text goes on so"),
+    (r#"{"a":}"#, "6: no JSON text goes on so"),
+    (r#"{"a":"b":1}"#, "9: no JSON text goes on so"),
+    (r#"["a":1]"#, "5: no JSON text goes on so"),
+    ("[1,]", "4: no JSON text goes on so"),
+    ("[1 2]", "4: no JSON text goes on so"),
+    (r#"{"a":1,}"#, "8: no JSON text goes on so"),
+    (r#"{"a":[1}"#, "8: no JSON text goes on so"),
+    (r#"{"a""#, "5: no JSON text goes on so"),
+    (r#"{"a":1e400}"#, "6: no float of 64 bits has this number"),
+    (r#"{"a":-1e400}"#, "6: no float of 64 bits has this number"),
+];
+
+/// Octets that aren't UTF-8, and the first place at which they aren't, or can't be JSON.
+static OCTETS: [(&[u8], &str); 4] = [
+    (b"{\"a\":1,\"\xff\":", "line 1, column 9: it isn't UTF-8"),
+    (
+        b"{\"a\" 1,\"\xff\":",
+        "line 1, column 6: no JSON text goes on so",
+    ),
+    (b"{\"\xff\" 1", "line 1, column 3: it isn't UTF-8"),
+    (b"\xff", "line 1, column 1: it isn't UTF-8"),
+];
+
+/// Answers, and the beginning of what is said of the token; an empty one where nothing is.
+static ANSWERS: [(&str, &str); 9] = [
+    (
+        "refused Expired tries=1 work=295\n",
+        "the moment is at or after",
+    ),
+    (
+        "refused Base64 part=signature sig=0 tries=0 work=0\n",
+        "a text is no base64url",
+    ),
+    (
+        r#"{"verdict":"refused","fault":"NoKey","signatures":[]}"#,
+        "no key of the set",
+    ),
+    (
+        "denied ScopeMissing scope=\"a\" sig=0\n",
+        "this scope isn't granted",
+    ),
+    (
+        r#"{"verdict":"denied","denial":"ClaimMissing","claim":"a"}"#,
+        "this claim is absent",
+    ),
+    (
+        "refused ClaimMissing claim=\"a\"\n",
+        "a claim that the policy asks for",
+    ),
+    ("accepted sig=0 key=0 tries=1 work=295\n", ""),
+    ("refused Policy Json\n", ""),
+    (
+        r#"{"verdict":"refused","document":"keys","fault":"Json"}"#,
+        "",
+    ),
+];
+
+/// Tokens, and the beginning of what is said of what stands around them; an empty one where nothing is.
+static AROUND: [(&str, &str); 4] = [
+    ("e30.e30.", ""),
+    ("e30.e30.\n", "it ends in a line feed"),
+    ("Bearer e30.e30.", "`Bearer ` stands in front"),
+    ("", ""),
 ];
 
 static RULES: [(&str, &str); 3] = [
@@ -154,6 +234,44 @@ fn a_refused_document_has_its_reason(rt: HostRuntime) -> Result<(), Fail> {
     assert_reasons(&rt, rt.alloc(), "keys", &KEY_SETS)?;
     assert_reasons(&rt, rt.alloc(), "access", &RULES)?;
     assert_reasons(&rt, rt.alloc(), "token", &TOKENS)
+}
+
+/// The place is that of the first octet at which no JSON text goes on so, of a text or a number its begin, and what is nested too deeply or too
+/// great for a float is told as that.
+#[test]
+fn a_place_is_the_first_that_is_no_json(rt: HostRuntime) -> Result<(), Fail> {
+    for &(text, wanted) in &PLACES {
+        let found = reason(rt.alloc(), "policy", text)?;
+        let wanted = format!(in rt.alloc(); "line 1, column {wanted}")?;
+        assert_eq!(rt; found.as_str(), wanted.as_str(), "at {text}");
+    }
+    for &(octets, wanted) in &OCTETS {
+        let Some(found) = keys_reason(rt.alloc(), octets)? else {
+            return Err(Fail::new("it isn't refused"));
+        };
+        assert_eq!(rt; found.text(rt.alloc())?.as_str(), wanted);
+    }
+    Ok(())
+}
+
+/// A token that is refused or denied is told with what that means and what to do, and with what stands around it.
+#[test]
+fn a_refused_token_is_told_with_what_to_do(rt: HostRuntime) -> Result<(), Fail> {
+    for &(answer, wanted) in &ANSWERS {
+        let found = token_sentences(answer.as_bytes()).unwrap_or("");
+        assert!(rt;
+            found.starts_with(wanted) && found.is_empty() == wanted.is_empty(),
+            "at {answer}"
+        );
+    }
+    for &(token, wanted) in &AROUND {
+        let found = around_token(token.as_bytes()).unwrap_or("");
+        assert!(rt;
+            found.starts_with(wanted) && found.is_empty() == wanted.is_empty(),
+            "at {token}"
+        );
+    }
+    Ok(())
 }
 
 /// As a JSON object a reason has the document, and its line and its column where it is about a place.

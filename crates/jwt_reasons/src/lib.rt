@@ -5,12 +5,15 @@
 //! proved. No octet of a key set or of a token is in one.
 #![tactic(auto)]
 
+mod answers;
 mod members;
 mod place;
 mod reason;
 mod reasons;
 mod scan;
+mod sentences;
 
+pub use answers::{around_token, token_sentences};
 pub use members::member_words;
 pub use place::{Position, place_behind};
 pub use reason::Reason;

@@ -37,7 +37,7 @@ fn at(
 /// Where a text can't be JSON, or that it is no object.
 fn of_json(alloc: Global, octets: &[u8]) -> Result<Reason, AllocError> {
     match json_fault(alloc, octets)? {
-        Some(offset) => at(alloc, octets, Some(offset), "no JSON text goes on so"),
+        Some(fault) => at(alloc, octets, Some(fault.offset), fault.words),
         None => bare(alloc, "it is no JSON object"),
     }
 }
@@ -94,6 +94,10 @@ pub fn keys_reason(alloc: Global, document: &[u8]) -> Result<Option<Reason>, All
     let reason = match KeySet::read(alloc, document) {
         Ok(_) => return Ok(None),
         Err(KeysFault::OutOfMemory) => return Err(AllocError),
+        Err(KeysFault::Json) if document.starts_with(b"-----BEGIN") => bare(
+            alloc,
+            "it is PEM: jwt jwk --file FILE makes a key set of it",
+        )?,
         Err(KeysFault::Json) => of_json(alloc, document)?,
         Err(KeysFault::NameTwice) => of_doubled(alloc, document)?,
         Err(KeysFault::NotKeySet) => bare(alloc, "it is no object with a list \"keys\"")?,

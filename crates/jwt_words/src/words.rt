@@ -125,7 +125,7 @@ fn now_option<'a>(alloc: Global, has_clock: bool) -> Arg<'a>
         alloc,
         "now",
         "N",
-        "The moment, in seconds since 1970-01-01T00:00:00Z; where it is left out, the clock's",
+        "The moment, in seconds since 1970-01-01T00:00:00Z, or as a date, 2026-01-31T12:00:00Z; where it is left out, the clock's",
     )
     .value_parser(ValueParser::unsigned(0, LAST))
     .required(!has_clock)
@@ -216,7 +216,9 @@ fn show_plain<'a>(alloc: Global) -> Result<Command<'a>, AllocError>
     ensures local { IfOk result (λ c. (fields_of c).has_globals ≡ false) }
 {
     Command::new(alloc, "show")
-        .about("Shows a token without verifying it; standard input holds it")
+        .about(
+            "Shows a token without verifying it; standard input holds it, or the file that is named",
+        )
         .arg(limit_option(alloc))?
         .arg(json_option(alloc))
 }
@@ -251,7 +253,8 @@ fn verify_on_files<'a>(alloc: Global, has_clock: bool) -> Result<Command<'a>, Al
     ensures local { IfOk result (λ c. (fields_of c).has_globals ≡ false) }
 {
     let policy = "The file of the policy, which standard input then lacks";
-    let token = "The file of the token, which standard input then lacks";
+    let token =
+        "The file of the token, of which one final line feed is dropped; - is standard input, and so is --trim";
     verify_on_input(alloc, has_clock)?
         .arg(option(alloc, "policy", "FILE", policy))?
         .arg(keys_option(alloc))?

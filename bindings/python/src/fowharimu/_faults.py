@@ -6,7 +6,15 @@ pickled as any other.
 
 from __future__ import annotations
 
-from typing import Optional, Tuple
+from typing import Mapping, Optional, Tuple
+
+from . import _meanings
+
+
+def _named(fault: str, meanings: Mapping[str, str]) -> str:
+    """The name of a fault, and what it means, where that is told."""
+    meaning = meanings.get(fault)
+    return fault if meaning is None else f"{fault} ({meaning})"
 
 
 class FowharimuError(Exception):
@@ -59,7 +67,7 @@ class PolicyRefused(FowharimuError):
         self.member = member
 
     def __str__(self) -> str:
-        return f"the policy is refused: {self.fault}" + (f" {self.member!r}" if self.member is not None else "")
+        return f"the policy is refused: {_named(self.fault, _meanings.POLICY)}" + (f": {self.member!r}" if self.member is not None else "")
 
 
 class KeysRefused(FowharimuError):
@@ -70,7 +78,7 @@ class KeysRefused(FowharimuError):
         self.fault = fault
 
     def __str__(self) -> str:
-        return f"the key set is refused: {self.fault}"
+        return f"the key set is refused: {_named(self.fault, _meanings.KEYS)}"
 
 
 class AccessRefused(FowharimuError):
@@ -83,7 +91,7 @@ class AccessRefused(FowharimuError):
         self.member = member
 
     def __str__(self) -> str:
-        return f"the access rule is refused: {self.fault}" + (f" {self.member!r}" if self.member is not None else "")
+        return f"the access rule is refused: {_named(self.fault, _meanings.ACCESS)}" + (f": {self.member!r}" if self.member is not None else "")
 
 
 class Denied(FowharimuError):
@@ -102,7 +110,7 @@ class Denied(FowharimuError):
 
     def __str__(self) -> str:
         name = self.claim if self.scope is None else self.scope
-        return f"the token is denied: {self.fault} {name!r}"
+        return f"the token is denied: {_named(self.fault, _meanings.DENIED)}: {name!r}"
 
 
 class TokenRefused(FowharimuError):
@@ -113,7 +121,7 @@ class TokenRefused(FowharimuError):
         self.fault = fault
 
     def __str__(self) -> str:
-        return f"the token is refused: {self.fault}"
+        return f"the token is refused: {_named(self.fault, _meanings.TOKEN)}"
 
 
 class TooLong(TokenRefused):
@@ -154,7 +162,7 @@ class ClaimsRefused(TokenRefused):
         self.claim = claim
 
     def __str__(self) -> str:
-        return super().__str__() + (f", claim {self.claim!r}" if self.claim is not None else "")
+        return super().__str__() + (f": {self.claim!r}" if self.claim is not None else "")
 
 
 class Undecided(TokenRefused):
@@ -185,4 +193,4 @@ class IssueRefused(FowharimuError):
         self.signature = signature
 
     def __str__(self) -> str:
-        return f"nothing is issued: {self.fault}"
+        return f"nothing is issued: {_named(self.fault, {**_meanings.TOKEN, **_meanings.ISSUE})}"

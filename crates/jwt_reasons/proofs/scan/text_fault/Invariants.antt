@@ -1,5 +1,5 @@
 use Rattle.std.proofs.Common.{length}
-use Rattle.jwt_reasons.proofs.scan.behind_wrong_bracket.Given as goal
+use Rattle.jwt_reasons.proofs.scan.text_fault.Given as goal
 
 abbrev pub invariant-tokens : goal.invariant-tokens
 invariant-tokens l = Unit {0}
