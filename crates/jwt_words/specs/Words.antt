@@ -166,8 +166,12 @@ jwk_app = with_rule (with_rule jwk_of_keys secret_rule) json_rule
 abbrev pub top_app : App
 top_app = record (new_app (codes "jwt")) { top = record (new_app (codes "jwt")).top { subcommand_required = true } }
 
+-- the command line with the subcommands that take a token, and with all
+abbrev pub token_apps : Bool → App
+token_apps has_clock = with_subcommand (with_subcommand (with_subcommand (with_subcommand top_app mac_app.top) keys_app.top) show_app.top) (verify_app has_clock).top
+
 abbrev pub jwt_app : Bool → App
-jwt_app has_clock = with_subcommand (with_subcommand (with_subcommand (with_subcommand (with_subcommand (with_subcommand (with_subcommand top_app mac_app.top) keys_app.top) show_app.top) (verify_app has_clock).top) issue_app.top) jwk_app.top) policy_app.top
+jwt_app has_clock = with_subcommand (with_subcommand (with_subcommand (token_apps has_clock) issue_app.top) jwk_app.top) policy_app.top
 
 -- ---- what the words ask for
 

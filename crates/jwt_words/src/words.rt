@@ -4,7 +4,7 @@ ghost use Rattle.clap.specs.Words.{app_of, found_of, new_rule, one_of, rows_of, 
 ghost use Rattle.clap.specs.declared.builder.action.ArgAction.TheVariants.{SetTrue};
 ghost use Rattle.clap.specs.declared.builder.command.Command.TheViews.{out-Command as fields_of};
 ghost use Rattle.clap.specs.declared.builder.ValueParser.TheVariants.{Unsigned};
-ghost use Rattle.jwt_words.specs.Words.{HasLimits, alg_in, alg_rule, asks_version, clap_request, files_in, files_in_order, files_in_request, flag, form_in, form_named, form_rule, is_named, is_set, issue_app, issue_order, json_rule, jwk_request, jwt_app, keyed, keys_app, keys_file_in, keys_rule, limit_rule, lines_order, mac_app, mac_order, moment_in, named_moment, no_files, now_range, now_rule, number_in, octets_asked, option, order_in, printing_in, public_keys_rule, request_in, request_of, show_app, show_order, show_plain, top_app, verify_app, verify_on_files, verify_on_input, verify_order, verify_with_access};
+ghost use Rattle.jwt_words.specs.Words.{HasLimits, alg_in, alg_rule, asks_version, clap_request, files_in, files_in_order, files_in_request, flag, form_in, form_named, form_rule, is_named, is_set, issue_app, issue_order, json_rule, jwk_request, jwt_app, keyed, keys_app, keys_file_in, keys_rule, limit_rule, lines_order, mac_app, mac_order, moment_in, named_moment, no_files, now_range, now_rule, number_in, octets_asked, option, order_in, printing_in, public_keys_rule, request_in, request_of, show_app, show_order, show_plain, token_apps, top_app, verify_app, verify_on_files, verify_on_input, verify_order, verify_with_access};
 ghost use Rattle.jwt_words.specs.Examples.{Examples};
 ghost use Rattle.jwt_words.specs.Seen.{IsWrong, files_view, HasRange, lines_view, requested, seconds_of, seen};
 
@@ -306,15 +306,22 @@ fn without_subcommands<'a>(alloc: Global) -> Command<'a>
         .subcommand_required(true)
 }
 
-/// The command line of the program, where there is a clock or none.
-pub fn command<'a>(alloc: Global, has_clock: bool) -> Result<Command<'a>, AllocError>
-    ensures { IfOk result (λ c. app_of c ≡ jwt_app has_clock) }
+/// The command line with the subcommands that take a token or a key set.
+fn with_token_commands<'a>(alloc: Global, has_clock: bool) -> Result<Command<'a>, AllocError>
+    ensures { IfOk result (λ c. app_of c ≡ token_apps has_clock) }
 {
     without_subcommands(alloc)
         .subcommand(mac_command(alloc)?)?
         .subcommand(keys_command(alloc)?)?
         .subcommand(show_command(alloc)?)?
-        .subcommand(verify_command(alloc, has_clock)?)?
+        .subcommand(verify_command(alloc, has_clock)?)
+}
+
+/// The command line of the program, where there is a clock or none.
+pub fn command<'a>(alloc: Global, has_clock: bool) -> Result<Command<'a>, AllocError>
+    ensures { IfOk result (λ c. app_of c ≡ jwt_app has_clock) }
+{
+    with_token_commands(alloc, has_clock)?
         .subcommand(issue_command(alloc)?)?
         .subcommand(jwk_command(alloc)?)?
         .subcommand(policy_command(alloc)?)

@@ -10,12 +10,8 @@ more a s = with_subcommand a s.top
 
 pub returns : goal.returns
 returns c =
-    let top = c.without_subcommands.ensures in
-    let one = c.in_ok-subcommand.ensures.shape c.in_ok-mac_command.ensures.local ∙ ap₂ more top c.in_ok-mac_command.ensures.shape in
-    let two = c.in_ok-subcommand-2.ensures.shape c.in_ok-keys_command.ensures.local ∙ ap₂ more one c.in_ok-keys_command.ensures.shape in
-    let three = c.in_ok-subcommand-3.ensures.shape c.in_ok-show_command.ensures.local ∙ ap₂ more two c.in_ok-show_command.ensures.shape in
-    let four = c.in_ok-subcommand-4.ensures.shape c.in_ok-verify_command.ensures.local ∙ ap₂ more three c.in_ok-verify_command.ensures.shape in
-    let five = c.in_ok-subcommand-5.ensures.shape c.in_ok-issue_command.ensures.local ∙ ap₂ more four c.in_ok-issue_command.ensures.shape in
-    let six = c.in_ok-subcommand-6.ensures.shape c.in_ok-jwk_command.ensures.local ∙ ap₂ more five c.in_ok-jwk_command.ensures.shape in
-    IfOk-weaker c.subcommand-7.result _ (λ r. app_of r ≡ jwt_app c.args.has_clock)
-    (λ r adds. adds.shape c.in_ok-policy_command.ensures.local ∙ ap₂ more six c.in_ok-policy_command.ensures.shape) c.subcommand-7.ensures
+    let some = c.in_ok-with_token_commands.ensures in
+    let five = c.in_ok-subcommand.ensures.shape c.in_ok-issue_command.ensures.local ∙ ap₂ more some c.in_ok-issue_command.ensures.shape in
+    let six = c.in_ok-subcommand-2.ensures.shape c.in_ok-jwk_command.ensures.local ∙ ap₂ more five c.in_ok-jwk_command.ensures.shape in
+    IfOk-weaker c.subcommand-3.result _ (λ r. app_of r ≡ jwt_app c.args.has_clock)
+    (λ r adds. adds.shape c.in_ok-policy_command.ensures.local ∙ ap₂ more six c.in_ok-policy_command.ensures.shape) c.subcommand-3.ensures
