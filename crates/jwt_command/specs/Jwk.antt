@@ -1,17 +1,16 @@
 -- The answer of `jwt jwk`.
-use Rattle.std.specs.Prelude.{◌≡◌, ◌≢◌, ◌≤◌, ◌<◌, ◌⊎◌, ℕ, ◌==◌, Bool, true, false, List, ◌∷◌, length, codes, Option, Some, None, option_and_then, if◌then◌else◌}
-use Rattle.serde_json.specs.Data.{object}
-use Rattle.serde_json.specs.Written.{compact_text}
+use Rattle.std.specs.Prelude.{◌≡◌, ◌≢◌, ◌≤◌, ◌<◌, ◌⊎◌, ℕ, ◌==◌, Bool, true, false, List, [], ◌∷◌, length, codes, Option, Some, None, option_and_then, if◌then◌else◌}
 use Rattle.jwt_mac.specs.Algorithm.{digest_size, name_of}
 use Rattle.jwt_mac.specs.Verifying.{KeyOctets, OctKey}
 use Rattle.jwt_mac.specs.declared.algorithm.Alg.{Alg}
 use Rattle.key_der.specs.Der.{IsPublicKey}
 use Rattle.key_pem.specs.declared.label.Label.{Label}
-use Rattle.jwt_jwk.specs.Jwk.{jwk, thumbprint_of_key}
+use Rattle.jwt_jwk.specs.Jwk.{jwk_text, thumbprint_of_key}
+use Rattle.jwt_jwk.specs.Sets.{jwk_set_text}
 use Rattle.jwt_jwk.specs.FaultNames.{jwk_fault_name, remedy}
 use Rattle.jwt_jwk.specs.declared.fault.JwkFault.{JwkFault}
 use Rattle.jwt_jwk.specs.declared.fault.JwkFault.TheVariants.{OutOfMemory}
-use Rattle.jwt_jwk.specs.Converted.{IsEncoding, IsFileOf, IsJwkOf, IsJwkOfPem, IsPemOf, IsSetOf, set_text}
+use Rattle.jwt_jwk.specs.Converted.{IsEncoding, IsFileOf, IsJwkOf, IsJwkOfPem, IsPemOf, IsSetOf, IsSetOfOne}
 use Rattle.jwt_jwk.specs.Refusals.{IsDerFault, IsPemFault, IsSetFault}
 use Rattle.jwt_words.specs.InHand.{Held, unread}
 use Rattle.jwt_words.specs.Words.{JwkOrder, KidChoice, KidNamed, KidThumbprint, NoKid, SecretOrder}
@@ -27,16 +26,12 @@ kid_by NoKid = λ key. None
 kid_by (KidNamed text) = λ key. Some text
 kid_by KidThumbprint = λ key. Some (thumbprint_of_key key)
 
--- the JWK alone, or a key set of it
-abbrev pub bare_or_set : Bool → List ℕ → List ℕ
-bare_or_set true json = json
-bare_or_set false json = set_text json
-
 -- ---- public keys
 
--- what is printed of octets: of one key in DER, of one in PEM alone, of all in a PEM file
+-- what is printed of octets: the JWK of one key alone, in DER or in PEM, or the key set of one in DER, or of all in a PEM file
 abbrev pub IsPrintedAs : Bool → Bool → (KeyOctets → Option (List ℕ)) → Option (List ℕ) → List ℕ → List ℕ → Type 0
-IsPrintedAs true bare kid alg octets json = (one : List ℕ) × IsJwkOf octets kid alg one × (json ≡ bare_or_set bare one)
+IsPrintedAs true true kid alg octets json = IsJwkOf octets kid alg json
+IsPrintedAs true false kid alg octets json = IsSetOfOne octets kid alg json
 IsPrintedAs false true kid alg octets json = IsJwkOfPem octets kid alg json
 IsPrintedAs false false kid alg octets json = IsSetOf octets kid alg json
 
@@ -101,12 +96,13 @@ whole_secret size octets = if length octets == size then Some octets else None
 abbrev pub fresh_secret : Alg → Option (List ℕ) → Option (List ℕ)
 fresh_secret alg random = option_and_then (whole_secret (digest_size alg)) random
 
--- the JWK of a secret, with its thumbprint as `kid`, for this algorithm alone
-abbrev pub secret_jwk : Alg → List ℕ → List ℕ
-secret_jwk alg k = compact_text (object (jwk (Some (thumbprint_of_key (OctKey k))) (Some (name_of alg)) (OctKey k)))
+-- a secret, with its thumbprint as `kid`, for this algorithm alone: its JWK, or the key set of it
+abbrev pub secret_json : Bool → Alg → List ℕ → List ℕ
+secret_json true alg k = jwk_text (Some (thumbprint_of_key (OctKey k))) (Some (name_of alg)) (OctKey k)
+secret_json false alg k = jwk_set_text (kid_by KidThumbprint) (Some (name_of alg)) (OctKey k ∷ [])
 
 abbrev pub secret_line : SecretOrder → Option (List ℕ) → Answer
-secret_line order (Some k) = jwk_line (bare_or_set order.bare (secret_jwk order.alg k))
+secret_line order (Some k) = jwk_line (secret_json order.bare order.alg k)
 secret_line order None = random_failed order.printing
 
 abbrev pub secret_answer : SecretOrder → Held → Answer

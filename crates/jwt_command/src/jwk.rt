@@ -11,11 +11,12 @@ ghost use Rattle.jwt_jwk.specs.FaultNames.{jwk_fault_name, remedy};
 ghost use Rattle.jwt_printing.specs.Jwk.{jwk_refused};
 ghost use Rattle.jwt_printing.specs.Views.{reply_view};
 ghost use Rattle.jwt_command.specs.Documents.{last_most};
-ghost use Rattle.jwt_command.specs.Jwk.{AreKeys, AreKeysAs, IsFaultAs, IsPrinted, IsPrintedAs, JwkAnswer, JwkInHand, JwkOfInput, JwkOfKeys, JwkOfOctets, bare_or_set, jwk_most, kid_by, secret_answer, secret_jwk, secret_line, fresh_secret};
+ghost use Rattle.jwt_command.specs.Jwk.{AreKeys, AreKeysAs, IsFaultAs, IsPrinted, IsPrintedAs, JwkAnswer, JwkInHand, JwkOfInput, JwkOfKeys, JwkOfOctets, jwk_most, kid_by, secret_answer, secret_json, secret_line, fresh_secret};
 
 use crate::input::whole::read_input;
 use jwt_jwk::{
-    JwkFault, Kid, jwk_of_der, jwk_of_pem, jwk_set_of_pem, set_of_jwk, thumbprint, write_jwk,
+    JwkFault, Kid, jwk_of_der, jwk_of_pem, jwk_set_of_der, jwk_set_of_pem, thumbprint, write_jwk,
+    write_jwk_set,
 };
 use jwt_mac::{Alg, KeyView};
 use jwt_printing::{
@@ -36,17 +37,6 @@ fn kid_by(choice: KidChoice<'_>) -> Kid<'_>
     }
 }
 
-/// The JWK alone, or a key set of it.
-fn bare_or_set(alloc: Global, bare: bool, json: Vec<u8>) -> Result<Vec<u8>, AllocError>
-    ensures { IfOk result (λ v. v.items ≡ bare_or_set bare json.items) }
-{
-    if bare {
-        Ok(json)
-    } else {
-        set_of_jwk(alloc, json.as_slice())
-    }
-}
-
 /// What is printed of one key in DER.
 fn of_der(
     alloc: Global,
@@ -59,12 +49,10 @@ fn of_der(
     ensures only { AreKeysAs true bare octets.now → IsOkUnless result JwkFault.OutOfMemory }
     ensures exact { IfErr result (IsFaultAs true bare octets.now) }
 {
-    match jwk_of_der(alloc, octets, kid, alg) {
-        Ok(json) => match bare_or_set(alloc, bare, json) {
-            Ok(printed) => Ok(printed),
-            Err(_) => Err(JwkFault::OutOfMemory),
-        },
-        Err(fault) => Err(fault),
+    if bare {
+        jwk_of_der(alloc, octets, kid, alg)
+    } else {
+        jwk_set_of_der(alloc, octets, kid, alg)
     }
 }
 
@@ -195,19 +183,18 @@ pub(crate) fn jwk<R: Source>(
     }
 }
 
-/// The JWK of a secret, with its thumbprint as `kid`, for this algorithm alone.
-fn secret_jwk(alloc: Global, alg: Alg, k: &[u8]) -> Result<Vec<u8>, AllocError>
+/// The JWK of a secret, or the key set of it, with its thumbprint as `kid`, for this algorithm alone.
+fn secret_json(alloc: Global, bare: bool, alg: Alg, k: &[u8]) -> Result<Vec<u8>, TextFault>
     requires hmac { is_hmac_alg alg ≡ true }
     requires size { length k.now ≡ digest_size alg }
-    ensures { IfOk result (λ v. v.items ≡ secret_jwk alg k.now) }
+    ensures { IfOk result (λ v. v.items ≡ secret_json bare alg k.now) }
 {
     let key = KeyView::Oct { k };
-    let Ok(print) = thumbprint(alloc, key) else {
-        return Err(AllocError);
-    };
-    match write_jwk(alloc, key, Some(print.as_str()), Some(alg.text())) {
-        Ok(json) => Ok(json),
-        Err(_) => Err(AllocError),
+    let print = thumbprint(alloc, key)?;
+    if bare {
+        write_jwk(alloc, key, Some(print.as_str()), Some(alg.text()))
+    } else {
+        write_jwk_set(alloc, key, Some(print.as_str()), Some(alg.text()))
     }
 }
 
@@ -217,8 +204,10 @@ fn secret_line(alloc: Global, order: SecretOrder, k: &[u8]) -> Result<Reply, All
     requires size { length k.now ≡ digest_size order.alg }
     ensures { IfOk result (λ a. reply_view a ≡ secret_line (secret_view order) (Some k.now)) }
 {
-    let json = secret_jwk(alloc, order.alg, k)?;
-    jwk_line(bare_or_set(alloc, order.bare, json)?)
+    match secret_json(alloc, order.bare, order.alg, k) {
+        Ok(json) => jwk_line(json),
+        Err(_) => Err(AllocError),
+    }
 }
 
 /// The octets of a secret, where there are just as many as a digest of its algorithm has.

@@ -1,5 +1,5 @@
 //! The command `jwk`.
-use crate::runs::{CommandRow, assert_ran, assert_rows, ended, ran_holding, ran_on};
+use crate::runs::{CommandRow, assert_ran, assert_rows, ended, ran, ran_holding, ran_on};
 use jwt_command::documents::Held;
 use jwt_support::streams::{Drip, Endless};
 use jwt_text::Reader;
@@ -96,6 +96,25 @@ static SETS: [CommandRow; 7] = [
 #[test]
 fn jwk_prints_what_the_keys_are(rt: HostRuntime) -> Result<(), Fail> {
     assert_rows(&rt, rt.alloc(), &SETS)
+}
+
+/// The keys that `keys` reads of what `jwk` printed of a file: one of P-256, one of RSA, and one of Ed25519 twice.
+static READ_BACK: [&str; 4] = [
+    r#"key=0 place=0 kty=EC kid="a\"b" alg="ES256" size=32 thumbprint=C745GDg5J0Fla9KOZRUMxevJXSLgHD6AyVHRrdRQyaM"#,
+    r#"key=1 place=1 kty=OKP kid="a\"b" alg="ES256" size=32 thumbprint=3YZxBJ12jO3n_mXt_q-j_Z-TFP1vt-NiI3OCf-fEnHQ"#,
+    r#"key=2 place=2 kty=RSA kid="a\"b" alg="ES256" size=256 thumbprint=Uq7dJ_gCf2kK6ESRKC0s2-I8IPojdVc4SWKY7dREowg"#,
+    r#"key=3 place=3 kty=OKP kid="a\"b" alg="ES256" size=32 thumbprint=3YZxBJ12jO3n_mXt_q-j_Z-TFP1vt-NiI3OCf-fEnHQ"#,
+];
+
+/// Each key of a file stands in the set at its place, with the name and the algorithm that were asked for.
+#[test]
+fn what_jwk_prints_is_read_by_keys(rt: HostRuntime) -> Result<(), Fail> {
+    let alloc = rt.alloc();
+    let file = format!(in alloc; "{P256}\n{ED25519}\n{RSA}\n{ED25519}\n")?;
+    let words = ["jwt", "jwk", "--kid", "a\"b", "--alg", "ES256"];
+    let set = ran(alloc, &words, file.as_str())?;
+    let listed = ran(alloc, &["jwt", "keys"], set.out.as_str())?;
+    assert_ran(&rt, alloc, &listed, &READ_BACK, 0)
 }
 
 static REFUSED: [CommandRow; 16] = [

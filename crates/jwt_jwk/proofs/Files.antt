@@ -1,6 +1,6 @@
 -- Files of several keys.
-use Rattle.std.proofs.Common.{◌≡◌, ℕ, zero, suc, ◌+◌, ◌-◌, ◌<◌, ◌≤◌, Bool, true, false, inr, codes, List, [], ◌∷◌, ◌++◌, length, Option, Result, Ok, Err, refl, sym, ap, subst, ◌∙◌, append_assoc, arith}
-use Rattle.std.specs.Prelude.{IfErr, OnOk}
+use Rattle.std.proofs.Common.{◌≡◌, ℕ, zero, suc, ◌-◌, ◌<◌, ◌≤◌, Bool, true, false, inr, codes, List, [], ◌∷◌, ◌++◌, length, Option, Result, Ok, Err, refl, sym, ap, subst, ◌∙◌, append_assoc, append-nil, arith}
+use Rattle.std.specs.Prelude.{IfErr, IfOk, OnOk}
 use Rattle.jwt_mac.specs.Verifying.{KeyOctets}
 use Rattle.key_der.specs.Der.{AreOctets, IsPublicKey}
 use Rattle.key_pem.specs.Pem.{IsBlock, IsFirstFault, IsOneBlock, IsOneFault, trimmed}
@@ -11,13 +11,21 @@ use Rattle.key_pem.specs.declared.label.Label.TheVariants.{PublicKey, RsaPublicK
 use Rattle.jwt_jwk.specs.declared.fault.JwkFault.{JwkFault}
 use Rattle.jwt_jwk.specs.declared.fault.JwkFault.TheVariants.{Pem, Key, TooManyKeys, OutOfMemory}
 use Rattle.jwt_jwk.specs.Faults.{of_both, pem_fault}
-use Rattle.jwt_jwk.specs.Jwk.{ReadsAsKey}
+use Rattle.jwt_jwk.specs.Jwk.{ReadsAsKey, jwk_text}
+use Rattle.jwt_jwk.specs.Sets.{AreRead, IsJwkSet, jwk_texts, set_text}
 use Rattle.jwt_jwk.specs.Refusals.{IsDerFault, IsFault, IsKeyFault, IsNextFault, IsPemFault, IsSetFault, reading_of}
-use Rattle.jwt_jwk.specs.Converted.{Adds, AreJwks, IsEncoding, IsFileOf, IsFirst, IsJwkOfBlock, IsSetOf, comma, set_text}
+use Rattle.jwt_jwk.specs.Converted.{Adds, IsEncoding, IsFileOf, IsFirst, IsJwkOfBlock, IsSetOf}
+use Rattle.jwt_jwk.proofs.ReadBack.{ObjectTexts, QuotedTexts}
+use Rattle.jwt_jwk.proofs.SetReadBack.{set_is, set_of_keys}
+use Rattle.serde_json.specs.Written.{comma_if}
 
 pub on_ok : {A E : Type 0} (r : Result A E) (P Q : Type 0) → (P → Q) → OnOk r P → OnOk r Q
 on_ok (Ok x) P Q f h = f h
 on_ok (Err e) P Q f h = tt
+
+pub if_ok : {A E : Type 0} (r : Result A E) (P Q : A → Type 0) → ((x : A) → P x → Q x) → IfOk r P → IfOk r Q
+if_ok (Ok x) P Q f h = f x h
+if_ok (Err e) P Q f h = tt
 
 pub on_err : {A E : Type 0} (r : Result A E) (P Q : E → Type 0) → ((e : E) → P e → Q e) → IfErr r P → IfErr r Q
 on_err (Ok x) P Q f h = tt
@@ -33,16 +41,31 @@ above zero some = absurd (some refl)
 above (suc n) some = omega arith
 
 -- a key set of the keys of a file, which has one
-set_with : (kid : KeyOctets → Option (List ℕ)) (alg : Option (List ℕ)) (pem text : List ℕ) (keys : List KeyOctets) (jwks : List ℕ) → (trimmed pem ≡ [] → ⊥)
-    → IsFileOf keys pem → AreJwks false kid alg keys jwks → length keys ≤ 1024 → text ≡ set_text jwks → IsSetOf pem kid alg text
-set_with kid alg pem text [] jwks some file are few set = absurd (some file)
-set_with kid alg pem text (key ∷ keys) jwks some file are few set = record { first = key; others = keys; few = omega (arith, few); jwks = jwks; file = file; are = are; set = set }
+set_with : QuotedTexts → ObjectTexts → (kid : KeyOctets → Option (List ℕ)) (alg : Option (List ℕ)) (pem text : List ℕ) (keys : List KeyOctets) → (trimmed pem ≡ [] → ⊥)
+    → IsFileOf keys pem → AreRead kid alg keys → length keys ≤ 1024 → text ≡ set_text (jwk_texts false kid alg keys) → IsSetOf pem kid alg text
+set_with quotes objects kid alg pem text [] some file each few set = absurd (some file)
+set_with quotes objects kid alg pem text (key ∷ keys) some file each few set = record {
+  first = key;
+  others = keys;
+  few = omega (arith, few);
+  file = file;
+  set = set_of_keys quotes objects kid alg (key ∷ keys) text few each (set ∙ set_is kid alg (key ∷ keys));
+}
 
-pub whole_set : (kid : KeyOctets → Option (List ℕ)) (alg : Option (List ℕ)) (pem before after text : List ℕ) → before ≡ codes "{\"keys\":[" → (trimmed pem ≡ [] → ⊥)
+pub whole_set : QuotedTexts → ObjectTexts → (kid : KeyOctets → Option (List ℕ)) (alg : Option (List ℕ)) (pem before after text : List ℕ) → before ≡ codes "{\"keys\":[" → (trimmed pem ≡ [] → ⊥)
     → Adds false kid alg 1024 pem before after → text ≡ after ++ codes "]}" → IsSetOf pem kid alg text
-whole_set kid alg pem before after text is some all ends =
-    set_with kid alg pem text all.keys all.added some all.file all.jwks all.few
-    (ends ∙ ap (λ (s : List ℕ). s ++ codes "]}") (all.appended ∙ ap (λ (s : List ℕ). s ++ all.added) is) ∙ append_assoc (codes "{\"keys\":[") all.added (codes "]}"))
+whole_set quotes objects kid alg pem before after text is some all ends =
+    let texts = jwk_texts false kid alg all.keys in
+    set_with quotes objects kid alg pem text all.keys some all.file all.each all.few
+    (ends ∙ ap (λ (s : List ℕ). s ++ codes "]}") (all.appended ∙ ap (λ (s : List ℕ). s ++ texts) is) ∙ append_assoc (codes "{\"keys\":[") texts (codes "]}"))
+
+-- the key set of a key's JWK
+pub set_of_one : QuotedTexts → ObjectTexts → (kid : KeyOctets → Option (List ℕ)) (alg : Option (List ℕ)) (key : KeyOctets) (jwk : List ℕ) → jwk ≡ jwk_text (kid key) alg key
+    → ReadsAsKey (kid key) alg key jwk → (text : List ℕ) → text ≡ set_text jwk → IsJwkSet kid alg (key ∷ []) text
+set_of_one quotes objects kid alg key jwk is reads text around =
+    let alone = append-nil (jwk_text (kid key) alg key) in
+    set_of_keys quotes objects kid alg (key ∷ []) text (omega arith) (subst (ReadsAsKey (kid key) alg key) is reads, tt)
+    (around ∙ ap set_text (is ∙ sym alone) ∙ set_is kid alg (key ∷ []))
 
 -- ---- why not all of a file is taken
 
@@ -119,21 +142,18 @@ both_faults octets first OutOfMemory h = tt
 -- one JWK is appended, and then those of the keys behind
 pub one_more : (later : Bool) (kid : KeyOctets → Option (List ℕ)) (alg : Option (List ℕ)) (label : Label) (octets lent text rest jwk lent_jwk before between after : List ℕ)
     → AreOctets octets → IsBlock label octets (trimmed text) rest → lent ≡ octets → IsJwkOfBlock label lent kid alg jwk → lent_jwk ≡ jwk
-    → between ≡ before ++ (comma later ++ lent_jwk) → (left : ℕ) → (left ≡ 0 → ⊥) → Adds true kid alg (left - 1) rest between after → Adds later kid alg left text before after
-one_more later kid alg label octets lent text rest jwk lent_jwk before between after are block same made same_jwk pushed left some more = record {
-  keys = made.key ∷ more.keys;
-  few = omega (arith, more.few, above left some);
-  added = comma later ++ (jwk ++ more.added);
-  file = (rest, record { label = label; octets = octets; are = are; public = made.public; encoded = subst (λ (o : List ℕ). IsEncoding label made.key o) same made.encoded; block = block }, more.file);
-  jwks = (
-    more.added,
-    subst (ReadsAsKey (kid made.key) alg made.key) made.is made.read,
-    more.jwks,
-    ap (λ (j : List ℕ). comma later ++ (j ++ more.added)) made.is,
-  );
-  appended = more.appended ∙ ap (λ (s : List ℕ). s ++ more.added) (pushed ∙ ap (λ (j : List ℕ). before ++ (comma later ++ j)) same_jwk)
-      ∙ append_assoc before (comma later ++ jwk) more.added ∙ ap (λ (s : List ℕ). before ++ s) (append_assoc (comma later) jwk more.added);
-}
+    → between ≡ before ++ (comma_if later ++ lent_jwk) → (left : ℕ) → (left ≡ 0 → ⊥) → Adds true kid alg (left - 1) rest between after → Adds later kid alg left text before after
+one_more later kid alg label octets lent text rest jwk lent_jwk before between after are block same made same_jwk pushed left some more =
+    let one = jwk_text (kid made.key) alg made.key in
+    let others = jwk_texts true kid alg more.keys in
+    record {
+      keys = made.key ∷ more.keys;
+      few = omega (arith, more.few, above left some);
+      file = (rest, record { label = label; octets = octets; are = are; public = made.public; encoded = subst (λ (o : List ℕ). IsEncoding label made.key o) same made.encoded; block = block }, more.file);
+      each = (subst (ReadsAsKey (kid made.key) alg made.key) made.is made.read, more.each);
+      appended = more.appended ∙ ap (λ (s : List ℕ). s ++ others) (pushed ∙ ap (λ (j : List ℕ). before ++ (comma_if later ++ j)) (same_jwk ∙ made.is))
+          ∙ append_assoc before (comma_if later ++ one) others ∙ ap (λ (s : List ℕ). before ++ s) (append_assoc (comma_if later) one others);
+    }
 
 -- the key of the first block
 pub first_key : (keys : List KeyOctets) (text lent : List ℕ) (found : Label) (items after : List ℕ) (R : Type 0) → IsFileOf keys text → (trimmed text ≡ [] → ⊥) → IsFound text found items after

@@ -1,11 +1,12 @@
 -- The public key in a text, and its JWK.
-use Rattle.std.specs.Prelude.{◌≡◌, ◌≤◌, ℕ, Bool, true, false, List, [], ◌∷◌, ◌++◌, length, Option, Some, None, codes}
+use Rattle.std.specs.Prelude.{◌≡◌, ◌≤◌, ℕ, Bool, List, [], ◌∷◌, ◌++◌, length, Option, Some, None}
 use Rattle.jwt_mac.specs.Verifying.{KeyOctets}
 use Rattle.key_der.specs.Der.{AreOctets, IsPublicKey, IsRsaText, spki}
 use Rattle.key_pem.specs.Pem.{IsBlock, IsOneBlock, trimmed}
 use Rattle.key_pem.specs.declared.label.Label.{Label}
 use Rattle.key_pem.specs.declared.label.Label.TheVariants.{PublicKey, RsaPublicKey}
 use Rattle.jwt_jwk.specs.Jwk.{ReadsAsKey, jwk_text, thumbprint_of_key}
+use Rattle.jwt_jwk.specs.Sets.{AreRead, IsJwkSet, jwk_texts}
 use Rattle.jwt_jwk.specs.declared.kid.Kid.{Kid}
 use Rattle.jwt_jwk.specs.declared.kid.Kid.TheVariants.{Absent, Name, Thumbprint}
 
@@ -65,30 +66,21 @@ abbrev pub IsFileOf : List KeyOctets → List ℕ → Type 0
 IsFileOf [] text = trimmed text ≡ []
 IsFileOf (key ∷ keys) text = (rest : List ℕ) × IsFirst key text rest × IsFileOf keys rest
 
--- a comma, where something stands before
-abbrev pub comma : Bool → List ℕ
-comma true = codes ","
-comma false = []
-
--- the text is that of the JWKs of these keys with commas between, and each is read as its key
-abbrev pub AreJwks : Bool → (KeyOctets → Option (List ℕ)) → Option (List ℕ) → List KeyOctets → List ℕ → Type 0
-AreJwks later kid alg [] text = text ≡ []
-AreJwks later kid alg (key ∷ keys) text =
-    (rest : List ℕ) × ReadsAsKey (kid key) alg key (jwk_text (kid key) alg key) × AreJwks true kid alg keys rest × (text ≡ comma later ++ (jwk_text (kid key) alg key ++ rest))
-
--- a key set around the texts of its JWKs (RFC 7517, section 5)
-abbrev pub set_text : List ℕ → List ℕ
-set_text jwks = codes "{\"keys\":[" ++ (jwks ++ codes "]}")
-
 -- the text is the key set of the keys that a PEM file has, 1 to 1,024
 pub record IsSetOf (pem : List ℕ) (kid : KeyOctets → Option (List ℕ)) (alg : Option (List ℕ)) (text : List ℕ) : Type 0 where
   pub first : KeyOctets
   pub others : List KeyOctets
   pub few : length others ≤ 1023
-  pub jwks : List ℕ
   pub file : IsFileOf (first ∷ others) pem
-  pub are : AreJwks false kid alg (first ∷ others) jwks
-  pub set : text ≡ set_text jwks
+  pub set : IsJwkSet kid alg (first ∷ others) text
+
+-- the octets are an encoding of a public key, and the text is the key set of that key
+pub record IsSetOfOne (octets : List ℕ) (kid : KeyOctets → Option (List ℕ)) (alg : Option (List ℕ)) (text : List ℕ) : Type 0 where
+  pub label : Label
+  pub key : KeyOctets
+  pub public : IsPublicKey key
+  pub encoded : IsEncoding label key octets
+  pub set : IsJwkSet kid alg (key ∷ []) text
 
 -- ---- Cited by contracts of private functions alone
 
@@ -96,7 +88,6 @@ pub record IsSetOf (pem : List ℕ) (kid : KeyOctets → Option (List ℕ)) (alg
 pub record Adds (later : Bool) (kid : KeyOctets → Option (List ℕ)) (alg : Option (List ℕ)) (most : ℕ) (text before after : List ℕ) : Type 0 where
   pub keys : List KeyOctets
   pub few : length keys ≤ most
-  pub added : List ℕ
   pub file : IsFileOf keys text
-  pub jwks : AreJwks later kid alg keys added
-  pub appended : after ≡ before ++ added
+  pub each : AreRead kid alg keys
+  pub appended : after ≡ before ++ jwk_texts later kid alg keys

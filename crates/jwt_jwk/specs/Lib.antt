@@ -2,6 +2,8 @@
 
 -- the JWK of a key, and how it is read back
 pub mod Jwk
+-- the key set of JWKs, and how it is read back
+pub mod Sets
 -- the public key in a text, and its JWK
 pub mod Converted
 -- why there is no JWK

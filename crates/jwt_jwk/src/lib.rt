@@ -7,7 +7,7 @@
 //! let set = jwk_set_of_pem(alloc, &file, Kid::Thumbprint, Some("RS256"))?;
 //! ```
 //!
-//! `jwt_keys` reads each JWK as exactly the key that stands in the file.
+//! `jwt_keys` reads the key set as exactly the keys that stand in the file, in their order.
 #![tactic(auto)]
 
 mod fault;
@@ -21,6 +21,6 @@ mod written;
 pub use fault::JwkFault;
 pub use kid::Kid;
 pub use pem::jwk_of_pem;
-pub use public_key::jwk_of_der;
-pub use set::{jwk_set_of_pem, set_of_jwk};
+pub use public_key::{jwk_of_der, jwk_set_of_der};
+pub use set::{jwk_set_of_pem, write_jwk_set};
 pub use writing::{thumbprint, write_jwk};
