@@ -7,9 +7,9 @@ _jwt() {
     else
         case ${COMP_WORDS[1]}:$before in
         issue:--alg | jwk:--new) choices="HS256 HS384 HS512" ;;
-        jwk:--alg) choices="RS256 RS384 RS512 PS256 PS384 PS512 ES256 ES384 ES512 EdDSA" ;;
+        jwk:--alg) choices="HS256 HS384 HS512 RS256 RS384 RS512 PS256 PS384 PS512 ES256 ES384 ES512 EdDSA" ;;
         issue:--form) choices="compact json flattened" ;;
-        verify:--policy | verify:--keys | verify:--access | verify:--token | issue:--keys | mac:--key-file | jwk:--file | policy:--policy | policy:--keys)
+        verify:--policy | verify:--keys | verify:--access | verify:--token | issue:--keys | mac:--key-file | jwk:--file | jwk:--secret | policy:--policy | policy:--keys)
             mapfile -t COMPREPLY < <(compgen -f -- "$word")
             return
             ;;
@@ -25,7 +25,7 @@ _jwt() {
         policy:*) choices="--policy --keys --json" ;;
         verify:*) choices="--now --public-keys --lines --json --policy --keys --access --token --trim" ;;
         issue:*) choices="--alg --typ --form --keys" ;;
-        jwk:*) choices="--file --der --alg --kid --kid-thumbprint --bare --new --json" ;;
+        jwk:*) choices="--file --der --alg --kid --kid-thumbprint --bare --new --secret --json" ;;
         esac
     fi
     mapfile -t COMPREPLY < <(compgen -W "$choices" -- "$word")

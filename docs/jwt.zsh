@@ -35,8 +35,8 @@ _jwt() {
             '--keys[the key set]:file:_files'
         ;;
     jwk)
-        _arguments '--file[the public keys]:file:_files' '--der[one key in DER]' "--alg[alg of each key]:algorithm:($public)" '--kid[kid]:name:' \
-            '--kid-thumbprint[the thumbprint as kid]' '--bare[one JWK alone]' "--new[a new secret]:algorithm:($hmac)" '--json[print JSON]'
+        _arguments '--file[the public keys]:file:_files' '--der[one key in DER]' "--alg[alg of each key]:algorithm:($public $hmac)" '--kid[kid]:name:' \
+            '--kid-thumbprint[the thumbprint as kid]' '--bare[one JWK alone]' "--new[a new secret]:algorithm:($hmac)" '--secret[the file of a secret]:file:_files' '--json[print JSON]'
         ;;
     keys) _arguments '--json[print JSON]' ;;
     policy) _arguments '--policy[the policy]:file:_files' '--keys[the key set]:file:_files' '--json[print JSON]' ;;

@@ -1,5 +1,5 @@
 -- The answer of `jwt jwk`.
-use Rattle.std.specs.Prelude.{◌≡◌, ◌≢◌, ◌≤◌, ◌<◌, ◌⊎◌, ℕ, ◌==◌, Bool, true, false, List, [], ◌∷◌, length, codes, Option, Some, None, option_and_then, if◌then◌else◌}
+use Rattle.std.specs.Prelude.{◌≡◌, ◌≢◌, ◌≤◌, ◌<◌, ◌⊎◌, ℕ, ◌==◌, ◌&&◌, nat_le, Bool, true, false, List, [], ◌∷◌, length, codes, Option, Some, None, option_and_then, if◌then◌else◌}
 use Rattle.jwt_mac.specs.Algorithm.{digest_size, name_of}
 use Rattle.jwt_mac.specs.Verifying.{KeyOctets, OctKey}
 use Rattle.jwt_mac.specs.declared.algorithm.Alg.{Alg}
@@ -105,8 +105,26 @@ abbrev pub secret_line : SecretOrder → Option (List ℕ) → Answer
 secret_line order (Some k) = jwk_line (secret_json order.bare order.alg k)
 secret_line order None = random_failed order.printing
 
+-- the octets of a file, where they are a key for the algorithm: as many as a digest has, or more (RFC 7518, section 3.2), and at most 4,096
+abbrev pub kept_secret : ℕ → List ℕ → Option (List ℕ)
+kept_secret size octets = if nat_le size (length octets) && nat_le (length octets) 4096 then Some octets else None
+
+abbrev pub kept_secret_line : SecretOrder → Option (List ℕ) → Answer
+kept_secret_line order (Some k) = jwk_line (secret_json order.bare order.alg k)
+kept_secret_line order None = jwk_refused order.printing (codes "KeySize") None
+
+-- of a file, or a new one
+abbrev pub secret_in_hand : Option (List ℕ) → SecretOrder → Held → Answer
+secret_in_hand (Some name) order held = kept_secret_line order (option_and_then (kept_secret (digest_size order.alg)) held.key)
+secret_in_hand None order held = secret_line order (fresh_secret order.alg held.random)
+
+abbrev pub secret_named : Option (List ℕ) → SecretOrder → Held → Answer
+secret_named (Some name) order held = printed_file_fault order.printing name
+secret_named None order held = secret_in_hand order.files.key order held
+
+-- the answer, where a file that is named may not be in hand
 abbrev pub secret_answer : SecretOrder → Held → Answer
-secret_answer order held = secret_line order (fresh_secret order.alg held.random)
+secret_answer order held = secret_named (unread order.files held) order held
 
 -- how much of the input is taken at most: nothing where the keys are in a file
 abbrev pub jwk_most : Held → JwkOrder → ℕ

@@ -1,5 +1,5 @@
 //! The command `jwk`: public keys in PEM or DER as JWKs, and new secrets.
-ghost use Rattle.std.specs.Prelude.{◌≡◌, ◌≢◌, ◌≤◌, ◌⊎◌, true, false, IfErr, IfOk, IfSome, IsOkUnless, None, is_some, length, option_map};
+ghost use Rattle.std.specs.Prelude.{◌≡◌, ◌≢◌, ◌≤◌, ◌⊎◌, true, false, IfErr, IfOk, IfSome, IsOkUnless, None, is_some, length, option_and_then, option_map};
 ghost use Rattle.serde_json.specs.Data.{object};
 ghost use Rattle.jwt_text.specs.Intake.{TakesAtMost};
 ghost use Rattle.jwt_mac.specs.Algorithm.{digest_size, is_hmac_alg};
@@ -8,10 +8,10 @@ ghost use Rattle.jwt_jwk.specs.Jwk.{optional_text};
 ghost use Rattle.jwt_words.specs.InHand.{unread};
 ghost use Rattle.jwt_words.specs.Seen.{held_view, jwk_view, kid_view, secret_view};
 ghost use Rattle.jwt_jwk.specs.FaultNames.{jwk_fault_name, remedy};
-ghost use Rattle.jwt_printing.specs.Jwk.{jwk_refused};
+ghost use Rattle.jwt_printing.specs.Jwk.{jwk_line, jwk_refused};
 ghost use Rattle.jwt_printing.specs.Views.{reply_view};
 ghost use Rattle.jwt_command.specs.Documents.{last_most};
-ghost use Rattle.jwt_command.specs.Jwk.{AreKeys, AreKeysAs, IsFaultAs, IsPrinted, IsPrintedAs, JwkAnswer, JwkInHand, JwkOfInput, JwkOfKeys, JwkOfOctets, jwk_most, kid_by, secret_answer, secret_json, secret_line, fresh_secret};
+ghost use Rattle.jwt_command.specs.Jwk.{AreKeys, AreKeysAs, IsFaultAs, IsPrinted, IsPrintedAs, JwkAnswer, JwkInHand, JwkOfInput, JwkOfKeys, JwkOfOctets, jwk_most, kid_by, kept_secret, kept_secret_line, secret_answer, secret_json, secret_line, fresh_secret};
 
 use crate::input::whole::read_input;
 use jwt_jwk::{
@@ -186,7 +186,8 @@ pub(crate) fn jwk<R: Source>(
 /// The JWK of a secret, or the key set of it, with its thumbprint as `kid`, for this algorithm alone.
 fn secret_json(alloc: Global, bare: bool, alg: Alg, k: &[u8]) -> Result<Vec<u8>, TextFault>
     requires hmac { is_hmac_alg alg ≡ true }
-    requires size { length k.now ≡ digest_size alg }
+    requires least { digest_size alg ≤ length k.now }
+    requires most { length k.now ≤ 4096 }
     ensures { IfOk result (λ v. v.items ≡ secret_json bare alg k.now) }
 {
     let key = KeyView::Oct { k };
@@ -199,10 +200,12 @@ fn secret_json(alloc: Global, bare: bool, alg: Alg, k: &[u8]) -> Result<Vec<u8>,
 }
 
 /// The line of a secret.
-fn secret_line(alloc: Global, order: SecretOrder, k: &[u8]) -> Result<Reply, AllocError>
+fn secret_line(alloc: Global, order: SecretOrder<'_>, k: &[u8]) -> Result<Reply, AllocError>
     requires hmac { is_hmac_alg order.alg ≡ true }
-    requires size { length k.now ≡ digest_size order.alg }
-    ensures { IfOk result (λ a. reply_view a ≡ secret_line (secret_view order) (Some k.now)) }
+    requires least { digest_size order.alg ≤ length k.now }
+    requires most { length k.now ≤ 4096 }
+    ensures { IfOk result (λ a. reply_view a
+        ≡ jwk_line (secret_json order.bare order.alg k.now)) }
 {
     match secret_json(alloc, order.bare, order.alg, k) {
         Ok(json) => jwk_line(json),
@@ -223,18 +226,68 @@ fn secret_in(alg: Alg, random: Option<&[u8]>) -> Option<&[u8]>
     }
 }
 
-/// Runs `jwt jwk --new` with octets of the system's random source: it takes exactly as many as a digest of its algorithm has.
-pub(crate) fn new_secret(
+/// The octets of a file, where they are a key for its algorithm: as many as a digest has, or more, and at most 4,096.
+fn kept_secret(alg: Alg, octets: Option<&[u8]>) -> Option<&[u8]>
+    ensures is { option_map (λ t. t.now) result
+        ≡ option_and_then (kept_secret (digest_size alg)) (option_map (λ t. t.now) octets.entry) }
+    ensures least { IfSome result (λ k. digest_size alg ≤ length k.now) }
+    ensures most { IfSome result (λ k. length k.now ≤ 4096) }
+{
+    let octets = octets?;
+    if alg.digest() as usize <= octets.len() && octets.len() <= 4_096 {
+        Some(octets)
+    } else {
+        None
+    }
+}
+
+/// The line of the secret of a file.
+fn kept_secret_line(
     alloc: Global,
-    order: SecretOrder,
+    order: SecretOrder<'_>,
+    octets: Option<&[u8]>,
+) -> Result<Reply, AllocError>
+    requires { is_hmac_alg order.alg ≡ true }
+    ensures { IfOk result (λ a. reply_view a ≡ kept_secret_line (secret_view order)
+        (option_and_then (kept_secret (digest_size order.alg)) (option_map (λ t. t.now) octets.entry))) }
+{
+    match kept_secret(order.alg, octets) {
+        Some(k) => secret_line(alloc, order, k),
+        None => refused_jwk(alloc, order.printing, "KeySize", None),
+    }
+}
+
+/// The line of a new secret, of octets of the system's random source: it takes exactly as many as a digest of its algorithm has.
+fn new_secret_line(
+    alloc: Global,
+    order: SecretOrder<'_>,
+    random: Option<&[u8]>,
+) -> Result<Reply, AllocError>
+    requires { is_hmac_alg order.alg ≡ true }
+    ensures { IfOk result (λ a. reply_view a ≡ secret_line (secret_view order)
+        (fresh_secret order.alg (option_map (λ t. t.now) random.entry))) }
+{
+    match secret_in(order.alg, random) {
+        Some(k) => secret_line(alloc, order, k),
+        None => random_failed(alloc, order.printing),
+    }
+}
+
+/// Runs `jwt jwk --secret` with the octets of a file, or `jwt jwk --new` with octets of the system's random source.
+pub(crate) fn secret(
+    alloc: Global,
+    order: SecretOrder<'_>,
     held: Held<'_>,
 ) -> Result<Reply, AllocError>
     requires { is_hmac_alg order.alg ≡ true }
     ensures { IfOk result (λ a. reply_view a
         ≡ secret_answer (secret_view order) (held_view held.entry)) }
 {
-    match secret_in(order.alg, held.random) {
-        Some(k) => secret_line(alloc, order, k),
-        None => random_failed(alloc, order.printing),
+    if let Some(name) = unread(order.files, held) {
+        return printed_file_fault(alloc, order.printing, name);
+    }
+    match order.files.key {
+        Some(_) => kept_secret_line(alloc, order, held.key),
+        None => new_secret_line(alloc, order, held.random),
     }
 }

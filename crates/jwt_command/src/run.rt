@@ -13,7 +13,7 @@ ghost use Rattle.jwt_command.specs.Verify.{asked_for};
 ghost use Rattle.jwt_words.specs.Words.{HasLimits, Jwk, JwkOrder, Once, Order as Asked, Pretty, PrettyOrder, Request as Wanted, files_in_order, request_of};
 
 use crate::issue::issue;
-use crate::jwk::{jwk, new_secret};
+use crate::jwk::{jwk, secret};
 use crate::keys::keys;
 use crate::mac::{mac, mac_in_hand};
 use crate::policy::policy;
@@ -260,7 +260,7 @@ pub fn run_read<R: Source, W: Sink, C: Clock>(
             run_lines(alloc, &asked, moments, r, w)
         }
         Ok(Request::Jwk(order)) => give(w, jwk(alloc, order, held, r)),
-        Ok(Request::NewSecret(order)) => give(w, new_secret(alloc, order, held)),
+        Ok(Request::NewSecret(order)) => give(w, secret(alloc, order, held)),
         Ok(Request::Policy(order)) => give(w, policy(alloc, order, built_in, held)),
         Ok(Request::Pretty(order)) => give(w, show_pretty(alloc, order, r)),
         Err(WordsFault::Wrong(text)) => send(w, text.as_bytes(), 2),

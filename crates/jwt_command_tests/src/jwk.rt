@@ -382,6 +382,60 @@ fn a_new_secret_is_what_the_random_source_gave(rt: HostRuntime) -> Result<(), Fa
     Ok(())
 }
 
+/// Secrets of files: how many octets a file holds, their algorithm, and with what the answer begins.
+static KEPT: [(usize, &str, &str); 8] = [
+    (
+        32,
+        "HS256",
+        r#"{"keys":[{"alg":"HS256","k":"AAECAwQFBgcICQoLDA0ODxAREhMUFRYXGBkaGxwdHh8","kid":"WqjPPRvAP8oYbAqCwMErhzTg-Quaz-vLx_cef07yhOs","kty":"oct"}]}"#,
+    ),
+    (
+        64,
+        "HS256",
+        r#"{"keys":[{"alg":"HS256","k":"AAECAwQFBgcICQoLDA0ODxAREhMUFRYXGBkaGxwdHh8gISIjJCUmJygpKissLS4vMDEyMzQ1Njc4OTo7PD0-Pw","kid":"C78xEqPp1b_LswE8KyDQ_0WikUVN-jmDtHmYDwUNRpw","kty":"oct"}]}"#,
+    ),
+    (4_096, "HS512", r#"{"keys":[{"alg":"HS512","k":"AAECAwQF"#),
+    (31, "HS256", "refused KeySize"),
+    (47, "HS384", "refused KeySize"),
+    (63, "HS512", "refused KeySize"),
+    (0, "HS256", "refused KeySize"),
+    (4_097, "HS256", "refused KeySize"),
+];
+
+/// A secret of a file is that of its octets, where they are a key for the algorithm. Nothing else is read, and a file that isn't in hand can't be.
+#[test]
+fn a_kept_secret_is_that_of_the_file(rt: HostRuntime) -> Result<(), Fail> {
+    let alloc = rt.alloc();
+    let mut octets: Vec<u8> = Vec::new(alloc);
+    for at in 0..4_097_u32 {
+        octets.push((at % 256) as u8)?;
+    }
+    for &(count, alg, begins) in &KEPT {
+        let held = Held {
+            key: octets.as_slice().get(..count),
+            ..Held::none()
+        };
+        let mut r = Drip::new(b"{", 0);
+        let words = ["jwt", "jwk", "--secret", "key", "--alg", alg];
+        let found = ran_holding(alloc, &words, held, &mut r)?;
+        let status = if begins.starts_with("refused") { 1 } else { 0 };
+        assert!(rt;
+            found.out.as_str().starts_with(begins) && found.status == status,
+            "at {count} {alg}"
+        );
+        assert!(rt; !r.failed);
+    }
+    let words = ["jwt", "jwk", "--secret", "key", "--alg", "HS256", "--json"];
+    let found = ran_holding(alloc, &words, Held::none(), &mut Reader::new(&b""[..]))?;
+    assert_ran(
+        &rt,
+        alloc,
+        &found,
+        &[r#"{"verdict":"failed","fault":"Read","file":"key"}"#],
+        3,
+    )
+}
+
 /// A secret is made of the random source's octets alone, or not at all.
 #[test]
 fn a_new_secret_is_bare_or_not_made(rt: HostRuntime) -> Result<(), Fail> {

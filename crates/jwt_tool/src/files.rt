@@ -34,6 +34,7 @@ pub fn printing_of(request: &Result<Request<'_>, WordsFault>) -> Printing {
         Ok(Request::EachLine(order)) => order.printing,
         Ok(Request::Policy(order)) => order.printing,
         Ok(Request::Jwk(order)) => order.printing,
+        Ok(Request::NewSecret(order)) => order.printing,
         _ => Printing::Lines,
     }
 }
@@ -139,13 +140,14 @@ fn token(reading: &mut Reading<'_>, files: Files<'_>) -> io::Result<Option<Intak
     Ok(document)
 }
 
-/// How many octets of the file of a key are read: that of `mac`, or that of public keys of `jwk`.
+/// How many octets of the file of a key are read: that of `mac`, or that of public keys or of a secret of `jwk`.
 fn key_limit(request: &Result<Request<'_>, WordsFault>) -> u32
     ensures least { 1 ≤ result }
     ensures greatest { result ≤ GREATEST_LIMIT }
 {
     match request {
         Ok(Request::Jwk(_)) => GREATEST_LIMIT,
+        Ok(Request::NewSecret(_)) => 4_096,
         _ => 5_463,
     }
 }

@@ -3,7 +3,7 @@ use Rattle.std.proofs.Common.{◌≡◌, [], ◌∷◌, None, Some, true, false,
 use Rattle.std.specs.Prelude.{codes}
 use Rattle.clap.proofs.OnLiterals.{clap_on_literals}
 use Rattle.jwt_mac.specs.Algorithm.{alg_named}
-use Rattle.jwt_mac.specs.declared.algorithm.Alg.TheVariants.{HS384}
+use Rattle.jwt_mac.specs.declared.algorithm.Alg.TheVariants.{HS256, HS384}
 use Rattle.jwt_words.specs.Words.{EachLine, Jwk, Keys, KidNamed, KidThumbprint, Mac, MacFile, NewSecret, NoKid, Once, Policy, Pretty, Show, Verify, Version, no_files, request_of}
 use Rattle.jwt_words.specs.declared.printing.Printing.TheVariants.{Json, Lines}
 
@@ -195,7 +195,7 @@ pub jwk_lines : request_of None (codes "jwt" ∷ codes "jwk" ∷ codes "--lines"
 unfolding clap_on_literals
 jwk_lines = refl
 
-pub new_secret : request_of None (codes "jwt" ∷ codes "jwk" ∷ codes "--new" ∷ codes "HS384" ∷ codes "--bare" ∷ []) ≡ Some (NewSecret (record { printing = Lines; bare = true; alg = HS384 }))
+pub new_secret : request_of None (codes "jwt" ∷ codes "jwk" ∷ codes "--new" ∷ codes "HS384" ∷ codes "--bare" ∷ []) ≡ Some (NewSecret (record { printing = Lines; bare = true; alg = HS384; files = no_files }))
 unfolding clap_on_literals alg_named
 new_secret = refl
 
@@ -210,6 +210,18 @@ new_secret_of_a_file = refl
 pub new_secret_with_a_kid : request_of None (codes "jwt" ∷ codes "jwk" ∷ codes "--new" ∷ codes "HS256" ∷ codes "--kid" ∷ codes "k" ∷ []) ≡ None
 unfolding clap_on_literals
 new_secret_with_a_kid = refl
+
+pub secret_of_a_file : request_of None (codes "jwt" ∷ codes "jwk" ∷ codes "--secret" ∷ codes "k" ∷ codes "--alg" ∷ codes "HS256" ∷ []) ≡ Some (NewSecret (record { printing = Lines; bare = false; alg = HS256; files = record no_files { key = Some (codes "k") } }))
+unfolding clap_on_literals alg_named
+secret_of_a_file = refl
+
+pub secret_of_no_alg : request_of None (codes "jwt" ∷ codes "jwk" ∷ codes "--secret" ∷ codes "k" ∷ []) ≡ None
+unfolding clap_on_literals
+secret_of_no_alg = refl
+
+pub secret_for_public_keys : request_of None (codes "jwt" ∷ codes "jwk" ∷ codes "--secret" ∷ codes "k" ∷ codes "--alg" ∷ codes "RS256" ∷ []) ≡ None
+unfolding clap_on_literals alg_named
+secret_for_public_keys = refl
 
 pub policy_alone : request_of None (codes "jwt" ∷ codes "policy" ∷ codes "--policy=p" ∷ []) ≡ Some (Policy (record { printing = Lines; files = record no_files { policy = Some (codes "p") } }))
 unfolding clap_on_literals

@@ -1,6 +1,6 @@
 -- The requests of some examples of words.
 use Rattle.std.specs.Prelude.{◌≡◌, [], ◌∷◌, None, Some, true, false, codes}
-use Rattle.jwt_mac.specs.declared.algorithm.Alg.TheVariants.{HS384}
+use Rattle.jwt_mac.specs.declared.algorithm.Alg.TheVariants.{HS256, HS384}
 use Rattle.jwt_words.specs.Words.{EachLine, Jwk, Keys, KidNamed, KidThumbprint, Mac, MacFile, NewSecret, NoKid, Once, Policy, Pretty, Show, Verify, Version, no_files, request_of}
 use Rattle.jwt_words.specs.declared.printing.Printing.TheVariants.{Json, Lines}
 
@@ -52,10 +52,13 @@ pub record Examples : Type 0 where
   pub jwk_two_kids : request_of None (codes "jwt" ∷ codes "jwk" ∷ codes "--kid" ∷ codes "a" ∷ codes "--kid-thumbprint" ∷ []) ≡ None
   pub jwk_alg_of_secrets : request_of None (codes "jwt" ∷ codes "jwk" ∷ codes "--alg" ∷ codes "HS256" ∷ []) ≡ None
   pub jwk_lines : request_of None (codes "jwt" ∷ codes "jwk" ∷ codes "--lines" ∷ []) ≡ None
-  pub new_secret : request_of None (codes "jwt" ∷ codes "jwk" ∷ codes "--new" ∷ codes "HS384" ∷ codes "--bare" ∷ []) ≡ Some (NewSecret (record { printing = Lines; bare = true; alg = HS384 }))
+  pub new_secret : request_of None (codes "jwt" ∷ codes "jwk" ∷ codes "--new" ∷ codes "HS384" ∷ codes "--bare" ∷ []) ≡ Some (NewSecret (record { printing = Lines; bare = true; alg = HS384; files = no_files }))
   pub new_public_key : request_of None (codes "jwt" ∷ codes "jwk" ∷ codes "--new" ∷ codes "RS256" ∷ []) ≡ None
   pub new_secret_of_a_file : request_of None (codes "jwt" ∷ codes "jwk" ∷ codes "--new" ∷ codes "HS256" ∷ codes "--file" ∷ codes "k" ∷ []) ≡ None
   pub new_secret_with_a_kid : request_of None (codes "jwt" ∷ codes "jwk" ∷ codes "--new" ∷ codes "HS256" ∷ codes "--kid" ∷ codes "k" ∷ []) ≡ None
+  pub secret_of_a_file : request_of None (codes "jwt" ∷ codes "jwk" ∷ codes "--secret" ∷ codes "k" ∷ codes "--alg" ∷ codes "HS256" ∷ []) ≡ Some (NewSecret (record { printing = Lines; bare = false; alg = HS256; files = record no_files { key = Some (codes "k") } }))
+  pub secret_of_no_alg : request_of None (codes "jwt" ∷ codes "jwk" ∷ codes "--secret" ∷ codes "k" ∷ []) ≡ None
+  pub secret_for_public_keys : request_of None (codes "jwt" ∷ codes "jwk" ∷ codes "--secret" ∷ codes "k" ∷ codes "--alg" ∷ codes "RS256" ∷ []) ≡ None
   pub policy_alone : request_of None (codes "jwt" ∷ codes "policy" ∷ codes "--policy=p" ∷ []) ≡ Some (Policy (record { printing = Lines; files = record no_files { policy = Some (codes "p") } }))
   pub policy_with_keys : request_of None (codes "jwt" ∷ codes "policy" ∷ codes "--json" ∷ codes "--keys" ∷ codes "k" ∷ codes "--policy" ∷ codes "p" ∷ []) ≡ Some (Policy (record { printing = Json; files = record no_files { policy = Some (codes "p"); keys = Some (codes "k") } }))
   pub policy_unnamed : request_of None (codes "jwt" ∷ codes "policy" ∷ codes "--keys=k" ∷ []) ≡ None

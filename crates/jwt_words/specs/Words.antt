@@ -107,6 +107,10 @@ bare_rule = flag (codes "bare")
 abbrev pub secret_rule : Rule
 secret_rule = option (codes "new")
 
+-- the file of a secret
+abbrev pub secret_file_rule : Rule
+secret_file_rule = option (codes "secret")
+
 -- `--pretty` of `show`
 abbrev pub pretty_rule : Rule
 pretty_rule = flag (codes "pretty")
@@ -161,7 +165,7 @@ abbrev pub jwk_of_keys : App
 jwk_of_keys = with_rule (with_rule jwk_with_kid public_alg_rule) bare_rule
 
 abbrev pub jwk_app : App
-jwk_app = with_rule (with_rule jwk_of_keys secret_rule) json_rule
+jwk_app = with_rule (with_rule (with_rule jwk_of_keys secret_rule) secret_file_rule) json_rule
 
 abbrev pub top_app : App
 top_app = record (new_app (codes "jwt")) { top = record (new_app (codes "jwt")).top { subcommand_required = true } }
@@ -313,11 +317,12 @@ pub record JwkOrder : Type 0 where
   pub alg : Option Text
   pub files : Files
 
--- what `jwk --new` asks for: a new secret for this algorithm, in a key set, or its JWK alone
+-- what `jwk --new` and `jwk --secret` ask for: a new secret, or that of a file, for this algorithm, in a key set, or its JWK alone
 pub record SecretOrder : Type 0 where
   pub printing : Printing
   pub bare : Bool
   pub alg : Alg
+  pub files : Files
 
 -- one of the two, or none
 abbrev pub kid_chosen : Option Text → Bool → Option KidChoice
@@ -349,15 +354,24 @@ jwk_order rows = option_and_then (λ alg. option_map (λ kid. record { printing 
 abbrev pub secret_alg : Alg → Option Alg
 secret_alg alg = if is_hmac_alg alg then Some alg else None
 
-abbrev pub secret_alg_in : List Row → Option Alg
-secret_alg_in rows = option_and_then secret_alg (option_and_then alg_named (first_of (codes "new") rows))
+-- the HMAC algorithm that this option names
+abbrev pub secret_alg_in : Text → List Row → Option Alg
+secret_alg_in name rows = option_and_then secret_alg (option_and_then alg_named (first_of name rows))
 
--- options that a new secret has no use for: those of an input, and of `kid` and `alg`, which are its own
+-- options that a secret has no use for: those of an input, and of `kid`, which is its own
 abbrev pub asks_of_public_keys : List Row → Bool
-asks_of_public_keys rows = is_named (codes "file") rows || (is_set (codes "der") rows || (is_named (codes "kid") rows || (is_set (codes "kid-thumbprint") rows || is_named (codes "alg") rows)))
+asks_of_public_keys rows = is_named (codes "file") rows || (is_set (codes "der") rows || (is_named (codes "kid") rows || is_set (codes "kid-thumbprint") rows))
 
+abbrev pub secret_for : List Row → Option Text → Alg → SecretOrder
+secret_for rows file alg = record { printing = printing_in rows; bare = is_set (codes "bare") rows; alg = alg; files = key_file_in file }
+
+-- a new secret: `--new` names its algorithm
 abbrev pub secret_order : List Row → Option SecretOrder
-secret_order rows = if asks_of_public_keys rows then None else option_map (λ alg. record { printing = printing_in rows; bare = is_set (codes "bare") rows; alg = alg }) (secret_alg_in rows)
+secret_order rows = if asks_of_public_keys rows || is_named (codes "alg") rows then None else option_map (secret_for rows None) (secret_alg_in (codes "new") rows)
+
+-- that of a file: `--alg` names its algorithm
+abbrev pub kept_secret_order : List Row → Option SecretOrder
+kept_secret_order rows = if asks_of_public_keys rows || is_named (codes "new") rows then None else option_map (secret_for rows (first_of (codes "secret") rows)) (secret_alg_in (codes "alg") rows)
 
 -- ---- what a policy means
 
@@ -400,7 +414,7 @@ pub data Request : Type 0 where
   Pretty : PrettyOrder → Request
 
 abbrev pub jwk_request : List Row → Option Request
-jwk_request rows = if is_named (codes "new") rows then option_map (λ order. NewSecret order) (secret_order rows) else option_map (λ order. Jwk order) (jwk_order rows)
+jwk_request rows = if is_named (codes "secret") rows then option_map (λ order. NewSecret order) (kept_secret_order rows) else if is_named (codes "new") rows then option_map (λ order. NewSecret order) (secret_order rows) else option_map (λ order. Jwk order) (jwk_order rows)
 
 abbrev pub request_in : Option ℕ → Text → List Row → Option Request
 request_in clock name rows =
@@ -443,13 +457,14 @@ abbrev pub files_in_request : Request → Files
 files_in_request (Once printing order) = files_in_order order
 files_in_request (EachLine order) = order.files
 files_in_request (Jwk order) = order.files
-files_in_request (NewSecret order) = no_files
+files_in_request (NewSecret order) = order.files
 files_in_request (Policy order) = order.files
 files_in_request (Pretty order) = no_files
 
 -- ---- the system's random source
 
--- so many octets of it are asked for: those of a digest of the hash function of the algorithm (RFC 7518, section 3.2)
+-- so many octets of it are asked for, where no file has the secret: those of a digest of the hash function of the algorithm (RFC 7518,
+-- section 3.2)
 abbrev pub octets_asked : Request → ℕ
-octets_asked (NewSecret order) = digest_size order.alg
+octets_asked (NewSecret order) = if is_some order.files.key then 0 else digest_size order.alg
 octets_asked request = 0

@@ -4,7 +4,7 @@ ghost use Rattle.clap.specs.Words.{app_of, first_of, found_of, rows_of};
 ghost use Rattle.clap.specs.declared.builder.command.Command.TheViews.{out-Command as fields_of};
 ghost use Rattle.jwt_mac.specs.Algorithm.{is_hmac_alg};
 ghost use Rattle.jwt_words.specs.Seen.{files_view, jwk_view, kid_view, secret_view};
-ghost use Rattle.jwt_words.specs.Words.{asks_of_public_keys, is_public_alg, jwk_app, jwk_of_keys, jwk_on_input, jwk_order, jwk_with_kid, key_file_in, kid_chosen, kid_in, public_alg_chosen, secret_alg, secret_alg_in, secret_order};
+ghost use Rattle.jwt_words.specs.Words.{asks_of_public_keys, is_public_alg, jwk_app, jwk_of_keys, jwk_on_input, jwk_order, jwk_with_kid, kept_secret_order, key_file_in, kid_chosen, kid_in, public_alg_chosen, secret_alg, secret_alg_in, secret_for, secret_order};
 
 use crate::nearest::nearest;
 use crate::printing::Printing;
@@ -48,9 +48,9 @@ pub struct JwkOrder<'a> {
     pub files: Files<'a>,
 }
 
-/// What `jwk --new` asks for: a new secret, in a key set, with its thumbprint as `kid`.
+/// What `jwk --new` and `jwk --secret` ask for: a new secret, or that of a file, in a key set, with its thumbprint as `kid`.
 #[derive(Clone, Copy)]
-pub struct SecretOrder {
+pub struct SecretOrder<'a> {
     /// How a failure is printed.
     pub printing: Printing,
 
@@ -59,6 +59,9 @@ pub struct SecretOrder {
 
     /// Its algorithm: HS256, HS384 or HS512.
     pub alg: Alg,
+
+    /// The file of the secret, where one is named.
+    pub files: Files<'a>,
 }
 
 /// The options of the input.
@@ -104,9 +107,12 @@ pub(crate) fn jwk_command<'a>(alloc: Global) -> Result<Command<'a>, AllocError>
     ensures shape { IfOk result (λ c. app_of c ≡ jwk_app) }
     ensures local { IfOk result (λ c. (fields_of c).has_globals ≡ false) }
 {
-    let secret = "Makes a new secret, for HS256, HS384 or HS512; reads no key";
+    let new = "Makes a new secret, for HS256, HS384 or HS512; reads no key";
+    let secret =
+        "The file of a secret, its octets as they are, for the HS256, HS384 or HS512 of --alg";
     jwk_of_keys(alloc)?
-        .arg(option(alloc, "new", "A", secret))?
+        .arg(option(alloc, "new", "A", new))?
+        .arg(option(alloc, "secret", "FILE", secret))?
         .arg(json_option(alloc))
 }
 
@@ -223,17 +229,17 @@ fn secret_alg(alg: Alg) -> Option<Alg>
     if alg.is_hmac() { Some(alg) } else { None }
 }
 
-/// The HMAC algorithm that is asked for.
-fn chosen_secret_alg(options: &ArgMatches<'_>) -> Option<Alg>
-    ensures alg { result ≡ secret_alg_in (rows_of (found_of options.now)) }
+/// The HMAC algorithm that an option names.
+fn chosen_secret_alg(options: &ArgMatches<'_>, name: &str) -> Option<Alg>
+    ensures alg { result ≡ secret_alg_in name.now (rows_of (found_of options.now)) }
     ensures hmac { IfSome result (λ a. is_hmac_alg a ≡ true) }
 {
-    let name = value(options, "new")?;
-    let alg = Alg::from_text(name)?;
+    let text = value(options, name)?;
+    let alg = Alg::from_text(text)?;
     secret_alg(alg)
 }
 
-/// Whether an option is used that a new secret has no use for.
+/// Whether an option is used that a secret has no use for.
 fn asks_of_public_keys(options: &ArgMatches<'_>) -> bool
     ensures { result ≡ asks_of_public_keys (rows_of (found_of options.now)) }
 {
@@ -241,29 +247,58 @@ fn asks_of_public_keys(options: &ArgMatches<'_>) -> bool
         || is_set(options, "der")
         || is_named(options, "kid")
         || is_set(options, "kid-thumbprint")
-        || is_named(options, "alg")
 }
 
-/// What `jwk --new` asks for.
-pub(crate) fn chosen_secret(options: &ArgMatches<'_>) -> Option<SecretOrder>
-    ensures order { option_map secret_view result ≡ secret_order (rows_of (found_of options.now)) }
-    ensures hmac { IfSome result (λ o. is_hmac_alg o.alg ≡ true) }
+/// A secret for this algorithm, of a file or a new one.
+fn secret_for<'a>(options: &ArgMatches<'a>, file: Option<&'a str>, alg: Alg) -> SecretOrder<'a>
+    ensures { secret_view result
+        ≡ secret_for (rows_of (found_of options.now)) (option_map (λ t. t.now) file.entry) alg }
 {
-    if asks_of_public_keys(options) {
-        return None;
-    }
-    let alg = chosen_secret_alg(options)?;
     let printing = chosen_printing(options);
     let bare = is_set(options, "bare");
-    Some(SecretOrder {
+    let files = key_file_in(file);
+    SecretOrder {
         printing,
         bare,
         alg,
-    })
+        files,
+    }
 }
 
-/// What is said of an option that `--new` has no use for, as `clap` words it.
-fn wrong_beside_new(alloc: Global, options: &ArgMatches<'_>) -> Result<String, AllocError> {
+/// What `jwk --new` asks for.
+pub(crate) fn chosen_secret<'a>(options: &ArgMatches<'a>) -> Option<SecretOrder<'a>>
+    ensures order { option_map secret_view result ≡ secret_order (rows_of (found_of options.now)) }
+    ensures hmac { IfSome result (λ o. is_hmac_alg o.alg ≡ true) }
+{
+    if asks_of_public_keys(options) || is_named(options, "alg") {
+        return None;
+    }
+    let alg = chosen_secret_alg(options, "new")?;
+    let order = secret_for(options, None, alg);
+    Some(order)
+}
+
+/// What `jwk --secret` asks for.
+pub(crate) fn chosen_kept_secret<'a>(options: &ArgMatches<'a>) -> Option<SecretOrder<'a>>
+    ensures order { option_map secret_view result ≡ kept_secret_order (rows_of (found_of options.now)) }
+    ensures hmac { IfSome result (λ o. is_hmac_alg o.alg ≡ true) }
+{
+    if asks_of_public_keys(options) || is_named(options, "new") {
+        return None;
+    }
+    let alg = chosen_secret_alg(options, "alg")?;
+    let file = value(options, "secret");
+    let order = secret_for(options, file, alg);
+    Some(order)
+}
+
+/// What is said of an option that a secret has no use for, as `clap` words it.
+fn wrong_beside_secret(
+    alloc: Global,
+    options: &ArgMatches<'_>,
+    secret: &str,
+    other: &str,
+) -> Result<String, AllocError> {
     let beside = if is_named(options, "file") {
         "--file <FILE>"
     } else if is_set(options, "der") {
@@ -273,17 +308,27 @@ fn wrong_beside_new(alloc: Global, options: &ArgMatches<'_>) -> Result<String, A
     } else if is_set(options, "kid-thumbprint") {
         "--kid-thumbprint"
     } else {
-        "--alg <A>"
+        other
     };
     format!(in alloc;
-        "error: the argument '--new <A>' cannot be used with '{beside}'\n\nFor more information, try '--help'.\n"
+        "error: the argument '{secret}' cannot be used with '{beside}'\n\nFor more information, try '--help'.\n"
     )
+}
+
+/// What is said of wrong words with `--secret`.
+fn wrong_kept_secret(alloc: Global, options: &ArgMatches<'_>) -> Result<String, AllocError> {
+    if asks_of_public_keys(options) || is_named(options, "new") {
+        return wrong_beside_secret(alloc, options, "--secret <FILE>", "--new <A>");
+    }
+    let alg = options.get_str("alg").unwrap_or("");
+    let near = nearest(alloc, alg, &["HS256", "HS384", "HS512"])?;
+    unknown_value(alloc, "--alg <A>", alg, "HS256, HS384, HS512", near)
 }
 
 /// What is said of wrong words with `--new`.
 fn wrong_secret(alloc: Global, options: &ArgMatches<'_>) -> Result<String, AllocError> {
-    if asks_of_public_keys(options) {
-        return wrong_beside_new(alloc, options);
+    if asks_of_public_keys(options) || is_named(options, "alg") {
+        return wrong_beside_secret(alloc, options, "--new <A>", "--alg <A>");
     }
     let alg = options.get_str("new").unwrap_or("");
     let near = nearest(alloc, alg, &["HS256", "HS384", "HS512"])?;
@@ -302,6 +347,9 @@ fn wrong_alg(alloc: Global, alg: &str) -> Result<String, AllocError> {
 
 /// What is said where `clap` accepts the words of `jwk` and they ask for nothing.
 pub(crate) fn wrong_jwk(alloc: Global, options: &ArgMatches<'_>) -> Result<String, AllocError> {
+    if is_named(options, "secret") {
+        return wrong_kept_secret(alloc, options);
+    }
     if is_named(options, "new") {
         return wrong_secret(alloc, options);
     }

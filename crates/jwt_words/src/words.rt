@@ -8,7 +8,9 @@ ghost use Rattle.jwt_words.specs.Words.{HasLimits, alg_in, alg_rule, asks_versio
 ghost use Rattle.jwt_words.specs.Examples.{Examples};
 ghost use Rattle.jwt_words.specs.Seen.{IsWrong, files_view, HasRange, lines_view, requested, seconds_of, seen};
 
-use crate::jwk::{JwkOrder, SecretOrder, chosen_jwk, chosen_secret, jwk_command, wrong_jwk};
+use crate::jwk::{
+    JwkOrder, SecretOrder, chosen_jwk, chosen_kept_secret, chosen_secret, jwk_command, wrong_jwk,
+};
 use crate::moment::{LAST, Moment};
 use crate::nearest::nearest;
 use crate::policy::{PolicyOrder, chosen_policy, policy_command};
@@ -346,7 +348,7 @@ pub enum Request<'a> {
     },
     EachLine(LinesOrder<'a>),
     Jwk(JwkOrder<'a>),
-    NewSecret(SecretOrder),
+    NewSecret(SecretOrder<'a>),
     Policy(PolicyOrder<'a>),
     Pretty(PrettyOrder),
 }
@@ -539,11 +541,15 @@ fn chosen_request<'a>(
     Some(Request::Once { printing, order })
 }
 
-/// What `jwk` asks for: a new secret with `--new`, and else the JWKs of public keys.
+/// What `jwk` asks for: the secret of a file with `--secret`, a new one with `--new`, and else the JWKs of public keys.
 fn chosen_jwk_request<'a>(options: &ArgMatches<'a>) -> Option<Request<'a>>
     ensures limits { IfSome result (λ q. HasRange (requested q)) }
     ensures request { option_map requested result ≡ jwk_request (rows_of (found_of options.now)) }
 {
+    if is_named(options, "secret") {
+        let order = chosen_kept_secret(options)?;
+        return Some(Request::NewSecret(order));
+    }
     if is_named(options, "new") {
         let order = chosen_secret(options)?;
         return Some(Request::NewSecret(order));
@@ -820,7 +826,7 @@ pub fn files_in_request<'a>(request: Request<'a>) -> Files<'a>
         Request::Once { order, .. } => files_in_order(order),
         Request::EachLine(lines) => lines.files,
         Request::Jwk(order) => order.files,
-        Request::NewSecret(_) => Files::none(),
+        Request::NewSecret(order) => order.files,
         Request::Policy(order) => order.files,
         Request::Pretty(_) => Files::none(),
     }
@@ -831,7 +837,11 @@ pub fn octets_asked(request: Request<'_>) -> u32
     ensures { result ≡ octets_asked (requested request.entry) }
 {
     match request {
-        Request::NewSecret(order) => order.alg.digest(),
+        Request::NewSecret(order) => if order.files.key.is_some() {
+            0
+        } else {
+            order.alg.digest()
+        },
         _ => 0,
     }
 }
