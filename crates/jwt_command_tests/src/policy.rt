@@ -318,7 +318,7 @@ static ADVISED: [Advised; 19] = [
         prints: &[
             "alg HS256 keys=1",
             "alg HS512 keys=1",
-            "cost work=8384 calls=1",
+            "cost work=8512 calls=1",
             "ceilings work=1048576 max_calls=-",
         ],
     },
