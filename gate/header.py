@@ -1,13 +1,15 @@
 #!/usr/bin/env python3
 """Takes each "Proved:" of include/fowharimu.h apart by call and status, and finds for each a clause of the exported function that has that status: in
-the clause, or in a definition of jwt_c that it cites. What is said without a status is one of the sentences below, and the call has the clauses
-that stand beside it. A rough reader of the layout of `rt fmt`: it finds that a clause is there, and not that it says the same. It ends with
-'N passed, M failed', where a call with a status, and a sentence without one, count as one."""
+the clause, or in a definition of jwt_handles that it cites. What is said without a status is one of the sentences below, and the call has the
+clauses that stand beside it. Besides it compares each exported function, clause by clause, with the one of jwt_handles that it calls. A rough reader
+of the layout of `rt fmt`: it finds that a clause is there, and not that it says the same as the header. It ends with 'N passed, M failed', where a call
+with a status, a sentence without one, and an exported function count as one."""
 import pathlib, re, sys
 
 TOP = pathlib.Path(__file__).resolve().parent.parent
 HEADER = (TOP / "include/fowharimu.h").read_text()
-CRATE = TOP / "crates/jwt_c"
+# The crate that exports, and the library that it calls.
+EXPORTS, LIBRARY = TOP / "crates/jwt_c", TOP / "crates/jwt_handles"
 # What is said of a call without a status, or beside one, and the clauses that say it; `CALL.CLAUSE` is one of another call. With `=` it is all
 # of the sentence.
 SENTENCES = {
@@ -43,9 +45,9 @@ UNSAID = "FOW_OUT_OF_MEMORY"
 
 
 def definitions():
-    """The definitions of jwt_c by their names, each with its text."""
+    """The definitions of jwt_handles by their names, each with its text."""
     found = {}
-    for file in CRATE.glob("specs/*.antt"):
+    for file in LIBRARY.glob("specs/*.antt"):
         for block in re.split(r"\n\s*\n", file.read_text()):
             name = re.search(r"^(?:(?:abbrev|unfoldable) )?(?:pub )?(?:record )?(\w+)", re.sub(r"^--.*\n", "", block, flags=re.MULTILINE))
             if name:
@@ -56,10 +58,25 @@ def definitions():
 def contracts():
     """The clauses of each exported function: a name, or nothing, with its text."""
     found = {}
-    for file in CRATE.glob("src/*.rt"):
+    for file in EXPORTS.glob("src/*.rt"):
         for name, contract in re.findall(r'^pub extern "C" fn (\w+)\(.*?\n((?:    ensures .*?)?)^\{', file.read_text(), re.MULTILINE | re.DOTALL):
             found[name] = dict(re.findall(r"^    ensures (\w*) ?\{(.*?)\}$", contract, re.MULTILINE | re.DOTALL))
     return found
+
+
+def heads(folder):
+    """What each public function of a crate takes, answers and promises, in a line, by its file and name; and the first word of its body, which is what
+    it calls where it is one call."""
+    for file in sorted(folder.glob("src/*.rt")):
+        for name, head, first in re.findall(r'^pub (?:extern "C" )?fn (\w+)(\(.*?)^\{\n +([\w:]*)', file.read_text(), re.MULTILINE | re.DOTALL):
+            yield f"{file.stem}::{name}", " ".join(head.split()).replace("( ", "(").replace(", )", ")"), first
+
+
+def unlike():
+    """Each exported function, and whether it takes, answers and promises other than the one that it calls."""
+    known = {name: head for name, head, _ in heads(LIBRARY)}
+    for name, head, called in heads(EXPORTS):
+        yield name, known.get(called) != head
 
 
 def spread(clause, known):
@@ -147,6 +164,8 @@ def main():
         judge.call(name, line, [*sentences(texts[as_with[1]] if as_with else ""), *sentences(proved)])
     for name in sorted(judge.clauses.keys() - texts.keys()):
         judge.count(False, f"{name}: it is exported, and isn't declared")
+    for name, is_unlike in unlike():
+        judge.count(not is_unlike, f"{name}: its clauses aren't those of the function of jwt_handles that it calls")
     print(f"{judge.passed} passed, {judge.failed} failed")
     return judge.failed > 0
 

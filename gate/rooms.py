@@ -148,7 +148,7 @@ def end_of_signature(lines, at, indent):
 def contracts(path, crate):
     """Of a file of code each contract, with the room that it has by itself: of a function, of a trait's and a type's ghost members."""
     names, modules = exported(crate)
-    is_open = path in modules or crate == "jwt_c"
+    is_open = path in modules
     lines, found, owner = path.read_text().split("\n"), [], None
     at = 0
     while at < len(lines):

@@ -1,20 +1,19 @@
 //! The functions that C calls for keys by URL, and for several issuers.
 
-ghost use Rattle.jwt_c.specs.declared.status.TheConstants.{FOW_ABSENT, FOW_NOT_OPEN, FOW_OK};
-ghost use Rattle.std.specs.Prelude.{◌≡◌, ◌≢◌, IfSome, IsUtf8, None, false};
-ghost use Rattle.jwt_text.specs.ObjectText.{object_of};
+ghost use Rattle.jwt_handles.specs.declared.status.TheConstants.{FOW_ABSENT, FOW_NOT_OPEN, FOW_OK};
+ghost use Rattle.std.specs.Prelude.{◌≡◌, ◌≢◌, IfSome, None, IsUtf8, false};
 ghost use Rattle.jwt_keys.specs.KeySets.{key_set};
 ghost use Rattle.jwt_verify.specs.Verdict.{token_of};
-ghost use Rattle.jwt_c.specs.Documents.{documents};
-ghost use Rattle.jwt_c.specs.Issuers.{PutsIssuer, are_public, sole, text_in};
-ghost use Rattle.jwt_c.specs.Written.{PutsHeld, PutsSome};
+ghost use Rattle.jwt_handles.specs.Documents.{documents};
+ghost use Rattle.jwt_handles.specs.Written.{PutsSome, PutsHeld};
+ghost use Rattle.jwt_text.specs.ObjectText.{object_of};
+ghost use Rattle.jwt_handles.specs.Issuers.{PutsIssuer, are_public, sole, text_in};
 
-use crate::handle::{Handle, take};
-use crate::issuers::{are_public, put_issuer, put_sole_issuer, put_text};
-use crate::status::{FOW_NOT_OPEN, FOW_OK};
+use jwt_handles::handle::Handle;
+use jwt_handles::key_sources;
 use std::alloc::Global;
 
-/// Whether no algorithm of the policy is HMAC, and no key of the set a shared secret. False where nothing is held.
+/// [`key_sources::documents_are_public`] by its name in C.
 #[unsafe(no_mangle)]
 pub extern "C" fn fow_documents_are_public(validator: &mut Handle, alloc: Global) -> bool
     ensures same { validator.new.state ≡ validator.old.state }
@@ -22,15 +21,10 @@ pub extern "C" fn fow_documents_are_public(validator: &mut Handle, alloc: Global
     ensures public { IfSome validator.old.state (λ d. result
         ≡ are_public (documents d).policy (key_set (documents d).keys).keys) }
 {
-    let Some(state) = take(validator, alloc) else {
-        return false;
-    };
-    let public = are_public(&state);
-    *validator = Handle::of(state);
-    public
+    key_sources::documents_are_public(validator, alloc)
 }
 
-/// The greatest number of octets of a token that the policy takes. `FOW_OK`; `FOW_NOT_OPEN`: nothing is held.
+/// [`key_sources::token_limit`] by its name in C.
 #[unsafe(no_mangle)]
 pub extern "C" fn fow_token_limit(validator: &mut Handle, alloc: Global, limit: &mut u32) -> u32
     ensures same { validator.new.state ≡ validator.old.state }
@@ -38,16 +32,10 @@ pub extern "C" fn fow_token_limit(validator: &mut Handle, alloc: Global, limit: 
     ensures limit { IfSome validator.old.state (λ d. (result ≡ FOW_OK)
         × (limit.new ≡ (documents d).policy.run.limit)) }
 {
-    let Some(state) = take(validator, alloc) else {
-        return FOW_NOT_OPEN;
-    };
-    *limit = state.grounds.documents().policy.limit();
-    *validator = Handle::of(state);
-    FOW_OK
+    key_sources::token_limit(validator, alloc, limit)
 }
 
-/// Writes the issuer that the policy allows at the front of `out`, where it is one alone. `FOW_OK`; `FOW_NOT_OPEN`: nothing is held;
-/// `FOW_TOO_SHORT`: `out` is too short; `FOW_ABSENT`: the policy allows any, or several.
+/// [`key_sources::sole_issuer`] by its name in C.
 #[unsafe(no_mangle)]
 pub extern "C" fn fow_sole_issuer(
     validator: &mut Handle,
@@ -61,17 +49,10 @@ pub extern "C" fn fow_sole_issuer(
         (sole (documents d).policy.claims.issuers) result written.new out.old out.new) }
     ensures unwritten { result ≢ FOW_OK → (out.new ≡ out.old) × (written.new ≡ written.old) }
 {
-    let Some(state) = take(validator, alloc) else {
-        return FOW_NOT_OPEN;
-    };
-    let status = put_sole_issuer(&state, out, written);
-    *validator = Handle::of(state);
-    status
+    key_sources::sole_issuer(validator, alloc, out, written)
 }
 
-/// Writes the issuer that a token names at the front of `out`. `FOW_OK`; `FOW_OUT_OF_MEMORY`: memory was refused; `FOW_NOT_OPEN`: nothing is
-/// held; `FOW_TOO_SHORT`: `out` is too short; `FOW_ABSENT`: the octets are no token; `FOW_UNNAMED`: its payload is no object text, or has no text
-/// `iss`.
+/// [`key_sources::unverified_issuer`] by its name in C.
 #[unsafe(no_mangle)]
 pub extern "C" fn fow_unverified_issuer(
     validator: &mut Handle,
@@ -86,16 +67,10 @@ pub extern "C" fn fow_unverified_issuer(
         (token_of (documents d).policy token.now) result written.new out.old out.new) }
     ensures unwritten { result ≢ FOW_OK → (out.new ≡ out.old) × (written.new ≡ written.old) }
 {
-    let Some(state) = take(validator, alloc) else {
-        return FOW_NOT_OPEN;
-    };
-    let status = put_issuer(alloc, &state, token, out, written);
-    *validator = Handle::of(state);
-    status
+    key_sources::unverified_issuer(validator, alloc, token, out, written)
 }
 
-/// Writes the text of this name in an object text at the front of `out`. `FOW_OK`; `FOW_OUT_OF_MEMORY`: memory was refused; `FOW_TOO_SHORT`:
-/// `out` is too short; `FOW_ABSENT`: the octets are no object text, or it has no text of this name.
+/// [`key_sources::text_member`] by its name in C.
 #[unsafe(no_mangle)]
 pub extern "C" fn fow_text_member(
     alloc: Global,
@@ -109,5 +84,5 @@ pub extern "C" fn fow_text_member(
     ensures other { ¬ IsUtf8 name.now → result ≡ FOW_ABSENT }
     ensures unwritten { result ≢ FOW_OK → (out.new ≡ out.old) × (written.new ≡ written.old) }
 {
-    put_text(alloc, document, name, out, written)
+    key_sources::text_member(alloc, document, name, out, written)
 }

@@ -1,20 +1,18 @@
 //! The functions on access rules that C calls.
 
-ghost use Rattle.jwt_c.specs.declared.status.TheConstants.{FOW_NOT_OPEN, FOW_OK};
+ghost use Rattle.jwt_handles.specs.declared.status.TheConstants.{FOW_NOT_OPEN, FOW_OK};
 ghost use Rattle.std.specs.Prelude.{◌≡◌, ◌≢◌, IfSome, None, slice_get};
+ghost use Rattle.jwt_handles.specs.Evidence.{claims_kept};
+ghost use Rattle.jwt_handles.specs.Written.{PutsSome, PutsHeld};
 ghost use Rattle.jwt_access.specs.Document.{rule_of};
-ghost use Rattle.jwt_c.specs.Evidence.{claims_kept};
-ghost use Rattle.jwt_c.specs.Access.{HoldsRule, IsRuleRefused, IsHeldAgainst, PutsDenied, refused_in};
-ghost use Rattle.jwt_c.specs.Written.{PutsHeld, PutsSome};
+ghost use Rattle.jwt_handles.specs.Access.{HoldsRule, IsRuleRefused, IsHeldAgainst, PutsDenied, refused_in};
 
-use crate::access::{hold, put_denied, put_refused, put_scope, rule_of};
-use crate::handle::{Handle, take};
-use crate::rule_handle::{RuleHandle, take_rule};
-use crate::status::{FOW_NOT_OPEN, FOW_OK};
+use jwt_handles::handle::Handle;
+use jwt_handles::rule_handle::RuleHandle;
+use jwt_handles::rules;
 use std::alloc::Global;
 
-/// Reads an access rule. `FOW_OK`: it is held from now on; `FOW_REFUSED`: it is refused, for the fault; `FOW_OUT_OF_MEMORY`: memory
-/// was refused. On any other status the handle holds what it held.
+/// [`rules::access_open`] by its name in C.
 #[unsafe(no_mangle)]
 pub extern "C" fn fow_access_open(
     access: &mut RuleHandle,
@@ -26,21 +24,10 @@ pub extern "C" fn fow_access_open(
     ensures refused { result ≢ FOW_OK → IsRuleRefused rule.now result fault.new }
     ensures same { result ≢ FOW_OK → access.new.state ≡ access.old.state }
 {
-    *fault = 0;
-    match rule_of(alloc, rule) {
-        Ok(state) => {
-            *access = RuleHandle::of(state);
-            FOW_OK
-        }
-        Err(why) => {
-            *fault = why.fault;
-            why.status
-        }
-    }
+    rules::access_open(access, alloc, rule, fault)
 }
 
-/// Writes the name of the member, or of the claim, for which a rule is refused at the front of `out`. `FOW_OK`; `FOW_OUT_OF_MEMORY`:
-/// memory was refused; `FOW_TOO_SHORT`: `out` is too short; `FOW_ABSENT`: the rule isn't refused for one.
+/// [`rules::access_refused`] by its name in C.
 #[unsafe(no_mangle)]
 pub extern "C" fn fow_access_refused(
     alloc: Global,
@@ -51,19 +38,18 @@ pub extern "C" fn fow_access_refused(
     ensures name { PutsSome (refused_in (rule_of rule.now)) result written.new out.old out.new }
     ensures unwritten { result ≢ FOW_OK → (out.new ≡ out.old) × (written.new ≡ written.old) }
 {
-    put_refused(alloc, rule, out, written)
+    rules::access_refused(alloc, rule, out, written)
 }
 
-/// Frees what is held, if anything is.
+/// [`rules::access_close`] by its name in C.
 #[unsafe(no_mangle)]
 pub extern "C" fn fow_access_close(access: &mut RuleHandle, alloc: Global)
     ensures closed { access.new.state ≡ None }
 {
-    *access = RuleHandle::empty(alloc);
+    rules::access_close(access, alloc);
 }
 
-/// Writes a scope that the rule asks for, from 0 in the order of its document, at the front of `out`. `FOW_OK`; `FOW_NOT_OPEN`: nothing is
-/// held; `FOW_TOO_SHORT`: `out` is too short; `FOW_ABSENT`: there is no such scope.
+/// [`rules::access_scope`] by its name in C.
 #[unsafe(no_mangle)]
 pub extern "C" fn fow_access_scope(
     access: &mut RuleHandle,
@@ -78,16 +64,10 @@ pub extern "C" fn fow_access_scope(
         (slice_get a.rule.scopes number) result written.new out.old out.new) }
     ensures unwritten { result ≢ FOW_OK → (out.new ≡ out.old) × (written.new ≡ written.old) }
 {
-    let Some(state) = take_rule(access, alloc) else {
-        return FOW_NOT_OPEN;
-    };
-    let status = put_scope(&state.rule, number, out, written);
-    *access = RuleHandle::of(state);
-    status
+    rules::access_scope(access, alloc, number, out, written)
 }
 
-/// Holds a rule against the claims of the token that was accepted last. `FOW_OK`: they meet it; `FOW_DENIED`: they don't, for the denial of
-/// the number; `FOW_NOT_OPEN`: the validator or the rule's handle holds nothing; `FOW_ABSENT`: the last verdict was no acceptance.
+/// [`rules::denied`] by its name in C.
 #[unsafe(no_mangle)]
 pub extern "C" fn fow_denied(
     validator: &mut Handle,
@@ -102,24 +82,10 @@ pub extern "C" fn fow_denied(
     ensures denied { IfSome validator.old.state (λ d. IfSome access.old.state (λ a.
         IsHeldAgainst a.rule (claims_kept d.last) result denial.new)) }
 {
-    *denial = 0;
-    let Some(state) = take(validator, alloc) else {
-        return FOW_NOT_OPEN;
-    };
-    let Some(held) = take_rule(access, alloc) else {
-        *validator = Handle::of(state);
-        return FOW_NOT_OPEN;
-    };
-    let (status, number) = hold(&held.rule, state.last.claims());
-    *denial = number;
-    *access = RuleHandle::of(held);
-    *validator = Handle::of(state);
-    status
+    rules::denied(validator, alloc, access, denial)
 }
 
-/// Writes the scope or the name of the claim for which a rule denies the claims of the token that was accepted last at the front of `out`.
-/// `FOW_OK`; `FOW_NOT_OPEN`: the validator or the rule's handle holds nothing; `FOW_TOO_SHORT`: `out` is too short; `FOW_ABSENT`: the
-/// claims meet the rule, or the last verdict was no acceptance.
+/// [`rules::denied_name`] by its name in C.
 #[unsafe(no_mangle)]
 pub extern "C" fn fow_denied_name(
     validator: &mut Handle,
@@ -136,15 +102,5 @@ pub extern "C" fn fow_denied_name(
         PutsDenied a.rule (claims_kept d.last) result written.new out.old out.new)) }
     ensures unwritten { result ≢ FOW_OK → (out.new ≡ out.old) × (written.new ≡ written.old) }
 {
-    let Some(state) = take(validator, alloc) else {
-        return FOW_NOT_OPEN;
-    };
-    let Some(held) = take_rule(access, alloc) else {
-        *validator = Handle::of(state);
-        return FOW_NOT_OPEN;
-    };
-    let status = put_denied(&held.rule, state.last.claims(), out, written);
-    *access = RuleHandle::of(held);
-    *validator = Handle::of(state);
-    status
+    rules::denied_name(validator, alloc, access, out, written)
 }

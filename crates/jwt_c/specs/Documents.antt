@@ -1,7 +1,0 @@
--- The documents of a state.
-use Rattle.jwt_c.specs.declared.state.State.{State}
-use Rattle.jwt_c.specs.declared.grounds.Documents.{Documents}
-
--- the policy and the key set that it judges by
-abbrev pub documents : State → Documents
-documents state = state.grounds.0

@@ -1,0 +1,56 @@
+use Rattle.std.proofs.Common.{◌≡◌, ◌∷◌, [], Some, true, false, sym, subst}
+use Rattle.std.specs.Result.{IfOk, IfErr, MatchResult}
+use Rattle.std.proofs.Math.Facts.{to_z-of_z}
+use Rattle.jwt_verify.specs.Reports.{terms}
+use Rattle.jwt_told.specs.Told.{told, told_meaning}
+use Rattle.jwt_told.specs.Questions.{AreTries}
+use Rattle.jwt_memory.specs.Outcomes.{KeepsNone, KeepsOnly, is_remembered, report_in}
+use Rattle.jwt_memory.specs.ToldKept.{IsToldNow, IsRecalled}
+use Rattle.jwt_handles.specs.Keeping.{AddsNone, AddsReport, AddsTold}
+use Rattle.jwt_handles.specs.Remembering.{RestsOn}
+use Rattle.jwt_handles.proofs.Resting.{rests_if, asks_if}
+use Rattle.jwt_handles.proofs.judging.outcome_of.Goals as goal
+
+pub returns-in-Some-clause-rests : goal.returns-in-Some-clause-rests
+returns-in-Some-clause-rests c =
+    let ts = told c.args.answers.now in let it = c.args.documents.now in let x = c.args.octets.now in let now = c.args.now in let all = c.judge_told.result in let w = c.args.budget.now.ceiling in
+    let m = c.in-Some.memory in
+    subst (λ m. IfOk all (λ o. RestsOn (is_remembered o) ts m it now x (report_in o))) (sym c.in-Some.is) (rests_if all ts m it now x
+    (subst (λ w. IfOk all (λ o. is_remembered o ≡ false → IsToldNow ts it.policy it.keys now x w (report_in o))) c.requires.ceiling
+    (subst (λ n. IfOk all (λ o. is_remembered o ≡ false → IsToldNow ts it.policy it.keys n x w (report_in o))) (to_z-of_z c.ranges.now) c.judge_told.ensures.anew))
+    (subst (λ w. IfOk all (λ o. is_remembered o ≡ true → IsRecalled m it.policy now x w (report_in o))) c.requires.ceiling
+    (subst (λ n. IfOk all (λ o. is_remembered o ≡ true → IsRecalled m it.policy n x w (report_in o))) (to_z-of_z c.ranges.now) c.judge_told.ensures.remembered)))
+
+pub returns-in-Some-clause-adds : goal.returns-in-Some-clause-adds
+returns-in-Some-clause-adds c =
+    let it = c.args.documents.now in let x = c.args.octets.now in let all = c.judge_told.result in let n = c.judge_told.new.memory in
+    subst (λ m. MatchResult all (λ o. AddsReport it.policy.run.work x (report_in o) m (Some n)) (λ _. AddsNone m (Some n))) (sym c.in-Some.is)
+    (subst (λ w. MatchResult all (λ o. KeepsOnly x w (report_in o) c.in-Some.memory n) (λ _. KeepsNone c.in-Some.memory n)) c.requires.ceiling c.judge_told.ensures.held)
+
+pub returns-in-Some-clause-told : goal.returns-in-Some-clause-told
+returns-in-Some-clause-told c =
+    subst (λ m. AddsTold (told c.args.answers.now) c.args.documents.now m (Some c.judge_told.new.memory)) (sym c.in-Some.is) c.judge_told.ensures.kept
+
+pub returns-in-Some-clause-asks : goal.returns-in-Some-clause-asks
+returns-in-Some-clause-asks c =
+    let ts = told c.args.answers.now in let it = c.args.documents.now in let x = c.args.octets.now in let now = c.args.now in let all = c.judge_told.result in let w = c.args.budget.now.ceiling in
+    asks_if all ts it now x
+    (subst (λ w. IfErr all (λ a. AreTries (terms it.policy it.keys now (told_meaning ts ∷ [])) x w a.tries.items)) c.requires.ceiling
+    (subst (λ n. IfErr all (λ a. AreTries (terms it.policy it.keys n (told_meaning ts ∷ [])) x w a.tries.items)) (to_z-of_z c.ranges.now) c.judge_told.ensures.tries))
+    c.judge_told.ensures.first c.judge_told.ensures.question c.judge_told.ensures.token
+
+pub returns-in-Ok-clause-rests : goal.returns-in-Ok-clause-rests
+returns-in-Ok-clause-rests c =
+    let ts = told c.args.answers.now in let it = c.args.documents.now in let x = c.args.octets.now in let r = c.in-Ok.report in
+    subst (λ w. IsToldNow ts it.policy it.keys c.args.now x w r) c.requires.ceiling
+    (subst (λ n. IsToldNow ts it.policy it.keys n x c.args.budget.now.ceiling r) (to_z-of_z c.ranges.now) (c.in-Ok.ensures.report, c.in-Ok.ensures.right))
+
+pub returns-in-Err-clause-asks : goal.returns-in-Err-clause-asks
+returns-in-Err-clause-asks c =
+    let ts = told c.args.answers.now in let it = c.args.documents.now in let x = c.args.octets.now in let a = c.in-Err.asks in (
+      subst (λ w. AreTries (terms it.policy it.keys c.args.now (told_meaning ts ∷ [])) x w a.tries.items) c.requires.ceiling
+          (subst (λ n. AreTries (terms it.policy it.keys n (told_meaning ts ∷ [])) x c.args.budget.now.ceiling a.tries.items) (to_z-of_z c.ranges.now) c.in-Err.ensures.tries),
+      c.in-Err.ensures.first,
+      c.in-Err.ensures.question,
+      c.in-Err.ensures.token,
+    )

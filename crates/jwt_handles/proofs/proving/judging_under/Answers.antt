@@ -1,0 +1,29 @@
+use Rattle.std.proofs.Common.{◌≤◌, ap, sym, subst}
+use Rattle.jwt_memory.specs.Outcomes.{report_in}
+use Rattle.jwt_handles.specs.Remembering.{IsHeldIn}
+use Rattle.jwt_handles.proofs.Adding.{adds_said, adds_nothing}
+use Rattle.jwt_handles.proofs.Telling.{is_small}
+use Rattle.jwt_handles.proofs.proving.judging_under.Goals as goal
+
+pub returns-in-Ok-clause-judged : goal.returns-in-Ok-clause-judged
+returns-in-Ok-clause-judged g c _ =
+    let is = c.in-Ok.ensures in (
+      report_in c.outcome_under-outcome.result,
+      c.outcome_under-outcome.ensures.report,
+      subst (λ b. IsHeldIn b c.args.memory.now c.args.octets.now c.args.under.now.policy.now.run.work) (sym is.remembered) c.outcome_under-outcome.ensures.held,
+      is.says,
+    )
+
+pub returns-in-Ok-clause-open : goal.returns-in-Ok-clause-open
+returns-in-Ok-clause-open g c =
+    subst (λ n. n ≤ 3) (sym (ap (λ n. n.verdict) c.in-Ok.ensures.says.0)) (is_small (report_in c.outcome_under-outcome.result).verdict)
+
+pub returns-in-Ok-clause-adds : goal.returns-in-Ok-clause-adds
+returns-in-Ok-clause-adds g c =
+    adds_said c.args.under.now.policy.now.run.work c.args.octets.now c.in-Ok.judging.said c.in-Ok.judging.last (report_in c.outcome_under-outcome.result) c.in-Ok.ensures.says
+    c.args.memory.now c.outcome_under-outcome.new.memory c.outcome_under-outcome.ensures.adds
+
+pub returns-in-Err-clause-adds : goal.returns-in-Err-clause-adds
+returns-in-Err-clause-adds g c =
+    adds_nothing c.args.under.now.policy.now.run.work c.args.octets.now c.bare.result.said c.bare.result.last (report_in c.outcome_under-outcome.result) c.in-Err.ensures.fails
+    c.args.memory.now c.outcome_under-outcome.new.memory c.outcome_under-outcome.ensures.adds

@@ -1,0 +1,38 @@
+-- The parts of a report beside its numbers.
+use Rattle.std.specs.Prelude.{Bool, true, false, List, Option, Some, None}
+use Rattle.std.specs.Arc.{arc_value}
+use Rattle.serde_json.specs.Data.{Members}
+use Rattle.jwt_verify.specs.declared.report.SigState.{SigState}
+use Rattle.jwt_verify.specs.declared.report.Try.{Try}
+use Rattle.jwt_handles.specs.declared.state.Evidence.{Evidence}
+use Rattle.jwt_handles.specs.declared.state.Evidence.TheVariants.{Own, Shared}
+use Rattle.jwt_handles.specs.declared.state.Last.{Last}
+
+-- what became of each signature
+abbrev pub states_of : Evidence → List SigState
+states_of (Own states tries claims) = states.items
+states_of (Shared basis accepted) = (arc_value basis).states.items
+
+-- the tries that led to it
+abbrev pub tries_of : Evidence → List Try
+tries_of (Own states tries claims) = tries.items
+tries_of (Shared basis accepted) = (arc_value basis).tries.items
+
+abbrev claims_where : Bool → Members → Option Members
+claims_where true claims = Some claims
+claims_where false claims = None
+
+-- the claims of an acceptance
+abbrev pub evidence_claims : Evidence → Option Members
+evidence_claims (Own states tries claims) = claims
+evidence_claims (Shared basis accepted) = claims_where accepted (arc_value basis).claims
+
+-- the same of what is kept of the last judging
+abbrev pub states_kept : Last → List SigState
+states_kept last = states_of last.evidence
+
+abbrev pub tries_kept : Last → List Try
+tries_kept last = tries_of last.evidence
+
+abbrev pub claims_kept : Last → Option Members
+claims_kept last = evidence_claims last.evidence

@@ -1,0 +1,55 @@
+-- What a judging adds to the memories of a validator.
+use Rattle.std.specs.Prelude.{◌≡◌, ◌⊎◌, ℕ, List, Option, Some, None}
+use Rattle.std.specs.Arc.{arc_value}
+use Rattle.jwt_verify.specs.declared.report.Report.{Report}
+use Rattle.jwt_told.specs.Told.{ToldParts, told}
+use Rattle.jwt_memory.specs.declared.memory.MemoryEntry.{MemoryEntry}
+use Rattle.jwt_memory.specs.declared.memory.Memory.{Memory}
+use Rattle.jwt_memory.specs.Entries.{Holds}
+use Rattle.jwt_memory.specs.Outcomes.{KeepsNone, KeepsOnly, report_of, acceptance_of}
+use Rattle.jwt_memory.specs.ToldKept.{KeepsTold}
+use Rattle.jwt_handles.specs.declared.state.State.{State}
+use Rattle.jwt_handles.specs.declared.state.Last.{Last}
+use Rattle.jwt_handles.specs.declared.grounds.Documents.{Documents}
+use Rattle.jwt_handles.specs.declared.report.FowReport.{FowReport}
+use Rattle.jwt_handles.specs.Documents.{documents}
+use Rattle.jwt_handles.specs.ProvedKept.{HasSameRoom}
+use Rattle.jwt_handles.specs.Reports.{Says}
+
+-- the entry has all these octets, under this ceiling, and what is said and kept of the judging is its acceptance
+abbrev pub IsOfJudging : ℕ → List ℕ → FowReport → Last → MemoryEntry → Type 0
+IsOfJudging ceiling octets said last entry = (entry.octets.items ≡ octets) × (entry.ceiling ≡ ceiling) × Says (report_of (acceptance_of (arc_value entry.basis)) (arc_value entry.basis)) said last
+
+-- the memory keeps nothing new but this token, where the judging accepted it
+abbrev pub AddsOnly : ℕ → List ℕ → FowReport → Last → Option Memory → Option Memory → Type 0
+AddsOnly ceiling octets said last (Some before) (Some after) = (entry : MemoryEntry) → Holds after entry → Holds before entry ⊎ IsOfJudging ceiling octets said last entry
+AddsOnly ceiling octets said last _ _ = Unit {0}
+
+-- what it keeps anew is kept by these answers
+abbrev pub AddsTold : List ToldParts → Documents → Option Memory → Option Memory → Type 0
+AddsTold answers grounds (Some before) (Some after) = KeepsTold answers grounds.policy grounds.keys before after
+AddsTold answers grounds _ _ = Unit {0}
+
+-- what a judging by answers does to the memories
+abbrev pub RemembersTold : State → List ℕ → FowReport → Option State → Type 0
+RemembersTold before octets said None = ⊥
+RemembersTold before octets said (Some after) = AddsOnly (documents before).policy.run.work octets said after.last before.memory after.memory
+    × AddsTold (told before.answers) (documents before) before.memory after.memory × HasSameRoom after.memory before.memory × (after.grounds ≡ before.grounds)
+
+-- what a judging by the proved verifiers does to them
+abbrev pub RemembersProved : State → List ℕ → FowReport → Option State → Type 0
+RemembersProved before octets said None = ⊥
+RemembersProved before octets said (Some after) = AddsOnly (documents before).policy.run.work octets said after.last before.grounds.1 after.grounds.1
+    × HasSameRoom after.grounds.1 before.grounds.1 × (after.memory ≡ before.memory)
+
+-- ---- Cited by contracts of private functions alone
+
+-- it keeps nothing new but this token, where this report is its acceptance
+abbrev pub AddsReport : ℕ → List ℕ → Report → Option Memory → Option Memory → Type 0
+AddsReport ceiling octets report (Some before) (Some after) = KeepsOnly octets ceiling report before after
+AddsReport ceiling octets report _ _ = Unit {0}
+
+-- it keeps nothing new
+abbrev pub AddsNone : Option Memory → Option Memory → Type 0
+AddsNone (Some before) (Some after) = KeepsNone before after
+AddsNone _ _ = Unit {0}

@@ -1,0 +1,31 @@
+//! What the library for C does: handles that C's callers own, and the functions on them, in octets and numbers.
+//!
+//! A validator is a [`handle::Handle`], which holds a [`state::State`] or nothing. Contracts see what it holds. Each function on one takes that
+//! out, works on it in safe code, and puts it back. So does each on an access rule, which is a [`rule_handle::RuleHandle`] with a
+//! [`rule_state::RuleState`].
+#![tactic(auto)]
+
+mod access;
+pub mod answering;
+mod asking;
+mod faults;
+pub mod grounds;
+pub mod handle;
+mod issuers;
+mod issuing;
+mod judging;
+pub mod key_sources;
+mod most_questions;
+pub mod opening;
+mod proving;
+mod raw_box;
+mod remembering;
+pub mod report;
+pub mod rule_handle;
+pub mod rule_state;
+pub mod rules;
+pub mod state;
+pub mod status;
+pub mod tokens;
+pub mod verdicts;
+mod writing;

@@ -1,0 +1,174 @@
+//! Holding documents, and letting them go.
+
+ghost use Rattle.jwt_handles.specs.declared.status.TheConstants.{FOW_NOT_OPEN, FOW_OK, FOW_OUT_OF_MEMORY};
+ghost use Rattle.std.specs.Prelude.{◌≡◌, ◌≢◌, IfSome, None, IfOk, IfErr};
+ghost use Rattle.std.specs.Arc.{arc_value};
+ghost use Rattle.jwt_keys.specs.KeySets.{key_set};
+ghost use Rattle.jwt_policy.specs.Document.{policy_of};
+ghost use Rattle.jwt_handles.specs.Documents.{documents};
+ghost use Rattle.jwt_handles.specs.Reports.{IsBeside, IsFresh, IsOpened, IsRead, IsRefused};
+ghost use Rattle.jwt_handles.specs.Written.{PutsSome, refused_member};
+ghost use Rattle.jwt_handles.specs.MostQuestions.{most_questions};
+
+use crate::faults::{keys_number, policy_number};
+use crate::grounds::{Documents, Grounds};
+use crate::handle::{Handle, take};
+use crate::most_questions::most_of;
+use crate::state::{Last, State};
+use crate::status::{FOW_ABSENT, FOW_NOT_OPEN, FOW_OK, FOW_OUT_OF_MEMORY, FOW_REFUSED, NotHeld};
+use crate::writing::put;
+use jwt_keys::{KeySet, KeysFault};
+use jwt_policy::{Policy, PolicyFault};
+use jwt_text::Scratch;
+use jwt_told::Answers;
+use std::alloc::{AllocError, Global};
+use std::sync::Arc;
+
+/// The documents of a policy and a key set, or the status and the number of the fault for which one of them is refused.
+fn documents_of(alloc: Global, policy: &[u8], keys: &[u8]) -> Result<Arc<Documents>, NotHeld>
+    ensures read { IfOk result (λ shared. IsRead policy.now keys.now (arc_value shared)) }
+    ensures refused { IfErr result (λ e. IsRefused policy.now keys.now e.status e.fault) }
+{
+    let policy = match Policy::read(alloc, policy) {
+        Ok(policy) => policy,
+        Err(PolicyFault::OutOfMemory) => return Err(NotHeld {
+            status: FOW_OUT_OF_MEMORY,
+            fault: 0,
+        }),
+        Err(fault) => return Err(NotHeld {
+            status: FOW_REFUSED,
+            fault: policy_number(&fault),
+        }),
+    };
+    let keys = match KeySet::read(alloc, keys) {
+        Ok(keys) => keys,
+        Err(KeysFault::OutOfMemory) => return Err(NotHeld {
+            status: FOW_OUT_OF_MEMORY,
+            fault: 0,
+        }),
+        Err(fault) => return Err(NotHeld {
+            status: FOW_REFUSED,
+            fault: keys_number(fault),
+        }),
+    };
+    match Arc::new(alloc, Documents { policy, keys }) {
+        Ok(shared) => Ok(shared),
+        Err(_) => Err(NotHeld {
+            status: FOW_OUT_OF_MEMORY,
+            fault: 0,
+        }),
+    }
+}
+
+/// A handle on these documents, with no answers. `Err`: memory was refused.
+fn handle_on(alloc: Global, shared: Arc<Documents>) -> Result<Handle, AllocError>
+    ensures { IfOk result (λ h. IsFresh (arc_value shared) h.state) }
+{
+    let Ok(scratch) = Box::new(alloc, Scratch::new(alloc)) else {
+        return Err(AllocError);
+    };
+    let state = State {
+        grounds: Grounds::new(shared),
+        answers: Answers::new(alloc),
+        memory: None,
+        last: Last::new(alloc),
+        scratch,
+    };
+    match Box::new(alloc, state) {
+        Ok(state) => Ok(Handle::of(state)),
+        Err(_) => Err(AllocError),
+    }
+}
+
+/// Reads a policy and a key set. `FOW_OK`: they are held from now on; `FOW_REFUSED`: one of them is refused, for the fault;
+/// `FOW_OUT_OF_MEMORY`: memory was refused. On any other status the handle holds what it held.
+pub fn open(
+    validator: &mut Handle,
+    alloc: Global,
+    policy: &[u8],
+    keys: &[u8],
+    fault: &mut u32,
+) -> u32
+    ensures opened { result ≡ FOW_OK → IsOpened policy.now keys.now validator.new.state }
+    ensures refused { result ≢ FOW_OK → IsRefused policy.now keys.now result fault.new }
+    ensures same { result ≢ FOW_OK → validator.new.state ≡ validator.old.state }
+{
+    *fault = 0;
+    match documents_of(alloc, policy, keys) {
+        Ok(shared) => match handle_on(alloc, shared) {
+            Ok(handle) => {
+                *validator = handle;
+                FOW_OK
+            }
+            Err(_) => FOW_OUT_OF_MEMORY,
+        },
+        Err(why) => {
+            *fault = why.fault;
+            why.status
+        }
+    }
+}
+
+/// Opens a validator beside another one: on the documents that this holds, which aren't read again. `FOW_OK`: they are held by both from
+/// now on; `FOW_OUT_OF_MEMORY`: memory was refused; `FOW_NOT_OPEN`: the other holds nothing. On any other status the handle holds what it
+/// held.
+pub fn open_beside(validator: &mut Handle, alloc: Global, another: &mut Handle) -> u32
+    ensures another { another.new.state ≡ another.old.state }
+    ensures none { another.old.state ≡ None → result ≡ FOW_NOT_OPEN }
+    ensures opened { result ≡ FOW_OK → IsBeside another.old.state validator.new.state }
+    ensures refused { another.old.state ≢ None → result ≢ FOW_OK → result ≡ FOW_OUT_OF_MEMORY }
+    ensures same { result ≢ FOW_OK → validator.new.state ≡ validator.old.state }
+{
+    let Some(state) = take(another, alloc) else {
+        return FOW_NOT_OPEN;
+    };
+    let shared = state.grounds.share();
+    *another = Handle::of(state);
+    let Some(shared) = shared else {
+        return FOW_OUT_OF_MEMORY;
+    };
+    match handle_on(alloc, shared) {
+        Ok(beside) => {
+            *validator = beside;
+            FOW_OK
+        }
+        Err(_) => FOW_OUT_OF_MEMORY,
+    }
+}
+
+/// The most questions that one token can raise. `FOW_OK`; `FOW_NOT_OPEN`: nothing is held.
+pub fn most_questions(validator: &mut Handle, alloc: Global, most: &mut u32) -> u32
+    ensures same { validator.new.state ≡ validator.old.state }
+    ensures none { validator.old.state ≡ None → result ≡ FOW_NOT_OPEN }
+    ensures most { IfSome validator.old.state (λ d. (result ≡ FOW_OK)
+        × (most.new ≡ most_questions (documents d).policy (key_set (documents d).keys).keys)) }
+{
+    let Some(state) = take(validator, alloc) else {
+        return FOW_NOT_OPEN;
+    };
+    *most = most_of(&state);
+    *validator = Handle::of(state);
+    FOW_OK
+}
+
+/// Writes the name of the member for which a policy is refused at the front of `out`. `FOW_OK`; `FOW_OUT_OF_MEMORY`: memory was refused;
+/// `FOW_TOO_SHORT`: `out` is too short; `FOW_ABSENT`: the policy isn't refused for a member.
+pub fn refused_member(alloc: Global, policy: &[u8], out: &mut [u8], written: &mut usize) -> u32
+    ensures name { PutsSome (refused_member (policy_of policy.now)) result written.new out.old out.new }
+    ensures unwritten { result ≢ FOW_OK → (out.new ≡ out.old) × (written.new ≡ written.old) }
+{
+    match Policy::read(alloc, policy) {
+        Err(PolicyFault::OutOfMemory) => FOW_OUT_OF_MEMORY,
+        Err(PolicyFault::Member(name) | PolicyFault::Range(name)) => {
+            put(name.text().as_bytes(), out, written)
+        }
+        _ => FOW_ABSENT,
+    }
+}
+
+/// Frees what is held, if anything is.
+pub fn close(validator: &mut Handle, alloc: Global)
+    ensures closed { validator.new.state ≡ None }
+{
+    *validator = Handle::empty(alloc);
+}

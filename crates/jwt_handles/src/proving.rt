@@ -1,0 +1,166 @@
+//! A token judged by the proved verifiers.
+
+ghost use Rattle.jwt_handles.specs.declared.status.TheConstants.{FOW_ASKS, FOW_OK, FOW_OUT_OF_MEMORY, FOW_REFUSED};
+ghost use Rattle.std.specs.Prelude.{◌≡◌, ◌≢◌, ◌≤◌, map};
+ghost use Rattle.jwt_verify.specs.Reports.{IsReport, terms};
+ghost use Rattle.jwt_verify.specs.Table.{work};
+ghost use Rattle.jwt_memory.specs.Outcomes.{report_in, paid_in, is_remembered};
+ghost use Rattle.jwt_told.specs.Told.{told};
+ghost use Rattle.jwt_handles.specs.Documents.{documents};
+ghost use Rattle.jwt_handles.specs.Evidence.{claims_kept};
+ghost use Rattle.jwt_handles.specs.Keeping.{AddsOnly, AddsReport};
+ghost use Rattle.jwt_handles.specs.ProvedKept.{AreProvedKept, HasSameRoom, lent_documents, proved_meanings};
+ghost use Rattle.jwt_handles.specs.Proving.{IsProved};
+ghost use Rattle.jwt_handles.specs.Remembering.{IsHeldIn};
+
+use crate::grounds::Documents;
+use crate::judging::{Judging, bare, judging_of};
+use crate::report::FowReport;
+use crate::state::State;
+use crate::status::FOW_OUT_OF_MEMORY;
+use jwt_ecdsa::Ecdsa;
+use jwt_ed25519::Ed25519;
+use jwt_mac::{Budget, CountDown, Verifier};
+use jwt_memory::{Memory, Outcome};
+use jwt_rsa::Rsa;
+use jwt_text::Scratch;
+use jwt_verify::{JudgedToken, Terms, judge_under};
+use std::alloc::Global;
+
+/// The outcome under terms whose verifiers mean what the proved ones do, over a memory where there is one.
+#[tactic(auto, unfolding(jwt_verify::specs::Table::work))]
+fn outcome_under<'p>(
+    alloc: Global,
+    memory: &mut Option<Memory>,
+    octets: &[u8],
+    under: &Terms<'_, 'p, '_>,
+    budget: &mut CountDown,
+    scratch: &mut Scratch,
+) -> Outcome<'p>
+    requires meanings { map (λ b. meaning (b.vtable, b.value)) under.now.verifiers.now ≡ proved_meanings }
+    requires no_octets { ⟦<CountDown as Budget>⟧.octets budget.old ≡ 0 }
+    requires no_calls { ⟦<CountDown as Budget>⟧.calls budget.old ≡ 0 }
+    requires ceiling { ⟦<CountDown as Budget>⟧.ceiling budget.old
+        ≡ under.now.policy.now.run.work }
+    requires kept { AreProvedKept (lent_documents under.now) memory.old }
+    ensures report { IsReport
+        (terms under.now.policy.now under.now.keys.now under.now.moment proved_meanings)
+        octets.now under.now.policy.now.run.work (report_in result) }
+    ensures held { IsHeldIn (is_remembered result) memory.old
+        octets.now under.now.policy.now.run.work }
+    ensures paid { ⟦<CountDown as Budget>⟧.octets budget.new ≡ work (paid_in result) }
+    ensures kept { AreProvedKept (lent_documents under.now) memory.new }
+    ensures room { HasSameRoom memory.new memory.old }
+    ensures adds { AddsReport under.now.policy.now.run.work octets.now (report_in result) memory.old memory.new }
+{
+    match memory {
+        Some(memory) => jwt_memory::judge(memory, alloc, octets, under, budget),
+        None => {
+            let JudgedToken { report, token: _ } = judge_under(
+                alloc, octets, under, budget, scratch,
+            );
+            Outcome::Judged(report)
+        }
+    }
+}
+
+/// The judging under such terms.
+fn judging_under(
+    alloc: Global,
+    memory: &mut Option<Memory>,
+    octets: &[u8],
+    under: &Terms<'_, '_, '_>,
+    scratch: &mut Scratch,
+) -> Judging
+    requires meanings { map (λ b. meaning (b.vtable, b.value)) under.now.verifiers.now ≡ proved_meanings }
+    requires kept { AreProvedKept (lent_documents under.now) memory.old }
+    ensures judged { result.said.verdict ≤ FOW_REFUSED
+        → IsProved (lent_documents under.now, memory.old) under.now.moment octets.now
+        result.said result.last }
+    ensures never_asks { result.said.verdict ≢ FOW_ASKS }
+    ensures claims { result.said.verdict ≢ FOW_OK → claims_kept result.last ≡ None }
+    ensures kept { AreProvedKept (lent_documents under.now) memory.new }
+    ensures room { HasSameRoom memory.new memory.old }
+    ensures open { result.said.verdict ≤ FOW_OUT_OF_MEMORY }
+    ensures adds { AddsOnly under.now.policy.now.run.work octets.now result.said result.last memory.old memory.new }
+{
+    let mut budget = under.policy.budget();
+    let outcome = outcome_under(alloc, memory, octets, under, &mut budget, scratch);
+    match judging_of(alloc, outcome, budget.octets()) {
+        Ok(judging) => judging,
+        Err(_) => bare(alloc, FOW_OUT_OF_MEMORY),
+    }
+}
+
+impl Documents {
+    /// The terms of a verdict by verifiers that mean what the proved ones do.
+    fn proved_terms<'d, 'v>(
+        &'d self,
+        now: i64,
+        verifiers: &'v [Box<dyn Verifier>],
+    ) -> Terms<'d, 'd, 'v>
+        requires meanings { map meaning verifiers.now ≡ proved_meanings }
+        ensures meant { map meaning result.verifiers.now ≡ proved_meanings }
+        ensures documents { lent_documents result ≡ self.now }
+        ensures moment { result.moment ≡ now }
+    {
+        Terms {
+            keys: &self.keys,
+            policy: &self.policy,
+            moment: now,
+            verifiers,
+        }
+    }
+
+    /// The judging of a token by these documents and the verifiers of RSA, ECDSA and Ed25519, over a memory where there is one.
+    pub(crate) fn judging_by_proof(
+        &self,
+        alloc: Global,
+        memory: &mut Option<Memory>,
+        octets: &[u8],
+        now: i64,
+        scratch: &mut Scratch,
+    ) -> Judging
+        requires kept { AreProvedKept self.now memory.old }
+        ensures judged { result.said.verdict ≤ FOW_REFUSED
+            → IsProved (self.now, memory.old) now octets.now result.said result.last }
+        ensures never_asks { result.said.verdict ≢ FOW_ASKS }
+        ensures claims { result.said.verdict ≢ FOW_OK → claims_kept result.last ≡ None }
+        ensures kept { AreProvedKept self.now memory.new }
+        ensures room { HasSameRoom memory.new memory.old }
+        ensures open { result.said.verdict ≤ FOW_OUT_OF_MEMORY }
+        ensures adds { AddsOnly self.now.policy.run.work octets.now result.said result.last memory.old memory.new }
+    {
+        let Ok(rsa) = Box::new(alloc, Rsa) else {
+            return bare(alloc, FOW_OUT_OF_MEMORY);
+        };
+        let Ok(ecdsa) = Box::new(alloc, Ecdsa) else {
+            return bare(alloc, FOW_OUT_OF_MEMORY);
+        };
+        let Ok(ed25519) = Box::new(alloc, Ed25519) else {
+            return bare(alloc, FOW_OUT_OF_MEMORY);
+        };
+        let verifiers: [Box<dyn Verifier>; 3] = [rsa, ecdsa, ed25519];
+        let terms = self.proved_terms(now, &verifiers);
+        judging_under(alloc, memory, octets, &terms, scratch)
+    }
+}
+
+/// Judges a token by the proved verifiers, and keeps the report.
+pub(crate) fn prove_state(alloc: Global, state: &mut State, octets: &[u8], now: i64) -> FowReport
+    ensures judged { result.verdict ≤ FOW_REFUSED
+        → IsProved state.old.grounds now octets.now result state.new.last }
+    ensures never_asks { result.verdict ≢ FOW_ASKS }
+    ensures claims { result.verdict ≢ FOW_OK → claims_kept state.new.last ≡ None }
+    ensures documents { documents state.new ≡ documents state.old }
+    ensures told { told state.new.answers ≡ told state.old.answers }
+    ensures memory { state.new.memory ≡ state.old.memory }
+    ensures room { HasSameRoom state.new.grounds.1 state.old.grounds.1 }
+    ensures open { result.verdict ≤ FOW_OUT_OF_MEMORY }
+    ensures adds { AddsOnly (documents state.old).policy.run.work octets.now result state.new.last
+        state.old.grounds.1 state.new.grounds.1 }
+{
+    let Judging { said, last } = state.grounds.judge(alloc, octets, now, &mut *state.scratch);
+    state.last = last;
+    said
+}
