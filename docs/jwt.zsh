@@ -43,4 +43,9 @@ _jwt() {
     mac) _arguments '--k[the key in base64url]:text:' '--key-file[the file of the key]:file:_files' '--limit[the most bytes]:number:' ;;
     esac
 }
-compdef _jwt jwt
+# (as a file of $fpath it is the function itself)
+if [ "$funcstack[1]" = _jwt ]; then
+    _jwt "$@"
+else
+    compdef _jwt jwt
+fi

@@ -1,14 +1,13 @@
 #!/usr/bin/env python3
 """The kit's own modules: the one file that loads them.
 
-    gate/kit.py            looks whether this kit has what is called here, and says where the program names another
-    gate/kit.py --write    has the program and the documents name this kit
+    gate/kit.py    looks whether this kit has what is called here, and says which kit it is
 
 No command of `rt` checks some functions of a changed copy of a crate over libraries that `rt ci` has left, and none compiles over these
 without proving them once more. What is called here of the kit's modules is named in CALLED, with the parameters that it has to have.
-The program says which kit proved it (`jwt --version`), and a release is made by that one alone. It ends with 'N passed, M failed'.
+It ends with 'N passed, M failed'.
 """
-import functools, importlib.machinery, importlib.util, inspect, os, pathlib, re, subprocess, sys, tempfile
+import functools, importlib.machinery, importlib.util, inspect, os, pathlib, subprocess, sys, tempfile
 
 sys.dont_write_bytecode = True
 TOP = pathlib.Path(__file__).resolve().parent.parent
@@ -18,22 +17,6 @@ CALLED = {
     "rtlib": {"crates_below": 1, "guarded": 0},
     "rtlib.Crate": {"below": 1, "stamp": 1, "is_built": 1, "has_kept": 1, "build_static": 2, "compile": 3},
 }
-
-
-# Where the kit is named that the program is proved with.
-NAMING = ("crates/jwt_command/specs/Answered.antt", "crates/jwt_command/src/run.rt", "crates/jwt_command_tests/src/words.rt", "README.md", "CONTRIBUTING.md")
-
-
-def named():
-    """The name of the kit that the program says."""
-    return re.search(r"proved with (rattle-kit-\w+ logic \w+)", (TOP / NAMING[0]).read_text())[1]
-
-
-def name_this():
-    """Has the program and the documents name this kit."""
-    old, new = named(), version()
-    for path in NAMING:
-        (TOP / path).write_text((TOP / path).read_text().replace(old, new))
 
 
 def version():
@@ -103,11 +86,6 @@ def lacking():
 
 
 def main():
-    if "--write" in sys.argv[1:]:
-        name_this()
-        return 0
-    if named() != version():
-        print(f"(the program names {named()}, and this is {version()}: gate/kit.py --write)")
     found, count = lacking()
     for it in found:
         print(f"{version()}: {it}")

@@ -13,10 +13,11 @@ use Rattle.jwt_policy.specs.Texts.{is_among, some_passes}
 use Rattle.jwt_advice.specs.Uses.{key_count, is_unused}
 use Rattle.jwt_advice.specs.Costs.{greatest_cost}
 use Rattle.jwt_advice.specs.RsaKeys.{is_refused_rsa}
+use Rattle.jwt_advice.specs.RefusedKeys.{is_refused_ec, is_refused_okp}
 use Rattle.jwt_advice.specs.Secrets.{is_uniform, is_printable}
 use Rattle.jwt_advice.specs.declared.costs.Cost.TheVariants.{Work, Calls}
 use Rattle.jwt_advice.specs.declared.advice.Advice.{Advice}
-use Rattle.jwt_advice.specs.declared.advice.Advice.TheVariants.{NoExp, NoIssuers, NoAudiences, NoTyp, MixedAlgs, UncheckedSignatures, AlgWithoutKey, NoKid, LowWork, LowCalls, ManyCalls, UnusedKey, KidTwice, UniformSecret, PrintableSecret, RefusedRsa}
+use Rattle.jwt_advice.specs.declared.advice.Advice.TheVariants.{NoExp, NoIssuers, NoAudiences, NoTyp, MixedAlgs, UncheckedSignatures, AlgWithoutKey, NoKid, LowWork, LowCalls, ManyCalls, UnusedKey, KidTwice, UniformSecret, PrintableSecret, RefusedRsa, RefusedEc, RefusedOkp}
 
 -- ---- of a policy, whatever its keys
 
@@ -71,6 +72,8 @@ concerns KidTwice policy verifiers keys key = is_twice keys key
 concerns UniformSecret policy verifiers keys key = is_uniform key.octets
 concerns PrintableSecret policy verifiers keys key = is_printable key.octets
 concerns RefusedRsa policy verifiers keys key = is_refused_rsa key.octets
+concerns RefusedEc policy verifiers keys key = is_refused_ec key.octets
+concerns RefusedOkp policy verifiers keys key = is_refused_okp key.octets
 concerns _ policy verifiers keys key = false
 
 -- ---- all
@@ -82,7 +85,7 @@ advises advice policy verifiers keys = policy_advises advice policy || set_advis
 abbrev pub every_advice : List Advice
 every_advice =
     NoExp ∷ NoIssuers ∷ NoAudiences ∷ NoTyp ∷ MixedAlgs ∷ UncheckedSignatures ∷ AlgWithoutKey ∷ NoKid ∷ LowWork ∷ LowCalls ∷ ManyCalls
-    ∷ UnusedKey ∷ KidTwice ∷ UniformSecret ∷ PrintableSecret ∷ RefusedRsa ∷ []
+    ∷ UnusedKey ∷ KidTwice ∷ UniformSecret ∷ PrintableSecret ∷ RefusedRsa ∷ RefusedEc ∷ RefusedOkp ∷ []
 
 -- the names, as they are printed
 abbrev pub advice_name : Advice → List ℕ
@@ -102,3 +105,5 @@ advice_name KidTwice = codes "KidTwice"
 advice_name UniformSecret = codes "UniformSecret"
 advice_name PrintableSecret = codes "PrintableSecret"
 advice_name RefusedRsa = codes "RefusedRsa"
+advice_name RefusedEc = codes "RefusedEc"
+advice_name RefusedOkp = codes "RefusedOkp"

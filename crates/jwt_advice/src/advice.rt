@@ -11,6 +11,7 @@ ghost use Rattle.jwt_advice.specs.Uses.{key_count};
 ghost use Rattle.jwt_advice.specs.Advised.{policy_advises, mixes, set_advises, lacks_key, shares_alg, concerns, is_twice, stands_twice, advises, every_advice, advice_name};
 
 use crate::costs::{Cost, most};
+use crate::refused_keys::{is_refused_ec, is_refused_okp};
 use crate::rsa_keys::is_refused_rsa;
 use crate::secrets::{is_printable, is_uniform};
 use crate::uses::{is_unused, key_count};
@@ -36,7 +37,7 @@ pub enum Advice {
     UncheckedSignatures,
     /// An algorithm of the policy that no key can verify.
     AlgWithoutKey,
-    /// Several keys, and signatures need no `kid`.
+    /// Several keys for one algorithm, and signatures need no `kid`.
     NoKid,
     /// `work` is below the greatest cost, so a good token may be refused.
     LowWork,
@@ -54,6 +55,10 @@ pub enum Advice {
     PrintableSecret,
     /// An RSA key by which the built-in verifiers accept no signature.
     RefusedRsa,
+    /// An EC key that is no point of its curve: the built-in verifiers accept no signature by it.
+    RefusedEc,
+    /// A key of Ed448, or one of Ed25519 that doesn't decode or is of small order: the built-in verifiers accept no signature by it.
+    RefusedOkp,
 }
 
 impl Advice {
@@ -78,12 +83,14 @@ impl Advice {
             Advice::UniformSecret => "UniformSecret",
             Advice::PrintableSecret => "PrintableSecret",
             Advice::RefusedRsa => "RefusedRsa",
+            Advice::RefusedEc => "RefusedEc",
+            Advice::RefusedOkp => "RefusedOkp",
         }
     }
 }
 
 /// Each advice, in the order in which they are told.
-pub const EVERY: [Advice; 16] = [
+pub const EVERY: [Advice; 18] = [
     Advice::NoExp,
     Advice::NoIssuers,
     Advice::NoAudiences,
@@ -100,6 +107,8 @@ pub const EVERY: [Advice; 16] = [
     Advice::UniformSecret,
     Advice::PrintableSecret,
     Advice::RefusedRsa,
+    Advice::RefusedEc,
+    Advice::RefusedOkp,
 ];
 
 /// What is to be advised of the policy and its keys, in order.
@@ -278,6 +287,8 @@ fn concerns(
         Advice::UniformSecret => is_uniform(key.view()),
         Advice::PrintableSecret => is_printable(key.view()),
         Advice::RefusedRsa => is_refused_rsa(key.view()),
+        Advice::RefusedEc => is_refused_ec(key.view()),
+        Advice::RefusedOkp => is_refused_okp(key.view()),
         _ => false,
     }
 }

@@ -398,9 +398,10 @@ static ADVISED: [Advised; 19] = [
         policy: r#"{"algs":["RS256"],"typ":"JWT","issuers":["ann"],"audiences":["api"],"required":["exp"],"max_signatures":1}"#,
         keys: r#"{"keys":[{"kty":"RSA","n":"<RSA_N>","e":"AQ"}]}"#,
         prints: &[
-            "alg RS256 keys=1",
+            "alg RS256 keys=0",
             "cost work=0 calls=1",
             "ceilings work=1048576 max_calls=-",
+            "advice AlgWithoutKey",
             "advice RefusedRsa key=0",
         ],
     },

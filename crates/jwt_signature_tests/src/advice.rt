@@ -67,6 +67,18 @@ const RSA_SHORT: &str =
 const RSA_EVEN: &str =
     r#"{"kty":"RSA","n":"sZaY47bDOO4TCClRl1yjZsAUVLREfkRoZktouI34HalO4kD5Wix8OnsPOAQxf9e_2y3Q7XYp3QBh4zIQHWX07U_PqX-uVlETXMbkkdSB-3kHQUhbejlv-Ezm1-8nflyx0g1CCSma_pr_GQdU4PyuZiVl3FfWlcBoH2V1d4V2HqF2TwLlvVqjuijBwwMMEm3D-u6rZ35NiyrLl376TISc7drCimSlyNdc-Nz4LKJA5GcAd4MNZO8JYUk6dicn0RcGWJE05wW7-wyQok7SGf-itojcQRdcPYvadRw__m-CIvZOsnFNxMQQImKjvKvDdicey9YRUBBAqdkpPjSE03UMJA","e":"AQAB"}"#;
 
+/// An EC key that is no point of its curve.
+const EC_OFF_CURVE: &str =
+    r#"{"kty":"EC","crv":"P-256","x":"AAAAAAAAAAAAAAAAAAAAAAAAAAAAAAAAAAAAAAAAAAA","y":"AAAAAAAAAAAAAAAAAAAAAAAAAAAAAAAAAAAAAAAAAAA"}"#;
+
+/// A key of Ed25519 of order 4.
+const ED25519_SMALL: &str =
+    r#"{"kty":"OKP","crv":"Ed25519","x":"AAAAAAAAAAAAAAAAAAAAAAAAAAAAAAAAAAAAAAAAAAA"}"#;
+
+/// A key of Ed448.
+const ED448: &str =
+    r#"{"kty":"OKP","crv":"Ed448","x":"AAAAAAAAAAAAAAAAAAAAAAAAAAAAAAAAAAAAAAAAAAAAAAAAAAAAAAAAAAAAAAAAAAAAAAAAAAAA"}"#;
+
 /// An RSA key whose exponent is 1.
 const RSA_OF_ONE: &str =
     r#"{"kty":"RSA","n":"sZaY47bDOO4TCClRl1yjZsAUVLREfkRoZktouI34HalO4kD5Wix8OnsPOAQxf9e_2y3Q7XYp3QBh4zIQHWX07U_PqX-uVlETXMbkkdSB-3kHQUhbejlv-Ezm1-8nflyx0g1CCSma_pr_GQdU4PyuZiVl3FfWlcBoH2V1d4V2HqF2TwLlvVqjuijBwwMMEm3D-u6rZ35NiyrLl376TISc7drCimSlyNdc-Nz4LKJA5GcAd4MNZO8JYUk6dicn0RcGWJE05wW7-wyQok7SGf-itojcQRdcPYvadRw__m-CIvZOsnFNxMQQImKjvKvDdicey9YRUBBAqdkpPjSE03UMJQ","e":"AQ"}"#;
@@ -126,7 +138,7 @@ fn advised(alloc: Global, document: &str, entries: &[&str]) -> Result<String, Fa
 }
 
 /// Policies, the entries of key sets, and what is advised of the two.
-static ADVISED: [(&str, &[&str], &str); 31] = [
+static ADVISED: [(&str, &[&str], &str); 34] = [
     (
         r#"{"algs":["HS256"],"typ":"JWT","issuers":["ann"],"audiences":["api"],"required":["exp"],"max_signatures":1}"#,
         &[SECRET],
@@ -255,22 +267,37 @@ static ADVISED: [(&str, &[&str], &str); 31] = [
     (
         r#"{"algs":["RS256"],"typ":"JWT","issuers":["ann"],"audiences":["api"],"required":["exp"],"max_signatures":1}"#,
         &[RSA_SHORT],
-        "RefusedRsa",
+        "AlgWithoutKey RefusedRsa",
     ),
     (
         r#"{"algs":["PS256"],"typ":"JWT","issuers":["ann"],"audiences":["api"],"required":["exp"],"max_signatures":1}"#,
         &[RSA_EVEN],
-        "RefusedRsa",
+        "AlgWithoutKey RefusedRsa",
     ),
     (
         r#"{"algs":["RS256"],"typ":"JWT","issuers":["ann"],"audiences":["api"],"required":["exp"],"max_signatures":1}"#,
         &[RSA_OF_ONE],
-        "RefusedRsa",
+        "AlgWithoutKey RefusedRsa",
     ),
     (
         r#"{"algs":["RS256"],"typ":"JWT","issuers":["ann"],"audiences":["api"],"required":["exp"],"max_signatures":1}"#,
         &[RSA_WIDE],
-        "RefusedRsa",
+        "AlgWithoutKey RefusedRsa",
+    ),
+    (
+        r#"{"algs":["ES256"],"typ":"JWT","issuers":["ann"],"audiences":["api"],"required":["exp"],"max_signatures":1}"#,
+        &[EC_OFF_CURVE],
+        "AlgWithoutKey RefusedEc",
+    ),
+    (
+        r#"{"algs":["EdDSA"],"typ":"JWT","issuers":["ann"],"audiences":["api"],"required":["exp"],"max_signatures":1}"#,
+        &[ED25519_SMALL],
+        "AlgWithoutKey RefusedOkp",
+    ),
+    (
+        r#"{"algs":["EdDSA"],"typ":"JWT","issuers":["ann"],"audiences":["api"],"required":["exp"],"max_signatures":1}"#,
+        &[ED448],
+        "AlgWithoutKey RefusedOkp",
     ),
     (
         r#"{"algs":["HS256"],"typ":"at+jwt","issuers":["https://login.example"],"audiences":["shop"],"required":["sub","aud","exp"],"max_age":600}"#,
