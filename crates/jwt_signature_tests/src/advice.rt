@@ -67,7 +67,7 @@ const RSA_SHORT: &str =
 const RSA_EVEN: &str =
     r#"{"kty":"RSA","n":"sZaY47bDOO4TCClRl1yjZsAUVLREfkRoZktouI34HalO4kD5Wix8OnsPOAQxf9e_2y3Q7XYp3QBh4zIQHWX07U_PqX-uVlETXMbkkdSB-3kHQUhbejlv-Ezm1-8nflyx0g1CCSma_pr_GQdU4PyuZiVl3FfWlcBoH2V1d4V2HqF2TwLlvVqjuijBwwMMEm3D-u6rZ35NiyrLl376TISc7drCimSlyNdc-Nz4LKJA5GcAd4MNZO8JYUk6dicn0RcGWJE05wW7-wyQok7SGf-itojcQRdcPYvadRw__m-CIvZOsnFNxMQQImKjvKvDdicey9YRUBBAqdkpPjSE03UMJA","e":"AQAB"}"#;
 
-/// An EC key that is no point of its curve.
+/// An EC key that is no point of its curve. (None of the verifiers here names ES256, so it is unused too.)
 const EC_OFF_CURVE: &str =
     r#"{"kty":"EC","crv":"P-256","x":"AAAAAAAAAAAAAAAAAAAAAAAAAAAAAAAAAAAAAAAAAAA","y":"AAAAAAAAAAAAAAAAAAAAAAAAAAAAAAAAAAAAAAAAAAA"}"#;
 
@@ -287,7 +287,7 @@ static ADVISED: [(&str, &[&str], &str); 34] = [
     (
         r#"{"algs":["ES256"],"typ":"JWT","issuers":["ann"],"audiences":["api"],"required":["exp"],"max_signatures":1}"#,
         &[EC_OFF_CURVE],
-        "AlgWithoutKey RefusedEc",
+        "AlgWithoutKey UnusedKey RefusedEc",
     ),
     (
         r#"{"algs":["EdDSA"],"typ":"JWT","issuers":["ann"],"audiences":["api"],"required":["exp"],"max_signatures":1}"#,
