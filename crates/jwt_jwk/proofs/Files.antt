@@ -72,6 +72,7 @@ set_of_one quotes objects kid alg key jwk is reads text around =
 pub told : (text : List ℕ) (f : PemFault) → IsOneFault text f → IsPemFault text (pem_fault f)
 told text pem.PrivateKey h = h
 told text pem.Certificate h = h
+told text pem.OpenSsh h = h
 told text pem.Line h = h
 told text pem.Trailing h = h
 told text pem.Base64 h = h
@@ -80,6 +81,7 @@ told text pem.OutOfMemory h = tt
 told_next : (left : ℕ) (text : List ℕ) (f : PemFault) → (left ≡ 0 → ⊥) → IsFirstFault text f → IsNextFault left text (pem_fault f)
 told_next left text pem.PrivateKey some h = (some, h)
 told_next left text pem.Certificate some h = (some, h)
+told_next left text pem.OpenSsh some h = (some, h)
 told_next left text pem.Line some h = (some, h)
 told_next left text pem.Trailing some h = (some, h)
 told_next left text pem.Base64 some h = (some, h)

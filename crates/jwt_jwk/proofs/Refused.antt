@@ -26,6 +26,9 @@ private_is e = cc
 certificate_is : pem.Certificate ≡ pem.OutOfMemory → ⊥
 certificate_is e = cc
 
+open_ssh_is : pem.OpenSsh ≡ pem.OutOfMemory → ⊥
+open_ssh_is e = cc
+
 line_is : pem.Line ≡ pem.OutOfMemory → ⊥
 line_is e = cc
 
@@ -38,6 +41,7 @@ base64_is e = cc
 pub for_memory : {T : Type 0} (f : PemFault) → ((fails {T = T} f ≡ fails pem.OutOfMemory → ⊥) → ⊥) → pem_fault f ≡ OutOfMemory
 for_memory {T} pem.PrivateKey h = absurd (h (other {T = T} pem.PrivateKey private_is))
 for_memory {T} pem.Certificate h = absurd (h (other {T = T} pem.Certificate certificate_is))
+for_memory {T} pem.OpenSsh h = absurd (h (other {T = T} pem.OpenSsh open_ssh_is))
 for_memory {T} pem.Line h = absurd (h (other {T = T} pem.Line line_is))
 for_memory {T} pem.Trailing h = absurd (h (other {T = T} pem.Trailing trailing_is))
 for_memory {T} pem.Base64 h = absurd (h (other {T = T} pem.Base64 base64_is))

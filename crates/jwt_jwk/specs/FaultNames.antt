@@ -11,6 +11,7 @@ use Rattle.jwt_jwk.specs.declared.fault.JwkFault.TheVariants.{Pem, Key, TooManyK
 abbrev pub pem_name : PemFault → List ℕ
 pem_name pem.PrivateKey = codes "PrivateKey"
 pem_name pem.Certificate = codes "Certificate"
+pem_name pem.OpenSsh = codes "OpenSsh"
 pem_name pem.Line = codes "Line"
 pem_name pem.Trailing = codes "Trailing"
 pem_name pem.Base64 = codes "Base64"
@@ -36,10 +37,11 @@ jwk_fault_name (Key refusal) = key_name refusal
 jwk_fault_name TooManyKeys = codes "TooManyKeys"
 jwk_fault_name OutOfMemory = codes "OutOfMemory"
 
--- the command of OpenSSL that makes a public key of such a text, where there is one
+-- the command that makes a public key of such a text, where there is one
 abbrev pub remedy : JwkFault → Option (List ℕ)
 remedy (Pem pem.PrivateKey) = Some (codes "openssl pkey -pubout")
 remedy (Pem pem.Certificate) = Some (codes "openssl x509 -pubkey -noout")
+remedy (Pem pem.OpenSsh) = Some (codes "ssh-keygen -e -m PKCS8 -f FILE")
 remedy (Key key.Compressed) = Some (codes "openssl ec -pubin -conv_form uncompressed")
 remedy (Key key.ExplicitCurve) = Some (codes "openssl ec -pubin -param_enc named_curve")
 remedy _ = None

@@ -12,6 +12,7 @@ of_both first _ = first
 abbrev pub pem_fault : PemFault → JwkFault
 pem_fault pem.PrivateKey = Pem pem.PrivateKey
 pem_fault pem.Certificate = Pem pem.Certificate
+pem_fault pem.OpenSsh = Pem pem.OpenSsh
 pem_fault pem.Line = Pem pem.Line
 pem_fault pem.Trailing = Pem pem.Trailing
 pem_fault pem.Base64 = Pem pem.Base64

@@ -26,6 +26,7 @@ fn pem_name(fault: PemFault) -> &'static str
     match fault {
         PemFault::PrivateKey => "PrivateKey",
         PemFault::Certificate => "Certificate",
+        PemFault::OpenSsh => "OpenSsh",
         PemFault::Line => "Line",
         PemFault::Trailing => "Trailing",
         PemFault::Base64 => "Base64",
@@ -65,13 +66,14 @@ impl JwkFault {
         }
     }
 
-    /// The command of OpenSSL that makes a public key of such a text, where there is one.
+    /// The command that makes a public key of such a text, where there is one.
     pub fn remedy(self) -> Option<&'static str>
         ensures { option_map (λ t. t.now) result ≡ remedy self }
     {
         match self {
             JwkFault::Pem(PemFault::PrivateKey) => Some("openssl pkey -pubout"),
             JwkFault::Pem(PemFault::Certificate) => Some("openssl x509 -pubkey -noout"),
+            JwkFault::Pem(PemFault::OpenSsh) => Some("ssh-keygen -e -m PKCS8 -f FILE"),
             JwkFault::Key(Refusal::Compressed) => {
                 Some("openssl ec -pubin -conv_form uncompressed")
             }

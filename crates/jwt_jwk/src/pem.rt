@@ -36,6 +36,7 @@ pub(crate) fn pem_fault(fault: PemFault) -> JwkFault
     match fault {
         PemFault::PrivateKey => JwkFault::Pem(PemFault::PrivateKey),
         PemFault::Certificate => JwkFault::Pem(PemFault::Certificate),
+        PemFault::OpenSsh => JwkFault::Pem(PemFault::OpenSsh),
         PemFault::Line => JwkFault::Pem(PemFault::Line),
         PemFault::Trailing => JwkFault::Pem(PemFault::Trailing),
         PemFault::Base64 => JwkFault::Pem(PemFault::Base64),

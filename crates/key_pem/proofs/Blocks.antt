@@ -3,7 +3,7 @@ use Rattle.std.proofs.Common.{◌≡◌, ◌≢◌, ℕ, ◌+◌, ◌<◌, ◌�
 use Rattle.std.proofs.lemmas.Bool.{cases_order}
 use Rattle.std.proofs.lemmas.List.{take_at, drop_at, length-append, append_cancel_left, get_or_append_left, get_or-append-add}
 use Rattle.std.specs.Prelude.{if◌then◌else◌}
-use Rattle.key_pem.specs.Pem.{begin_line, begins, end_line, is_private, label_at, trimmed, FaultBehind, IsFirstFault, IsOneFault, IsPlain, IsBlock, IsOneBlock}
+use Rattle.key_pem.specs.Pem.{begin_line, begins, end_line, is_open_ssh, is_private, label_at, trimmed, FaultBehind, IsFirstFault, IsOneFault, IsPlain, IsBlock, IsOneBlock}
 use Rattle.key_pem.specs.declared.fault.PemFault.{PemFault}
 use Rattle.key_pem.specs.declared.fault.PemFault.TheVariants as fault
 use Rattle.key_pem.specs.declared.label.Label.{Label}
@@ -78,17 +78,18 @@ unbegun label octets text start rest why is block h =
 
 -- ---- why there is no label
 
-chosen : (a b c d : Bool) → (if a then Ok PublicKey else if b then Ok RsaPublicKey else if c then Err fault.PrivateKey else if d then Err fault.Certificate else Err fault.Line) ≡ Err fault.Trailing → ⊥
-chosen true b c d h = cc
-chosen false true c d h = cc
-chosen false false true d h = cc
-chosen false false false true h = cc
-chosen false false false false h = cc
+chosen : (a b c d e : Bool) → (if a then Ok PublicKey else if b then Ok RsaPublicKey else if c then Err fault.PrivateKey else if d then Err fault.Certificate else if e then Err fault.OpenSsh else Err fault.Line) ≡ Err fault.Trailing → ⊥
+chosen true b c d e h = cc
+chosen false true c d e h = cc
+chosen false false true d e h = cc
+chosen false false false true e h = cc
+chosen false false false false true h = cc
+chosen false false false false false h = cc
 
 none_trails : (text : List ℕ) → label_at text ≡ Err fault.Trailing → ⊥
 unfolding label_at
 none_trails text h =
-    chosen (begins (begin_line PublicKey) text) (begins (begin_line RsaPublicKey) text) (is_private text) (begins (codes "-----BEGIN CERTIFICATE-----") text) h
+    chosen (begins (begin_line PublicKey) text) (begins (begin_line RsaPublicKey) text) (is_private text) (begins (codes "-----BEGIN CERTIFICATE-----") text) (is_open_ssh text) h
 
 behind_label : (text start : List ℕ) (f : PemFault) → start ≡ trimmed text → label_at start ≡ Err f → IsFirstFault text f
 behind_label text start f is h = subst (λ (r : Result Label PemFault). FaultBehind r (trimmed text) f) (sym (ap label_at (sym is) ∙ h)) refl
@@ -97,6 +98,7 @@ pub one_fault : (text start : List ℕ) (f : PemFault) → start ≡ trimmed tex
 one_fault text start fault.Trailing is h = absurd (none_trails start h)
 one_fault text start fault.PrivateKey is h = behind_label text start fault.PrivateKey is h
 one_fault text start fault.Certificate is h = behind_label text start fault.Certificate is h
+one_fault text start fault.OpenSsh is h = behind_label text start fault.OpenSsh is h
 one_fault text start fault.Line is h = behind_label text start fault.Line is h
 one_fault text start fault.Base64 is h = behind_label text start fault.Base64 is h
 one_fault text start fault.OutOfMemory is h = behind_label text start fault.OutOfMemory is h
