@@ -11,7 +11,7 @@ const AT_THE_END: &[&str] = &["jwt", "show", "--pretty", "--now=1300819380"];
 
 const BEHIND: &[&str] = &["jwt", "show", "--now", "1300819381", "--pretty"];
 
-static SHOWN: [CommandRow; 11] = [
+static SHOWN: [CommandRow; 12] = [
     CommandRow {
         words: PRETTY,
         input: &["<TOKEN_A>"],
@@ -233,6 +233,32 @@ static SHOWN: [CommandRow; 11] = [
             "iat=0 1970-01-01T00:00:00Z",
             "nbf=951782400 2000-02-29T00:00:00Z",
             "left seconds=399180619",
+        ],
+        status: 0,
+    },
+    // The last that has a date, the next, and what some write for never.
+    CommandRow {
+        words: BEHIND,
+        input: &[
+            "e30.eyJleHAiOjI1MzQwMjMwMDc5OSwiaWF0IjoyNTM0MDIyMDcyMDAsIm5iZiI6MjUzNDAyMjA3MjAxfQ.",
+        ],
+        prints: &[
+            "unverified compact",
+            "sig=0 alg=- octets=0",
+            "protected",
+            "{}",
+            "not verified",
+            "payload octets=58",
+            "{",
+            r#"  "exp": 253402300799,"#,
+            r#"  "iat": 253402207200,"#,
+            r#"  "nbf": 253402207201"#,
+            "}",
+            "not verified",
+            "exp=253402300799",
+            "iat=253402207200 9999-12-30T22:00:00Z",
+            "nbf=253402207201",
+            "left seconds=252101481418",
         ],
         status: 0,
     },

@@ -115,7 +115,7 @@ fn show_prints_what_stands_in_a_token(rt: HostRuntime) -> Result<(), Fail> {
     assert_rows(&rt, rt.alloc(), &SHOWN)
 }
 
-static SHOWN_IN_JSON: [CommandRow; 12] = [
+static SHOWN_IN_JSON: [CommandRow; 15] = [
     CommandRow {
         words: SHOW_JSON,
         input: &[TOKEN_A],
@@ -175,6 +175,35 @@ static SHOWN_IN_JSON: [CommandRow; 12] = [
         input: &["e30.W10."],
         prints: &[
             r#"{"unverified":{"form":"compact","payload":[],"signatures":[{"protected":{},"octets":0}],"claims_refused":{"fault":"ClaimsShape"}}}"#,
+        ],
+        status: 0,
+    },
+    // A number greater than any float, 128 levels, and 129.
+    CommandRow {
+        words: SHOW_JSON,
+        input: &["e30.eyJ4IjoxZTQwMH0."],
+        prints: &[
+            r#"{"unverified":{"form":"compact","payload":{"x":1e400},"signatures":[{"protected":{},"octets":0}],"claims_refused":{"fault":"ClaimsShape"}}}"#,
+        ],
+        status: 0,
+    },
+    CommandRow {
+        words: &["jwt", "show", "--json"],
+        input: &[
+            "e30.W1tbW1tbW1tbW1tbW1tbW1tbW1tbW1tbW1tbW1tbW1tbW1tbW1tbW1tbW1tbW1tbW1tbW1tbW1tbW1tbW1tbW1tbW1tbW1tbW1tbW1tbW1tbW1tbW1tbW1tbW1tbW1tbW1tbW1tbW1tbW1tbW1tbW1tbW1tbW1tbW1tbW1tbW1tdXV1dXV1dXV1dXV1dXV1dXV1dXV1dXV1dXV1dXV1dXV1dXV1dXV1dXV1dXV1dXV1dXV1dXV1dXV1dXV1dXV1dXV1dXV1dXV1dXV1dXV1dXV1dXV1dXV1dXV1dXV1dXV1dXV1dXV1dXV1dXV1dXV1dXV1dXV1dXV1dXV1dXV1dXQ.",
+        ],
+        prints: &[
+            r#"{"unverified":{"form":"compact","payload":[[[[[[[[[[[[[[[[[[[[[[[[[[[[[[[[[[[[[[[[[[[[[[[[[[[[[[[[[[[[[[[[[[[[[[[[[[[[[[[[[[[[[[[[[[[[[[[[[[[[[[[[[[[[[[[[[[[[[[[[[[[[[[[[]]]]]]]]]]]]]]]]]]]]]]]]]]]]]]]]]]]]]]]]]]]]]]]]]]]]]]]]]]]]]]]]]]]]]]]]]]]]]]]]]]]]]]]]]]]]]]]]]]]]]]]]]]]]]]]]]]]]]]]]]]]]]]]],"signatures":[{"protected":{},"octets":0}],"claims_refused":{"fault":"ClaimsShape"}}}"#,
+        ],
+        status: 0,
+    },
+    CommandRow {
+        words: &["jwt", "show", "--json"],
+        input: &[
+            "e30.W1tbW1tbW1tbW1tbW1tbW1tbW1tbW1tbW1tbW1tbW1tbW1tbW1tbW1tbW1tbW1tbW1tbW1tbW1tbW1tbW1tbW1tbW1tbW1tbW1tbW1tbW1tbW1tbW1tbW1tbW1tbW1tbW1tbW1tbW1tbW1tbW1tbW1tbW1tbW1tbW1tbW1tbW1tbXV1dXV1dXV1dXV1dXV1dXV1dXV1dXV1dXV1dXV1dXV1dXV1dXV1dXV1dXV1dXV1dXV1dXV1dXV1dXV1dXV1dXV1dXV1dXV1dXV1dXV1dXV1dXV1dXV1dXV1dXV1dXV1dXV1dXV1dXV1dXV1dXV1dXV1dXV1dXV1dXV1dXV1dXV1d.",
+        ],
+        prints: &[
+            r#"{"unverified":{"form":"compact","payload":null,"signatures":[{"protected":{},"octets":0}],"claims_refused":{"fault":"ClaimsShape"}}}"#,
         ],
         status: 0,
     },
