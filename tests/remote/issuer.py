@@ -109,15 +109,17 @@ class Handler(http.server.BaseHTTPRequestHandler):
 
     def raw(self, document, first, again):
         """These octets as they stand, and others again and again then, until who asked goes away; None ends the connection in place of these."""
+        self.server.issuer.held += 1
         try:
             self.wfile.write(first.replace(b"KEYS", document).replace(b"SIZE", str(len(document)).encode()))
             while again is not None:
                 self.wfile.write(again)
                 # (as soon as who asked has gone, nothing is read; a connection that is quiet too long is let go)
                 if self.is_gone(0.005 if again else 5):
-                    return
+                    break
         except OSError:
             pass
+        self.server.issuer.held -= 1
 
     def is_gone(self, seconds):
         self.connection.settimeout(seconds)
@@ -178,6 +180,11 @@ class Handler(http.server.BaseHTTPRequestHandler):
         self.chunked(b"%x\r\n%b\r\n0\r\nX-Slow: " % (len(document), document))
         self.drip(b"a" * 4_096)
 
+    def answer_trailer_lines(self, document):
+        """The whole document, and then trailers without an end, each of them whole."""
+        self.chunked(b"%x\r\n%b\r\n0\r\n" % (len(document), document))
+        self.raw(b"", b"", b"X-More: a\r\n")
+
     def chunked(self, begun):
         self.send_response(200)
         self.send_header("Transfer-Encoding", "chunked")
@@ -185,6 +192,7 @@ class Handler(http.server.BaseHTTPRequestHandler):
         self.wfile.write(begun)
 
     def drip(self, octets):
+        self.server.issuer.held += 1
         try:
             for at in range(len(octets)):
                 self.wfile.write(octets[at : at + 1])
@@ -192,6 +200,7 @@ class Handler(http.server.BaseHTTPRequestHandler):
                 time.sleep(0.05)
         except OSError:
             pass
+        self.server.issuer.held -= 1
 
     def answer_away(self, document):
         """A redirection to another origin, where the same keys stand."""
@@ -247,7 +256,7 @@ class Issuer:
     """The issuer: over HTTP, over TLS with each of the three certificates, and over a TLS that is no longer in use (RFC 8996)."""
 
     def __init__(self, room):
-        self.mode, self.hops, self.documents, self.seen = "ok", 0, {}, []
+        self.mode, self.hops, self.held, self.documents, self.seen = "ok", 0, 0, {}, []
         self.plain = self.served(None)
         self.good, self.expired, self.other = (self.served(self.context(room, it)) for it in ("good", "expired", "other"))
         self.old = self.served(as_old(self.context(room, "good")))
