@@ -21,7 +21,7 @@ const REQUEST = {
   method: 'GET', headers: HEADERS, agent: false, setHost: true, insecureHTTPParser: false, maxHeaderSize: 16_384,
   rejectUnauthorized: true, checkServerIdentity: tls.checkServerIdentity,
   auth: undefined, createConnection: undefined, family: undefined, localAddress: undefined, localPort: undefined, lookup: undefined, session: undefined,
-  socket: undefined, socketPath: undefined, timeout: undefined,
+  socket: undefined, socketPath: undefined, timeout: 0,
 };
 /** The same of TLS. */
 const SECURE = { minVersion: 'TLSv1.2', maxVersion: 'TLSv1.3', ciphers: constants.defaultCoreCipherList };

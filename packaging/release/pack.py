@@ -35,7 +35,8 @@ def write_zip(files: dict[str, bytes], out: pathlib.Path) -> None:
     with zipfile.ZipFile(out, "w", zipfile.ZIP_DEFLATED, compresslevel=9) as archive:
         for name, octets in files.items():
             entry = zipfile.ZipInfo(name, MOMENT)
-            entry.external_attr = 0o100644 << 16
+            # (a wheel's commands can be run)
+            entry.external_attr = (0o100755 if ".data/scripts/" in name else 0o100644) << 16
             entry.compress_type = zipfile.ZIP_DEFLATED
             archive.writestr(entry, octets)
 

@@ -126,8 +126,8 @@ def why_not_base64(part: bytes) -> Why:
     if not BASE64URL.fullmatch(part):
         return Why("a character that base64url doesn't have", "RFC 4648, 3.3 and 5", MUST)
     if len(part) % 4 == 1:
-        return Why("a number of characters that spells no octets", "RFC 4648, 4", MUST)
-    return Why("spare bits of the last character of a part that aren't zero", "RFC 4648, 3.5", STRICTER + "a second spelling of the same octets; the issuer's encoder writes zeros")
+        return Why("a number of characters that spells no bytes", "RFC 4648, 4", MUST)
+    return Why("spare bits of the last character of a part that aren't zero", "RFC 4648, 3.5", STRICTER + "a second spelling of the same bytes; the issuer's encoder writes zeros")
 
 
 def why_no_object(octets: bytes, what: str, section: str, unique: str) -> Why:
@@ -137,7 +137,7 @@ def why_no_object(octets: bytes, what: str, section: str, unique: str) -> Why:
     try:
         text = octets.decode()
     except UnicodeDecodeError:
-        return Why(f"other octets than UTF-8 in the {what}", section, MUST)
+        return Why(f"other bytes than UTF-8 in the {what}", section, MUST)
     if text.startswith("\ufeff"):
         return Why(f"a byte order mark before the {what}", "RFC 8259, 8.1", STRICTER + "the RFC lets a reader skip it; the issuer writes none")
     if re.search(r"\\u[dD][89a-fA-F]", text) or re.search("[\ud800-\udfff]", text):

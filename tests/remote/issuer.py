@@ -6,6 +6,7 @@ import ssl
 import subprocess
 import threading
 import time
+import warnings
 
 AUTHORITY = """[ca]
 default_ca = own
@@ -31,6 +32,8 @@ def certificates(room):
     name."""
     room = pathlib.Path(room)
     (room / "config").write_text(AUTHORITY.format(room=room))
+    (room / "old").write_text(OLD)
+    (room / "old.security").write_text("jdk.tls.disabledAlgorithms=\n")
     (room / "index").write_text("")
     (room / "serial").write_text("01\n")
     openssl(room, "req", "-x509", "-newkey", "rsa:2048", "-nodes", "-keyout", "ca.key", "-out", "ca.pem", "-subj", "/CN=tests", "-days", "2",
@@ -42,6 +45,19 @@ def certificates(room):
         openssl(room, "ca", "-batch", "-notext", "-config", "config", "-keyfile", "ca.key", "-cert", "ca.pem", "-startdate", "20200101000000Z",
                 "-enddate", ends, "-in", f"{name}.csr", "-out", f"{name}.pem")
     return room
+
+
+# What has programs over OpenSSL speak a TLS that is no longer in use.
+OLD = """openssl_conf = any
+nodejs_conf = any
+[any]
+ssl_conf = of_tls
+[of_tls]
+system_default = system
+[system]
+MinProtocol = TLSv1
+CipherString = DEFAULT@SECLEVEL=0
+"""
 
 
 # Answers that are sent as they stand, by their names: the octets that come first, and those that come again and again then; None ends the connection in
@@ -93,15 +109,17 @@ class Handler(http.server.BaseHTTPRequestHandler):
 
     def raw(self, document, first, again):
         """These octets as they stand, and others again and again then, until who asked goes away; None ends the connection in place of these."""
+        self.server.issuer.held += 1
         try:
             self.wfile.write(first.replace(b"KEYS", document).replace(b"SIZE", str(len(document)).encode()))
             while again is not None:
                 self.wfile.write(again)
                 # (as soon as who asked has gone, nothing is read; a connection that is quiet too long is let go)
                 if self.is_gone(0.005 if again else 5):
-                    return
+                    break
         except OSError:
             pass
+        self.server.issuer.held -= 1
 
     def is_gone(self, seconds):
         self.connection.settimeout(seconds)
@@ -162,6 +180,11 @@ class Handler(http.server.BaseHTTPRequestHandler):
         self.chunked(b"%x\r\n%b\r\n0\r\nX-Slow: " % (len(document), document))
         self.drip(b"a" * 4_096)
 
+    def answer_trailer_lines(self, document):
+        """The whole document, and then trailers without an end, each of them whole."""
+        self.chunked(b"%x\r\n%b\r\n0\r\n" % (len(document), document))
+        self.raw(b"", b"", b"X-More: a\r\n")
+
     def chunked(self, begun):
         self.send_response(200)
         self.send_header("Transfer-Encoding", "chunked")
@@ -169,6 +192,7 @@ class Handler(http.server.BaseHTTPRequestHandler):
         self.wfile.write(begun)
 
     def drip(self, octets):
+        self.server.issuer.held += 1
         try:
             for at in range(len(octets)):
                 self.wfile.write(octets[at : at + 1])
@@ -176,6 +200,7 @@ class Handler(http.server.BaseHTTPRequestHandler):
                 time.sleep(0.05)
         except OSError:
             pass
+        self.server.issuer.held -= 1
 
     def answer_away(self, document):
         """A redirection to another origin, where the same keys stand."""
@@ -218,13 +243,23 @@ class Server(http.server.ThreadingHTTPServer):
         """(a client that went away)"""
 
 
+def as_old(context):
+    """Has a side of TLS speak 1.1 and 1.0 alone."""
+    with warnings.catch_warnings():
+        warnings.simplefilter("ignore", DeprecationWarning)
+        context.minimum_version, context.maximum_version = ssl.TLSVersion.TLSv1, ssl.TLSVersion.TLSv1_1
+    context.set_ciphers("DEFAULT@SECLEVEL=0")
+    return context
+
+
 class Issuer:
-    """The issuer: over HTTP, and over TLS with each of the three certificates."""
+    """The issuer: over HTTP, over TLS with each of the three certificates, and over a TLS that is no longer in use (RFC 8996)."""
 
     def __init__(self, room):
-        self.mode, self.hops, self.documents, self.seen = "ok", 0, {}, []
+        self.mode, self.hops, self.held, self.documents, self.seen = "ok", 0, 0, {}, []
         self.plain = self.served(None)
         self.good, self.expired, self.other = (self.served(self.context(room, it)) for it in ("good", "expired", "other"))
+        self.old = self.served(as_old(self.context(room, "good")))
 
     def context(self, room, name):
         context = ssl.SSLContext(ssl.PROTOCOL_TLS_SERVER)

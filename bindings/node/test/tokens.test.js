@@ -305,8 +305,9 @@ async function testHiding() {
   await once(server, 'listening');
   try {
     for (const at of ['/', '/read']) {
-      const answer = await fetch(`http://127.0.0.1:${server.address().port}${at}`, { headers: { authorization: `Bearer ${token}`, 'x-other': 'b' } });
-      const said = await answer.text();
+      const headers = { authorization: `Bearer ${token}`, 'x-other': 'b' };
+      const [answer] = await once(http.get({ host: '127.0.0.1', port: server.address().port, path: at, headers, agent: false, timeout: 0 }), 'response');
+      const said = String(Buffer.concat(await answer.toArray()));
       assert.ok(!said.includes(token) && !/authorization/i.test(said));
       assert.deepStrictEqual(JSON.parse(said)[0]['x-other'], ['b']);
     }
@@ -324,6 +325,19 @@ const testToldInVain = () => withKeysAt(async (url) => {
   const keys = await RemoteKeys.open({ algs: ['RS256'] }, url, { allowHttp: true, onFetch });
   assert.strictEqual((await warned)[0].message, 'told in vain');
   assert.ok((await keys.refresh()) && (await keys.judge(tokenOf(RSA), NOW)).accepted);
+  keys.close();
+});
+
+/** A planted `timeout` with which Node's own sockets make no connection has a fetch fail at once, and leaves the keys that are held. */
+const testPlantedTimeout = () => withKeysAt(async (url) => {
+  const keys = await require('../remote.js').RemoteKeys.open({ algs: ['RS256'] }, url, { allowHttp: true, timeout: 1000 });
+  for (const value of [1, -1, 'planted', null, {}, true]) {
+    Object.defineProperty(Object.prototype, 'timeout', { value, configurable: true });
+    const begun = performance.now(), isGood = await keys.refresh(), took = performance.now() - begun;
+    delete Object.prototype.timeout;
+    assert.ok(!isGood && took < 1500 && (await keys.judge(tokenOf(RSA), NOW)).accepted, `${value}: ${took}`);
+  }
+  assert.ok(await keys.refresh());
   keys.close();
 });
 
@@ -681,6 +695,7 @@ if (!isMainThread) {
   test('few tokens wait for a fetch', testFewWait);
   test('a call while keys are exchanged', testExchange);
   test('whoever is told of a fetch throws', testToldInVain);
+  test("a planted timeout that Node's sockets read", { skip: 'timeout' in Object.prototype }, testPlantedTimeout);
   test('a policy of keys by URL that changes', testKeptPolicy);
   test('the times of keys by URL', testTimes);
   test('queries are told nowhere', testQueries);

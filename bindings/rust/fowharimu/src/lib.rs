@@ -1,5 +1,5 @@
-//! Validates JSON Web Tokens (RFC 7519) by a library that is proved correct. Public-key signatures are verified by OpenSSL, or without the feature
-//! `openssl` by the library's proved verifiers, which need no other library.
+//! Validates JSON Web Tokens (RFC 7519) by a library that is proved correct. Public-key signatures are verified by the library's
+//! proved verifiers, which need no other library, or with the feature `openssl` by OpenSSL.
 //!
 //! ```no_run
 //! # fn main() -> Result<(), Box<dyn std::error::Error>> {
