@@ -205,6 +205,19 @@ fn put_unverified(
     put_claims_refused(alloc, out, signed.payload())
 }
 
+/// The line of a token that stands in this document.
+fn shown_json(alloc: Global, signed: &Signed<'_>, document: &Value<'_>) -> Result<Reply, AllocError>
+    requires { HasNumbers (value_view document.now) }
+    ensures { IfOk result
+        (λ a. reply_view a ≡ token_json (value_view document.now) (token signed.now)) }
+{
+    let mut out = JsonOut::object(alloc)?;
+    out.begin_named("unverified")?;
+    put_unverified(alloc, &mut out, signed, document)?;
+    out.end_object()?;
+    out.reply(0)
+}
+
 /// The line of a token that stands in these octets.
 pub(crate) fn token_json(
     alloc: Global,
@@ -216,11 +229,7 @@ pub(crate) fn token_json(
 {
     let mut scratch = Scratch::new(alloc);
     let document = value_in(alloc, octets, &mut scratch)?;
-    let mut out = JsonOut::object(alloc)?;
-    out.begin_named("unverified")?;
-    put_unverified(alloc, &mut out, signed, &document)?;
-    out.end_object()?;
-    out.reply(0)
+    shown_json(alloc, signed, &document)
 }
 
 /// The line of octets that are no signed token.

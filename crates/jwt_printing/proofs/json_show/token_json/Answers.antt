@@ -1,21 +1,14 @@
-use Rattle.std.proofs.Common.{◌≡◌, ◌∙◌, ap, [], ◌∷◌}
-use Rattle.std.specs.Prelude.{codes}
+use Rattle.std.proofs.Common.{◌≡◌, ◌∙◌, ap}
 use Rattle.std.proofs.lemmas.Result.{IfOk-weaker}
 use Rattle.json.specs.Json.{Json}
-use Rattle.json.specs.Value.{value_view}
 use Rattle.jwt_jws.specs.Views.{token}
-use Rattle.jwt_printing.specs.Json.{object_of_members, json_value}
-use Rattle.jwt_printing.specs.ShownJson.{token_json, unverified_members}
+use Rattle.jwt_printing.specs.Json.{json_value}
+use Rattle.jwt_printing.specs.ShownJson.{token_json}
 use Rattle.jwt_printing.specs.Views.{reply_view}
-use Rattle.jwt_printing.proofs.JsonLemmas.{line_put, named_object_put}
 use Rattle.jwt_printing.proofs.json_show.token_json.Goals as goal
 
 pub returns : goal.returns
 returns c =
     let t = token c.args.signed.now in
-    let ms = unverified_members (value_view c.in_ok-document.document) t in
-    IfOk-weaker c.reply.result _ (λ a. reply_view a ≡ token_json (json_value c.args.octets.now) t)
-    (λ a is. line_put ((codes "unverified", object_of_members ms) ∷ []) 0 c.in_ok-out.out c.end_object.new.self c.in_ok-out.ensures
-    (named_object_put ms (codes "unverified") c.in_ok-out.out c.begin_named.new.self c.put_unverified.new.out c.end_object.new.self
-    c.in_ok-begin_named.ensures c.in_ok-put_unverified.ensures c.in_ok-end_object.ensures) (reply_view a) is
-    ∙ ap (λ (doc : Json). token_json doc t) c.in_ok-document.ensures.value) c.reply.ensures
+    IfOk-weaker c.shown_json.result _ (λ a. reply_view a ≡ token_json (json_value c.args.octets.now) t)
+    (λ a is. is ∙ ap (λ (doc : Json). token_json doc t) c.in_ok-document.ensures.value) c.shown_json.ensures
