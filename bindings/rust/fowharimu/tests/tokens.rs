@@ -41,6 +41,8 @@ fn each_token_is_accepted_and_refused_where_it_is_changed() {
         let verdict = validator.validate_at(&token, NOW);
         if name.ends_with("rfc8037-a4.jwt") {
             assert!(matches!(verdict, Err(Error::Claims { .. })), "{name:?}");
+        } else if name.ends_with("Ed448.jwt") && cfg!(not(feature = "openssl")) {
+            assert!(matches!(verdict, Err(Error::Signature { .. })), "{name:?}");
         } else {
             assert!(verdict.unwrap().json().contains("joe"), "{name:?}");
         }
