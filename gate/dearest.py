@@ -22,10 +22,16 @@ def used(process):
     return sum(map(int, fields[11:15])) / os.sysconf("SC_CLK_TCK")
 
 
+def proving(it):
+    """The command that proves a crate over the libraries below as they stand, from nothing that is kept, by one process that says what it has done."""
+    it.out, rtlib = sys.stderr, kit.loaded().rtlib
+    return [*rtlib.guarded(), rtlib.RATTLE, "check", *it.words(["--jobs", "1", "--progress"], keeps=False)]
+
+
 def seconds(name):
     """The seconds of each function of a crate, in the order in which they are proved."""
     it, ends = kit.crate(name), []
-    with subprocess.Popen(kit.proving(it, "--jobs", "1", "--progress"), cwd=it.folder, stdout=subprocess.PIPE, stderr=subprocess.STDOUT, text=True, errors="replace") as run:
+    with subprocess.Popen(proving(it), cwd=it.folder, stdout=subprocess.PIPE, stderr=subprocess.STDOUT, text=True, errors="replace") as run:
         for line in run.stdout:
             checked = CHECKED.match(line.strip())
             if checked:

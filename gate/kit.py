@@ -15,7 +15,7 @@ TOP = pathlib.Path(__file__).resolve().parent.parent
 CALLED = {
     "": {"checked": 4, "unread": 2},
     "rtlib": {"crates_below": 1, "guarded": 0},
-    "rtlib.Crate": {"below": 1, "stamp": 1, "is_built": 1, "has_kept": 1, "words": 2, "build_static": 2, "compile": 3},
+    "rtlib.Crate": {"below": 1, "stamp": 1, "is_built": 1, "has_kept": 1, "build_static": 2, "compile": 3},
 }
 
 
@@ -66,12 +66,6 @@ def built(name, build):
     it = crate(name)
     with tempfile.TemporaryFile("w+", errors="replace") as it.out:
         return build(it) == 0
-
-
-def proving(it, *flags):
-    """The command that proves a crate over the libraries below as they stand, and from nothing kept, with these flags."""
-    it.out = sys.stderr
-    return [*loaded().rtlib.guarded(), loaded().rtlib.RATTLE, "check", *it.words(list(flags), keeps=False)]
 
 
 def lacking():
