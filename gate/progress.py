@@ -137,8 +137,11 @@ class Progress:
     def tell(self):
         """Writes what has changed."""
         last, now = dict(self.sampled.last), time.time()
-        done = {it for it, when in last.items() if now - when > QUIET}
-        under_way = [it for it in last if it not in done]
+        quiet = {it for it, when in last.items() if now - when > QUIET}
+        # (a pass over the sources of all comes first, and takes a little of what a proof takes)
+        used = self.sampled.minutes()
+        done = {it for it in quiet if used.get(it, 0) * 4 >= self.wanted.get(it, 0)}
+        under_way = [it for it in last if it not in quiet]
         of = len({*self.wanted, *last})
         so_far = f"{len(done)} of {of} done, {(now - self.sampled.begun) / 60:.0f} minutes so far"
         left = self.left(done)

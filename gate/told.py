@@ -1,25 +1,26 @@
 #!/usr/bin/env python3
-"""Holds what progress.py tells to a run of which the times are known: one crate is done, one is under way, one is to come. It ends with
-'N passed, M failed'."""
+"""Holds what progress.py tells to a run of which the times are known: one crate is done, one is under way, one is to come, and of one only the sources were read.
+It ends with 'N passed, M failed'."""
 import io, pathlib, sys, time
 
 sys.dont_write_bytecode = True
 sys.path.insert(0, str(pathlib.Path(__file__).resolve().parent))
 import progress
 
-DONE, UNDER_WAY, TO_COME = (("jwt_mac", "proofs"), ("jwt_text", "proofs"), ("jwt_jws", "tests"))
+DONE, UNDER_WAY, TO_COME, READ = (("jwt_mac", "proofs"), ("jwt_text", "proofs"), ("jwt_jws", "tests"), ("jwt_c", "proofs"))
 WANTED = {DONE: 2.0, UNDER_WAY: 6.0, TO_COME: 5.0}
 
 
 class Sampled:
     """The times of a run that began ten minutes ago."""
 
-    def __init__(self):
+    def __init__(self, wanted):
         self.begun = time.time() - 600
         self.last = {DONE: time.time() - 60, UNDER_WAY: time.time() + 60}
+        self.last |= {READ: time.time() - 60} if READ in wanted else {}
 
     def minutes(self):
-        return {DONE: 3.0, UNDER_WAY: 2.0}
+        return {DONE: 3.0, UNDER_WAY: 2.0, READ: 0.1}
 
 
 class Screen(io.StringIO):
@@ -36,7 +37,7 @@ class Screen(io.StringIO):
 def told(is_terminal, wanted):
     """What is told of that run."""
     screen = Screen(is_terminal)
-    telling = progress.Progress(Sampled(), wanted, screen)
+    telling = progress.Progress(Sampled(wanted), wanted, screen)
     time.sleep(2.5)
     telling.stop()
     return screen.getvalue()
@@ -51,6 +52,7 @@ def main():
     rows = [
         ("at a terminal", told(True, WANTED), lambda it: it.startswith(line) and it.endswith("\r\x1b[K")),
         ("without one", told(False, WANTED), lambda it: it == f"jwt_mac: proofs done; {there}\n"),
+        ("of which one was read alone", told(False, {**WANTED, READ: 2.1}), lambda it: it == f"jwt_mac: proofs done; {there.replace('of 3', 'of 4').replace('4 min', '5 min')}\n"),
         ("with no table", told(False, {}), lambda it: it == "jwt_mac: proofs done; 1 of 2 done, 10 minutes so far\n"),
         ("in words", progress.in_words(0.2), lambda it: it == "about 1 minute"),
         ("in words, where nothing is known", progress.in_words(None), lambda it: it == "some minutes"),
