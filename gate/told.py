@@ -52,7 +52,7 @@ def main():
     rows = [
         ("at a terminal", told(True, WANTED), lambda it: it.startswith(line) and it.endswith("\r\x1b[K")),
         ("without one", told(False, WANTED), lambda it: it == f"jwt_mac: proofs done; {there}\n"),
-        ("of which one was read alone", told(False, {**WANTED, READ: 2.1}), lambda it: it == f"jwt_mac: proofs done; {there.replace('of 3', 'of 4').replace('4 min', '5 min')}\n"),
+        ("of which one was read alone", told(False, {**WANTED, READ: 2.1}), lambda it: it == f"jwt_mac: proofs done; {there.replace('of 3', 'of 4').replace('4 min', '6 min')}\n"),
         ("with no table", told(False, {}), lambda it: it == "jwt_mac: proofs done; 1 of 2 done, 10 minutes so far\n"),
         ("in words", progress.in_words(0.2), lambda it: it == "about 1 minute"),
         ("in words, where nothing is known", progress.in_words(None), lambda it: it == "some minutes"),
