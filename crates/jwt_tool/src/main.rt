@@ -15,7 +15,7 @@ use crate::files::{input_of, octets, printing_in, read_files, token_octets};
 use crate::moments::{System, moment};
 use crate::recorded::Recorded;
 use crate::saying::{say_hint, say_what_is_waited_for, say_why_refused};
-use crate::words::{Spelled, spelled};
+use crate::words::{Spelled, as_meant};
 use jwt_command::documents::Held;
 use jwt_command::run::{lack_memory, run_read};
 use jwt_command::{Moment, Request, WordsFault, octets_asked, read_words};
@@ -50,7 +50,7 @@ fn main(rt: HostRuntime) -> ExitCode {
 /// Runs the command that the program's words ask for, on standard input, or on the file that stands in its place.
 fn run<W: Sink>(rt: &HostRuntime, clock: Option<Moment>, w: &mut Answered<W>) -> io::Result<u8> {
     let args: Vec<String> = env::args(rt)?.collect(rt.alloc())?;
-    let Spelled { words, input } = spelled(rt.alloc(), args.as_slice())?;
+    let Spelled { words, input } = as_meant(rt.alloc(), args.as_slice())?;
     let words: Vec<&str> = words.iter().map(|word| word.as_str()).collect(rt.alloc())?;
     let words = words.as_slice();
     match input {

@@ -56,7 +56,7 @@ fn has_file(words: &[String]) -> bool {
 ///
 /// # Errors
 /// `AllocError`, where an allocation was refused.
-pub fn spelled(alloc: Global, words: &[String]) -> Result<Spelled, AllocError> {
+pub fn as_meant(alloc: Global, words: &[String]) -> Result<Spelled, AllocError> {
     let names_file = has_file(words);
     let is_verify = words.get(1).map(|word| word.as_str()) == Some("verify");
     let mut spelled = Spelled {
