@@ -27,9 +27,10 @@ def faults():
     for line in text.splitlines():
         above, fault = re.fullmatch(r" {4}/\* (.*) \*/", line), re.fullmatch(r" {4}(FOW_\w+) = \d+,? */\* (.*) \*/", line)
         if above:
-            groups.append((above[1], []))
+            groups.append((re.sub(r"\boctets\b", "bytes", above[1]), []))
         elif fault:
-            groups[-1][1].append((names[fault[1]], fault[1], fault[2]))
+            # (a byte is a byte in what users read)
+            groups[-1][1].append((names[fault[1]], fault[1], re.sub(r"\boctets\b", "bytes", fault[2])))
     return groups
 
 

@@ -8,11 +8,11 @@ pub(crate) const REFUSALS: [(&str, &str); 42] = [
     ),
     (
         "TooLong",
-        "more octets than the policy's `limit`. The policy's `limit` is 8,192 bytes unless it says otherwise: raise it to what your issuer sends, and no further.",
+        "more bytes than the policy's `limit`. The policy's `limit` is 8,192 bytes unless it says otherwise: raise it to what your issuer sends, and no further.",
     ),
     (
         "Empty",
-        "there are no octets. No token came: the header, the cookie or the file is empty.",
+        "there are no bytes. No token came: the header, the cookie or the file is empty.",
     ),
     (
         "Encrypted",
@@ -56,7 +56,7 @@ pub(crate) const REFUSALS: [(&str, &str); 42] = [
     ),
     (
         "WorkExceeded",
-        "the octets of HMAC would exceed the policy's `work`. Raise `work`, or use fewer keys for each algorithm; give keys a `kid`.",
+        "the bytes of HMAC would exceed the policy's `work`. Raise `work`, or use fewer keys for each algorithm; give keys a `kid`.",
     ),
     (
         "CallsExceeded",

@@ -14,7 +14,9 @@ use crate::documents::asked_of;
 use crate::files::{input_of, octets, printing_in, read_files, token_octets};
 use crate::moments::{System, moment};
 use crate::recorded::Recorded;
-use crate::saying::{say_hint, say_what_is_waited_for, say_why_refused};
+use crate::saying::{
+    reads_der, say_hint, say_how_to_go_on, say_what_is_waited_for, say_why_refused,
+};
 use crate::words::{Spelled, as_meant};
 use jwt_command::documents::Held;
 use jwt_command::run::{lack_memory, run_read};
@@ -120,8 +122,12 @@ fn run_words<R: Source, W: Sink>(
     };
     let mut moments = System { rt };
     let asked = asked_of(&request);
+    let der = reads_der(&request);
     r.keeps = asked.is_some();
     let status = run_read(rt.alloc(), request, &built_in, &mut moments, held, r, w);
     say_why_refused(rt, status, asked, held, r.kept.as_slice(), w.begin());
+    if der {
+        say_how_to_go_on(rt, status, w.begin());
+    }
     Ok(status)
 }

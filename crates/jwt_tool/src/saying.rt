@@ -10,6 +10,7 @@ use jwt_shown::push_quoted;
 use jwt_words::{Order, Printing};
 use std::alloc::{AllocError, Global};
 use std::io::IsTerminal;
+use std::str;
 
 /// A document by its name in JSON, and in words.
 type Document = (&'static str, &'static str);
@@ -135,6 +136,25 @@ pub fn say_why_refused(
         let _ = eprintln!(rt;
             "jwt: the policy was the first line of standard input, since no --policy FILE names it"
         );
+    }
+}
+
+/// Whether the words ask for the JWK of a key in DER.
+pub fn reads_der(request: &Result<Request<'_>, WordsFault>) -> bool {
+    match request {
+        Ok(Request::Jwk(order)) => order.der,
+        _ => false,
+    }
+}
+
+/// Says of a key in DER that is refused with a remedy how what that prints is read.
+pub fn say_how_to_go_on(rt: &HostRuntime, status: u8, answer: &[u8]) {
+    let is_remedied = match str::from_utf8(answer) {
+        Ok(answer) => answer.contains("remedy"),
+        Err(_) => false,
+    };
+    if status == 1 && is_remedied {
+        let _ = eprintln!(rt; "jwt: what the remedy prints is PEM, which is read without --der");
     }
 }
 

@@ -6,19 +6,19 @@ POLICY = {
     "Member": "a member is unknown, or of another kind",
     "Range": "a member's value is out of its range",
     "NoAlgorithm": "the list `algs` is absent or empty",
-    "TooLong": "more than 65,536 octets",
+    "TooLong": "more than 65,536 bytes",
 }
 KEYS = {
     "Json": "no JSON text in UTF-8",
     "NotKeySet": "no object, or one without a list `keys`",
     "NameTwice": "a name stands twice in one object, at any depth",
     "TooManyKeys": "more than 1,024 entries",
-    "TooLong": "more than 4,194,304 octets",
+    "TooLong": "more than 4,194,304 bytes",
 }
 TOKEN = {
     "Read": "the source failed",
-    "TooLong": "more octets than the policy's `limit`",
-    "Empty": "there are no octets",
+    "TooLong": "more bytes than the policy's `limit`",
+    "Empty": "there are no bytes",
     "Encrypted": "an encrypted token (RFC 7516)",
     "Segments": "compact form with another number of periods than two and four",
     "Json": "it begins as an object, and is no JSON text",
@@ -29,7 +29,7 @@ TOKEN = {
     "Header": "the protected header of this signature is no object text",
     "UnprotectedKind": "the member `header` of this signature is no object",
     "NamesOverlap": "a name is in both headers of this signature",
-    "WorkExceeded": "the octets of HMAC would exceed the policy's `work`",
+    "WorkExceeded": "the bytes of HMAC would exceed the policy's `work`",
     "CallsExceeded": "there were as many tries as the policy's `max_calls`",
     "AlgMissing": "the protected header has no text `alg`",
     "AlgNone": "`alg` is `none`",
@@ -64,8 +64,8 @@ ISSUE = {
     "TooManySignatures": "more than 32 keys",
     "AlgNotHmac": "the algorithm isn't HMAC",
     "KeyUnfit": "the key of this signature doesn't suit the algorithm, or may not sign",
-    "TooLong": "the token would have more than 1,048,576 octets",
-    "Spent": "the HMAC of this signature would cost more than 10^12 octets",
+    "TooLong": "the token would have more than 1,048,576 bytes",
+    "Spent": "the HMAC of this signature would cost more than 10^12 bytes",
 }
 ACCESS = {
     "Json": "no JSON text in UTF-8, or no object",
@@ -74,7 +74,7 @@ ACCESS = {
     "Range": "a scope is no scope token, or the name of the claim that carries scopes no JSON Pointer (RFC 6901)",
     "Claim": "what is asked of this claim is of another kind",
     "ClaimRange": "what is asked of this claim is the empty list, or its name begins with `/` and is no JSON Pointer",
-    "TooLong": "more than 65,536 octets",
+    "TooLong": "more than 65,536 bytes",
 }
 DENIED = {
     "ScopeMissing": "this scope isn't granted",
