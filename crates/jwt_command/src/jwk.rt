@@ -205,7 +205,7 @@ fn secret_line(alloc: Global, order: SecretOrder<'_>, k: &[u8]) -> Result<Reply,
     requires least { digest_size order.alg ≤ length k.now }
     requires most { length k.now ≤ 4096 }
     ensures { IfOk result (λ a. reply_view a
-        ≡ jwk_line (secret_json order.bare order.alg k.now)) }
+        ≡ jwk_line (secret_json order.entry.bare order.entry.alg k.now)) }
 {
     match secret_json(alloc, order.bare, order.alg, k) {
         Ok(json) => jwk_line(json),
@@ -248,8 +248,8 @@ fn kept_secret_line(
     octets: Option<&[u8]>,
 ) -> Result<Reply, AllocError>
     requires { is_hmac_alg order.alg ≡ true }
-    ensures { IfOk result (λ a. reply_view a ≡ kept_secret_line (secret_view order)
-        (option_and_then (kept_secret (digest_size order.alg)) (option_map (λ t. t.now) octets.entry))) }
+    ensures { IfOk result (λ a. reply_view a ≡ kept_secret_line (secret_view order.entry)
+        (option_and_then (kept_secret (digest_size order.entry.alg)) (option_map (λ t. t.now) octets.entry))) }
 {
     match kept_secret(order.alg, octets) {
         Some(k) => secret_line(alloc, order, k),
@@ -264,8 +264,8 @@ fn new_secret_line(
     random: Option<&[u8]>,
 ) -> Result<Reply, AllocError>
     requires { is_hmac_alg order.alg ≡ true }
-    ensures { IfOk result (λ a. reply_view a ≡ secret_line (secret_view order)
-        (fresh_secret order.alg (option_map (λ t. t.now) random.entry))) }
+    ensures { IfOk result (λ a. reply_view a ≡ secret_line (secret_view order.entry)
+        (fresh_secret order.entry.alg (option_map (λ t. t.now) random.entry))) }
 {
     match secret_in(order.alg, random) {
         Some(k) => secret_line(alloc, order, k),
@@ -281,7 +281,7 @@ pub(crate) fn secret(
 ) -> Result<Reply, AllocError>
     requires { is_hmac_alg order.alg ≡ true }
     ensures { IfOk result (λ a. reply_view a
-        ≡ secret_answer (secret_view order) (held_view held.entry)) }
+        ≡ secret_answer (secret_view order.entry) (held_view held.entry)) }
 {
     if let Some(name) = unread(order.files, held) {
         return printed_file_fault(alloc, order.printing, name);
