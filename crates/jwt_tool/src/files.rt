@@ -190,11 +190,12 @@ pub fn read_files(
 
 /// How the answer to words is printed, whose input can't be read.
 pub fn printing_in(words: &[&str]) -> Printing {
-    if words.iter().any(|word| *word == "--json") {
-        Printing::Json
-    } else {
-        Printing::Lines
+    for word in words.iter() {
+        if *word == "--json" {
+            return Printing::Json;
+        }
     }
+    Printing::Lines
 }
 
 /// The file that stands in the place of standard input; none where it can't be opened, which is said.

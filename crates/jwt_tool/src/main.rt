@@ -36,7 +36,7 @@ use std::{env, io};
 /// out before the next line is waited for.
 fn main(rt: HostRuntime) -> ExitCode {
     let clock = moment(&rt);
-    let mut w = Answered::new(Writer::new(rt.stdout()));
+    let mut w = Answered::new(rt.alloc(), Writer::new(rt.stdout()));
     match run(&rt, clock, &mut w) {
         Ok(status) => ExitCode::from(status),
         Err(error) if error.kind() == io::ErrorKind::OutOfMemory => ExitCode::from(lack_memory(
@@ -125,9 +125,16 @@ fn run_words<R: Source, W: Sink>(
     let der = reads_der(&request);
     r.keeps = asked.is_some();
     let status = run_read(rt.alloc(), request, &built_in, &mut moments, held, r, w);
-    say_why_refused(rt, status, asked, held, r.kept.as_slice(), w.begin());
+    say_why_refused(
+        rt,
+        status,
+        asked,
+        held,
+        r.kept.as_slice(),
+        w.begin.as_slice(),
+    );
     if der {
-        say_how_to_go_on(rt, status, w.begin());
+        say_how_to_go_on(rt, status, w.begin.as_slice());
     }
     Ok(status)
 }

@@ -39,6 +39,14 @@ fn is_file(word: &str, before: &str) -> bool {
     !is_value && (word == "-" || !word.starts_with('-'))
 }
 
+/// The name of the command; the empty text where there is none.
+fn command_of(words: &[String]) -> &str {
+    match words.get(1) {
+        Some(word) => word.as_str(),
+        None => "",
+    }
+}
+
 /// Whether there is one word of `show` that is the file of its token.
 fn has_file(words: &[String]) -> bool {
     let mut files: usize = 0;
@@ -49,7 +57,7 @@ fn has_file(words: &[String]) -> bool {
         }
         before = word.as_str();
     }
-    files == 1 && words.get(1).map(|word| word.as_str()) == Some("show")
+    files == 1 && command_of(words) == "show"
 }
 
 /// The words without the file of `show`, with `--trim` and dates written out.
@@ -58,7 +66,7 @@ fn has_file(words: &[String]) -> bool {
 /// `AllocError`, where an allocation was refused.
 pub fn as_meant(alloc: Global, words: &[String]) -> Result<Spelled, AllocError> {
     let names_file = has_file(words);
-    let is_verify = words.get(1).map(|word| word.as_str()) == Some("verify");
+    let is_verify = command_of(words) == "verify";
     let mut spelled = Spelled {
         words: Vec::with_capacity(alloc, words.len())?,
         input: None,
