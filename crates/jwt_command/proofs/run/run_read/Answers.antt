@@ -1,7 +1,7 @@
 use Rattle.std.proofs.Common.{rules, ◌≡◌, ◌∙◌, ◌⊎◌, ap, sym, subst, map, Option, Some, IfSome, [], true, false}
 use Rattle.jwt_command.specs.RunLines.{Outcome}
-use Rattle.jwt_words.specs.Seen.{requested, seen, held_view, jwk_view, policy_view, pretty_view}
-use Rattle.jwt_command.specs.Jwk.{JwkAnswer, jwk_most}
+use Rattle.jwt_words.specs.Seen.{requested, seen, held_view, jwk_view, policy_view, pretty_view, secret_view}
+use Rattle.jwt_command.specs.Jwk.{JwkAnswer, jwk_most, secret_answer}
 use Rattle.jwt_command.specs.Policy.{policy_answer}
 use Rattle.jwt_command.specs.Pretty.{PrettyAnswer, pretty_most}
 use Rattle.jwt_command.specs.Answered.{answer_of}
@@ -11,7 +11,7 @@ use Rattle.jwt_command.specs.Runs.{Runs}
 use Rattle.jwt_command.specs.Stops.{most_taken}
 use Rattle.jwt_printing.specs.Printed.{Gives}
 use Rattle.jwt_printing.specs.Views.{reply_view}
-use Rattle.jwt_words.specs.Words.{Jwk, JwkOrder, Once, Order, Policy, Pretty, PrettyOrder, Request}
+use Rattle.jwt_words.specs.Words.{Jwk, JwkOrder, NewSecret, Once, Order, Policy, Pretty, PrettyOrder, Request}
 use Rattle.jwt_command.proofs.Printing.{gives_known, gives_reply, some_known, whatever}
 use Rattle.jwt_command.proofs.run.run_read.Goals as goal
 
@@ -62,6 +62,16 @@ returns-in-Ok-Pretty-clause-pretty_stops g c = λ order reading.
     let is : Some (Pretty order) ≡ Some (Pretty (pretty_view c.in-Ok-Pretty.order)) = read ∙ ap (λ q. Some (requested q)) whole in
     let same : pretty_view c.in-Ok-Pretty.order ≡ order = cc is in
     subst (λ (o : PrettyOrder). IfSome (g.R.Source.remaining c.args.r.now) (λ x. (g.R.Source.failed c.show_pretty.new.r ≡ true) ⊎ TakesAtMost (pretty_most o) x (g.R.Source.remaining c.show_pretty.new.r))) same c.show_pretty.ensures.taken
+
+pub returns-in-Ok-NewSecret-clause-answer : goal.returns-in-Ok-NewSecret-clause-answer
+returns-in-Ok-NewSecret-clause-answer g c = λ asked reading.
+    let vs = map (λ b. (goal.Verifier-dyn g (b.vtable, b.value)).meaning b.value) c.args.built_in.now in
+    let is : asked ≡ Some (NewSecret (secret_view c.in-Ok-NewSecret.order)) = search rules in
+    let outcome : Outcome = record { before = g.W.Sink.contents c.args.w.now; after = g.W.Sink.contents c.give-in-Ok-NewSecret.new.w; failed = g.W.Sink.failed c.give-in-Ok-NewSecret.new.w; status = c.give-in-Ok-NewSecret.result } in
+    let answer = secret_answer (secret_view c.in-Ok-NewSecret.order) (held_view c.args.held) in
+    let gives = gives_reply reply_view c.secret.result answer outcome c.secret.ensures c.give-in-Ok-NewSecret.ensures.ok c.give-in-Ok-NewSecret.ensures.err in
+    subst (λ (q : Option Request). IfSome (g.R.Source.remaining c.args.r.now) (λ x. Runs vs g.C.Clock.says (held_view c.args.held) q x (g.R.Source.failed c.args.r.now) outcome)) (sym is)
+    (whatever (g.R.Source.remaining c.args.r.now) (Gives answer outcome.before outcome.after outcome.failed outcome.status) gives)
 
 pub returns-in-Ok-Policy-clause-answer : goal.returns-in-Ok-Policy-clause-answer
 returns-in-Ok-Policy-clause-answer g c = λ asked reading.
