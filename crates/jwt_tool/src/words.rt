@@ -22,10 +22,10 @@ fn seconds_of(text: &str) -> Option<i64> {
 }
 
 /// The seconds of a date that a word names, behind `--now` or with it.
-fn moment_word(alloc: Global, word: &str, before: &str) -> Result<Option<String>, AllocError> {
+fn moment_word(alloc: Global, word: &str, is_moment: bool) -> Result<Option<String>, AllocError> {
     let (head, value) = match word.strip_prefix("--now=") {
         Some(value) => ("--now=", value),
-        None => ("", if before == "--now" { word } else { "" }),
+        None => ("", if is_moment { word } else { "" }),
     };
     match seconds_of(value) {
         Some(seconds) => Ok(Some(format!(in alloc; "{head}{seconds}")?)),
@@ -33,9 +33,13 @@ fn moment_word(alloc: Global, word: &str, before: &str) -> Result<Option<String>
     }
 }
 
+/// Whether the next word of `show` is this option's value.
+fn has_value(word: &str) -> bool {
+    word == "--limit" || word == "--now"
+}
+
 /// Whether a word of `show` is the file of its token.
-fn is_file(word: &str, before: &str) -> bool {
-    let is_value = before == "--limit" || before == "--now";
+fn is_file(word: &str, is_value: bool) -> bool {
     !is_value && (word == "-" || !word.starts_with('-'))
 }
 
@@ -50,12 +54,12 @@ fn command_of(words: &[String]) -> &str {
 /// Whether there is one word of `show` that is the file of its token.
 fn has_file(words: &[String]) -> bool {
     let mut files: usize = 0;
-    let mut before = "";
+    let mut is_value = false;
     for word in words.iter().skip(2) {
-        if is_file(word.as_str(), before) {
+        if is_file(word.as_str(), is_value) {
             files = files.saturating_add(1);
         }
-        before = word.as_str();
+        is_value = has_value(word.as_str());
     }
     files == 1 && command_of(words) == "show"
 }
@@ -71,21 +75,23 @@ pub fn as_meant(alloc: Global, words: &[String]) -> Result<Spelled, AllocError> 
         words: Vec::with_capacity(alloc, words.len())?,
         input: None,
     };
-    let mut before = "";
+    let mut is_value = false;
+    let mut is_moment = false;
     for (place, word) in words.iter().enumerate() {
         let word = word.as_str();
-        if place > 1 && names_file && is_file(word, before) {
+        if place > 1 && names_file && is_file(word, is_value) {
             spelled.input = Some(String::from_str(alloc, word)?);
         } else if place > 1 && is_verify && word == "--trim" {
             spelled.words.push(String::from_str(alloc, "--token")?)?;
             spelled.words.push(String::from_str(alloc, "-")?)?;
         } else {
-            match moment_word(alloc, word, before)? {
+            match moment_word(alloc, word, is_moment)? {
                 Some(moment) => spelled.words.push(moment)?,
                 None => spelled.words.push(String::from_str(alloc, word)?)?,
             }
         }
-        before = word;
+        is_value = has_value(word);
+        is_moment = word == "--now";
     }
     Ok(spelled)
 }
