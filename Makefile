@@ -4,6 +4,7 @@
 #   make test                        runs the tests of each language that is installed
 #   make install PREFIX= DESTDIR=    installs libraries, headers, pkg-config, the manual page and the program
 #   make fuzz SECONDS=               attacks the library for C, each way for so many seconds (Debian: clang, libclang-rt-14-dev)
+#   make python                      builds build/python/_calls.abi3.so, the module in C for Python (Debian: python3-dev)
 #   make node                        builds build/node/fowharimu.node, the addon for Node (Debian: nodejs, libnode-dev)
 #   make java                        builds build/java/fowharimu-VERSION.jar (Debian: openjdk-17-jdk-headless)
 #   make dist KEY=                   writes a release into build/dist, of what ./check passed: it needs no kit where it is unpacked; signed by that key of gpg
@@ -125,10 +126,18 @@ nginx-install: nginx-files
 	install -d $(DESTDIR)/etc/nginx/modules-enabled
 	ln -sf /usr/share/nginx/modules-available/mod-http-fowharimu.conf $(DESTDIR)/etc/nginx/modules-enabled/50-mod-http-fowharimu.conf
 
+# The module is handed the library's functions by ctypes, and isn't linked with it. (A slot of a type is a pointer to an object, which -pedantic keeps
+# apart from one to a function.)
+$(BUILD)/python/_calls.abi3.so: bindings/python/native/_calls.c include/fowharimu.h
+	mkdir -p $(BUILD)/python
+	$(CC) $(CFLAGS) $(filter-out -pedantic,$(WARNINGS)) -fPIC -shared -I$$(packaging/release/python_headers) -Iinclude -o $@ $<
+
+python: $(BUILD)/python/_calls.abi3.so
+
 # Each has the archive of the library inside.
-$(BUILD)/node/fowharimu.node: bindings/node/src/addon.c include/fowharimu.h $(BUILD)/libfowharimu.a
+$(BUILD)/node/fowharimu.node: bindings/node/src/addon.c bindings/node/src/around.c bindings/node/src/around.h include/fowharimu.h $(BUILD)/libfowharimu.a
 	mkdir -p $(BUILD)/node
-	$(CC) $(CFLAGS) $(WARNINGS) -fPIC -shared -fstack-protector-strong -I$$(packaging/release/node_headers) -Iinclude -o $@ $< $(BUILD)/libfowharimu.a \
+	$(CC) $(CFLAGS) $(WARNINGS) -fPIC -shared -fstack-protector-strong -I$$(packaging/release/node_headers) -Iinclude -o $@ $(filter %.c,$^) $(BUILD)/libfowharimu.a \
 	    -Wl,-z,relro,-z,now -Wl,--exclude-libs,ALL
 
 node: $(BUILD)/node/fowharimu.node
@@ -157,4 +166,4 @@ clean:
 
 FORCE:
 
-.PHONY: all libraries node java dist check-dist install deb nginx nginx-files nginx-install test fuzz clean FORCE
+.PHONY: all libraries python node java dist check-dist install deb nginx nginx-files nginx-install test fuzz clean FORCE

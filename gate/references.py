@@ -14,7 +14,7 @@ VERSIONS = {
     "tests/migrating/run": r'^version = "(.*)"|\bfowharimu v([\d.]+)',
     "bindings/node/README.md": r"\bfowharimu-(\d+\.\d+\.\d+)",
     "bindings/node/package.json": r'^  "version": "(.*)"',
-    "bindings/python/README.md": r"\bfowharimu-(\d+\.\d+\.\d+)",
+    "bindings/python/README.md": r"\bfowharimu==(\d+\.\d+\.\d+)",
     "bindings/python/pyproject.toml": r'^version = "(.*)"',
     "tests/requests/nethttp/go.mod": r"\bfowharimu v(\S+)",
     "bindings/rust/Cargo.toml": r'^version = "(.*)"',

@@ -115,11 +115,13 @@ class Definitions:
 
 
 def exported(crate):
-    """The names that a crate's lib.rt passes on, and the files of its public modules."""
+    """The names that a crate's lib.rt and its public modules pass on, and the files of those modules."""
     names, root = set(), TOP / "crates" / crate / "src/lib.rt"
-    for listed in re.findall(r"^pub use ([^;]+);", root.read_text(), re.MULTILINE):
-        names |= set(re.findall(r"\w+", listed))
-    return names, public_modules(root, root.parent)
+    modules = public_modules(root, root.parent)
+    for file in (root, *modules):
+        for listed in re.findall(r"^pub use ([^;]+);", file.read_text(), re.MULTILINE):
+            names |= set(re.findall(r"\w+", listed))
+    return names, modules
 
 
 def public_modules(path, folder):

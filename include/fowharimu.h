@@ -50,9 +50,9 @@
 extern "C" {
 #endif
 
-/* The number of this interface. It grows with each change of a struct, of a number, or of what a call means: so a program that was compiled
- * with this header asks whether the library that it loaded has the same. */
-#define FOW_ABI 2
+/* The number of this interface. It grows with each change of a struct, of a number, or of what a call means, and with each call that goes: so a
+ * program that was compiled with this header asks whether the library that it loaded has the same. */
+#define FOW_ABI 3
 
 /* The number of the interface that the library has: FOW_ABI of the header that it was built with. It needs no validator. It is C, and tested. */
 uint32_t fow_abi(void);
@@ -63,6 +63,9 @@ const char *fow_version(void);
 /* The most questions of one token that the callers in Python, Go, Rust, Node and Java let a policy and a key set raise, unless they are told of
  * more (fow_most_questions). */
 #define FOW_MOST_QUESTIONS 64
+
+/* How many keys fow_open prepares at most. */
+#define FOW_PREPARED 16
 
 /* A policy, a key set, your answers on signatures, and the last report. The members are private. */
 typedef struct fow_validator {
@@ -282,9 +285,25 @@ enum fow_form { FOW_COMPACT = 1, FOW_GENERAL = 2, FOW_FLATTENED = 3 };
  * A caller who answers questions sets `max_calls` in the policy: each question is a try, so `max_calls` bounds how many are
  * asked of one token. Without it a token of 32 signatures may raise a question for each of them and each key of the set.
  * fow_most_questions says how many it can be: ask it once after this call, and close the validator where it is more than the service can
- * answer for a stranger. More than FOW_MOST_QUESTIONS are seldom meant. */
+ * answer for a stranger. More than FOW_MOST_QUESTIONS are seldom meant.
+ *
+ * It prepares at most FOW_PREPARED keys: see fow_open_prepared. */
 uint32_t fow_open(fow_validator *validator, const uint8_t *policy, size_t policy_len, const uint8_t *keys, size_t keys_len,
     uint32_t *fault);
+
+/* Reads a policy and a key set as fow_open does, and prepares at most `most` keys for fow_proved_judge and fow_answer_proved: the first ones
+ * of the set that are of P-256, P-384, P-521 or Ed25519. A signature by a prepared key is verified in about a third of the time. With 0 none
+ * is prepared, as for a service that asks OpenSSL instead.
+ *
+ * A key costs about 0.7 ms and 64 KB on P-256, 3 ms and 144 KB on P-384, 5 ms and 295 KB on P-521, and 140 KB on Ed25519; the first key of a
+ * curve costs as much again, for the base point of the curve. RSA and HMAC keys cost nothing. Validators that are opened beside this one
+ * (fow_open_beside) share what is prepared. No verdict depends on it. A key for whose preparing memory is refused stays unprepared, and that
+ * isn't answered FOW_OUT_OF_MEMORY. (Tested: tests/c/prepared.c.)
+ *
+ * Proved: FOW_OK: the policy and the key set that these octets spell are held from now on, and no answers. FOW_REFUSED: *fault
+ * says why the first of the two that is refused is refused. Where the answer isn't FOW_OK, the validator holds what it held. */
+uint32_t fow_open_prepared(fow_validator *validator, const uint8_t *policy, size_t policy_len, const uint8_t *keys, size_t keys_len,
+    size_t most, uint32_t *fault);
 
 /* Opens a validator beside another one: on the policy and the key set that the other holds, which aren't read again. The two may be used
  * at the same time by two threads, and closed in any order: the policy and the key set are freed when the last of those that hold them
@@ -317,7 +336,7 @@ void fow_close(fow_validator *validator);
  * policy, the key set and the moment. HMAC is verified; for the other algorithms your answers are believed. Where each answer is right, it
  * is the verdict under what is right. FOW_ASKS: fow_try_of gives the tries of a run in which a pair without an answer counts as invalid,
  * and the report names the first try that has none. FOW_NOT_OPEN: nothing is held, and else it is never answered. Where the answer isn't
- * FOW_OK, no claims are kept. The policy, the key set and the answers stay.
+ * FOW_OK, no claims and no payload are kept. The policy, the key set and the answers stay.
  *
  * After FOW_ASKS a caller answers the pair that the report names (fow_asked, fow_answer_asked). It may answer the later tries with `cost` 0
  * too, until one is valid (fow_ask, fow_answer, which read the token again): after a valid answer other pairs may be tried, so judge the
@@ -330,7 +349,7 @@ uint32_t fow_judge(fow_validator *validator, const uint8_t *token, size_t token_
  *
  * Proved: what is accepted or refused, and all that *report says of it, is the verdict of validate's contract on these octets under the
  * policy, the key set, the moment and these verifiers. It never answers FOW_ASKS. FOW_NOT_OPEN: as of fow_judge. Where the answer isn't
- * FOW_OK, no claims are kept. The policy, the key set and the answers stay. */
+ * FOW_OK, no claims and no payload are kept. The policy, the key set and the answers stay. */
 uint32_t fow_proved_judge(fow_validator *validator, const uint8_t *token, size_t token_len, int64_t now, fow_report *report);
 
 /* Remembers accepted tokens from now on: at most `tokens` of those that fow_judge accepts, and as many of those that fow_proved_judge accepts,
@@ -342,8 +361,8 @@ uint32_t fow_proved_judge(fow_validator *validator, const uint8_t *token, size_t
  * paid now. Only accepted tokens in compact form are remembered, so only other accepted tokens push one out.
  *
  * The memory of fow_judge rests on your answers at the time when a token was accepted: a wrong answer stays wrong for as long as that token is
- * remembered, also after fow_forget, and spoils no other. Accepted tokens and their claims lie in memory until they go, and aren't wiped. One of 179
- * octets takes some 850 octets in all, one of 1,300 with 26 claims some 3,200. Where there is no memory to keep one, it isn't kept, and the verdict
+ * remembered, also after fow_forget, and spoils no other. Accepted tokens, their claims and their payloads lie in memory until they go, and aren't wiped.
+ * One of 179 octets takes some 950 octets in all, one of 1,300 with 26 claims some 4,200. Where there is no memory to keep one, it isn't kept, and the verdict
  * is the same. A kept token that has expired is refused by its claims, and stays until others push it out.
  *
  * Proved: FOW_OK: so many tokens of so many octets are remembered from now on, none yet, and nothing else has changed. FOW_NOT_OPEN: nothing is
@@ -401,33 +420,27 @@ uint32_t fow_ask(fow_validator *validator, const uint8_t *token, size_t token_le
  * or there is no such pair. FOW_NOT_OPEN: nothing is held. What is kept of the last judging stays. */
 uint32_t fow_answer(fow_validator *validator, const uint8_t *token, size_t token_len, uint32_t signature, uint32_t key, bool valid);
 
-/* Tells what this library's proved verifier of RSA says of the signature, in place of fow_ask and fow_answer: for RS256, RS384,
- * RS512, PS256, PS384 and PS512. It accepts what RFC 8017 does, with keys of 2,048 to 8,192 bits.
+/* Tells what this library's proved verifiers say of the signature, in place of fow_ask and fow_answer: the one of RSA, of ECDSA or of Ed25519 that
+ * names its algorithm. That of RSA accepts what RFC 8017 does, with keys of 2,048 to 8,192 bits; that of ECDSA is for ES256, ES384 and ES512 (SEC 1,
+ * section 4.1.4; FIPS 186-5, section 6.4.2); that of Ed25519 (RFC 8032, section 5.1.7) accepts a signature whose S is below the group order and whose R
+ * is, octet by octet, the encoding of [S]B - [k]A, and under a key of small order none.
  *
- * Proved: FOW_OK: exactly that answer is added to those before. Else the answers are as before. FOW_ABSENT: the octets are no
- * token, there is no such pair, or its algorithm is another one. FOW_NOT_OPEN: nothing is held. What is kept of the last judging stays. */
-uint32_t fow_answer_rsa(fow_validator *validator, const uint8_t *token, size_t token_len, uint32_t signature, uint32_t key);
-
-/* The same by this library's proved verifier of Ed25519 (RFC 8032, section 5.1.7): for EdDSA with a key of that curve. It accepts a
- * signature whose S is below the group order and whose R is, octet by octet, the encoding of [S]B - [k]A. A key of small order
- * verifies nothing.
- *
- * Proved: as with fow_answer_rsa. FOW_ABSENT: the octets are no token, there is no such pair, its algorithm is another one, or its key
- * is of another curve, such as Ed448. */
-uint32_t fow_answer_ed25519(fow_validator *validator, const uint8_t *token, size_t token_len, uint32_t signature, uint32_t key);
-
-/* The same by the one of this library's proved verifiers that names the algorithm: that of RSA, that of Ed25519, or that of ECDSA (SEC 1,
- * section 4.1.4; FIPS 186-5, section 6.4.2), for ES256, ES384 and ES512.
- *
- * Proved: as with fow_answer_rsa. FOW_ABSENT: the octets are no token, there is no such pair, its algorithm is HMAC, or its key is of
- * the curve Ed448. */
+ * Proved: FOW_OK: exactly that answer is added to those before. Else the answers are as before. FOW_ABSENT: the octets are no token, there is no such
+ * pair, its algorithm is HMAC, or its key is of the curve Ed448. FOW_NOT_OPEN: nothing is held. What is kept of the last judging stays. */
 uint32_t fow_answer_proved(fow_validator *validator, const uint8_t *token, size_t token_len, uint32_t signature, uint32_t key);
 
 /* Forgets your answers: do so from time to time, since all of them are kept until then. Proved: no answer is kept, and the policy
  * and the key set are as before. What is kept of the last judging stays. */
 void fow_forget(fow_validator *validator);
 
-/* Writes the octets of the payload of a token, whether it was judged or not: judge it first.
+/* Writes the octets of the payload of the token that was accepted last, which were kept when it was judged: nothing is read again, and it takes no
+ * memory. A payload has fewer octets than its token.
+ *
+ * Proved: FOW_OK: `out` begins with the payload of the token that was accepted last, which has *written octets. FOW_ABSENT: exactly where the last
+ * verdict was no acceptance, or no token was judged yet. FOW_NOT_OPEN: nothing is held. The validator holds what it held. */
+uint32_t fow_accepted_payload(fow_validator *validator, uint8_t *out, size_t out_len, size_t *written);
+
+/* Writes the octets of the payload of a token, whether it was judged or not: judge it first. It reads the token again; fow_accepted_payload doesn't.
  *
  * Proved: FOW_OK: `out` begins with the payload, which has *written octets. FOW_ABSENT: the octets are no token under the
  * policy. FOW_NOT_OPEN: nothing is held. The validator holds what it held. */
@@ -480,7 +493,7 @@ uint32_t fow_text_member(const uint8_t *document, size_t document_len, const uin
     size_t *written);
 
 /* Writes a claim of the token that was accepted last, by its name in UTF-8, as compact JSON text: of a text or a list of texts. A claim of
- * another kind stands in what fow_payload writes.
+ * another kind stands in what fow_accepted_payload writes.
  *
  * Proved: FOW_OK: `out` begins with that text, which has *written octets. FOW_ABSENT: the last verdict was no acceptance, the
  * payload has no such claim, or it is of another kind. FOW_NOT_OPEN: nothing is held. The validator holds what it held. */
@@ -546,6 +559,193 @@ uint32_t fow_denied_name(fow_validator *validator, fow_access *access, uint8_t *
  * or form, or `typ` isn't in UTF-8. FOW_NOT_OPEN: nothing is held. *report is written for FOW_REFUSED alone. The validator holds what it held. */
 uint32_t fow_issue(fow_validator *validator, uint32_t alg, uint32_t form, uint32_t key, const uint8_t *typ, size_t typ_len,
     const uint8_t *claims, size_t claims_len, uint8_t *out, size_t out_len, size_t *written, fow_report *report);
+
+/* The token of a request (RFC 6750, section 2.1), in the value of its one header `Authorization`. Of several such headers nothing is read: the outcome
+ * is FOW_SEVERAL.
+ *
+ * Proved: FOW_OK: the value carries a token, from the octet *from up to the octet *to. FOW_ABSENT: its scheme isn't Bearer. FOW_REFUSED: its
+ * scheme is Bearer, and it carries no token in any way. */
+uint32_t fow_credentials(const uint8_t *value, size_t value_len, size_t *from, size_t *to);
+
+/* What is known of the token of a request. Any other number is FOW_UNANSWERED. */
+enum fow_outcome {
+    FOW_UNANSWERED = 0,    /* nothing can be said of the token */
+    FOW_ADMITTED = 1,      /* it is accepted, and its claims meet the access rule, where there is one */
+    FOW_SEVERAL = 2,       /* there is more than one header `Authorization` */
+    FOW_NO_BEARER = 3,     /* there is none, or its scheme isn't Bearer */
+    FOW_MALFORMED = 4,     /* what stands behind the scheme is no b64token */
+    FOW_NOT_ACCEPTED = 5,  /* it is refused */
+    FOW_SCOPE_MISSING = 6, /* a scope that the access rule asks for is missing */
+    FOW_NOT_GRANTED = 7,   /* the claims don't meet the access rule otherwise */
+    FOW_KEYS_TOO_OLD = 8   /* the keys are too old */
+};
+
+/* The challenge that is sent in `WWW-Authenticate`. Any other number is FOW_NO_CHALLENGE. */
+enum fow_challenge_kind {
+    FOW_NO_CHALLENGE = 0,       /* no such header is sent */
+    FOW_REALM = 1,              /* Bearer realm="..", and no error, since no token was shown */
+    FOW_INVALID_REQUEST = 2,    /* Bearer error="invalid_request" */
+    FOW_INVALID_TOKEN = 3,      /* Bearer error="invalid_token" */
+    FOW_INSUFFICIENT_SCOPE = 4, /* Bearer error="insufficient_scope" */
+    FOW_SCOPES = 5              /* the same, with scope=".." */
+};
+
+/* What is answered to a request. */
+typedef struct fow_reply {
+    uint32_t status;    /* of HTTP; 200 where the request is let through */
+    uint32_t challenge; /* enum fow_challenge_kind */
+} fow_reply;
+
+/* What is answered to a request, where this is known of its token (enum fow_outcome). Proved: the status and the challenge are those of the outcome
+ * (RFC 6750, section 3.1), and 200 comes for FOW_ADMITTED alone. */
+void fow_reply_to(uint32_t outcome, fow_reply *reply);
+
+/* Whether a realm or a scope can stand in a challenge as it is. A service asks when it is set up. Proved: true exactly where each octet is a printable
+ * one of ASCII, and neither a quotation mark nor a backslash (RFC 9110, section 5.6.4). */
+bool fow_quotable(const uint8_t *text, size_t text_len);
+
+/* Writes a challenge (enum fow_challenge_kind). `realm` is that of the service, and `scope` what a token needs, with a space between two.
+ *
+ * Proved: FOW_OK: `out` begins with the challenge's text, which has *written octets. FOW_REFUSED: the realm or the scope can't be quoted. */
+uint32_t fow_challenge(uint32_t challenge, const uint8_t *realm, size_t realm_len, const uint8_t *scope, size_t scope_len,
+    uint8_t *out, size_t out_len, size_t *written);
+
+/* Keys by URL: when they are fetched, until when they are used, and who waits for a fetch. Nothing here opens a socket, reads a clock, takes memory or a
+ * lock. The struct is the caller's, who makes one call on it at a time, and reads the clock under the lock that it holds for that: moments out of order make
+ * ages grow too fast. Times and moments are milliseconds, of any clock; a time of UINT64_MAX is never over. Whatever numbers stand in the struct, each
+ * call ends; what is proved is proved of one that these calls alone have changed. It may stand in memory that processes share.
+ *
+ * What happened is told by these calls: a fetch begins where fow_renewal_ask says so, and ends where fow_renewal_took or fow_renewal_failed is called. Its
+ * ticket is its number, and that of its keys. */
+typedef struct fow_renewal {
+    uint64_t refresh_after, cool_down, max_age, timeout;
+    uint64_t heard, keys_age, keys_ticket, begun_age, ticket, is_open;
+    uint64_t waiting, first, second, third, fourth;
+} fow_renewal;
+
+/* What a fow_renewal answers. */
+typedef struct fow_renewal_answer {
+    uint64_t has_keys; /* 1: the keys of the ticket `keys` are to be used; 0: there are none, or they are too old */
+    uint64_t keys;
+    uint64_t fetch;  /* enum fow_fetch */
+    uint64_t ticket; /* of the fetch */
+    uint64_t left;   /* of one that is under way: the milliseconds until its deadline */
+} fow_renewal_answer;
+
+/* What becomes of fetches. */
+enum fow_fetch {
+    FOW_NO_FETCH = 0,       /* none is wanted, or none may begin yet */
+    FOW_FETCH_BEGINS = 1,   /* whoever is told so makes it, within its timeout, and tells how it ended */
+    FOW_FETCH_UNDER_WAY = 2 /* somebody else does */
+};
+
+/* Who asks. Any other number is FOW_ASKER_TOKEN. */
+enum fow_asker {
+    FOW_ASKER_TOKEN = 0,   /* a token that comes */
+    FOW_ASKER_REFUSED = 1, /* a token that was refused for want of a key, or by a bad signature, by the keys of a ticket */
+    FOW_ASKER_OWNER = 2,   /* whoever runs the service, whatever the cool-down */
+    FOW_ASKER_WAITED = 3   /* whoever has waited for a fetch: it wants no other, and is told which keys there are */
+};
+
+/* No keys, and no fetch yet. Proved: nothing has happened so far, and the times are these. */
+void fow_renewal_begin(fow_renewal *renewal, uint64_t refresh_after, uint64_t cool_down, uint64_t max_age, uint64_t timeout, uint64_t now);
+
+/* Which keys are to be used, and whether a fetch begins. `keys` is looked at for FOW_ASKER_REFUSED alone: it is the ticket of the keys by which the token
+ * was refused.
+ *
+ * Proved: keys are named exactly where their fetch began less than max_age ago, and they are those that were taken last. A fetch begins exactly where it is
+ * wanted, none is under way, and, unless the owner asks, every fetch so far began at least a cool_down ago. */
+void fow_renewal_ask(fow_renewal *renewal, uint64_t now, uint64_t asker, uint64_t keys, fow_renewal_answer *answer);
+
+/* The fetch with this ticket gave keys, which were read and may be used. Proved: they count, and are those to be used from now on, exactly where that fetch
+ * is under way; else they are to be dropped, and nothing changes. */
+bool fow_renewal_took(fow_renewal *renewal, uint64_t now, uint64_t ticket);
+
+/* The fetch with this ticket gave none. Proved: it counts exactly where that fetch is under way, which it isn't any more. The keys stay as they are. */
+bool fow_renewal_failed(fow_renewal *renewal, uint64_t now, uint64_t ticket);
+
+/* A token would wait for the fetch with this ticket. `name` is a number of its `kid`, by any hash: two that have one number count as one. Who may not
+ * wait is answered at once, since anyone can send tokens for which a key is lacking.
+ *
+ * Proved: it may wait exactly where that fetch is under way, fewer than four wait for it, and none of them under this name. It waits from now on, until the
+ * fetch ends. */
+bool fow_renewal_wait(fow_renewal *renewal, uint64_t now, uint64_t ticket, uint64_t name);
+
+/* When the next fetch is due, for a timer or a `Retry-After`. Proved: after exactly so many milliseconds more a token that comes begins a fetch; 0 where it
+ * does now. */
+uint64_t fow_renewal_due(const fow_renewal *renewal);
+
+/* For how long nobody need ask: whoever keeps this time beside the keys takes no lock and makes no call for a token until then, or until a call that is no
+ * question for a token. Proved: for exactly so many milliseconds more the keys are used, and a token that comes begins no fetch. */
+uint64_t fow_renewal_quiet_for(const fow_renewal *renewal);
+
+/* From which URLs keys and metadata are fetched, and what follows on an answer. Nothing here opens a socket: the caller asks for the URL, octet by octet
+ * as it is written, by TLS and with a deadline of its own, and follows no redirection that isn't said here. */
+
+/* Where the parts of a URL stand, in octets from its beginning. A target that doesn't begin with a slash is sent with one before it. */
+typedef struct fow_url {
+    uint32_t https; /* 1: its scheme is https; 0: it is http */
+    uint32_t port;  /* that of the scheme where the URL names none */
+    size_t host, host_end;
+    size_t target; /* path and query, which last to the end */
+} fow_url;
+
+/* What is asked for. Any other number is FOW_ASKED_KEYS. */
+enum fow_asked {
+    FOW_ASKED_KEYS = 0,   /* a key set */
+    FOW_ASKED_OPENID = 1, /* the metadata of OpenID Connect Discovery 1.0, section 4 */
+    FOW_ASKED_OAUTH = 2   /* those of RFC 8414, section 3 */
+};
+
+/* What follows on an answer. */
+enum fow_step {
+    FOW_STEP_FAIL = 0,      /* the fetch failed, by this status */
+    FOW_STEP_TAKE = 1,      /* its content is taken */
+    FOW_STEP_FOLLOW = 2,    /* the URL is asked that fow_redirected writes; where it writes none, the fetch failed */
+    FOW_STEP_ASK_OAUTH = 3, /* FOW_ASKED_OAUTH is asked for */
+    FOW_STEP_TOO_OFTEN = 4  /* the fetch failed, since it redirects too often */
+};
+
+/* What follows on an answer, and how many octets of it are taken at most: one that has more is a failed fetch. */
+typedef struct fow_next {
+    uint32_t step; /* enum fow_step */
+    uint32_t most;
+} fow_next;
+
+/* The parts of a URL from which something may be fetched (RFC 3986, section 3): https, or http where that is allowed; a host, which is a name or an address
+ * in brackets; a port up to 65,535, or none; path and query of octets that a URL may have; and neither a name nor a password before the host, nor a
+ * fragment.
+ *
+ * Proved: FOW_OK: it is such a URL, and *parts has its parts. FOW_REFUSED: it is none. */
+uint32_t fow_url_of(const uint8_t *url, size_t url_len, bool allows_http, fow_url *parts);
+
+/* Writes the URL to which a redirection leads: `url` was asked, and `location` is the value of the first `Location` of its answer, or empty where it has
+ * none: a whole URL or a reference (RFC 3986, section 5). Room for both and one octet more is enough. Where it isn't FOW_OK, what stands in `out` says
+ * nothing.
+ *
+ * Proved: FOW_OK: `out` begins with the URL, which has *written octets and the scheme, host and port of the one that was asked. FOW_REFUSED: it leads
+ * elsewhere, or to no URL, or has a segment `.` or `..` in its path. */
+uint32_t fow_redirected(const uint8_t *url, size_t url_len, const uint8_t *location, size_t location_len, uint8_t *out, size_t out_len,
+    size_t *written);
+
+/* Writes the URL of the metadata of an issuer (enum fow_asked; any other number than FOW_ASKED_OAUTH is FOW_ASKED_OPENID). The second metadata are asked for
+ * where fow_next_step says so of the first.
+ *
+ * Proved: FOW_OK: `out` begins with the URL, which has *written octets. FOW_REFUSED: the issuer is no URL, or has a query (RFC 8414, section 2). */
+uint32_t fow_metadata_url(uint32_t asked, const uint8_t *issuer, size_t issuer_len, uint8_t *out, size_t out_len, size_t *written);
+
+/* Writes the URL of an issuer's keys, as its metadata tell it. It is looked at by fow_url_of before it is asked.
+ *
+ * Proved: FOW_OK: the `issuer` of the metadata is this one, octet by octet, and `out` begins with the text `jwks_uri`, which has *written octets.
+ * FOW_REFUSED: it is another one, or the octets are no JSON object. FOW_ABSENT: it is this one, and there is no such text. */
+uint32_t fow_keys_url(const uint8_t *metadata, size_t metadata_len, const uint8_t *issuer, size_t issuer_len, uint8_t *out, size_t out_len,
+    size_t *written);
+
+/* What follows on an answer of this status, where so many redirections were followed since that was asked for (enum fow_asked).
+ *
+ * Proved: a status of 200 is taken, and none else, and at most 4,194,304 octets of it. Of 301, 302, 303, 307 and 308 five are followed, and no more.
+ * FOW_ASKED_OAUTH is asked for exactly where FOW_ASKED_OPENID is answered by 404. */
+void fow_next_step(uint32_t asked, uint32_t status, uint32_t redirections, fow_next *next);
 
 /* The name of a fault, as the program `jwt` prints it, such as `Expired`; empty where no fault has this number. It isn't to be freed.
  * It is C, and tested. */

@@ -49,7 +49,7 @@ static void validate(fow_openssl *crypto, fow_validator *validator)
     fow_report report;
     size_t written;
     CHECK(fow_openssl_judge(crypto, validator, token.at, token.len, NOW, &report) == FOW_OK);
-    CHECK(fow_payload(validator, token.at, token.len, out, sizeof out, &written) == FOW_OK);
+    CHECK(fow_accepted_payload(validator, out, sizeof out, &written) == FOW_OK);
 }
 
 static void time_hmac(const char *name)
@@ -83,9 +83,9 @@ static void time_rsa(const char *name)
     open_named(&validator, name);
     TIME("RS256 verdict", 20, CHECK(fow_openssl_judge(&crypto, &validator, token.at, token.len, NOW, &report) == FOW_OK));
     TIME("RS256 claims", 20, validate(&crypto, &validator));
-    TIME("RS256 verdict, fow_answer_rsa", 20, fow_forget(&validator);
+    TIME("RS256 verdict, fow_answer_proved", 20, fow_forget(&validator);
          fow_judge(&validator, token.at, token.len, NOW, &report);
-         fow_answer_rsa(&validator, token.at, token.len, 0, 0);
+         fow_answer_proved(&validator, token.at, token.len, 0, 0);
          CHECK(fow_judge(&validator, token.at, token.len, NOW, &report) == FOW_OK));
     CHECK(fow_ask(&validator, token.at, token.len, 0, 0, out, sizeof out, &asked) == FOW_OK);
     /* (a key that is kept begins with OpenSSL's) */
@@ -94,8 +94,8 @@ static void time_rsa(const char *name)
     fow_close(&validator);
 }
 
-/* A token that is remembered, by the loop over OpenSSL's answers or by the proved verifiers. */
-static void time_remembered(const char *label, const char *by_proof, const char *name)
+/* A token that is remembered, by the loop over OpenSSL's answers or by the proved verifiers, and with its payload. */
+static void time_remembered(const char *label, const char *by_proof, const char *claims, const char *name)
 {
     fow_validator validator = FOW_VALIDATOR_INIT;
     fow_openssl crypto = FOW_OPENSSL_INIT;
@@ -104,6 +104,8 @@ static void time_remembered(const char *label, const char *by_proof, const char 
     CHECK(fow_remember(&validator, 1000, 4096) == FOW_OK);
     TIME(label, 200, CHECK(fow_openssl_judge(&crypto, &validator, token.at, token.len, NOW, &report) == FOW_OK));
     TIME(by_proof, 200, CHECK(fow_proved_judge(&validator, token.at, token.len, NOW, &report) == FOW_OK));
+    CHECK(fow_remembered(&validator));
+    TIME(claims, 200, validate(&crypto, &validator));
     CHECK(fow_remembered(&validator));
     fow_openssl_clear(&crypto);
     fow_close(&validator);
@@ -206,8 +208,8 @@ int main(int argc, char **argv)
     CHECK(argc == 3 || argc == 4);
     time_hmac(argv[1]);
     time_rsa(argv[2]);
-    time_remembered("HS256 verdict, remembered", "HS256 verdict by proof, remembered", argv[1]);
-    time_remembered("RS256 verdict, remembered", "RS256 verdict by proof, remembered", argv[2]);
+    time_remembered("HS256 verdict, remembered", "HS256 verdict by proof, remembered", "HS256 claims, remembered", argv[1]);
+    time_remembered("RS256 verdict, remembered", "RS256 verdict by proof, remembered", "RS256 claims, remembered", argv[2]);
     time_users(argv[1], 2);
     time_users(argv[1], 24);
     time_access(argv[1]);

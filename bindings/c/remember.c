@@ -73,9 +73,9 @@ static void check_moments(const char *hmac)
     CHECK(fow_remember(&validator, 10, 4096) == FOW_OK);
     CHECK(says(FOW_OK, false, NOW));
     first = report;
-    CHECK(fow_payload(&validator, token.at, token.len, payload, sizeof payload, &len) == FOW_OK);
+    CHECK(fow_accepted_payload(&validator, payload, sizeof payload, &len) == FOW_OK);
     CHECK(says(FOW_OK, true, NOW) && memcmp(&first, &report, sizeof report) == 0 && report.tries == 1 && report.work == 295);
-    CHECK(fow_payload(&validator, token.at, token.len, again, sizeof again, &again_len) == FOW_OK);
+    CHECK(fow_accepted_payload(&validator, again, sizeof again, &again_len) == FOW_OK);
     CHECK(again_len == len && memcmp(payload, again, len) == 0);
     CHECK(fow_number(&validator, (const uint8_t *)"exp", 3, &exp) == FOW_OK && exp == NOW + 1);
     CHECK(fow_state_of(&validator, 0, &state) == FOW_OK && state.state == FOW_STATE_VERIFIED && state.key == 0);
@@ -83,8 +83,11 @@ static void check_moments(const char *hmac)
     CHECK(fow_try_of(&validator, 0, &tried) == FOW_OK && tried.cost == 295 && fow_try_of(&validator, 1, &tried) == FOW_ABSENT);
     CHECK(says(FOW_REFUSED, true, NOW + 1) && report.fault == FOW_CLAIM_EXPIRED && report.tries == 1 && report.work == 295);
     CHECK(fow_number(&validator, (const uint8_t *)"exp", 3, &exp) == FOW_ABSENT);
+    CHECK(fow_accepted_payload(&validator, again, sizeof again, &again_len) == FOW_ABSENT);
     CHECK(says(FOW_OK, true, NOW) && says(FOW_OK, true, INT64_MIN) && says(FOW_REFUSED, true, INT64_MAX) && says(FOW_OK, true, NOW));
-    CHECK(proves(FOW_OK, false, NOW) && proves(FOW_OK, true, NOW) && proves(FOW_REFUSED, true, NOW + 1));
+    CHECK(proves(FOW_OK, false, NOW) && proves(FOW_OK, true, NOW));
+    CHECK(fow_accepted_payload(&validator, again, sizeof again, &again_len) == FOW_OK && again_len == len && memcmp(payload, again, len) == 0);
+    CHECK(proves(FOW_REFUSED, true, NOW + 1) && fow_accepted_payload(&validator, again, sizeof again, &again_len) == FOW_ABSENT);
     fow_close(&validator);
     CHECK(!fow_remembered(&validator));
 }

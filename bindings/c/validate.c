@@ -57,7 +57,7 @@ static void print_claims(fow_validator *validator, octets token)
 {
     size_t len = 0;
     uint8_t *payload = malloc(token.len + 1);
-    if (payload != NULL && fow_payload(validator, token.at, token.len, payload, token.len + 1, &len) == FOW_OK)
+    if (payload != NULL && fow_accepted_payload(validator, payload, token.len + 1, &len) == FOW_OK)
         printf("%.*s\n", (int)len, (const char *)payload);
     free(payload);
 }

@@ -4,14 +4,25 @@ import (
 	"fmt"
 	"runtime"
 	"sync"
+	"sync/atomic"
 )
 
-// Access is an access rule: which scopes and which values of claims an accepted token has to have. Goroutines may share it. Close frees what
-// it holds, and so does the garbage collector.
+// Access is an access rule: which scopes and which values of claims an accepted token has to have. Goroutines may share it: the library's rule is
+// used by one call at a time, and so each call that is under way at once has one of its own, read from the same document. Close frees what it
+// holds, and so does the garbage collector.
 type Access struct {
-	scopes []string
-	mutex  sync.Mutex // guards the rule, of which a call takes less than a microsecond as a rule
-	rule   rule
+	scopes   []string
+	document []byte
+	free     sync.Pool
+	mutex    sync.Mutex // guards what is below; a call takes it where the pool has no rule
+	places   []*place
+	closed   bool
+}
+
+// place is a rule of the library that one call at a time holds against claims. Its states are those of a seat.
+type place struct {
+	rule  rule
+	state atomic.Int32
 }
 
 // AccessError says why an access rule is refused.
@@ -50,20 +61,22 @@ func OpenAccess(document []byte) (*Access, error) {
 	if err := compare(); err != nil {
 		return nil, err
 	}
-	a := new(Access)
-	if err := a.open(document); err != nil {
-		a.rule.close()
+	a := &Access{document: append([]byte(nil), document...)}
+	first := new(place)
+	if err := a.open(&first.rule); err != nil {
+		first.rule.close()
 		return nil, err
 	}
+	a.places = append(a.places, first)
 	runtime.SetFinalizer(a, (*Access).Close)
 	return a, nil
 }
 
 // open reads the rule, and its scopes. The errors are those of OpenAccess.
-func (a *Access) open(document []byte) error {
-	status, fault := a.rule.open(document)
+func (a *Access) open(r *rule) error {
+	status, fault := r.open(a.document)
 	if status == statusRefused {
-		member, err := refusedInRule(document)
+		member, err := refusedInRule(a.document)
 		if err != nil {
 			return err
 		}
@@ -73,7 +86,7 @@ func (a *Access) open(document []byte) error {
 		return ErrOutOfMemory
 	}
 	for {
-		scope, status := a.rule.scope(len(a.scopes))
+		scope, status := r.scope(len(a.scopes))
 		if status == statusAbsent {
 			return nil
 		}
@@ -84,16 +97,62 @@ func (a *Access) open(document []byte) error {
 	}
 }
 
+// take gives a rule that no other call has. The error is ErrOutOfMemory or ErrClosed.
+func (a *Access) take() (*place, error) {
+	if p, is := a.free.Get().(*place); is && p.state.CompareAndSwap(seatFree, seatTaken) {
+		return p, nil
+	}
+	return a.takeAny()
+}
+
+// takeAny gives a free rule among all, since the pool forgets what the garbage collector finds in it, or else a new one.
+func (a *Access) takeAny() (*place, error) {
+	a.mutex.Lock()
+	defer a.mutex.Unlock()
+	// An Access that OpenAccess didn't make holds no rule.
+	if a.closed || len(a.places) == 0 {
+		return nil, ErrClosed
+	}
+	for _, p := range a.places {
+		if p.state.CompareAndSwap(seatFree, seatTaken) {
+			return p, nil
+		}
+	}
+	p := new(place)
+	if status, _ := p.rule.open(a.document); status != statusOK {
+		p.rule.close()
+		return nil, ErrOutOfMemory
+	}
+	p.state.Store(seatTaken)
+	a.places = append(a.places, p)
+	return p, nil
+}
+
+// give gives a rule back. Where all was closed meanwhile, the call was the last to hold it, and frees it.
+func (a *Access) give(p *place) {
+	if p.state.CompareAndSwap(seatTaken, seatFree) {
+		a.free.Put(p)
+		return
+	}
+	p.rule.close()
+}
+
 // Scopes are the scopes that have to be granted, in the order of the rule.
 func (a *Access) Scopes() []string {
 	return append([]string(nil), a.scopes...)
 }
 
-// Close frees what is held. It may be called twice. The error is nil.
+// Close frees what is held, and what calls under way have when they end. It may be called twice. The error is nil.
 func (a *Access) Close() error {
 	a.mutex.Lock()
 	defer a.mutex.Unlock()
-	a.rule.close()
+	a.closed = true
+	for _, p := range a.places {
+		if p.state.Swap(seatGone) == seatFree {
+			p.rule.close()
+		}
+	}
+	a.places = nil
 	return nil
 }
 
@@ -103,19 +162,19 @@ func (a *Access) check(s *seat) error {
 	if a == nil {
 		return ErrClosed
 	}
-	a.mutex.Lock()
-	defer a.mutex.Unlock()
-	if a.rule.at == nil {
-		return ErrClosed
+	p, err := a.take()
+	if err != nil {
+		return err
 	}
-	status, denial := a.rule.denied(&s.held)
+	defer a.give(p)
+	status, denial := p.rule.denied(&s.held)
 	if status == statusOK {
 		return nil
 	}
 	if status != statusDenied {
 		return ErrOutOfMemory
 	}
-	name, status := a.rule.deniedName(&s.held)
+	name, status := p.rule.deniedName(&s.held)
 	if status != statusOK {
 		return ErrOutOfMemory
 	}

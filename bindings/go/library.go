@@ -81,7 +81,7 @@ static fow_report held_judge(held *it, _GoString_ token, int64_t now)
 	return report;
 }
 
-// A report, and where the token is accepted what fow_payload answers and how much it wrote.
+// A report, and where the token is accepted what fow_accepted_payload returns and how much it wrote.
 typedef struct validated {
 	fow_report report;
 	uint32_t status;
@@ -92,7 +92,7 @@ static validated held_validate(held *it, _GoString_ token, int64_t now, uint8_t 
 {
 	validated said = { .report = held_judge(it, token, now) };
 	if (said.report.verdict == FOW_OK)
-		said.status = fow_payload(&it->validator, at(token), _GoStringLen(token), out, room, &said.written);
+		said.status = fow_accepted_payload(&it->validator, out, room, &said.written);
 	return said;
 }
 

@@ -5,31 +5,22 @@ import (
 	"crypto/tls"
 	"errors"
 	"fmt"
+	"hash/maphash"
 	"io"
 	"log"
 	"net/http"
 	"net/url"
 	"runtime/debug"
-	"strings"
 	"sync"
 	"sync/atomic"
 	"time"
 )
 
-// mostFetched is the most octets that a key set, or what tells where it stands, may have.
-const mostFetched = 4_194_304
-
-// mostRedirects is how many redirections within the origin are followed.
-const mostRedirects = 5
-
-// mostWaiting is the most tokens that wait for one fetch.
-const mostWaiting = 4
-
 // mostHeaders is the most octets that the headers of an answer may have.
 const mostHeaders = 65_536
 
-// ErrURL says that keys aren't fetched from this URL: it isn't https, has no host, or has a name or a password in it.
-var ErrURL = errors.New("fowharimu: no URL of a key set: it is https, and has a host and neither a name nor a password")
+// ErrURL says that keys aren't fetched from this URL: it isn't https, has no host, or has a name, a password or a fragment in it; or, of an issuer, a query.
+var ErrURL = errors.New("fowharimu: no URL of a key set: it is https, and has a host and neither a name nor a password, nor a fragment")
 
 // ErrPolicyByURL says that a policy isn't one for keys by URL: it has an HMAC algorithm, while what is fetched is public; or it doesn't name
 // exactly the issuer whose keys are fetched.
@@ -83,30 +74,32 @@ type RemoteKeys struct {
 	options   []Option
 	terms     terms // what is told of the policy
 	client    *http.Client
+	seed      maphash.Seed // of the names under which tokens wait
 	validator atomic.Pointer[Validator]
-	mutex     sync.Mutex // guards what follows
-	fetch     *fetch     // the one that is under way
-	got       time.Time  // when the last fetch that went well ended
-	tried     time.Time  // when the last fetch began
+	quiet     atomic.Pointer[used] // what a token is judged by until it has to ask again: so no mutex is taken for each
+	mutex     sync.Mutex           // guards what follows
+	renewal   renewal
+	fetch     *fetch // the one that is under way
 	closed    bool
 	err       error // why the last fetch failed
 }
 
-// fetch is one fetch.
-type fetch struct {
-	done   chan struct{} // closed when it is over
-	cancel context.CancelFunc
-	kids   map[string]bool // those of the tokens that wait for it; the mutex of the keys guards it
+// used is what tokens are judged by from the one moment to the other, and the ticket of its keys.
+type used struct {
+	validator    *Validator
+	keys         uint64
+	since, until time.Duration
 }
 
-// admits says whether a token of this kid may wait: few do, since anyone can send tokens for which a key is lacking.
-func (f *fetch) admits(kid string) bool {
-	if len(f.kids) >= mostWaiting || f.kids[kid] {
-		return false
-	}
-	f.kids[kid] = true
-	return true
+// fetch is one fetch.
+type fetch struct {
+	ticket uint64
+	done   chan struct{} // closed when it is over
+	cancel context.CancelFunc
 }
+
+// errTooSlow says that a fetch took longer than its timeout.
+var errTooSlow = errors.New("it takes too long")
 
 // OpenRemote fetches a key set. The error is ErrURL, ErrTime, ErrPolicyByURL, an *UnavailableError, or that of Open. The policy and the options are
 // copied, and so is TLS.
@@ -134,15 +127,17 @@ func OpenIssuer(policy []byte, issuer string, how Remote, options ...Option) (*R
 	if err := checkPolicy(policy, &issuer); err != nil {
 		return nil, err
 	}
-	at, err := checkURL(issuer, how.AllowHTTP)
-	if err != nil {
+	if err := checkURL(issuer, how.AllowHTTP); err != nil {
+		return nil, err
+	}
+	if _, err := metadataURL(askedOpenID, issuer); err != nil {
 		return nil, err
 	}
 	ctx, cancel := context.WithTimeout(context.Background(), how.Timeout)
 	defer cancel()
-	address, err := keysURL(ctx, how.client(), issuer, at)
+	address, err := keysURL(ctx, how.client(), issuer)
 	if err == nil {
-		_, err = checkURL(address, how.AllowHTTP)
+		err = checkURL(address, how.AllowHTTP)
 	}
 	if err != nil {
 		return nil, &UnavailableError{err}
@@ -151,10 +146,18 @@ func OpenIssuer(policy []byte, issuer string, how Remote, options ...Option) (*R
 }
 
 func openRemote(policy []byte, address string, how Remote, options []Option) (*RemoteKeys, error) {
-	if _, err := checkURL(address, how.AllowHTTP); err != nil {
+	if err := checkURL(address, how.AllowHTTP); err != nil {
 		return nil, err
 	}
-	r := &RemoteKeys{policy: policy, address: address, how: how, options: append([]Option(nil), options...), client: how.client()}
+	r := &RemoteKeys{
+		policy:  policy,
+		address: address,
+		how:     how,
+		options: append([]Option(nil), options...),
+		client:  how.client(),
+		seed:    maphash.MakeSeed(),
+		renewal: newRenewal(how),
+	}
 	if err := r.Refresh(); err != nil {
 		return nil, &UnavailableError{err}
 	}
@@ -237,17 +240,10 @@ func (r *RemoteKeys) namedIssuer(token string) (issuer string, status int, err e
 // Refresh fetches the key set now, whatever the cool-down; where a fetch is under way it waits for that one. The error says why the fetch failed;
 // the keys are as before then.
 func (r *RemoteKeys) Refresh() error {
-	r.mutex.Lock()
-	// RemoteKeys that weren't opened have no client.
-	if r.closed || r.client == nil {
-		r.mutex.Unlock()
-		return ErrClosed
+	_, under, err := r.ask(askerOwner, 0)
+	if err != nil {
+		return err
 	}
-	if r.fetch == nil {
-		r.begin()
-	}
-	under := r.fetch
-	r.mutex.Unlock()
 	<-under.done
 	r.mutex.Lock()
 	defer r.mutex.Unlock()
@@ -259,6 +255,7 @@ func (r *RemoteKeys) Close() error {
 	r.mutex.Lock()
 	defer r.mutex.Unlock()
 	r.closed = true
+	r.quiet.Store(nil)
 	if r.fetch != nil {
 		r.fetch.cancel()
 	}
@@ -270,14 +267,14 @@ func (r *RemoteKeys) Close() error {
 
 // by judges by the keys, and once more by newer ones where these may change what came of it and can be had.
 func (r *RemoteKeys) by(token string, judge func(*Validator) error) error {
-	used, err := r.current(token)
+	current, err := r.current(token)
 	if err != nil {
 		return err
 	}
-	err = r.onceMore(used, judge)
+	err = r.onceMore(current.validator, judge)
 	if asksForKeys(err) {
-		r.renew(used, token)
-		if newer := r.validator.Load(); newer != nil && newer != used {
+		r.waitFor(askerRefused, current.keys, token)
+		if newer := r.validator.Load(); newer != nil && newer != current.validator {
 			err = r.onceMore(newer, judge)
 		}
 	}
@@ -303,91 +300,88 @@ func asksForKeys(err error) bool {
 	return errors.As(err, &refusal) && (refusal.Fault == "NoKey" || refusal.Fault == "BadSignature")
 }
 
-// current gives the validator by which a token is judged first.
-func (r *RemoteKeys) current(token string) (*Validator, error) {
-	r.mutex.Lock()
-	// (before a fetch begins, so that it is the old one)
-	v := r.validator.Load()
-	if v == nil {
-		r.mutex.Unlock()
-		return nil, ErrClosed
+// current gives what a token is judged by first.
+func (r *RemoteKeys) current(token string) (*used, error) {
+	if quiet := r.quiet.Load(); quiet != nil {
+		if now := r.renewal.now(); quiet.since <= now && now < quiet.until {
+			return quiet, nil
+		}
 	}
-	var under *fetch
-	if time.Since(r.got) >= r.how.RefreshAfter {
-		under = r.begun()
+	it, _, err := r.ask(askerToken, 0)
+	if err != nil || it != nil {
+		return it, err
 	}
-	isOld := time.Since(r.got) >= r.how.MaxAge
-	r.mutex.Unlock()
-	if !isOld {
-		return v, nil
+	r.waitFor(askerToken, 0, token)
+	if it, _, err = r.ask(askerWaited, 0); err == nil && it == nil {
+		err = new(TooOldError)
 	}
-	r.waitFor(under, v, token)
-	r.mutex.Lock()
-	defer r.mutex.Unlock()
-	if time.Since(r.got) >= r.how.MaxAge {
-		return nil, new(TooOldError)
-	}
-	if v = r.validator.Load(); v == nil {
-		return nil, ErrClosed
-	}
-	return v, nil
+	return it, err
 }
 
-// renew waits for newer keys than those that were used, where a fetch is under way or may begin, and the token may wait for it.
-func (r *RemoteKeys) renew(used *Validator, token string) {
+// ask gives what is to be used, which is nil where the keys are too old, and the fetch that whoever asked may wait for, if any. A fetch begins where the
+// library says so.
+func (r *RemoteKeys) ask(who asker, keys uint64) (*used, *fetch, error) {
 	r.mutex.Lock()
-	var under *fetch
-	if r.validator.Load() == used {
-		under = r.begun()
+	defer r.mutex.Unlock()
+	// RemoteKeys that weren't opened have no client.
+	if r.closed || r.client == nil {
+		return nil, nil, ErrClosed
 	}
-	r.mutex.Unlock()
-	r.waitFor(under, used, token)
+	said := r.renewal.ask(who, keys)
+	var it *used
+	// (before a fetch begins, so that it is the old one)
+	if v := r.validator.Load(); said.hasKeys && v != nil {
+		it = &used{v, said.keys, said.since, said.until}
+	}
+	r.quiet.Store(it)
+	if said.begins {
+		r.begin(said.ticket)
+	}
+	if !said.isUnderWay {
+		return it, nil, nil
+	}
+	return it, r.fetch, nil
 }
 
 // waitFor waits for a fetch, where there is one for which this token may wait.
-func (r *RemoteKeys) waitFor(under *fetch, used *Validator, token string) {
-	if under == nil {
+func (r *RemoteKeys) waitFor(who asker, keys uint64, token string) {
+	_, under, err := r.ask(who, keys)
+	if err != nil || under == nil {
 		return
 	}
-	kid := kidOf(used, token)
+	name := maphash.String(r.seed, kidOf(r.validator.Load(), token))
 	r.mutex.Lock()
-	admits := under.admits(kid)
+	waits := r.renewal.wait(under.ticket, name)
 	r.mutex.Unlock()
-	if admits {
+	if waits {
 		<-under.done
 	}
 }
 
 // kidOf gives the kid of a token, for which nobody vouches; it is empty where there is none.
 func kidOf(v *Validator, token string) string {
+	if v == nil {
+		return ""
+	}
 	header, _, _ := v.UnverifiedHeader(token, 0)
 	kid, _, _ := memberOf(header, "kid")
 	return kid
 }
 
-// begun gives the fetch that is under way, or a new one where the cool-down is over. The mutex is held.
-func (r *RemoteKeys) begun() *fetch {
-	if r.fetch == nil && !r.closed && time.Since(r.tried) >= r.how.Cooldown {
-		r.begin()
-	}
-	return r.fetch
-}
-
 // begin begins a fetch. The mutex is held.
-func (r *RemoteKeys) begin() {
+func (r *RemoteKeys) begin(ticket uint64) {
 	ctx, cancel := context.WithTimeout(context.Background(), r.how.Timeout)
-	under := &fetch{make(chan struct{}), cancel, make(map[string]bool)}
-	r.tried, r.fetch = time.Now(), under
-	go r.run(ctx, under)
+	r.fetch = &fetch{ticket, make(chan struct{}), cancel}
+	go r.run(ctx, r.fetch)
 }
 
 func (r *RemoteKeys) run(ctx context.Context, under *fetch) {
-	keys, err := get(ctx, r.client, r.address)
+	keys, _, err := get(ctx, r.client, askedKeys, r.address)
 	var newer *Validator
 	if err == nil {
 		newer, err = openPublic(r.policy, keys, r.options)
 	}
-	r.exchange(newer, err)
+	err = r.exchange(under, newer, err)
 	under.cancel()
 	close(under.done)
 	r.tell(len(keys), err)
@@ -406,23 +400,30 @@ func (r *RemoteKeys) tell(octets int, err error) {
 	r.how.OnFetch(withoutQuery(r.address), octets, err)
 }
 
-// exchange takes the new validator, where there is one, in place of the old one, and ends the fetch.
-func (r *RemoteKeys) exchange(newer *Validator, err error) {
+// exchange takes the new validator, where there is one whose keys count, in place of the old one, and ends the fetch. It gives why the fetch failed.
+func (r *RemoteKeys) exchange(under *fetch, newer *Validator, err error) error {
 	r.mutex.Lock()
 	defer r.mutex.Unlock()
-	r.fetch, r.err = nil, err
+	if newer != nil && !r.renewal.took(under.ticket) {
+		err = errTooSlow
+	}
+	r.renewal.failed(under.ticket)
+	if r.fetch == under {
+		r.fetch, r.err = nil, err
+	}
 	if newer == nil {
-		return
+		return err
 	}
-	if r.closed {
+	if err != nil || r.closed {
 		newer.Close()
-		return
+		return err
 	}
-	r.got = time.Now()
+	r.quiet.Store(nil)
 	if old := r.validator.Swap(newer); old != nil {
 		// (calls that are under way end as if it weren't closed)
 		old.Close()
 	}
+	return nil
 }
 
 // openPublic opens a policy and keys that were fetched, in which there may be no secret (RFC 8725, section 2.1).
@@ -452,66 +453,60 @@ func checkPolicy(policy []byte, issuer *string) error {
 	return nil
 }
 
-// checkURL reads a URL from which keys may be fetched.
-func checkURL(address string, allowHTTP bool) (*url.URL, error) {
-	at, err := url.Parse(address)
-	if err != nil || at.Hostname() == "" || at.User != nil || at.Scheme != "https" && !(allowHTTP && at.Scheme == "http") {
-		return nil, ErrURL
-	}
-	return at, nil
-}
-
 // keysURL gives the URL of an issuer's keys, which its metadata tell.
-func keysURL(ctx context.Context, client *http.Client, issuer string, at *url.URL) (string, error) {
-	path := strings.TrimSuffix(at.Path, "/")
-	text, err := get(ctx, client, withPath(at, path+"/.well-known/openid-configuration"))
-	if status := (*statusError)(nil); errors.As(err, &status) && status.code == http.StatusNotFound {
-		text, err = get(ctx, client, withPath(at, "/.well-known/oauth-authorization-server"+path))
+func keysURL(ctx context.Context, client *http.Client, issuer string) (string, error) {
+	text, asksOther, err := getMetadata(ctx, client, askedOpenID, issuer)
+	if err == nil && asksOther {
+		text, _, err = getMetadata(ctx, client, askedOAuth, issuer)
 	}
 	if err != nil {
 		return "", err
 	}
-	named, _, err := memberOf(text, "issuer")
+	return keysURLIn(text, issuer)
+}
+
+// getMetadata gives these metadata of an issuer, or says that the other ones are to be asked for.
+func getMetadata(ctx context.Context, client *http.Client, what asked, issuer string) ([]byte, bool, error) {
+	address, err := metadataURL(what, issuer)
 	if err != nil {
-		return "", err
+		return nil, false, err
 	}
-	if named != issuer {
-		return "", errors.New("the metadata are of another issuer")
-	}
-	address, has, err := memberOf(text, "jwks_uri")
-	if err == nil && !has {
-		err = errors.New("the metadata have no jwks_uri")
-	}
-	return address, err
+	return get(ctx, client, what, address)
 }
 
-func withPath(at *url.URL, path string) string {
-	other := *at
-	other.Path, other.RawPath = path, ""
-	return other.String()
-}
-
-func withoutQuery(address string) string {
-	at, err := url.Parse(address)
-	if err != nil {
-		return ""
+// get gives what stands at a URL, with redirections followed, or says that the other metadata are to be asked for.
+func get(ctx context.Context, client *http.Client, what asked, address string) ([]byte, bool, error) {
+	for followed := 0; ; followed++ {
+		response, err := answer(ctx, client, address)
+		if err != nil {
+			return nil, false, err
+		}
+		step, most := nextStep(what, response.StatusCode, followed)
+		if step == stepTake {
+			octets, err := read(response.Body, most)
+			return octets, false, err
+		}
+		response.Body.Close()
+		switch step {
+		case stepFollow:
+			if address, err = redirectedFrom(address, response.Header.Get("Location")); err != nil {
+				return nil, false, err
+			}
+		case stepAskOAuth:
+			return nil, true, nil
+		case stepTooOften:
+			return nil, false, errors.New("it redirects too often")
+		default:
+			return nil, false, fmt.Errorf("its status is %d", response.StatusCode)
+		}
 	}
-	at.RawQuery, at.Fragment = "", ""
-	return at.String()
 }
 
-// statusError is an answer with another status than 200.
-type statusError struct {
-	code int
-}
-
-func (e *statusError) Error() string { return fmt.Sprintf("its status is %d", e.code) }
-
-// get gives what stands at a URL.
-func get(ctx context.Context, client *http.Client, address string) ([]byte, error) {
+// answer asks for what stands at a URL.
+func answer(ctx context.Context, client *http.Client, address string) (*http.Response, error) {
 	request, err := http.NewRequestWithContext(ctx, http.MethodGet, address, nil)
 	if err != nil {
-		return nil, err
+		return nil, errElsewhere
 	}
 	request.Header.Set("Accept", "application/jwk-set+json, application/json")
 	response, err := client.Do(request)
@@ -519,21 +514,20 @@ func get(ctx context.Context, client *http.Client, address string) ([]byte, erro
 		// (it would tell the URL with its query, in which a service may have a secret)
 		err = whole.Err
 	}
-	if err != nil {
-		return nil, err
-	}
-	defer response.Body.Close()
-	if response.StatusCode != http.StatusOK {
-		return nil, &statusError{response.StatusCode}
-	}
-	octets, err := io.ReadAll(io.LimitReader(response.Body, mostFetched+1))
-	if err == nil && len(octets) > mostFetched {
-		err = fmt.Errorf("it has more than %d octets", mostFetched)
+	return response, err
+}
+
+// read gives what a body has, and closes it.
+func read(body io.ReadCloser, most int) ([]byte, error) {
+	defer body.Close()
+	octets, err := io.ReadAll(io.LimitReader(body, int64(most)+1))
+	if err == nil && len(octets) > most {
+		err = fmt.Errorf("it has more than %d octets", most)
 	}
 	return octets, err
 }
 
-// client gives a client that uses no proxy, and follows redirections within the origin alone.
+// client gives a client that uses no proxy, and follows no redirection by itself.
 func (how Remote) client() *http.Client {
 	secure := how.TLS.Clone()
 	if secure == nil {
@@ -550,30 +544,11 @@ func (how Remote) client() *http.Client {
 			DisableKeepAlives:      true,
 			MaxResponseHeaderBytes: mostHeaders,
 		},
-		CheckRedirect: sameOrigin,
+		CheckRedirect: func(*http.Request, []*http.Request) error { return http.ErrUseLastResponse },
 	}
 }
 
-func sameOrigin(request *http.Request, via []*http.Request) error {
-	if origin(request.URL) != origin(via[0].URL) || request.URL.User != nil {
-		return errors.New("it redirects to another origin")
-	}
-	if len(via) > mostRedirects {
-		return errors.New("it redirects too often")
-	}
-	return nil
-}
-
-// origin gives the scheme, the host and the port of a URL (RFC 6454, section 4).
-func origin(at *url.URL) [3]string {
-	port := at.Port()
-	if port == "" {
-		port = map[string]string{"https": "443", "http": "80"}[at.Scheme]
-	}
-	return [3]string{at.Scheme, strings.ToLower(at.Hostname()), port}
-}
-
-// orDefaults has each time that is named. Keys that are too old are old enough to be fetched, too. The error is ErrTime.
+// orDefaults has each time that is named. The error is ErrTime.
 func (how Remote) orDefaults() (Remote, error) {
 	for at, otherwise := range map[*time.Duration]time.Duration{
 		&how.RefreshAfter: 10 * time.Minute,
@@ -587,9 +562,6 @@ func (how Remote) orDefaults() (Remote, error) {
 		if *at == 0 {
 			*at = otherwise
 		}
-	}
-	if how.RefreshAfter > how.MaxAge {
-		how.RefreshAfter = how.MaxAge
 	}
 	return how, nil
 }

@@ -26,6 +26,9 @@
 /* how long a token of "jwt_issue" lives, in seconds, where nothing is said */
 #define NGX_HTTP_FOWHARIMU_LIFETIME    60
 
+/* the most octets that a challenge has beside what it quotes */
+#define NGX_HTTP_FOWHARIMU_BESIDE_QUOTED  64
+
 
 /* where the token of a request is */
 typedef enum {
@@ -115,7 +118,7 @@ typedef struct {
 typedef struct {
     fow_access                       handle;
     ngx_str_t                        claim;     /* that "jwt_require" names */
-    char                            *challenge; /* where a scope is missing */
+    ngx_str_t                        scopes;    /* with a space between two */
 } ngx_http_fowharimu_rule_t;
 
 
@@ -182,7 +185,8 @@ typedef struct {
     time_t                           moment;
     ngx_int_t                        found;     /* as the token was looked for */
     ngx_int_t                        status;    /* NGX_OK: it is accepted */
-    char                            *challenge;
+    uint32_t                         challenge; /* enum fow_challenge_kind */
+    ngx_str_t                       *scopes;    /* of the rule, if any */
     ngx_str_t                        token;
     ngx_str_t                        verdict;
     ngx_str_t                        fault;

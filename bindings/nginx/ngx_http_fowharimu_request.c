@@ -14,7 +14,6 @@ static ngx_uint_t ngx_http_fowharimu_is_same_conf(
     ngx_http_fowharimu_loc_conf_t *one, ngx_http_fowharimu_loc_conf_t *other);
 static ngx_int_t ngx_http_fowharimu_verdict(ngx_http_request_t *r,
     ngx_http_fowharimu_loc_conf_t *lcf, ngx_http_fowharimu_judged_t *judged);
-static ngx_int_t ngx_http_fowharimu_is_b64token(ngx_str_t *token);
 static ngx_int_t ngx_http_fowharimu_judge_token(ngx_http_request_t *r,
     ngx_http_fowharimu_loc_conf_t *lcf, ngx_http_fowharimu_judged_t *judged);
 static ngx_int_t ngx_http_fowharimu_choose(ngx_http_request_t *r,
@@ -44,8 +43,12 @@ static ngx_int_t ngx_http_fowharimu_read_text(u_char **p, u_char *last,
     ngx_str_t *text);
 static ngx_int_t ngx_http_fowharimu_refuse_token(ngx_http_request_t *r,
     ngx_http_fowharimu_judged_t *judged, const char *fault);
+static ngx_int_t ngx_http_fowharimu_answer(ngx_http_fowharimu_judged_t *judged,
+    uint32_t outcome);
 static ngx_int_t ngx_http_fowharimu_refuse(ngx_http_request_t *r,
     ngx_http_fowharimu_judged_t *judged);
+static ngx_int_t ngx_http_fowharimu_challenge(ngx_http_request_t *r,
+    ngx_http_fowharimu_judged_t *judged, ngx_str_t *text);
 static ngx_int_t ngx_http_fowharimu_fail(ngx_http_request_t *r,
     ngx_http_fowharimu_judged_t *judged, const char *fault);
 static void ngx_http_fowharimu_set_text(ngx_str_t *text, const char *value);
@@ -292,62 +295,23 @@ ngx_http_fowharimu_verdict(ngx_http_request_t *r,
     switch (judged->found) {
 
     case NGX_OK:
-        if (kind == NGX_HTTP_FOWHARIMU_BEARER
-            && !ngx_http_fowharimu_is_b64token(&judged->token))
-        {
-            return ngx_http_fowharimu_refuse_token(r, judged, "Form");
-        }
-
         return ngx_http_fowharimu_judge_token(r, lcf, judged);
+
+    case NGX_BUSY:
+        return ngx_http_fowharimu_refuse_token(r, judged, "Form");
 
     case NGX_DECLINED:
         ngx_str_set(&judged->verdict, "absent");
-        judged->challenge = "Bearer realm=\"jwt\"";
-        return NGX_HTTP_UNAUTHORIZED;
+        return ngx_http_fowharimu_answer(judged, FOW_NO_BEARER);
 
     case NGX_ABORT:
         ngx_str_set(&judged->verdict, "refused");
         ngx_http_fowharimu_set_text(&judged->fault, twice[kind]);
-        judged->challenge = "Bearer error=\"invalid_request\"";
-        return NGX_HTTP_BAD_REQUEST;
+        return ngx_http_fowharimu_answer(judged, FOW_SEVERAL);
 
     default:
         return ngx_http_fowharimu_fail(r, judged, "NoVariable");
     }
-}
-
-
-/*
- * Whether it is spelled as the header has it, RFC 6750, section 2.1.  That of
- * no octets is left to the library, which says that it is empty.
- */
-
-static ngx_int_t
-ngx_http_fowharimu_is_b64token(ngx_str_t *token)
-{
-    u_char  *p, *last;
-
-    p = token->data;
-    last = p + token->len;
-
-    while (p < last
-           && ((*p >= 'A' && *p <= 'Z') || (*p >= 'a' && *p <= 'z')
-               || (*p >= '0' && *p <= '9')
-               || *p == '-' || *p == '.' || *p == '_' || *p == '~'
-               || *p == '+' || *p == '/'))
-    {
-        p++;
-    }
-
-    if (p == token->data) {
-        return p == last;
-    }
-
-    while (p < last && *p == '=') {
-        p++;
-    }
-
-    return p == last;
 }
 
 
@@ -593,13 +557,11 @@ ngx_http_fowharimu_permit(ngx_http_request_t *r,
 
     ngx_http_fowharimu_log_denial(r, judged, rule, denial);
 
-    /* RFC 6750, section 3.1 */
+    judged->scopes = &rule->scopes;
 
-    judged->challenge = denial == FOW_DENIED_SCOPE_MISSING
-                        ? rule->challenge
-                        : "Bearer error=\"insufficient_scope\"";
-
-    return NGX_HTTP_FORBIDDEN;
+    return ngx_http_fowharimu_answer(judged,
+                                     denial == FOW_DENIED_SCOPE_MISSING
+                                     ? FOW_SCOPE_MISSING : FOW_NOT_GRANTED);
 }
 
 
@@ -779,8 +741,8 @@ ngx_http_fowharimu_keep_payload(ngx_http_request_t *r,
         return NGX_OK;
     }
 
-    if (fow_payload(&judged->validator->handle, judged->token.data,
-                    judged->token.len, room->data, room->len, &len)
+    if (fow_accepted_payload(&judged->validator->handle, room->data, room->len,
+                             &len)
         != FOW_OK)
     {
         return NGX_ERROR;
@@ -885,12 +847,24 @@ ngx_http_fowharimu_refuse_token(ngx_http_request_t *r,
     ngx_str_set(&judged->verdict, "refused");
     ngx_http_fowharimu_set_text(&judged->fault, fault);
 
-    judged->challenge = "Bearer error=\"invalid_token\"";
-
     ngx_log_error(NGX_LOG_INFO, r->connection->log, 0,
                   "jwt: the token is refused: %V", &judged->fault);
 
-    return NGX_HTTP_UNAUTHORIZED;
+    return ngx_http_fowharimu_answer(judged, FOW_NOT_ACCEPTED);
+}
+
+
+/* what a request is answered of whose token this is known, RFC 6750 */
+
+static ngx_int_t
+ngx_http_fowharimu_answer(ngx_http_fowharimu_judged_t *judged, uint32_t outcome)
+{
+    fow_reply  reply;
+
+    fow_reply_to(outcome, &reply);
+    judged->challenge = reply.challenge;
+
+    return reply.status;
 }
 
 
@@ -900,10 +874,15 @@ static ngx_int_t
 ngx_http_fowharimu_refuse(ngx_http_request_t *r,
     ngx_http_fowharimu_judged_t *judged)
 {
+    ngx_str_t         text;
     ngx_table_elt_t  *h;
 
-    if (judged->challenge == NULL) {
+    if (judged->challenge == FOW_NO_CHALLENGE) {
         return judged->status;
+    }
+
+    if (ngx_http_fowharimu_challenge(r, judged, &text) != NGX_OK) {
+        return NGX_HTTP_INTERNAL_SERVER_ERROR;
     }
 
     h = r->headers_out.www_authenticate;
@@ -925,9 +904,34 @@ ngx_http_fowharimu_refuse(ngx_http_request_t *r,
     }
 
     h->hash = 1;
-    ngx_http_fowharimu_set_text(&h->value, judged->challenge);
+    h->value = text;
 
     return judged->status;
+}
+
+
+/* the text of the challenge, which the library writes */
+
+static ngx_int_t
+ngx_http_fowharimu_challenge(ngx_http_request_t *r,
+    ngx_http_fowharimu_judged_t *judged, ngx_str_t *text)
+{
+    size_t     room;
+    ngx_str_t  scopes;
+
+    static ngx_str_t  none = ngx_string(""), realm = ngx_string("jwt");
+
+    scopes = judged->scopes ? *judged->scopes : none;
+    room = realm.len + scopes.len + NGX_HTTP_FOWHARIMU_BESIDE_QUOTED;
+
+    text->data = ngx_pnalloc(r->pool, room);
+    if (text->data == NULL) {
+        return NGX_ERROR;
+    }
+
+    return fow_challenge(judged->challenge, realm.data, realm.len, scopes.data,
+                         scopes.len, text->data, room, &text->len)
+           == FOW_OK ? NGX_OK : NGX_ERROR;
 }
 
 

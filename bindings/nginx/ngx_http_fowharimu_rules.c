@@ -9,7 +9,7 @@ static ngx_int_t ngx_http_fowharimu_rule_text(ngx_conf_t *cf, ngx_str_t *value,
 static ngx_uint_t ngx_http_fowharimu_is_whole(ngx_str_t *value);
 static ngx_http_fowharimu_rule_t *ngx_http_fowharimu_open_rule(ngx_conf_t *cf,
     ngx_str_t *name, ngx_str_t *document);
-static ngx_int_t ngx_http_fowharimu_set_challenge(ngx_conf_t *cf,
+static ngx_int_t ngx_http_fowharimu_set_scopes(ngx_conf_t *cf,
     ngx_http_fowharimu_rule_t *rule, ngx_str_t *document);
 static void ngx_http_fowharimu_close_rule(void *data);
 
@@ -39,7 +39,7 @@ ngx_http_fowharimu_access(ngx_conf_t *cf, ngx_command_t *cmd, void *conf)
     rule = ngx_http_fowharimu_open_rule(cf, &value[1], &document);
 
     if (rule == NULL
-        || ngx_http_fowharimu_set_challenge(cf, rule, &document) != NGX_OK)
+        || ngx_http_fowharimu_set_scopes(cf, rule, &document) != NGX_OK)
     {
         return NGX_CONF_ERROR;
     }
@@ -289,28 +289,24 @@ ngx_http_fowharimu_open_rule(ngx_conf_t *cf, ngx_str_t *name,
 }
 
 
-/* RFC 6750, section 3.1: the scopes that are necessary; none has a quote */
+/* RFC 6750, section 3.1: the scopes that are necessary */
 
 static ngx_int_t
-ngx_http_fowharimu_set_challenge(ngx_conf_t *cf,
+ngx_http_fowharimu_set_scopes(ngx_conf_t *cf,
     ngx_http_fowharimu_rule_t *rule, ngx_str_t *document)
 {
     size_t     len;
     u_char    *p, *last;
     uint32_t   n, status;
 
-    static const char  head[] = "Bearer error=\"insufficient_scope\", scope=\"";
-
     /* all scopes with spaces are shorter than the document that has them */
 
-    p = ngx_pnalloc(cf->pool, sizeof(head) + document->len + 1);
+    p = ngx_pnalloc(cf->pool, document->len);
     if (p == NULL) {
         return NGX_ERROR;
     }
 
-    rule->challenge = (char *) p;
-
-    p = ngx_cpymem(p, head, sizeof(head) - 1);
+    rule->scopes.data = p;
     last = p + document->len;
 
     for (n = 0; p < last; n++) {
@@ -328,12 +324,7 @@ ngx_http_fowharimu_set_challenge(ngx_conf_t *cf,
         *p++ = ' ';
     }
 
-    if (n) {
-        p--;
-    }
-
-    *p++ = '"';
-    *p = '\0';
+    rule->scopes.len = p - rule->scopes.data - (n ? 1 : 0);
 
     return NGX_OK;
 }

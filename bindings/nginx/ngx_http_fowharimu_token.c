@@ -28,6 +28,8 @@ static ngx_uint_t ngx_http_fowharimu_next_octet(u_char **p, u_char *last,
     u_char *c);
 static u_char ngx_http_fowharimu_fold_name(u_char c);
 static u_char ngx_http_fowharimu_fold_key(u_char c);
+static uint32_t ngx_http_fowharimu_credentials(ngx_str_t *value, size_t *from,
+    size_t *to);
 static ngx_uint_t ngx_http_fowharimu_is_bearer(ngx_str_t *value);
 
 
@@ -74,11 +76,16 @@ ngx_http_fowharimu_token(ngx_http_request_t *r,
 }
 
 
-/* the credentials of the scheme Bearer, RFC 6750, section 2.1 */
+/*
+ * The credentials of the scheme Bearer, RFC 6750, section 2.1: NGX_DECLINED
+ * where there are none, NGX_ABORT of several headers, NGX_BUSY of a token that
+ * is no b64token.
+ */
 
 static ngx_int_t
 ngx_http_fowharimu_bearer(ngx_http_request_t *r, ngx_str_t *token)
 {
+    size_t            from, to;
     ngx_str_t         value;
     ngx_uint_t        i;
     ngx_list_part_t  *part;
@@ -102,34 +109,36 @@ ngx_http_fowharimu_bearer(ngx_http_request_t *r, ngx_str_t *token)
         value = h->value;
     }
 
-    if (!ngx_http_fowharimu_is_bearer(&value)) {
+    switch (ngx_http_fowharimu_credentials(&value, &from, &to)) {
+
+    case FOW_OK:
+        token->data = value.data + from;
+        token->len = to - from;
+        return NGX_OK;
+
+    case FOW_ABSENT:
         return NGX_DECLINED;
+
+    default:
+        return NGX_BUSY;
     }
+}
 
-    value.len -= sizeof("Bearer") - 1;
-    value.data += sizeof("Bearer") - 1;
 
-    while (value.len && *value.data == ' ') {
-        value.len--;
-        value.data++;
-    }
-
-    *token = value;
-
-    return NGX_OK;
+static uint32_t
+ngx_http_fowharimu_credentials(ngx_str_t *value, size_t *from, size_t *to)
+{
+    return fow_credentials(value->len ? value->data : (u_char *) "", value->len,
+                           from, to);
 }
 
 
 static ngx_uint_t
 ngx_http_fowharimu_is_bearer(ngx_str_t *value)
 {
-    size_t  len;
+    size_t  from, to;
 
-    len = sizeof("Bearer") - 1;
-
-    return value->len >= len
-           && ngx_strncasecmp(value->data, (u_char *) "Bearer", len) == 0
-           && (value->len == len || value->data[len] == ' ');
+    return ngx_http_fowharimu_credentials(value, &from, &to) != FOW_ABSENT;
 }
 
 

@@ -3,14 +3,7 @@
 
 const { Access, Denied, TokenRefused } = require('.');
 const { ofKind, own } = require('./options.js');
-
-const INVALID_REQUEST = 'Bearer error="invalid_request"';
-const INVALID_TOKEN = 'Bearer error="invalid_token"';
-const INSUFFICIENT_SCOPE = 'Bearer error="insufficient_scope"';
-// (of no octets the library says that the token is empty)
-const B64TOKEN = /^(?:[A-Za-z0-9._~+/-]+=*)?$/;
-const QUOTABLE = /^[ !#-[\]-~]*$/;
-const CREDENTIALS = /^bearer(?: +(.*))?$/is;
+const { OUTCOME, isQuotable, replyTo, tokenIn } = require('./requests.js');
 
 const WORDS = ['access', 'realm', 'hidesToken', 'onRefusal'];
 
@@ -32,26 +25,22 @@ function hide({ headers, headersDistinct, rawHeaders }) {
   }
 }
 
-function refuse(response, status, challenge) {
-  response.statusCode = status;
-  response.setHeader('WWW-Authenticate', challenge);
-  response.end();
+/** What is known of a token that isn't taken, with the scopes that its request needs; undefined where the error says nothing of the token, and is the caller's. */
+function outcomeOf(error) {
+  if (error instanceof Denied) {
+    const lacksScope = error.scope !== undefined;
+    return { outcome: lacksScope ? OUTCOME.scopeMissing : OUTCOME.notGranted, scopes: lacksScope ? error.scopes.join(' ') : '' };
+  }
+  if (!(error instanceof TokenRefused)) return undefined;
+  return { outcome: error.fault === 'KeysTooOld' ? OUTCOME.keysTooOld : OUTCOME.notAccepted, scopes: '' };
 }
 
-/** Answers where a token isn't taken; another error says nothing of the token, and is the caller's. */
-function answer(response, error) {
-  if (error instanceof TokenRefused && error.fault === 'KeysTooOld') {
-    response.statusCode = 503;
-    response.end();
-  } else if (error instanceof Denied) {
-    const scope = error.scope === undefined ? '' : `, scope="${error.scopes.join(' ')}"`;
-    refuse(response, 403, INSUFFICIENT_SCOPE + scope);
-  } else if (error instanceof TokenRefused) {
-    refuse(response, 401, INVALID_TOKEN);
-  } else {
-    return false;
-  }
-  return true;
+/** Answers a request that isn't let through. */
+function refuse(response, { outcome, scopes }, realm) {
+  const { status, challenge } = replyTo(outcome, realm, scopes);
+  response.statusCode = status;
+  if (challenge !== '') response.setHeader('WWW-Authenticate', challenge);
+  response.end();
 }
 
 /** The words of a guard. Refuses what would leave an access rule out: a misspelled name, a rule that isn't there, or one that stands for the words. */
@@ -67,14 +56,11 @@ function checkedWords(how) {
 
 function guard(validator, how = {}) {
   const { access, realm = 'jwt', hidesToken = false, onRefusal = () => {} } = checkedWords(how);
-  if (!QUOTABLE.test(realm)) throw new TypeError('a realm has printable characters of ASCII, and neither quotation marks nor backslashes');
+  if (!isQuotable(realm)) throw new TypeError('a realm has printable characters of ASCII, and neither quotation marks nor backslashes');
   return (request, response, next) => {
     const values = authorizations(request);
-    if (values.length > 1) return refuse(response, 400, INVALID_REQUEST);
-    const credentials = CREDENTIALS.exec(values[0] ?? '');
-    if (credentials === null) return refuse(response, 401, `Bearer realm="${realm}"`);
-    const token = credentials[1] ?? '';
-    if (!B64TOKEN.test(token)) return refuse(response, 401, INVALID_TOKEN);
+    const { token, outcome } = values.length > 1 ? { token: undefined, outcome: OUTCOME.several } : tokenIn(values[0] ?? '');
+    if (token === undefined) return refuse(response, { outcome, scopes: '' }, realm);
     const admit = (claims) => {
       request.auth = claims;
       if (hidesToken) hide(request);
@@ -82,7 +68,8 @@ function guard(validator, how = {}) {
     };
     const turnAway = (error) => {
       if (error instanceof Denied || error instanceof TokenRefused) onRefusal(error, request);
-      if (!answer(response, error)) next(error);
+      const known = outcomeOf(error);
+      return known === undefined ? next(error) : refuse(response, known, realm);
     };
     let claims;
     try {

@@ -305,3 +305,5 @@ module.exports = {
   Validator, Access, FowharimuError, AnotherLibrary, Closed, TooManyQuestions, PolicyRefused, KeysRefused, IssueRefused, AccessRefused,
   Denied, TokenRefused, TooLong, FormRefused, CeilingReached, SignatureRefused, ClaimsRefused, textMember,
 };
+// (for renewal.js and requests.js alone)
+Object.defineProperty(module.exports, 'native', { value: native });

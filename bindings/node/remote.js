@@ -5,17 +5,13 @@ const { constants } = require('node:crypto');
 const http = require('node:http');
 const https = require('node:https');
 const tls = require('node:tls');
-const { urlToHttpOptions } = require('node:url');
 const { isUint8Array } = require('node:util').types;
-const { Validator, Closed, FowharimuError, SignatureRefused, TokenRefused, textMember } = require('./index.js');
+const { Validator, Closed, FowharimuError, SignatureRefused, TokenRefused } = require('./index.js');
 const { ofKind, own } = require('./options.js');
+const { ASKER, Renewal } = require('./renewal.js');
+const { ASKED, STEP, keysUrl, metadataUrl, nextStep, redirected, urlOf } = require('./urls.js');
 
-/** The most octets that a key set, or what tells where it stands, may have. */
-const MOST = 4_194_304;
-const MOST_REDIRECTS = 5;
-const REDIRECTS = [301, 302, 303, 307, 308];
 const HEADERS = { accept: 'application/jwk-set+json, application/json', 'accept-encoding': 'identity' };
-const PORTS = { 'https:': 443, 'http:': 80 };
 /** What Node would else take from its environment, or from a prototype: each option of a request that decides whom it reaches, and what is checked. */
 const REQUEST = {
   method: 'GET', headers: HEADERS, agent: false, setHost: true, insecureHTTPParser: false, maxHeaderSize: 16_384,
@@ -31,8 +27,6 @@ const TIMES = { refreshAfter: 600_000, cooldown: 30_000, maxAge: 3_600_000, time
 const REMOTE = [...Object.keys(TIMES), 'allowHttp', 'ca', 'onFetch', 'mostQuestions', 'remember'];
 /** The longest time that a timer takes. */
 const LONGEST = 2 ** 31 - 1;
-/** The most tokens that wait for one fetch. */
-const MOST_WAITING = 4;
 
 class KeysUnavailable extends FowharimuError {}
 class KeysTooOld extends TokenRefused {}
@@ -40,29 +34,11 @@ for (const [name, kind] of Object.entries({ KeysUnavailable, KeysTooOld })) {
   Object.defineProperty(kind.prototype, 'name', { value: name, configurable: true, writable: true });
 }
 
-class StatusError extends Error {
-  constructor(status) {
-    super(`its status is ${status}`);
-    this.status = status;
-  }
-}
-
-/** A URL, as it stands or from another one; undefined where it is none. (The error of `URL` has both in it, with what their queries hide.) */
-function urlOf(text, from) {
-  try {
-    return new URL(text, from);
-  } catch {
-    return undefined;
-  }
-}
-
 /** A URL from which keys may be fetched. */
 function checkedUrl(text, allowHttp) {
-  const schemes = allowHttp ? ['https:', 'http:'] : ['https:'];
-  // (a URL without a host is read by `URL` as one whose host is the path)
-  const at = /^https?:\/\/[^/\\?#]/i.test(text) ? urlOf(text) : undefined;
-  if (at && schemes.includes(at.protocol) && at.username === '' && at.password === '') return at;
-  throw new TypeError('the URL of a key set is https, and has a host and neither a name nor a password');
+  const at = urlOf(String(text), allowHttp === true);
+  if (at !== undefined) return at;
+  throw new TypeError('the URL of a key set is https, and has a host and neither a name nor a password, nor a fragment');
 }
 
 /** The options, with those times that aren't given. A comparison with what is no number would never say that keys are too old. */
@@ -105,9 +81,10 @@ function checkPolicy(policy, how, issuer) {
 }
 
 /** One answer, as it comes. */
-function answer(at, { secureContext, signal, onSocket }) {
-  const { get } = at.protocol === 'https:' ? https : http, port = at.port === '' ? PORTS[at.protocol] : Number(at.port);
-  const options = { __proto__: null, ...urlToHttpOptions(at), ...REQUEST, port, defaultPort: port, secureContext, signal };
+function answer({ isHttps, hostname, port, path }, { secureContext, signal, onSocket }) {
+  const { get } = isHttps ? https : http;
+  const at = { protocol: isHttps ? 'https:' : 'http:', hostname, host: hostname, port, defaultPort: isHttps ? 443 : 80, path };
+  const options = { __proto__: null, ...REQUEST, ...at, secureContext, signal };
   return new Promise((resolve, reject) => {
     const request = get(options, resolve);
     // (one that is closed without an answer, as by a status of 101, makes no error)
@@ -115,47 +92,44 @@ function answer(at, { secureContext, signal, onSocket }) {
   });
 }
 
-/** What stands at a URL, with redirections within its origin followed. */
-async function get(from, how) {
-  let at = from, response;
-  for (let hops = 0; ; hops++) {
-    response = await answer(at, how);
-    if (!REDIRECTS.includes(response.statusCode) || !Object.hasOwn(response.headers, 'location')) break;
+/** What stands at a URL, with redirections followed; undefined where the other metadata are to be asked for. */
+async function get(url, how, asked = ASKED.keys) {
+  for (let at = url, followed = 0; ; followed++) {
+    const response = await answer(at, how);
+    const { step, most } = nextStep(asked, response.statusCode, followed);
+    if (step === STEP.take) return content(response, most);
     response.destroy();
-    const to = urlOf(response.headers.location, at);
-    if (to?.origin !== from.origin || to.username !== '' || to.password !== '') throw new Error('it redirects to another origin');
-    if (hops === MOST_REDIRECTS) throw new Error('it redirects too often');
-    at = to;
+    if (step === STEP.askOAuth) return undefined;
+    if (step === STEP.tooOften) throw new Error('it redirects too often');
+    if (step !== STEP.follow) throw new Error(`its status is ${response.statusCode}`);
+    at = redirected(at, Object.hasOwn(response.headers, 'location') ? response.headers.location : '');
+    if (at === undefined) throw new Error('it redirects to another origin, or to no URL');
   }
-  if (response.statusCode !== 200) {
-    response.destroy();
-    throw new StatusError(response.statusCode);
-  }
+}
+
+/** What an answer has. */
+async function content(response, most) {
   const parts = [];
   let length = 0;
   for await (const part of response) {
     parts.push(part);
     length += part.length;
-    if (length > MOST) throw new Error(`it has more than ${MOST} octets`);
+    if (length > most) throw new Error(`it has more than ${most} octets`);
   }
   return Buffer.concat(parts);
 }
 
 /** The URL of an issuer's keys, which its metadata tell. */
-async function keysUrl(issuer, at, how) {
-  const path = at.pathname.replace(/\/$/, ''), secureContext = secured(how);
+async function discovered(issuer, how) {
+  const secureContext = secured(how);
   const read = async (words) => {
     const told = { ...words, secureContext };
-    return get(new URL(`${path}/.well-known/openid-configuration`, at), told).catch((error) => {
-      if (error.status !== 404) throw error;
-      return get(new URL(`/.well-known/oauth-authorization-server${path}`, at), told);
-    });
+    const text = await get(metadataUrl(ASKED.openId, issuer), told, ASKED.openId);
+    return text ?? get(metadataUrl(ASKED.oauth, issuer), told, ASKED.oauth);
   };
   const fetch = new Fetch(read, how.timeout);
   fetch.hold();
-  const text = await fetch.octets;
-  if (textMember(text, 'issuer') !== issuer) throw new Error('the metadata are of another issuer');
-  return checkedUrl(textMember(text, 'jwks_uri') ?? '', how.allowHttp).href;
+  return checkedUrl(keysUrl(await fetch.octets, issuer), how.allowHttp);
 }
 
 /** The `kid` of a token, for which nobody vouches; empty where there is none. */
@@ -169,9 +143,10 @@ class Fetch {
   #isHeld = false;
   #socket;
   #timer;
-  #kids = new Set();
 
-  constructor(read, timeout) {
+  constructor(read, timeout, ticket = 0) {
+    /** Its number. */
+    this.ticket = ticket;
     const stop = new AbortController();
     const late = new Promise((_, reject) => {
       this.end = (why) => {
@@ -195,13 +170,6 @@ class Fetch {
     this.#timer.ref();
     this.#socket?.ref();
   }
-
-  /** Whether a token of this `kid` may wait: few do, since anyone can send tokens for which a key is lacking. */
-  admits(kid) {
-    if (this.#kids.size >= MOST_WAITING || this.#kids.has(kid)) return false;
-    this.#kids.add(kid);
-    return true;
-  }
 }
 
 class RemoteKeys {
@@ -210,10 +178,10 @@ class RemoteKeys {
   #how;
   #options;
   #validator;
+  #renewal;
+  /** The ticket of the keys, and until when a token is judged by them without asking. */
+  #quiet = { keys: 0, until: -Infinity };
   #fetch;
-  #done;
-  #got = -Infinity;
-  #tried = -Infinity;
   #isClosed = false;
   error = null;
 
@@ -226,23 +194,23 @@ class RemoteKeys {
   static async discover(policy, issuer, options = {}) {
     const how = chosen(options);
     checkPolicy(policy, how, issuer);
-    const its = kept(policy), at = checkedUrl(issuer, how.allowHttp);
+    const its = kept(policy), { text } = checkedUrl(issuer, how.allowHttp);
+    if (metadataUrl(ASKED.openId, text) === undefined) throw new TypeError('an issuer has no query');
     let url;
     try {
-      url = await keysUrl(issuer, at, how);
+      url = await discovered(text, how);
     } catch (error) {
       throw unavailable(error);
     }
-    return RemoteKeys.#begun(its, new URL(url), how);
+    return RemoteKeys.#begun(its, url, how);
   }
 
   static async #begun(policy, at, how) {
     const it = new RemoteKeys();
-    const { refreshAfter, cooldown, maxAge, timeout, onFetch } = how;
     it.#policy = policy;
     it.#at = at;
-    // (a greatest age that is below the age of refreshing makes keys old enough to be fetched, too)
-    it.#how = { refreshAfter: Math.min(refreshAfter, maxAge), cooldown, maxAge, timeout, onFetch, secureContext: secured(how) };
+    it.#how = { timeout: how.timeout, onFetch: how.onFetch, secureContext: secured(how) };
+    it.#renewal = new Renewal(how);
     it.#options = validating(how);
     if (!(await it.refresh())) throw unavailable(it.error);
     return it;
@@ -279,8 +247,9 @@ class RemoteKeys {
   }
 
   async refresh() {
-    if (this.#isClosed) throw new Closed('the keys are closed');
-    return this.#wait(this.#fetch ?? this.#begin());
+    const before = this.#validator;
+    await this.#wait(this.#ask(ASKER.owner).fetch);
+    return this.#validator !== before;
   }
 
   close() {
@@ -288,6 +257,7 @@ class RemoteKeys {
     this.#fetch?.end(new Closed('the keys are closed'));
     this.#validator?.close();
     this.#validator = undefined;
+    this.#quiet = { keys: 0, until: -Infinity };
   }
 
   /** The validator that is held, however old its keys are. */
@@ -298,94 +268,102 @@ class RemoteKeys {
 
   /** Judges by the keys, and once more by newer ones where these may change what came of it and can be had. */
   async #by(token, judge) {
-    if (this.#isOld(this.#how.refreshAfter)) await this.#renewed(token);
+    const known = performance.now() < this.#quiet.until ? this.#quiet : this.#ask(ASKER.token);
+    const keys = known.keys ?? (await this.#renewed(known.fetch, token));
     // (a validator is used at once: while others are awaited it may be closed)
     const used = this.#open();
     try {
       return judge(used);
     } catch (error) {
       if (!(error instanceof SignatureRefused) || !['NoKey', 'BadSignature'].includes(error.fault)) throw error;
-      await this.#waitFor(this.#begunFetch(), used, token);
+      await this.#waitFor(this.#ask(ASKER.refused, keys).fetch, token);
       if (this.#validator === used || this.#validator === undefined) throw error;
       return judge(this.#validator);
     }
   }
 
-  /** Has a fetch begin, and waits for it where the keys are too old. */
-  async #renewed(token) {
-    const fetch = this.#begunFetch();
-    if (!this.#isOld(this.#how.maxAge)) return;
-    await this.#waitFor(fetch, this.#open(), token);
-    if (this.#isOld(this.#how.maxAge)) throw new KeysTooOld("the keys are too old, and newer ones can't be fetched", { fault: 'KeysTooOld' });
+  /** The ticket of newer keys, where those that are held are too old, after a wait. */
+  async #renewed(fetch, token) {
+    await this.#waitFor(fetch, token);
+    const { keys } = this.#ask(ASKER.waited);
+    if (keys === undefined) throw new KeysTooOld("the keys are too old, and newer ones can't be fetched", { fault: 'KeysTooOld' });
+    return keys;
   }
 
-  #isOld(age) {
-    return performance.now() - this.#got >= age;
+  /** The ticket of the keys that are to be used, undefined where they are too old; and the fetch that whoever asked may wait for, if any. One begins where the
+   * library says so. */
+  #ask(asker, keys) {
+    if (this.#isClosed) throw new Closed('the keys are closed');
+    const said = this.#renewal.ask(asker, keys);
+    this.#quiet = { keys: said.keys, until: said.keys === undefined ? -Infinity : said.until };
+    if (said.begins !== undefined) this.#begin(said.begins);
+    return { keys: said.keys, fetch: said.isUnderWay ? this.#fetch : undefined };
   }
 
-  /** The fetch that is under way, or a new one where the cool-down is over. */
-  #begunFetch() {
-    if (this.#fetch === undefined && !this.#isClosed && performance.now() - this.#tried >= this.#how.cooldown) this.#begin();
-    return this.#fetch;
-  }
-
-  #begin() {
-    this.#tried = performance.now();
+  #begin(ticket) {
     const { secureContext, timeout } = this.#how;
-    this.#fetch = new Fetch((words) => get(this.#at, { ...words, secureContext }), timeout);
-    this.#done = this.#run(this.#fetch);
-    return this.#fetch;
+    // (one whose deadline is over is dropped)
+    this.#fetch?.end(new Error('it takes too long'));
+    const fetch = new Fetch((words) => get(this.#at, { ...words, secureContext }), timeout, ticket);
+    this.#fetch = fetch;
+    fetch.done = this.#run(fetch);
   }
 
   /** Waits for a fetch, where there is one for which this token may wait. */
-  async #waitFor(fetch, used, token) {
-    if (fetch?.admits(kidOf(used, token))) await this.#wait(fetch);
+  async #waitFor(fetch, token) {
+    if (fetch === undefined || !this.#renewal.wait(fetch.ticket, kidOf(this.#open(), token))) return;
+    await this.#wait(fetch);
   }
 
-  /** Waits for the fetch that is under way, and tells whether it went well. */
+  /** Waits for a fetch that is under way. */
   #wait(fetch) {
     fetch.hold();
-    return this.#done;
+    return fetch.done;
   }
 
-  /** Whether a fetch went well. */
+  /** Ends when a fetch is over. */
   async #run(fetch) {
-    let octets = 0;
+    let octets = 0, error = null;
     try {
       const keys = await fetch.octets;
       octets = keys.length;
-      this.#exchange(new Validator(this.#policy, keys, this.#options));
-      this.error = null;
-    } catch (error) {
+      this.#exchange(new Validator(this.#policy, keys, this.#options), fetch);
+    } catch (why) {
+      error = why;
+      this.#renewal.failed(fetch.ticket);
+    }
+    if (this.#fetch === fetch) {
+      this.#fetch = undefined;
       this.error = error;
     }
-    this.#fetch = undefined;
-    this.#tell(octets);
-    return this.error === null;
+    this.#tell(octets, error);
   }
 
   /** Tells what became of a fetch. Whoever is told may throw, which says nothing of a token. */
-  #tell(octets) {
+  #tell(octets, error) {
     try {
-      this.#how.onFetch?.(`${this.#at.origin}${this.#at.pathname}`, octets, this.error);
-    } catch (error) {
-      process.emitWarning(error instanceof Error ? error : String(error));
+      // (without the query, in which a service may have a secret)
+      this.#how.onFetch?.(this.#at.text.split('?', 1)[0], octets, error);
+    } catch (why) {
+      process.emitWarning(why instanceof Error ? why : String(why));
     }
   }
 
   /** Takes the new validator in place of the old one, in which no call is under way. */
-  #exchange(validator) {
+  #exchange(validator, fetch) {
     try {
       // (what is fetched is public: RFC 8725, section 2.1)
       if (!validator.isPublic) throw new Error('it has a key of kty oct in it, which everyone may read');
       if (this.#isClosed) throw new Closed('the keys are closed');
+      if (!this.#renewal.took(fetch.ticket)) throw new Error('it takes too long');
     } catch (error) {
       validator.close();
       throw error;
     }
     this.#validator?.close();
     this.#validator = validator;
-    this.#got = performance.now();
+    // (a token asks again)
+    this.#quiet = { keys: fetch.ticket, until: -Infinity };
   }
 }
 if (Symbol.dispose) RemoteKeys.prototype[Symbol.dispose] = RemoteKeys.prototype.close;

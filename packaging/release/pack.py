@@ -5,7 +5,7 @@
     packaging/release/pack.py tar FOLDER OUT      a tar file, compressed by gzip
     packaging/release/pack.py wheel FOLDER VERSION README OUT
                                         a wheel of the package fowharimu in FOLDER, in the folder OUT; its tag names the newest symbol of the C
-                                        library that its library uses
+                                        library that what is compiled in it uses, and CPython where it has the module in C
 """
 import base64
 import gzip
@@ -51,10 +51,10 @@ def write_tar(files: dict[str, bytes], out: pathlib.Path) -> None:
                 archive.addfile(entry, io.BytesIO(octets))
 
 
-def newest(library: pathlib.Path) -> int:
-    """The minor number of the newest version of the C library whose symbols a library uses."""
-    said = subprocess.run(["objdump", "-T", library], check=True, capture_output=True, text=True).stdout
-    return max([OLDEST, *(int(it) for it in re.findall(r"GLIBC_2\.(\d+)", said))])
+def newest(libraries: list[pathlib.Path]) -> int:
+    """The minor number of the newest version of the C library whose symbols these libraries use."""
+    said = [subprocess.run(["objdump", "-T", it], check=True, capture_output=True, text=True).stdout for it in libraries]
+    return max([OLDEST, *(int(it) for it in re.findall(r"GLIBC_2\.(\d+)", "".join(said)))])
 
 
 def row(name: str, octets: bytes) -> str:
@@ -64,8 +64,10 @@ def row(name: str, octets: bytes) -> str:
 
 
 def write_wheel(folder: pathlib.Path, version: str, readme: pathlib.Path, out: pathlib.Path) -> None:
-    """Writes a wheel (PEP 427)."""
-    tag = f"py3-none-manylinux_2_{newest(folder / 'fowharimu/libfowharimu.so.0')}_x86_64"
+    """Writes a wheel (PEP 427): one with the module in C is for the stable interface of CPython 3.9 and later (PEP 384), another for each Python."""
+    library, module = folder / "fowharimu/libfowharimu.so.0", folder / "fowharimu/_calls.abi3.so"
+    python, compiled = ("cp39-abi3", [library, module]) if module.exists() else ("py3-none", [library])
+    tag = f"{python}-manylinux_2_{newest(compiled)}_x86_64"
     info = f"fowharimu-{version}.dist-info"
     files = files_in(folder)
     files[f"{info}/METADATA"] = (

@@ -39,11 +39,12 @@ static void judge(fow_validator *seat, int set)
         const octets *it = n == 0 ? &token[set] : &forged[set];
         uint32_t verdict = fow_judge(seat, it->at, it->len, NOW, &report);
         if (verdict == FOW_ASKS) {
-            CHECK(fow_answer_rsa(seat, it->at, it->len, report.signature, report.key) == FOW_OK);
+            CHECK(fow_answer_proved(seat, it->at, it->len, report.signature, report.key) == FOW_OK);
             verdict = fow_judge(seat, it->at, it->len, NOW, &report);
         }
         CHECK(verdict == (n == 0 ? FOW_OK : FOW_REFUSED));
     }
+    CHECK(fow_accepted_payload(seat, out, sizeof out, &written) == FOW_ABSENT);
     CHECK(fow_payload(seat, token[set].at, token[set].len, out, sizeof out, &written) == FOW_OK && written > 0);
 }
 

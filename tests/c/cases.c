@@ -237,7 +237,7 @@ static void print_judged(const char *name, const fow_report *report, uint32_t de
     print_tries(report->tries);
     putchar('\t');
     if (report->verdict == FOW_OK && denial == FOW_NO_FAULT) {
-        CHECK(fow_payload(&validator, token.at, token.len, out.at, out.room, &written) == FOW_OK);
+        CHECK(fow_accepted_payload(&validator, out.at, out.room, &written) == FOW_OK);
         print_hex(out.at, written);
     } else {
         putchar('-');

@@ -95,11 +95,6 @@ static uint32_t answer_it(void)
     return fow_answer(&validator, token.at, token.len, 0, 0, true);
 }
 
-static uint32_t answer_by_rsa(void)
-{
-    return fow_answer_rsa(&validator, token.at, token.len, 0, 0);
-}
-
 static uint32_t answer_by_proof(void)
 {
     return fow_answer_proved(&validator, token.at, token.len, 0, 0);
@@ -114,11 +109,6 @@ static uint32_t judge_by_proof(void)
 static uint32_t remember_some(void)
 {
     return fow_remember(&validator, 2, 4096);
-}
-
-static uint32_t answer_by_ed25519(void)
-{
-    return fow_answer_ed25519(&validator, token.at, token.len, 0, 0);
 }
 
 static uint32_t member_of_policy(void)
@@ -138,6 +128,16 @@ static uint32_t payload_of_it(void)
 {
     size_t written;
     return fow_payload(&validator, token.at, token.len, out, sizeof out, &written);
+}
+
+/* (it takes no memory) */
+static uint32_t payload_of_the_accepted(void)
+{
+    size_t written;
+    long asked = asked_for;
+    uint32_t status = fow_accepted_payload(&validator, out, sizeof out, &written);
+    CHECK(asked_for == asked);
+    return status;
 }
 
 static uint32_t issuer_of_it(void)
@@ -244,8 +244,8 @@ static void refuse_keeping(const char *name, const char *again, uint32_t (*judge
     CHECK(fow_remember(&validator, 0, 0) == FOW_OK);
 }
 
-/* The calls on a token that is accepted at once, or on one by a public key, which raises a question that this call answers. */
-static void refuse_on(const char *name, uint32_t verdict, uint32_t (*answer)(void))
+/* The calls on a token that is accepted at once, or on one by a public key, which raises a question. */
+static void refuse_on(const char *name, uint32_t verdict)
 {
     read_named(&policy, name, "policy");
     read_named(&keys, name, "keys");
@@ -265,6 +265,7 @@ static void refuse_on(const char *name, uint32_t verdict, uint32_t (*answer)(voi
     refuse_each("fow_ask", ask_it, verdict == FOW_ASKS ? FOW_OK : FOW_ABSENT);
     refuse_each("fow_answer", answer_it, FOW_OK);
     refuse_each("fow_judge, told", judge_it, FOW_OK);
+    CHECK(payload_of_the_accepted() == FOW_OK);
     refuse_each("fow_claim", claim_of_it, FOW_OK);
     refuse_each("fow_remember", remember_some, FOW_OK);
     refuse_keeping("fow_judge, over a memory", "fow_judge, out of a memory", judge_it);
@@ -272,8 +273,6 @@ static void refuse_on(const char *name, uint32_t verdict, uint32_t (*answer)(voi
     fow_forget(&validator);
     refuse_each("fow_answer_asked", answer_asked, FOW_OK);
     fow_forget(&validator);
-    refuse_each("fow_answer_rsa", answer_by_rsa, answer == answer_by_rsa ? FOW_OK : FOW_ABSENT);
-    refuse_each("fow_answer_ed25519", answer_by_ed25519, answer == answer_by_ed25519 ? FOW_OK : FOW_ABSENT);
     refuse_each("fow_answer_proved", answer_by_proof, verdict == FOW_ASKS ? FOW_OK : FOW_ABSENT);
     refuse_each("fow_proved_judge", judge_by_proof, FOW_OK);
     refuse_keeping("fow_proved_judge, over a memory", "fow_proved_judge, out of a memory", judge_by_proof);
@@ -290,9 +289,9 @@ static void refuse_on(const char *name, uint32_t verdict, uint32_t (*answer)(voi
 int main(int argc, char **argv)
 {
     CHECK(argc == 4);
-    refuse_on(argv[2], FOW_ASKS, answer_by_rsa);
-    refuse_on(argv[3], FOW_ASKS, answer_by_ed25519);
-    refuse_on(argv[1], FOW_OK, NULL);
+    refuse_on(argv[2], FOW_ASKS);
+    refuse_on(argv[3], FOW_ASKS);
+    refuse_on(argv[1], FOW_OK);
     refuse_each("fow_refused_member", member_of_policy, FOW_OK);
     refuse_each("fow_access_refused", claim_of_rule, FOW_OK);
     refuse_each("fow_text_member", text_of_document, FOW_OK);

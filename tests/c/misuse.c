@@ -33,11 +33,10 @@ static void check_unopened(fow_validator *validator)
     CHECK(fow_answer(validator, out, 0, 0, 0, true) == FOW_NOT_OPEN);
     CHECK(fow_asked(validator, out, sizeof out, &asked) == FOW_NOT_OPEN);
     CHECK(fow_answer_asked(validator, true) == FOW_NOT_OPEN);
-    CHECK(fow_answer_rsa(validator, out, 0, 0, 0) == FOW_NOT_OPEN);
-    CHECK(fow_answer_ed25519(validator, out, 0, 0, 0) == FOW_NOT_OPEN);
     CHECK(fow_answer_proved(validator, out, 0, 0, 0) == FOW_NOT_OPEN);
     CHECK(fow_proved_judge(validator, out, 0, NOW, &report) == FOW_NOT_OPEN);
     CHECK(fow_payload(validator, out, 0, out + 1, sizeof out - 1, &written) == FOW_NOT_OPEN);
+    CHECK(fow_accepted_payload(validator, out, sizeof out, &written) == FOW_NOT_OPEN);
     CHECK(fow_unverified_header(validator, out, 0, 0, out + 1, sizeof out - 1, &written) == FOW_NOT_OPEN);
     CHECK(fow_claim(validator, (const uint8_t *)"iss", 3, out, sizeof out, &written) == FOW_NOT_OPEN);
     int64_t number;
@@ -64,7 +63,7 @@ static void check_beside(const char *hmac, const char *rsa)
     open_named(&two, hmac);
     open_named(&one, rsa);
     CHECK(fow_judge(&one, token.at, token.len, NOW, &report) == FOW_ASKS);
-    CHECK(fow_answer_rsa(&one, token.at, token.len, 0, 0) == FOW_OK);
+    CHECK(fow_answer_proved(&one, token.at, token.len, 0, 0) == FOW_OK);
     CHECK(fow_judge(&one, token.at, token.len, NOW, &report) == FOW_OK);
 
     /* (of the second, other documents are held, which are let go) */
@@ -78,9 +77,10 @@ static void check_beside(const char *hmac, const char *rsa)
 
     /* (the first to be opened goes first, and the documents stay) */
     fow_close(&one);
-    CHECK(fow_answer_rsa(&two, token.at, token.len, 0, 0) == FOW_OK);
+    CHECK(fow_accepted_payload(&two, out, sizeof out, &written) == FOW_ABSENT);
+    CHECK(fow_answer_proved(&two, token.at, token.len, 0, 0) == FOW_OK);
     CHECK(fow_judge(&two, token.at, token.len, NOW, &report) == FOW_OK);
-    CHECK(fow_payload(&two, token.at, token.len, out, sizeof out, &written) == FOW_OK);
+    CHECK(fow_accepted_payload(&two, out, sizeof out, &written) == FOW_OK);
     CHECK(fow_open_beside(&one, &two) == FOW_OK);
     fow_close(&two);
     CHECK(fow_judge(&one, token.at, token.len, NOW, &report) == FOW_ASKS);
@@ -195,12 +195,12 @@ static void check_no_token(const char *name)
     CHECK(fow_judge(&validator, zeros, 3, NOW, &report) == FOW_REFUSED && report.fault == FOW_FORM_SEGMENTS);
     CHECK(fow_ask(&validator, zeros, 3, 0, 0, out, sizeof out, &asked) == FOW_ABSENT);
     CHECK(fow_answer(&validator, zeros, 3, 0, 0, true) == FOW_ABSENT);
-    CHECK(fow_answer_ed25519(&validator, zeros, 3, 0, 0) == FOW_ABSENT);
     CHECK(fow_answer_proved(&validator, zeros, 3, 0, 0) == FOW_ABSENT);
     CHECK(fow_proved_judge(&validator, zeros, 3, NOW, &report) == FOW_REFUSED && report.fault == FOW_FORM_SEGMENTS);
     CHECK(fow_asked(&validator, out, sizeof out, &asked) == FOW_ABSENT);
     CHECK(fow_answer_asked(&validator, true) == FOW_ABSENT);
     CHECK(fow_payload(&validator, zeros, 3, out, sizeof out, &written) == FOW_ABSENT);
+    CHECK(fow_accepted_payload(&validator, out, sizeof out, &written) == FOW_ABSENT);
     CHECK(fow_unverified_header(&validator, zeros, 3, 0, out, sizeof out, &written) == FOW_ABSENT);
     CHECK(fow_claim(&validator, (const uint8_t *)"iss", 3, out, sizeof out, &written) == FOW_ABSENT);
     fow_close(&validator);
@@ -242,9 +242,8 @@ static void check_answers(const char *hmac, const char *rsa)
     CHECK(fow_asked(&two, out, sizeof out, &asked) == FOW_ABSENT);
     fow_forget(&one);
     CHECK(fow_judge(&one, token.at, token.len, NOW, &report) == FOW_ASKS);
-    CHECK(fow_answer_rsa(&one, token.at, token.len, 0, 1) == FOW_ABSENT);
-    CHECK(fow_answer_ed25519(&one, token.at, token.len, 0, 0) == FOW_ABSENT);
-    CHECK(fow_answer_rsa(&one, token.at, token.len, 0, 0) == FOW_OK);
+    CHECK(fow_answer_proved(&one, token.at, token.len, 0, 1) == FOW_ABSENT);
+    CHECK(fow_answer_proved(&one, token.at, token.len, 0, 0) == FOW_OK);
     CHECK(fow_judge(&one, token.at, token.len, NOW, &report) == FOW_OK);
     fow_close(&one);
     fow_close(&two);

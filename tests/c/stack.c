@@ -67,6 +67,7 @@ static void *call_each(void *unused)
     CHECK(verdict == FOW_OK);
     CHECK(fow_proved_judge(&validator, token.at, token.len, NOW, &report) == FOW_OK);
     CHECK(fow_payload(&validator, token.at, token.len, out, sizeof out, &written) == FOW_OK);
+    CHECK(fow_accepted_payload(&validator, out, sizeof out, &written) <= FOW_ABSENT);
     fow_issue(&validator, FOW_HS256, FOW_GENERAL, 0, at("JWT"), 3, at("{}"), 2, out, sizeof out, &written, &report);
     fow_validator second = FOW_VALIDATOR_INIT;
     CHECK(fow_open_beside(&second, &validator) == FOW_OK);

@@ -19,6 +19,11 @@ static void check_claims(fow_validator *validator, const octets *token)
     CHECK(fow_payload(validator, token->at, token->len, out, sizeof out, &written) == FOW_OK);
     CHECK(written > 2 && out[0] == '{' && out[written - 1] == '}');
     CHECK(fow_payload(validator, token->at, token->len, out, written - 1, &written) == FOW_TOO_SHORT);
+    uint8_t kept[MOST];
+    size_t kept_len = 0;
+    CHECK(fow_accepted_payload(validator, kept, sizeof kept, &kept_len) == FOW_OK);
+    CHECK(kept_len == written && memcmp(kept, out, written) == 0);
+    CHECK(fow_accepted_payload(validator, kept, written - 1, &kept_len) == FOW_TOO_SHORT && kept_len == written);
     CHECK(fow_claim(validator, (const uint8_t *)"iss", 3, out, sizeof out, &written) == FOW_OK);
     CHECK(written == 5 && memcmp(out, "\"joe\"", 5) == 0);
     CHECK(fow_claim(validator, (const uint8_t *)"none", 4, out, sizeof out, &written) == FOW_ABSENT);
@@ -44,9 +49,7 @@ static uint32_t judge_by_proofs(fow_validator *validator, const octets *token, f
 {
     fow_forget(validator);
     while (fow_judge(validator, token->at, token->len, NOW, report) == FOW_ASKS
-        && (fow_answer_rsa(validator, token->at, token->len, report->signature, report->key) == FOW_OK
-            || fow_answer_ed25519(validator, token->at, token->len, report->signature, report->key) == FOW_OK
-            || fow_answer_proved(validator, token->at, token->len, report->signature, report->key) == FOW_OK))
+        && fow_answer_proved(validator, token->at, token->len, report->signature, report->key) == FOW_OK)
         ;
     return report->verdict;
 }

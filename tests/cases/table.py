@@ -7,6 +7,7 @@ import pathlib
 from typing import Iterator
 
 import corpus
+from harness import hexadecimal
 
 FOLDER = pathlib.Path(__file__).resolve().parent
 STORED = FOLDER / "answers.tsv"
@@ -23,24 +24,19 @@ NEVER = {
 LONGEST = 100
 
 
-def spelled(octets: bytes) -> str:
-    """Octets in hexadecimal, and `-` where there are none."""
-    return octets.hex() or "-"
-
-
 def lines_of(cases: list[corpus.Case]) -> Iterator[str]:
     """The table, line by line: a policy and a key set stand before all cases that have them."""
     opened = None
     for case in cases:
         if opened != (case.policy, case.keys):
             opened = (case.policy, case.keys)
-            yield f"open {spelled(case.policy)} {spelled(case.keys)}\n"
+            yield f"open {hexadecimal(case.policy)} {hexadecimal(case.keys)}\n"
         if isinstance(case, corpus.Judging):
-            yield f"judge {case.name} {case.now} {spelled(case.token)}\n"
+            yield f"judge {case.name} {case.now} {hexadecimal(case.token)}\n"
         elif isinstance(case, corpus.Denying):
-            yield f"deny {case.name} {case.now} {spelled(case.rule)} {spelled(case.token)}\n"
+            yield f"deny {case.name} {case.now} {hexadecimal(case.rule)} {hexadecimal(case.token)}\n"
         else:
-            yield f"issue {case.name} {case.alg} {case.form} {case.key} {spelled(case.typ)} {spelled(case.claims)}\n"
+            yield f"issue {case.name} {case.alg} {case.form} {case.key} {hexadecimal(case.typ)} {hexadecimal(case.claims)}\n"
 
 
 def group_of(name: str) -> str:

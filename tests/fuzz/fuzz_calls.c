@@ -215,9 +215,7 @@ static void answer(model *it, const call *c)
 static void answer_by(model *it, const call *c)
 {
     fow_report report;
-    uint32_t status = c->rest & 8 ? fow_answer_proved(&it->validator, c->octets, c->len, 0, c->key)
-        : c->is_valid             ? fow_answer_rsa(&it->validator, c->octets, c->len, 0, c->key)
-                                  : fow_answer_ed25519(&it->validator, c->octets, c->len, 0, c->key);
+    uint32_t status = fow_answer_proved(&it->validator, c->octets, c->len, 0, c->key);
     CHECK(it->is_open ? status == FOW_OK || status == FOW_ABSENT : status == FOW_NOT_OPEN);
     if (status != FOW_OK || it->told[c->token][c->key] != 0)
         return;
@@ -265,6 +263,8 @@ static void get_others(model *it, const call *c)
     CHECK(it->is_open ? status == FOW_OK || status == FOW_ABSENT : status == FOW_NOT_OPEN);
     CHECK(fow_most_questions(&it->validator, &most) == (it->is_open ? FOW_OK : FOW_NOT_OPEN));
     fow_payload(&it->validator, c->octets, c->len, c->out, c->room, &written);
+    status = fow_accepted_payload(&it->validator, c->out, c->room, &written);
+    CHECK(!it->is_open ? status == FOW_NOT_OPEN : !it->is_accepted ? status == FOW_ABSENT : status == FOW_OK || status == FOW_TOO_SHORT);
     fow_unverified_header(&it->validator, c->octets, c->len, c->signature, c->out, c->room, &written);
     status = fow_unverified_issuer(&it->validator, c->octets, c->len, c->out, c->room, &written);
     CHECK(it->is_open ? status != FOW_NOT_OPEN : status == FOW_NOT_OPEN);

@@ -113,7 +113,7 @@ int LLVMFuzzerTestOneInput(const uint8_t *data, size_t size)
     const uint8_t *keys = area_put(&sets, line == NULL ? data : line + 1, keys_len, size & 2);
     uint32_t status = fow_open(&validator, policy, policy_len, keys, keys_len, &fault);
     CHECK(status == FOW_OK || (status == FOW_REFUSED && fault >= FOW_POLICY_JSON && fault <= FOW_KEYS_TOO_LONG && fow_fault_name(fault)[0] != 0));
-    CHECK(fow_open(&kept, policy, policy_len, keys, keys_len, &again) == status && (status == FOW_OK || again == fault));
+    CHECK(fow_open_prepared(&kept, policy, policy_len, keys, keys_len, size & 3, &again) == status && (status == FOW_OK || again == fault));
     cover_outcome(status == FOW_OK ? 0 : fault);
     check_member(policy, policy_len, status == FOW_OK ? FOW_NO_FAULT : fault);
     check_text(policy, policy_len, "mode");

@@ -363,6 +363,12 @@ static inline uint32_t get_payload(fow_validator *validator, const uint8_t *toke
     return fow_payload(validator, token, len, out, room, written);
 }
 
+static inline uint32_t get_accepted(fow_validator *validator, const uint8_t *token, size_t len, const char *name, uint8_t *out, size_t room, size_t *written)
+{
+    (void)token, (void)len, (void)name;
+    return fow_accepted_payload(validator, out, room, written);
+}
+
 static inline uint32_t get_header(fow_validator *validator, const uint8_t *token, size_t len, const char *name, uint8_t *out, size_t room, size_t *written)
 {
     return fow_unverified_header(validator, token, len, (uint32_t)atoi(name), out, room, written);
@@ -406,6 +412,7 @@ static inline void check_getters(fow_validator *validator, const uint8_t *token,
     static const char *const names[] = { "exp", "iss", "sub", "aud", "nbf", "iat", "jti", "", "x", "\xff\xfe", "http://example.com/is_root" };
     static const char *const signatures[] = { "0", "1", "2" };
     check_getter(get_payload, validator, token, len, "", len + 8);
+    CHECK(check_getter(get_accepted, validator, token, len, "", len + 8) == (report->verdict == FOW_OK ? FOW_OK : FOW_ABSENT));
     for (size_t i = 0; i < sizeof signatures / sizeof *signatures; i++)
         check_getter(get_header, validator, token, len, signatures[i], len + 8);
     CHECK(check_getter(get_refused, validator, token, len, "", 65536) == FOW_ABSENT || report->fault == FOW_CLAIM_MISSING);

@@ -2,7 +2,6 @@
 
 OUT/NAME has the seeds of the harness NAME, OUT/jose.dict the words. They are always the same.
 """
-import base64
 import hashlib
 import hmac
 import json
@@ -11,6 +10,9 @@ import random
 import sys
 
 TOP = pathlib.Path(__file__).resolve().parents[2]
+sys.path.insert(0, str(TOP / "tests"))
+from harness import base64url
+
 # The sizes of the secrets that harness.h has, and their octets.
 SIZES = (64, 48, 200)
 SECRETS = [bytes((number * 41 + i * 7 + 1) % 256 for i in range(size)) for number, size in enumerate(SIZES)]
@@ -60,7 +62,7 @@ RULES = (
 )
 KEY_SETS = (
     b'{"keys":[{"kty":"oct","k":"%s","kid":"a","alg":"HS256","use":"sig","key_ops":["sign","verify"]},{"kty":"oct","k":"QQ"},{"kty":"oct"},7,'
-    b'{"kty":"zz"}]}' % base64.urlsafe_b64encode(SECRETS[0]).rstrip(b"="),
+    b'{"kty":"zz"}]}' % base64url(SECRETS[0]).encode(),
     b'{"keys":[]}',
     b'{"keys":7}',
     b'{"a":{"b":1,"b":2},"keys":[]}',
@@ -74,16 +76,11 @@ SPELLED += ("9223372036854775807", "9223372036854775808", "18446744073709551616"
 SPELLED += ("eyJhbGciOiJIUzI1NiJ9", "e30", "....", "\\x0a")
 
 
-def spelled(octets: bytes) -> str:
-    """Octets in base64url without padding."""
-    return base64.urlsafe_b64encode(octets).rstrip(b"=").decode()
-
-
 def signed(header: str, claims: str, key: int) -> tuple[str, str, str]:
     """The three parts of a token by HMAC."""
-    protected, payload = spelled(header.encode()), spelled(claims.encode())
+    protected, payload = base64url(header.encode()), base64url(claims.encode())
     tag = hmac.new(SECRETS[key], f"{protected}.{payload}".encode(), DIGESTS[json.loads(header)["alg"]]).digest()
-    return protected, payload, spelled(tag)
+    return protected, payload, base64url(tag)
 
 
 def forms_of(protected: str, payload: str, signature: str) -> list[bytes]:

@@ -16,6 +16,7 @@ sys.path.insert(0, str(TOP / "tests/cases"))
 
 import corpus
 import table
+from harness import hexadecimal, octets_of
 
 # The groups whose cases are a token with one key. The other groups are of documents and ceilings that no other library has.
 GROUPS = ("octets", "parts", "forms", "signatures", "headers", "claims", "profiles")
@@ -31,10 +32,6 @@ class Question(NamedTuple):
     kind: str
     key: bytes
     answer: dict[str, str]
-
-
-def octets_of(text: str) -> bytes:
-    return base64.urlsafe_b64decode(text + "=" * (-len(text) % 4))
 
 
 def number_of(text: str) -> int:
@@ -75,16 +72,12 @@ def questions() -> Iterator[Question]:
             continue
 
 
-def spelled(octets: bytes) -> str:
-    return octets.hex() or "-"
-
-
 def line_of(it: Question) -> str:
     """A question as a library's program reads it."""
-    one = lambda name: spelled("".join(it.policy.get(name, [])).encode())
+    one = lambda name: hexadecimal("".join(it.policy.get(name, [])).encode())
     required = ",".join(name.encode().hex() for name in it.policy.get("required", [])) or "-"
     fields = (it.case.name, ",".join(it.policy["algs"]), it.kind, it.key.hex(), one("issuers"), one("audiences"), required)
-    return "\t".join((*fields, str(it.policy.get("leeway", 0)), spelled(it.case.token))) + "\n"
+    return "\t".join((*fields, str(it.policy.get("leeway", 0)), hexadecimal(it.case.token))) + "\n"
 
 
 # ---- why

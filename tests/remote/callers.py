@@ -58,9 +58,9 @@ def java(room):
 
 def rust(room):
     there = {"FOWHARIMU_LIB_DIR": str(BUILD), "CARGO_TARGET_DIR": str(BUILD / "rust")}
-    command = ["cargo", "build", "--offline", "--quiet", "-p", "fowharimu", "--example", "issuers"]
+    command = ["cargo", "build", "--offline", "--quiet", "-p", "fowharimu", "--example", "remote_cases"]
     subprocess.run(command, cwd=TOP / "bindings/rust", env={**os.environ, **there}, check=True)
-    return [str(BUILD / "rust/debug/examples/issuers")], {}
+    return [str(BUILD / "rust/debug/examples/remote_cases")], {}
 
 
 def c(room):

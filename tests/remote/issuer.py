@@ -231,6 +231,13 @@ class Handler(http.server.BaseHTTPRequestHandler):
             return self.answer_ok(document)
         self.redirect(f"/keys?{hop + 1}")
 
+    def answer_located(self, document):
+        """A redirection as it is told, and the keys where a query came with the question."""
+        if "?" in self.path:
+            return self.answer_ok(document)
+        status, location = self.server.issuer.located
+        self.answer(status, b"", headers=[] if location is None else [("Location", location)])
+
     def redirect(self, place):
         self.answer(302, b"", headers=[("Location", place)])
 
@@ -257,6 +264,7 @@ class Issuer:
 
     def __init__(self, room):
         self.mode, self.hops, self.held, self.documents, self.seen = "ok", 0, 0, {}, []
+        self.located = 302, "/new"
         self.plain = self.served(None)
         self.good, self.expired, self.other = (self.served(self.context(room, it)) for it in ("good", "expired", "other"))
         self.old = self.served(as_old(self.context(room, "good")))

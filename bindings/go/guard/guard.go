@@ -14,12 +14,6 @@ import (
 	"example.org/fowharimu"
 )
 
-const (
-	invalidRequest    = `Bearer error="invalid_request"`
-	invalidToken      = `Bearer error="invalid_token"`
-	insufficientScope = `Bearer error="insufficient_scope"`
-)
-
 // ErrForm says that what stands behind the scheme is no b64token (RFC 6750, section 2.1).
 var ErrForm = errors.New("guard: the credentials are no b64token")
 
@@ -50,7 +44,7 @@ func Access(rule *fowharimu.Access) Option {
 // Realm is the realm that a request without a token is told: jwt without this. It panics for one that a quoted string can't have: a realm has printable
 // characters of ASCII, and neither quotation marks nor backslashes.
 func Realm(realm string) Option {
-	if strings.IndexFunc(realm, isUnquotable) >= 0 {
+	if !fowharimu.IsQuotable(realm) {
 		panic("guard: a realm has printable characters of ASCII, and neither quotation marks nor backslashes")
 	}
 	return func(g *guard) { g.realm = realm }
@@ -94,26 +88,27 @@ func Bearer(validator Validator, how ...Option) func(http.Handler) http.Handler 
 func (g *guard) ServeHTTP(w http.ResponseWriter, r *http.Request) {
 	values := r.Header.Values("Authorization")
 	if len(values) > 1 {
-		refuse(w, http.StatusBadRequest, invalidRequest)
+		g.answer(w, fowharimu.Several, "")
 		return
 	}
-	token, found := bearer(strings.Join(values, ""))
-	if !found {
-		refuse(w, http.StatusUnauthorized, `Bearer realm="`+g.realm+`"`)
+	token, outcome := fowharimu.BearerToken(strings.Join(values, ""))
+	if outcome == fowharimu.NoBearer {
+		g.answer(w, outcome, "")
 		return
 	}
-	claims, err := g.validate(token)
+	claims, err := g.validate(token, outcome)
 	if err != nil {
 		g.tell(r, err)
-		answer(w, err)
+		outcome, scopes := outcomeOf(err)
+		g.answer(w, outcome, scopes)
 		return
 	}
 	g.next.ServeHTTP(w, g.shown(r.WithContext(context.WithValue(r.Context(), claimsKey{}, claims))))
 }
 
 // validate gives the claims of an accepted token that meet the rule.
-func (g *guard) validate(token string) (fowharimu.Claims, error) {
-	if !isB64token(token) {
+func (g *guard) validate(token string, outcome fowharimu.Outcome) (fowharimu.Claims, error) {
+	if outcome == fowharimu.Malformed {
 		return fowharimu.Claims{}, ErrForm
 	}
 	if !g.asks {
@@ -131,50 +126,43 @@ func (g *guard) shown(r *http.Request) *http.Request {
 	return r
 }
 
-// answer says why a request isn't let through.
-func answer(w http.ResponseWriter, err error) {
+// outcomeOf says what is known of a token that isn't taken, and which scopes its request needs.
+func outcomeOf(err error) (fowharimu.Outcome, string) {
 	var denied *fowharimu.DeniedError
 	var undecided *fowharimu.UndecidedError
 	var tooOld *fowharimu.TooOldError
 	var refusal fowharimu.Refusal
 	switch {
 	case errors.As(err, &tooOld):
-		http.Error(w, "the keys are too old", http.StatusServiceUnavailable)
+		return fowharimu.KeysTooOld, ""
 	case errors.As(err, &denied) && denied.Scope != "":
-		refuse(w, http.StatusForbidden, insufficientScope+`, scope="`+strings.Join(denied.Scopes, " ")+`"`)
+		return fowharimu.ScopeMissing, strings.Join(denied.Scopes, " ")
 	case errors.As(err, &denied):
-		refuse(w, http.StatusForbidden, insufficientScope)
+		return fowharimu.NotGranted, ""
 	case errors.As(err, &undecided):
-		http.Error(w, "nothing can be said of the token", http.StatusInternalServerError)
-	case errors.Is(err, ErrForm), errors.As(err, &refusal):
-		refuse(w, http.StatusUnauthorized, invalidToken)
+		return fowharimu.Unanswered, ""
+	case errors.Is(err, ErrForm):
+		return fowharimu.Malformed, ""
+	case errors.As(err, &refusal):
+		return fowharimu.NotAccepted, ""
 	default:
-		http.Error(w, "nothing can be said of the token", http.StatusInternalServerError)
+		return fowharimu.Unanswered, ""
 	}
 }
 
-func refuse(w http.ResponseWriter, status int, challenge string) {
-	w.Header().Set("WWW-Authenticate", challenge)
-	w.WriteHeader(status)
+// answer answers a request that isn't let through.
+func (g *guard) answer(w http.ResponseWriter, outcome fowharimu.Outcome, scopes string) {
+	status, challenge := fowharimu.ReplyTo(outcome, g.realm, scopes)
+	if challenge != "" {
+		w.Header().Set("WWW-Authenticate", challenge)
+		w.WriteHeader(status)
+		return
+	}
+	http.Error(w, unsaid[outcome], status)
 }
 
-// bearer is what stands behind the scheme, and whether the scheme is Bearer, in any case of its letters.
-func bearer(value string) (string, bool) {
-	scheme, token, _ := strings.Cut(strings.Trim(value, " \t"), " ")
-	return strings.TrimLeft(token, " "), strings.EqualFold(scheme, "Bearer")
-}
-
-// isB64token says whether a token is spelled as the header has it (RFC 6750, section 2.1). Of no octets the library says that the token is empty.
-func isB64token(token string) bool {
-	padless := strings.TrimRight(token, "=")
-	return (padless != "" || token == "") && strings.IndexFunc(padless, isOther) < 0
-}
-
-func isUnquotable(c rune) bool {
-	return c < ' ' || c > '~' || c == '"' || c == '\\'
-}
-
-func isOther(c rune) bool {
-	isLetter := 'A' <= c && c <= 'Z' || 'a' <= c && c <= 'z'
-	return !isLetter && !('0' <= c && c <= '9') && !strings.ContainsRune("-._~+/", c)
+// unsaid has what a body says where nothing is said of the token.
+var unsaid = map[fowharimu.Outcome]string{
+	fowharimu.KeysTooOld: "the keys are too old",
+	fowharimu.Unanswered: "nothing can be said of the token",
 }

@@ -2,8 +2,8 @@
  *
  * PACKAGE is the package of Native.java, with slashes: who builds this takes it from there. What a call is handed is copied before the library
  * reads it: so another thread that has the array can't change it meanwhile. */
+#include "around.h"
 #include <fowharimu.h>
-#include <jni.h>
 #include <stdlib.h>
 
 #ifndef PACKAGE
@@ -40,7 +40,7 @@ static octets copied(JNIEnv *env, jbyteArray from)
     return to;
 }
 
-/* Keeps a token's octets in the validator, since fow_payload reads them again. */
+/* Keeps a token's octets in the validator, whose room serves the next one. */
 static bool keep_token(JNIEnv *env, held *it, jbyteArray token)
 {
     size_t len = (size_t)(*env)->GetArrayLength(env, token);
@@ -177,7 +177,7 @@ static jbyteArray JNICALL payload(JNIEnv *env, jclass class, jlong v)
     held *it = at(v);
     size_t len = 0;
     uint8_t *room = malloc(it->len + 1);
-    uint32_t status = room == NULL ? FOW_OUT_OF_MEMORY : fow_payload(&it->validator, it->token, it->len, room, it->len + 1, &len);
+    uint32_t status = room == NULL ? FOW_OUT_OF_MEMORY : fow_accepted_payload(&it->validator, room, it->len + 1, &len);
     return array_of(env, status, room, len);
 }
 
@@ -400,8 +400,6 @@ static jstring JNICALL fault_name(JNIEnv *env, jclass class, jint fault)
     return (*env)->NewStringUTF(env, fow_fault_name((uint32_t)fault));
 }
 
-#define ROW(name, signature, function) { (char *)(name), (char *)(signature), (void *)(intptr_t)(function) }
-
 /* Gives Native.java its functions. */
 JNIEXPORT jint JNICALL JNI_OnLoad(JavaVM *vm, void *reserved)
 {
@@ -440,7 +438,7 @@ JNIEXPORT jint JNICALL JNI_OnLoad(JavaVM *vm, void *reserved)
     if ((*vm)->GetEnv(vm, (void **)&env, JNI_VERSION_10) != JNI_OK)
         return JNI_ERR;
     jclass class = (*env)->FindClass(env, PACKAGE "/Native");
-    if (class == NULL || (*env)->RegisterNatives(env, class, all, sizeof all / sizeof *all) != 0)
+    if (class == NULL || (*env)->RegisterNatives(env, class, all, sizeof all / sizeof *all) != 0 || register_around(env, class) != 0)
         return JNI_ERR;
     return JNI_VERSION_10;
 }

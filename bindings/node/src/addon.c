@@ -3,8 +3,8 @@
  * Each thread of workers loads it for itself, and what one opens no other sees. What a call is handed is copied before the library reads it: so
  * another thread that shares a buffer can't change it meanwhile. */
 #define NAPI_VERSION 8
+#include "around.h"
 #include <fowharimu.h>
-#include <node_api.h>
 #include <stdlib.h>
 #include <string.h>
 
@@ -355,7 +355,7 @@ static napi_value judge(napi_env env, napi_callback_info info)
     return number(env, verdict);
 }
 
-/* payload(validator): that of the token that was judged last; undefined where there is none. */
+/* payload(validator): that of the token that was accepted last; undefined where the last verdict was no acceptance. */
 static napi_value payload(napi_env env, napi_callback_info info)
 {
     napi_value given[1];
@@ -366,7 +366,7 @@ static napi_value payload(napi_env env, napi_callback_info info)
     uint8_t *room = malloc(it->len + 1);
     if (room == NULL)
         return lack_memory(env);
-    uint32_t status = fow_payload(&it->validator, it->token, it->len, room, it->len + 1, &len);
+    uint32_t status = fow_accepted_payload(&it->validator, room, it->len + 1, &len);
     return text_of(env, status, room, len);
 }
 
@@ -701,23 +701,27 @@ static void put_numbers(napi_env env, napi_value exports)
     napi_set_named_property(env, exports, "version", version);
 }
 
+/* Puts a function among the exports, by its name. */
+static void put(napi_env env, napi_value exports, const named_call *it)
+{
+    napi_value function = NULL;
+    napi_create_function(env, it->name, NAPI_AUTO_LENGTH, it->call, NULL, &function);
+    napi_set_named_property(env, exports, it->name, function);
+}
+
 NAPI_MODULE_INIT()
 {
-    static const struct {
-        const char *name;
-        napi_callback call;
-    } all[] = {
+    static const named_call all[] = {
         { "open", open_validator }, { "mostQuestions", most_questions }, { "judge", judge }, { "payload", payload }, { "header", header },
         { "issue", issue }, { "state", state }, { "tried", tried }, { "refusedClaim", refused_claim }, { "refusedMember", refused_member },
         { "faultName", fault_name }, { "close", close_validator }, { "openAccess", open_access }, { "refusedInAccess", refused_in_access },
         { "remember", remember }, { "remembered", remembered }, { "scope", scope }, { "denied", denied }, { "deniedName", denied_name }, { "closeAccess", close_access },
         { "named", named }, { "soleIssuer", sole_issuer }, { "tokenLimit", token_limit }, { "isPublic", is_public }, { "textMember", text_member },
     };
-    for (size_t i = 0; i < sizeof all / sizeof *all; i++) {
-        napi_value function = NULL;
-        napi_create_function(env, all[i].name, NAPI_AUTO_LENGTH, all[i].call, NULL, &function);
-        napi_set_named_property(env, exports, all[i].name, function);
-    }
+    for (size_t i = 0; i < sizeof all / sizeof *all; i++)
+        put(env, exports, &all[i]);
+    for (const named_call *it = around; it->name != NULL; it++)
+        put(env, exports, it);
     put_numbers(env, exports);
     return exports;
 }

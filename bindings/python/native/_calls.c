@@ -9,14 +9,14 @@
 
 typedef uint32_t judge_over_openssl(void *, fow_validator *, const uint8_t *, size_t, int64_t, fow_report *);
 typedef uint32_t judge_alone(fow_validator *, const uint8_t *, size_t, int64_t, fow_report *);
-typedef uint32_t payload_of(fow_validator *, const uint8_t *, size_t, uint8_t *, size_t, size_t *);
+typedef uint32_t accepted_payload(fow_validator *, uint8_t *, size_t, size_t *);
 
 /* What calls are made of: the functions, and the addresses of what a seat holds, which outlives it. */
 typedef struct calls {
     PyObject_HEAD
     judge_over_openssl *over_openssl; /* or NULL */
     judge_alone *alone;
-    payload_of *payload;
+    accepted_payload *payload;
     void *crypto;
     fow_validator *validator;
     fow_report *report;
@@ -35,7 +35,7 @@ static int init(PyObject *self, PyObject *words, PyObject *named)
         return -1;
     it->over_openssl = (judge_over_openssl *)(uintptr_t)at[0];
     it->alone = (judge_alone *)(uintptr_t)at[1];
-    it->payload = (payload_of *)(uintptr_t)at[2];
+    it->payload = (accepted_payload *)(uintptr_t)at[2];
     it->crypto = (void *)(uintptr_t)at[3];
     it->validator = (fow_validator *)(uintptr_t)at[4];
     it->report = (fow_report *)(uintptr_t)at[5];
@@ -46,7 +46,7 @@ static uint32_t validate_into(calls *it, const uint8_t *token, size_t len, int64
 {
     uint32_t verdict = it->over_openssl != NULL ? it->over_openssl(it->crypto, it->validator, token, len, now, it->report)
                                                 : it->alone(it->validator, token, len, now, it->report);
-    return verdict != FOW_OK ? verdict : it->payload(it->validator, token, len, out, len + 1, written);
+    return verdict != FOW_OK ? verdict : it->payload(it->validator, out, len + 1, written);
 }
 
 /* The payload; None where the token isn't accepted, and the report says why; MemoryError where memory was refused. */

@@ -19,6 +19,7 @@ from typing import Any, Callable, List
 from fowharimu import asgi
 from fowharimu._access import NO_RULE
 from fowharimu.issuers import Issuers
+from fowharimu._renewal import Asker
 from fowharimu.remote import KeysTooOld, KeysUnavailable, RemoteKeys
 
 TOP = pathlib.Path(__file__).resolve().parents[3]
@@ -82,7 +83,7 @@ class Waiting(unittest.TestCase):
 
     def test_keys_that_are_too_old(self) -> None:
         known = (TOP / "tests/tokens/RS256.jwt").read_text().strip()
-        self.keys._max_age = 0
+        self.keys._renewal._state.max_age, self.keys._quiet = 0, None
         for ask in (self.keys.validate, lambda token: self.keys._validate_at_once(token, NO_RULE)):
             with self.assertRaises(KeysTooOld):
                 ask(known)
@@ -111,7 +112,7 @@ class Waiting(unittest.TestCase):
         class Asking(logging.Filter):
             def filter(self, record: logging.LogRecord) -> bool:
                 asked.append(keys.unverified_issuer("a.b.c"))
-                keys._begun(keys._validator)
+                keys._asked(Asker.TOKEN)
                 raise LookupError("told in vain")
 
         log, asking = logging.getLogger("fowharimu"), Asking()

@@ -20,10 +20,11 @@ pub mod Chord
 pub mod Tangent
 pub mod Thirds
 pub mod Rules
--- ---- multiples: the functions of multiples and tables
+-- ---- multiples: the functions of multiples, tables and windows
 
 pub mod MultipleSteps
 pub mod Doublings
+pub mod WindowSteps
 -- ---- the tables of doubles: the laws p256_table, p384_table and p521_table
 
 pub mod Chains

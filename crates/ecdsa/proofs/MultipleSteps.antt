@@ -1,87 +1,84 @@
--- A multiple by the bits from the highest.
-use Rattle.std.proofs.Common.{◌≡◌, ℕ, suc, zero, ◌+◌, ◌-◌, ◌*◌, ◌/◌, ◌^◌, ◌%◌, ◌<◌, ◌≤◌, ◌==◌, Bool, true, false, Some, ap, sym, ◌∙◌, refl, arith}
+-- Multiples by the scalar's hexadecimal digits, and a digit's multiple by its bits.
+use Rattle.std.proofs.Common.{◌≡◌, ℕ, suc, ◌+◌, ◌*◌, ◌/◌, ◌%◌, ◌^◌, ◌<◌, ◌==◌, Some, ap, sym, ◌∙◌, refl, arith}
 use Rattle.std.specs.Prelude.{if◌then◌else◌}
-use Rattle.std.specs.Int.{from_bool}
-use Rattle.std.proofs.Math.Nat.{pow-suc, pow-zero, add-mul-div_left, div-eq_of_lt}
-use Rattle.std.proofs.lemmas.Nat.{pow-add}
+use Rattle.std.proofs.Math.Path.{ap₂}
+use Rattle.numbers.proofs.Digits.{all_bits}
 use Rattle.ecdsa.proofs.Rules.{infinity_left}
-use Rattle.ecdsa.specs.Curve.{Point, Point.Infinity, Domain, sum_of, multiple}
+use Rattle.ecdsa.specs.Curve.{Domain, Point, Point.Infinity, sum_of, doubled, digit_multiple, multiple}
 
-pub multiple_none : (E : Domain) (P : Point) → multiple E 0 0 P ≡ Some Infinity
-unfolding multiple
-multiple_none E P = refl
+pub digit_none : (E : Domain) (times d : ℕ) (P : Point) → Some Infinity ≡ digit_multiple E times 0 d P
+unfolding digit_multiple
+digit_none E times d P = refl
 
-more : (E : Domain) (i done : ℕ) (set : Bool) (P : Point) →
-    (if set then sum_of E (sum_of E (multiple E i done P) (multiple E i done P)) (Some P) else sum_of E (multiple E i done P) (multiple E i done P))
-    ≡ multiple E (suc i) (2 * done + from_bool set) P
-unfolding multiple
-more E i done true P =
-    let half : (2 * done + 1) / 2 ≡ done = omega arith in
-    let bit : (2 * done + 1) % 2 ≡ 1 = omega arith in
-    rw (half, bit) refl
-more E i done false P =
-    let half : (2 * done + 0) / 2 ≡ done = omega arith in
-    let bit : (2 * done + 0) % 2 ≡ 0 = omega arith in
-    rw (half, bit) refl
+bit_more : (E : Domain) (times i d : ℕ) (P : Point) →
+    (if (d / 2 ^ i) % 2 == 1 then sum_of E (digit_multiple E times i d P) (doubled E (times + i) P) else digit_multiple E times i d P) ≡ digit_multiple E times (suc i) d P
+unfolding digit_multiple
+bit_more E times i d P = refl
 
-pub multiple_more : (E : Domain) (i done : ℕ) (set : Bool) (P : Point) →
-    (if set then sum_of E (sum_of E (multiple E i done P) (multiple E i done P)) (Some P) else sum_of E (multiple E i done P) (multiple E i done P))
-    ≡ multiple E (i + 1) (2 * done + from_bool set) P
-multiple_more E i done set P =
+-- one more bit of a digit
+pub digit_more : (E : Domain) (times i d rest : ℕ) (P : Point) → rest ≡ d / 2 ^ i →
+    (if rest % 2 == 1 then sum_of E (digit_multiple E times i d P) (doubled E (times + i) P) else digit_multiple E times i d P) ≡ digit_multiple E times (i + 1) d P
+digit_more E times i d rest P is =
     let next : suc i ≡ i + 1 = omega arith in
-    more E i done set P ∙ ap (λ k. multiple E k (2 * done + from_bool set) P) next
+    ap (λ k. if k % 2 == 1 then sum_of E (digit_multiple E times i d P) (doubled E (times + i) P) else digit_multiple E times i d P) is
+    ∙ bit_more E times i d P ∙ ap (λ n. digit_multiple E times n d P) next
 
-pub begun : (u w : ℕ) → u * 2 ^ 0 ≡ 0 * w + u
-begun u w = omega (arith, pow-zero 2)
+-- the two lowest bits of a digit
+two_bits : (E : Domain) (times d : ℕ) (P : Point) →
+    (if (d / 2) % 2 == 1 then sum_of E (if d % 2 == 1 then sum_of E (Some Infinity) (doubled E (times + 0) P) else Some Infinity) (doubled E (times + 1) P)
+    else (if d % 2 == 1 then sum_of E (Some Infinity) (doubled E (times + 0) P) else Some Infinity)) ≡ digit_multiple E times 2 d P
+unfolding digit_multiple
+two_bits E times d P = let whole : d / 2 ^ 0 ≡ d = sym (all_bits d) in rw whole refl
 
-pub bit_more : (u w i done rest low : ℕ) (set : Bool) → u * 2 ^ i ≡ done * w + rest → low + from_bool set * w ≡ rest + rest →
-    u * 2 ^ (i + 1) ≡ (2 * done + from_bool set) * w + low
-bit_more u w i done rest low set so_far shifted =
+pub neither_or_second : (E : Domain) (times d : ℕ) (P : Point) → d % 2 ≡ 0 →
+    (if (d / 2) % 2 == 1 then sum_of E (Some Infinity) (doubled E (times + 1) P) else Some Infinity) ≡ digit_multiple E times 2 d P
+neither_or_second E times d P even =
+    ap (λ k. if (d / 2) % 2 == 1 then sum_of E (if k == 1 then sum_of E (Some Infinity) (doubled E (times + 0) P) else Some Infinity) (doubled E (times + 1) P)
+    else (if k == 1 then sum_of E (Some Infinity) (doubled E (times + 0) P) else Some Infinity)) (sym even)
+    ∙ two_bits E times d P
+
+pub first_of_two : (E : Domain) (times d : ℕ) (P : Point) → d % 2 ≡ 1 → (d / 2) % 2 ≡ 0 → doubled E times P ≡ digit_multiple E times 2 d P
+first_of_two E times d P odd none =
+    let same : times ≡ times + 0 = omega arith in
+    ap (λ n. doubled E n P) same ∙ sym (infinity_left E (doubled E (times + 0) P))
+    ∙ ap₂ (λ j k. if j == 1 then sum_of E (if k == 1 then sum_of E (Some Infinity) (doubled E (times + 0) P) else Some Infinity) (doubled E (times + 1) P)
+    else (if k == 1 then sum_of E (Some Infinity) (doubled E (times + 0) P) else Some Infinity)) (sym none) (sym odd)
+    ∙ two_bits E times d P
+
+pub both_of_two : (E : Domain) (times d : ℕ) (P : Point) → d % 2 ≡ 1 → (d / 2) % 2 ≡ 1 → sum_of E (doubled E times P) (doubled E (times + 1) P) ≡ digit_multiple E times 2 d P
+both_of_two E times d P odd odd_too =
+    let same : times ≡ times + 0 = omega arith in
+    ap (λ R. sum_of E R (doubled E (times + 1) P)) (ap (λ n. doubled E n P) same ∙ sym (infinity_left E (doubled E (times + 0) P)))
+    ∙ ap₂ (λ j k. if j == 1 then sum_of E (if k == 1 then sum_of E (Some Infinity) (doubled E (times + 0) P) else Some Infinity) (doubled E (times + 1) P)
+    else (if k == 1 then sum_of E (Some Infinity) (doubled E (times + 0) P) else Some Infinity)) (sym odd_too) (sym odd)
+    ∙ two_bits E times d P
+
+pub twice : (E : Domain) (times : ℕ) (P : Point) → sum_of E (doubled E times P) (doubled E times P) ≡ doubled E (suc times) P
+unfolding doubled
+twice E times P = refl
+
+pub doubled_none : (E : Domain) (P : Point) → Some P ≡ doubled E 0 P
+unfolding doubled
+doubled_none E P = refl
+
+pub doubled_more : (E : Domain) (times i : ℕ) (P : Point) → sum_of E (doubled E (times + i) P) (doubled E (times + i) P) ≡ doubled E (times + (i + 1)) P
+doubled_more E times i P =
+    let next : suc (times + i) ≡ times + (i + 1) = omega arith in
+    twice E (times + i) P ∙ ap (λ n. doubled E n P) next
+
+pub multiple_none : (E : Domain) (u : ℕ) (P : Point) → Some Infinity ≡ multiple E 0 u P
+unfolding multiple
+multiple_none E u P = refl
+
+one_more : (E : Domain) (i u : ℕ) (P : Point) → sum_of E (multiple E i u P) (digit_multiple E (4 * i) 4 ((u / 16 ^ i) % 16) P) ≡ multiple E (suc i) u P
+unfolding multiple
+one_more E i u P = refl
+
+-- one more digit of a scalar
+pub multiple_more : (E : Domain) (i u rest less d : ℕ) (P : Point) → rest ≡ u / 16 ^ i → rest ≡ 16 * less + d → d < 16 →
+    sum_of E (multiple E i u P) (digit_multiple E (4 * i) 4 d P) ≡ multiple E (i + 1) u P
+multiple_more E i u rest less d P is split below =
+    let low : rest % 16 ≡ d = omega arith in
+    let here : d ≡ (u / 16 ^ i) % 16 = sym low ∙ ap (λ k. k % 16) is in
     let next : suc i ≡ i + 1 = omega arith in
-    let weight : 2 ^ (i + 1) ≡ 2 ^ i * 2 = ap (λ k. 2 ^ k) (sym next) ∙ pow-suc 2 i in
-    let whole : u * 2 ^ (i + 1) ≡ u * 2 ^ i * 2 = ap (λ k. u * k) weight ∙ omega arith in
-    omega arith
-
-pub limb_bits : (k : ℕ) → 2 ^ (64 * k) ≡ (2 ^ 64) ^ k
-limb_bits zero = pow-zero 2 ∙ sym (pow-zero (2 ^ 64))
-limb_bits (suc k) =
-    let next : 64 * suc k ≡ 64 * k + 64 = omega arith in
-    ap (λ j. 2 ^ j) next ∙ pow-add 2 (64 * k) 64 ∙ ap (λ z. z * 2 ^ 64) (limb_bits k) ∙ sym (pow-suc (2 ^ 64) k)
-
-pub ended : (u limbs i done rest : ℕ) → i ≡ 64 * limbs → rest < (2 ^ 64) ^ limbs → u * 2 ^ i ≡ done * (2 ^ 64) ^ limbs + rest → done ≡ u
-ended u limbs i done rest end small so_far =
-    let w = (2 ^ 64) ^ limbs in
-    let weight : 2 ^ i ≡ w = ap (λ k. 2 ^ k) end ∙ limb_bits limbs in
-    let whole : 0 + w * u ≡ rest + w * done = omega (arith, ap (λ k. u * k) weight) in
-    let some : 0 < w = omega arith in
-    let left : (0 + w * u) / w ≡ 0 / w + u = add-mul-div_left 0 u some in
-    let right : (rest + w * done) / w ≡ rest / w + done = add-mul-div_left rest done some in
-    let none : rest / w ≡ 0 = div-eq_of_lt small in
-    let none_too : 0 / w ≡ 0 = div-eq_of_lt some in
-    omega (arith, left, right, none, none_too, ap (λ k. k / w) whole)
-
-none_set : (E : Domain) (bits : ℕ) (P : Point) → multiple E bits 0 P ≡ Some Infinity
-unfolding multiple
-none_set E zero P = refl
-none_set E (suc bits) P =
-    let half : 0 / 2 ≡ 0 = omega arith in
-    let bit : 0 % 2 ≡ 0 = omega arith in
-    rw (half, bit, none_set E bits P) (infinity_left E (Some Infinity))
-
-spare : (E : Domain) (more bits u : ℕ) (P : Point) → u < 2 ^ bits → multiple E (bits + more) u P ≡ multiple E bits u P
-unfolding multiple
-spare E more zero u P small =
-    let nought : u ≡ 0 = omega (arith, pow-zero 2) in
-    let alone : 0 + more ≡ more = omega arith in
-    ap (λ k. multiple E k u P) alone ∙ ap (λ k. multiple E more k P) nought ∙ none_set E more P
-spare E more (suc bits) u P small =
-    let next : suc bits + more ≡ suc (bits + more) = omega arith in
-    let half : u / 2 < 2 ^ bits = omega (arith, pow-suc 2 bits) in
-    ap (λ k. multiple E k u P) next
-    ∙ ap (λ R. if u % 2 == 1 then sum_of E (sum_of E R R) (Some P) else sum_of E R R) (spare E more bits (u / 2) P half)
-
--- bits above those that hold a number change nothing
-pub spare_bits : (E : Domain) (all bits u : ℕ) (P : Point) → bits ≤ all → u < 2 ^ bits → multiple E all u P ≡ multiple E bits u P
-spare_bits E all bits u P few small =
-    let whole : all ≡ bits + (all - bits) = omega arith in
-    ap (λ k. multiple E k u P) whole ∙ spare E (all - bits) bits u P small
+    ap (λ k. sum_of E (multiple E i u P) (digit_multiple E (4 * i) 4 k P)) here ∙ one_more E i u P ∙ ap (λ n. multiple E n u P) next

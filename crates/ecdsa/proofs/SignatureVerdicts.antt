@@ -5,7 +5,7 @@ use Rattle.std.proofs.lemmas.Bool.{eq-eqb, ne_eqb, lt-ltb, le-ltb, cases_lt, iff
 use Rattle.std.specs.Int.{from_bool}
 use Rattle.ecdsa.specs.Inverse.{inverse}
 use Rattle.ecdsa.proofs.Congruence.{Same, same_add, same_mul, cancel}
-use Rattle.ecdsa.specs.Curve.{Point, Point.Infinity, Point.Affine, Domain, sum_of, multiple, sum_of_doubles, has_x, holds_by, is_key, holds}
+use Rattle.ecdsa.specs.Curve.{Point, Point.Infinity, Point.Affine, Domain, sum_of, multiple, has_x, holds_by, is_key, holds}
 use Rattle.ecdsa.specs.Residues.{NoInverse}
 use Rattle.ecdsa.specs.Stands.{IsAt, AreFor}
 use Rattle.ecdsa.proofs.Inverses.{one_is, inverse_tells}
@@ -114,7 +114,7 @@ pub holds_by_reduced : (E : Domain) (w x y e e' r i : ℕ) → e' ≡ (e + from_
 holds_by_reduced E w x y e e' r i is =
     let whole : e + from_bool false * w ≡ e = omega arith in
     let reduced : Same E.n e' e = ap (λ k. k % E.n) is ∙ mod-mod (e + from_bool false * w) E.n ∙ ap (λ k. k % E.n) whole in
-    ap (λ k. has_x E r (sum_of E (sum_of_doubles E E.bits k (Affine E.gx E.gy)) (multiple E E.bits ((r * i) % E.n) (Affine x y)))) (same_mul E.n e' e i i reduced refl)
+    ap (λ k. has_x E r (sum_of E (multiple E E.digits k (Affine E.gx E.gy)) (multiple E E.digits ((r * i) % E.n) (Affine x y)))) (same_mul E.n e' e i i reduced refl)
 
 and_assoc : (a b c : Bool) → ((a && b) && c) ≡ (a && (b && c))
 and_assoc true b c = refl

@@ -3,7 +3,7 @@ use Rattle.std.specs.Prelude.{ℕ, suc, zero, ◌+◌, ◌-◌, ◌*◌, ◌/◌
 use Rattle.ecdsa.specs.Inverse.{inverse}
 
 -- the domain parameters of a curve (SEC 1, section 3.1.1): y^2 = x^3 + a x + b modulo p, the base point (gx, gy), its order n, and
--- how many bits hold n
+-- how many hexadecimal digits hold n
 pub record Domain : Type 0 where
   pub p : ℕ
   pub a : ℕ
@@ -11,7 +11,7 @@ pub record Domain : Type 0 where
   pub gx : ℕ
   pub gy : ℕ
   pub n : ℕ
-  pub bits : ℕ
+  pub digits : ℕ
 
 -- a point of the curve: at infinity, or by its coordinates
 pub data Point : Type 0 where
@@ -46,26 +46,25 @@ abbrev pub sum_of : Domain → Option Point → Option Point → Option Point
 sum_of curve (Some point) (Some other) = sum curve point other
 sum_of curve _ _ = None
 
--- [scalar]point, by the lowest bits of the scalar, so many: twice the multiple by the other bits, and the point where the lowest
--- bit is set
-unfoldable pub multiple : Domain → ℕ → ℕ → Point → Option Point
-multiple curve zero scalar point = Some Infinity
-multiple curve (suc bits) scalar point =
-    let half = multiple curve bits (scalar / 2) point in
-    let twice = sum_of curve half half in
-    if scalar % 2 == 1 then sum_of curve twice (Some point) else twice
-
 -- the point doubled so often
 unfoldable pub doubled : Domain → ℕ → Point → Option Point
 doubled curve zero point = Some point
 doubled curve (suc times) point = sum_of curve (doubled curve times point) (doubled curve times point)
 
--- [scalar]point, by the lowest bits of the scalar, so many: the sum of the doubles of the point whose bit is set, from the lowest
-unfoldable pub sum_of_doubles : Domain → ℕ → ℕ → Point → Option Point
-sum_of_doubles curve zero scalar point = Some Infinity
-sum_of_doubles curve (suc bits) scalar point =
-    let lower = sum_of_doubles curve bits scalar point in
-    if (scalar / 2 ^ bits) % 2 == 1 then sum_of curve lower (doubled curve bits point) else lower
+-- [digit] of the point doubled so often, by the digit's lowest bits, so many: the sum of those doubles of it whose bit is set, from
+-- the lowest bit
+unfoldable pub digit_multiple : Domain → ℕ → ℕ → ℕ → Point → Option Point
+digit_multiple curve times zero digit point = Some Infinity
+digit_multiple curve times (suc bits) digit point =
+    let lower = digit_multiple curve times bits digit point in
+    if (digit / 2 ^ bits) % 2 == 1 then sum_of curve lower (doubled curve (times + bits) point) else lower
+
+-- [scalar]point (section 2.2.1), by the scalar's lowest hexadecimal digits, so many: the sum, from the lowest digit, of each digit's
+-- multiple of the point doubled four times as often as there are digits below it
+unfoldable pub multiple : Domain → ℕ → ℕ → Point → Option Point
+multiple curve zero scalar point = Some Infinity
+multiple curve (suc digits) scalar point =
+    sum_of curve (multiple curve digits scalar point) (digit_multiple curve (4 * digits) 4 ((scalar / 16 ^ digits) % 16) point)
 
 -- r is x of the point, modulo n (section 4.1.4, steps 6 to 8)
 abbrev pub has_x : Domain → ℕ → Option Point → Bool
@@ -77,8 +76,8 @@ abbrev pub holds_by : Domain → ℕ → ℕ → ℕ → ℕ → Option ℕ → 
 holds_by curve key_x key_y hash r None = false
 holds_by curve key_x key_y hash r (Some inverse_of_s) =
     has_x curve r (sum_of curve
-    (sum_of_doubles curve curve.bits ((hash * inverse_of_s) % curve.n) (Affine curve.gx curve.gy))
-    (multiple curve curve.bits ((r * inverse_of_s) % curve.n) (Affine key_x key_y)))
+    (multiple curve curve.digits ((hash * inverse_of_s) % curve.n) (Affine curve.gx curve.gy))
+    (multiple curve curve.digits ((r * inverse_of_s) % curve.n) (Affine key_x key_y)))
 
 -- the key is on the curve (section 3.2.2.1; its order is n, since the cofactor is 1)
 unfoldable pub is_key : Domain → ℕ → ℕ → Bool

@@ -14,7 +14,7 @@ domain C = record {
   gx = value C.field C.gx;
   gy = value C.field C.gy;
   n = size C.order;
-  bits = C.bits;
+  digits = C.digits;
 }
 
 -- ---- Cited by contracts of private functions alone

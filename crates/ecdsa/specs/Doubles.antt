@@ -1,5 +1,5 @@
 -- The doubles of a curve's base point, as a table has them.
-use Rattle.std.specs.Prelude.{ℕ, ◌≡◌, suc, List, [], ◌∷◌, length}
+use Rattle.std.specs.Prelude.{ℕ, ◌≡◌, ◌*◌, suc, List, [], ◌∷◌, length}
 use Rattle.ecdsa.specs.Curve.{Domain, Point, Point.Affine, doubled}
 use Rattle.ecdsa.specs.declared.field.Field.{Field}
 use Rattle.ecdsa.specs.Field.{size, value, Below}
@@ -20,5 +20,5 @@ Rows f E i P (x ∷ xs) (y ∷ ys) = DoublesRow f E i P x y × Rows f E (suc i) 
 
 -- all the doubles of the base point that a multiple may need
 pub record IsTable {N KIND : ℕ} (f : Field N KIND) (E : Domain) (xs ys : List (List ℕ)) : Type 0 where
-  pub long : length xs ≡ E.bits
+  pub long : length xs ≡ 4 * E.digits
   pub rows : Rows f E 0 (Affine E.gx E.gy) xs ys

@@ -10,14 +10,16 @@ pub mod Curves
 pub mod Ecdsa
 -- the primes of P-256 and P-521 (NIST SP 800-186, sections 3.2.1.3 and 3.2.1.5)
 pub mod Primes
--- ---- What laws alone cite
-
 -- congruence modulo m, and what has an inverse
 pub mod Residues
 -- numbers modulo n, in the form of Montgomery over limbs
 pub mod Field
 -- jacobian coordinates that stand for a result of the curve's definition
 pub mod Stands
+-- tables of a point's windows, by the hexadecimal digits of a scalar
+pub mod Windows
+-- ---- What laws alone cite
+
 -- the definition's parameters of a curve as it is held
 pub mod Domains
 -- the doubles of a curve's base point, as a table has them

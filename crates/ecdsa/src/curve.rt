@@ -5,7 +5,7 @@ ghost use Rattle.std.specs.Prelude.{◌≡◌, ◌<◌, ◌≤◌, ◌*◌, ◌^
 
 use crate::field::{ANY_MODULUS, Field};
 
-/// The field, the field of the order, in Montgomery's form b and the base point, and how many bits hold the order.
+/// The field, the field of the order, in Montgomery's form b and the base point, and how many hexadecimal digits hold the order.
 #[derive(Clone, Copy)]
 pub struct Curve<const N: usize, const KIND: usize> {
     pub field: Field<N, KIND>,
@@ -13,12 +13,11 @@ pub struct Curve<const N: usize, const KIND: usize> {
     pub b: [u64; N],
     pub gx: [u64; N],
     pub gy: [u64; N],
-    pub bits: usize,
+    pub digits: usize,
     pub ghost b_below: { number b < number field.n },
     pub ghost gx_below: { number gx < number field.n },
     pub ghost gy_below: { number gy < number field.n },
-    pub ghost few_bits: { bits ≤ 64 * N },
-    pub ghost held: { number order.n ≤ 2 ^ bits },
+    pub ghost few_digits: { digits ≤ 16 * N },
     pub ghost near: { number field.n < 2 * number order.n },
 }
 
@@ -31,5 +30,21 @@ impl<const N: usize, const KIND: usize> Curve<N, KIND> {
         ensures below { Below self.now.field result }
     {
         self.b
+    }
+
+    /// x of the base point, in the field's form.
+    pub fn gx_form(&self) -> [u64; N]
+        ensures is { result ≡ self.now.gx }
+        ensures below { Below self.now.field result }
+    {
+        self.gx
+    }
+
+    /// y of the base point, in the field's form.
+    pub fn gy_form(&self) -> [u64; N]
+        ensures is { result ≡ self.now.gy }
+        ensures below { Below self.now.field result }
+    {
+        self.gy
     }
 }

@@ -8,13 +8,19 @@
 //! ```
 //!
 //! The definition is the standard's own sum of points in affine coordinates (`specs/Curve.antt`); the code works in Jacobian
-//! coordinates over limbs in Montgomery's form, with a table of the doubles of each base point. All of it serves to verify, which
-//! has no secret: the time that a call takes tells its arguments. Nothing here allocates.
+//! coordinates over limbs in Montgomery's form, with a table of the doubles of each base point, and one of the windows of a key that
+//! is prepared (`PreparedKeys`). All of it serves to verify, which has no secret: the time that a call takes tells its arguments.
+//! Preparing a key allocates, and nothing else here.
 #![tactic(auto)]
 
 pub use keys::{is_p256_key, is_p384_key, is_p521_key};
+pub use prepared::{
+    PreparedKeys, prepare_p256, prepare_p384, prepare_p521, verifies_p256_by, verifies_p384_by,
+    verifies_p521_by,
+};
 pub use verifying::{verifies_p256, verifies_p384, verifies_p521};
 
+mod asserted;
 mod constants;
 mod curve;
 mod euclid;
@@ -31,7 +37,9 @@ mod p384_doubles;
 mod p521_doubles;
 mod p521_prime;
 mod point;
+mod prepared;
 mod signatures;
 mod sums;
 mod tables;
 pub mod verifying;
+mod windows;

@@ -8,6 +8,7 @@ ghost use Rattle.ecdsa.specs.Domains.{domain};
 ghost use Rattle.ecdsa.specs.Doubles.{IsTable};
 ghost use Rattle.ecdsa.specs.Field.{size, value, Below};
 ghost use Rattle.ecdsa.specs.Stands.{IsBelow, AreFor, Stands};
+ghost use Rattle.ecdsa.specs.Windows.{AreBelow, AreWindows};
 
 use crate::curve::Curve;
 use crate::field::Field;
@@ -16,6 +17,7 @@ use crate::multiples::multiple;
 use crate::point::Point;
 use crate::sums::add;
 use crate::tables::{Doubles, base_multiple};
+use crate::windows::{Windows, window_multiple};
 
 /// The finite point at forms x and y.
 pub fn affine<const N: usize, const KIND: usize>(
@@ -149,20 +151,65 @@ pub struct Claimed<const N: usize> {
     pub s: [u64; N],
 }
 
+/// What is at hand to multiply by: the doubles of the base point, and windows of it and of the key, where they were prepared.
+#[derive(Clone, Copy)]
+pub struct Tables<'a, const N: usize> {
+    pub doubles: Doubles<'a, N>,
+    pub base: Option<&'a Windows<N>>,
+    pub key: Option<&'a Windows<N>>,
+}
+
+/// The multiple of the base point: by its windows, else by its doubles.
+fn multiple_of_base<const N: usize, const KIND: usize>(
+    curve: &Curve<N, KIND>,
+    tables: &Tables<'_, N>,
+    u: [u64; N],
+) -> Option<Point<N>>
+    requires table { IsTable curve.now.field (domain curve.now) tables.now.doubles.xs.now tables.now.doubles.ys.now }
+    requires base { IfSome tables.now.base (λ t. AreBelow (domain curve.now) t.now.xs.items t.now.ys.items) }
+    ensures below { IfSome result (λ q. IsBelow curve.now.field q) }
+    ensures stands { IfSome tables.now.base (λ t. AreWindows N (domain curve.now) (Affine (domain curve.now).gx (domain curve.now).gy) t.now.xs.items t.now.ys.items) → Stands curve.now.field result (multiple (domain curve.now) curve.now.digits (number u.entry) (Affine (domain curve.now).gx (domain curve.now).gy)) }
+{
+    match tables.base {
+        None => base_multiple(curve, tables.doubles.xs, tables.doubles.ys, u),
+        Some(windows) => window_multiple(curve, windows, u),
+    }
+}
+
+/// The multiple of the key: by its windows, else by its own doubles.
+fn multiple_of_key<const N: usize, const KIND: usize>(
+    curve: &Curve<N, KIND>,
+    tables: &Tables<'_, N>,
+    u: [u64; N],
+    key: Point<N>,
+) -> Option<Point<N>>
+    requires windows { IfSome tables.now.key (λ t. AreBelow (domain curve.now) t.now.xs.items t.now.ys.items) }
+    requires key { IsBelow curve.now.field key }
+    ensures below { IfSome result (λ q. IsBelow curve.now.field q) }
+    ensures stands { (P : CurvePoint) → IfSome tables.now.key (λ t. AreWindows N (domain curve.now) P t.now.xs.items t.now.ys.items) → AreFor (size curve.now.field) (value curve.now.field key.entry.x) (value curve.now.field key.entry.y) (value curve.now.field key.entry.z) (Some P) → Stands curve.now.field result (multiple (domain curve.now) curve.now.digits (number u.entry) P) }
+{
+    match tables.key {
+        None => multiple(curve, u, key),
+        Some(windows) => window_multiple(curve, windows, u),
+    }
+}
+
 /// Whether x of [e w]G + [r w]Q is r modulo n, with this e in place of the hash.
 fn holds_at<const N: usize, const KIND: usize>(
     curve: &Curve<N, KIND>,
-    doubles: &Doubles<'_, N>,
+    tables: &Tables<'_, N>,
     claimed: &Claimed<N>,
     e: [u64; N],
     w: [u64; N],
 ) -> bool
-    requires table { IsTable curve.now.field (domain curve.now) doubles.now.xs.now doubles.now.ys.now }
+    requires table { IsTable curve.now.field (domain curve.now) tables.now.doubles.xs.now tables.now.doubles.ys.now }
+    requires base { IfSome tables.now.base (λ t. AreBelow (domain curve.now) t.now.xs.items t.now.ys.items) }
+    requires key { IfSome tables.now.key (λ t. AreBelow (domain curve.now) t.now.xs.items t.now.ys.items) }
     requires x { number claimed.now.x < size curve.now.field }
     requires y { number claimed.now.y < size curve.now.field }
     requires e { number e < size curve.now.order }
     requires r { number claimed.now.r < size curve.now.order }
-    ensures { result ≡ holds_by (domain curve.now) (number claimed.now.x) (number claimed.now.y) (number e.entry) (number claimed.now.r) (Some (value curve.now.order w.entry)) }
+    ensures { IfSome tables.now.base (λ t. AreWindows N (domain curve.now) (Affine (domain curve.now).gx (domain curve.now).gy) t.now.xs.items t.now.ys.items) → IfSome tables.now.key (λ t. AreWindows N (domain curve.now) (Affine (number claimed.now.x) (number claimed.now.y)) t.now.xs.items t.now.ys.items) → result ≡ holds_by (domain curve.now) (number claimed.now.x) (number claimed.now.y) (number e.entry) (number claimed.now.r) (Some (value curve.now.order w.entry)) }
 {
     let f = &curve.field;
     let x_form = f.form(claimed.x);
@@ -170,8 +217,8 @@ fn holds_at<const N: usize, const KIND: usize>(
     let key = affine(f, x_form, y_form);
     let u = curve.order.scaled(e, w);
     let v = curve.order.scaled(claimed.r, w);
-    let first = base_multiple(curve, doubles.xs, doubles.ys, u);
-    let second = multiple(curve, v, key);
+    let first = multiple_of_base(curve, tables, u);
+    let second = multiple_of_key(curve, tables, v, key);
     let sum = add(curve, first, second);
     has_x(curve, sum, claimed.r)
 }
@@ -179,23 +226,25 @@ fn holds_at<const N: usize, const KIND: usize>(
 /// The same with the hash and the inverse of s, if there is one.
 fn holds_with<const N: usize, const KIND: usize>(
     curve: &Curve<N, KIND>,
-    doubles: &Doubles<'_, N>,
+    tables: &Tables<'_, N>,
     claimed: &Claimed<N>,
 ) -> bool
-    requires table { IsTable curve.now.field (domain curve.now) doubles.now.xs.now doubles.now.ys.now }
+    requires table { IsTable curve.now.field (domain curve.now) tables.now.doubles.xs.now tables.now.doubles.ys.now }
+    requires base { IfSome tables.now.base (λ t. AreBelow (domain curve.now) t.now.xs.items t.now.ys.items) }
+    requires key { IfSome tables.now.key (λ t. AreBelow (domain curve.now) t.now.xs.items t.now.ys.items) }
     requires x { number claimed.now.x < size curve.now.field }
     requires y { number claimed.now.y < size curve.now.field }
     requires e { number claimed.now.e < 2 * size curve.now.order }
     requires r { number claimed.now.r < size curve.now.order }
     requires s { number claimed.now.s < size curve.now.order }
-    ensures { result ≡ holds_by (domain curve.now) (number claimed.now.x) (number claimed.now.y) (number claimed.now.e) (number claimed.now.r) (the_inverse (size curve.now.order) (number claimed.now.s)) }
+    ensures { IfSome tables.now.base (λ t. AreWindows N (domain curve.now) (Affine (domain curve.now).gx (domain curve.now).gy) t.now.xs.items t.now.ys.items) → IfSome tables.now.key (λ t. AreWindows N (domain curve.now) (Affine (number claimed.now.x) (number claimed.now.y)) t.now.xs.items t.now.ys.items) → result ≡ holds_by (domain curve.now) (number claimed.now.x) (number claimed.now.y) (number claimed.now.e) (number claimed.now.r) (the_inverse (size curve.now.order) (number claimed.now.s)) }
 {
     let form = curve.order.form(claimed.s);
     match curve.order.inverse(form) {
         None => false,
         Some(w) => {
             let rest = reduce(claimed.e, false, curve.order.n);
-            holds_at(curve, doubles, claimed, rest, w)
+            holds_at(curve, tables, claimed, rest, w)
         }
     }
 }
@@ -203,12 +252,14 @@ fn holds_with<const N: usize, const KIND: usize>(
 /// Whether r and s are a signature of the hash by the key.
 pub fn holds<const N: usize, const KIND: usize>(
     curve: &Curve<N, KIND>,
-    doubles: &Doubles<'_, N>,
+    tables: &Tables<'_, N>,
     claimed: &Claimed<N>,
 ) -> bool
-    requires table { IsTable curve.now.field (domain curve.now) doubles.now.xs.now doubles.now.ys.now }
+    requires table { IsTable curve.now.field (domain curve.now) tables.now.doubles.xs.now tables.now.doubles.ys.now }
+    requires base { IfSome tables.now.base (λ t. AreBelow (domain curve.now) t.now.xs.items t.now.ys.items) }
+    requires key { IfSome tables.now.key (λ t. AreBelow (domain curve.now) t.now.xs.items t.now.ys.items) }
     requires e { number claimed.now.e < 2 * size curve.now.order }
-    ensures { result ≡ holds (domain curve.now) (number claimed.now.x) (number claimed.now.y) (number claimed.now.e) (number claimed.now.r) (number claimed.now.s) }
+    ensures { IfSome tables.now.base (λ t. AreWindows N (domain curve.now) (Affine (domain curve.now).gx (domain curve.now).gy) t.now.xs.items t.now.ys.items) → IfSome tables.now.key (λ t. AreWindows N (domain curve.now) (Affine (number claimed.now.x) (number claimed.now.y)) t.now.xs.items t.now.ys.items) → result ≡ holds (domain curve.now) (number claimed.now.x) (number claimed.now.y) (number claimed.now.e) (number claimed.now.r) (number claimed.now.s) }
 {
     if !is_scalar(claimed.r, curve.order.n) {
         return false;
@@ -219,5 +270,5 @@ pub fn holds<const N: usize, const KIND: usize>(
     if !is_key(curve, claimed.x, claimed.y) {
         return false;
     }
-    holds_with(curve, doubles, claimed)
+    holds_with(curve, tables, claimed)
 }

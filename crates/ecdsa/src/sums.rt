@@ -108,6 +108,22 @@ pub fn double<const N: usize, const KIND: usize>(
     }
 }
 
+/// The sum of two finite points that have z = 1.
+pub fn add_pair<const N: usize, const KIND: usize>(
+    curve: &Curve<N, KIND>,
+    p: Point<N>,
+    q: Point<N>,
+) -> Option<Point<N>>
+    requires p { IsBelow curve.now.field p }
+    requires q { IsBelow curve.now.field q }
+    requires one { value curve.now.field p.z ≡ 1 }
+    requires one_too { value curve.now.field q.z ≡ 1 }
+    ensures below { IfSome result (λ q. IsBelow curve.now.field q) }
+    ensures stands { (left right : Option CurvePoint) → AreFor (size curve.now.field) (value curve.now.field p.entry.x) (value curve.now.field p.entry.y) (value curve.now.field p.entry.z) left → AreFor (size curve.now.field) (value curve.now.field q.entry.x) (value curve.now.field q.entry.y) (value curve.now.field q.entry.z) right → Stands curve.now.field result (sum_of (domain curve.now) left right) }
+{
+    add_over(curve, p.x, p.y, q.x, q.y, p.z)
+}
+
 /// The sum of two finite points, of which the second has z = 1.
 fn add_two_affine<const N: usize, const KIND: usize>(
     curve: &Curve<N, KIND>,

@@ -1,17 +1,18 @@
 //! Multiples of the base point by a table of its doubles.
 
-ghost use Rattle.std.specs.Prelude.{◌≡◌, ℕ, ◌*◌, ◌^◌, ◌<◌, Option, IfSome, if◌then◌else◌, length};
+ghost use Rattle.std.specs.Prelude.{◌≡◌, ℕ, ◌+◌, ◌*◌, ◌<◌, Option, IfSome, if◌then◌else◌, length};
 ghost use Rattle.numbers.specs.Limbs.{number};
-ghost use Rattle.ecdsa.specs.Curve.{Point as CurvePoint, Point.Affine, sum_of, doubled, sum_of_doubles};
+ghost use Rattle.ecdsa.specs.Curve.{Point as CurvePoint, Point.Affine, sum_of, doubled, digit_multiple, multiple};
 ghost use Rattle.ecdsa.specs.Domains.{domain};
 ghost use Rattle.ecdsa.specs.Doubles.{IsTable};
 ghost use Rattle.ecdsa.specs.Field.{size, value, Below};
 ghost use Rattle.ecdsa.specs.Stands.{IsBelow, AreFor, Stands};
 
 use crate::curve::Curve;
-use crate::limbs::halve;
+use crate::multiples::lowest_digit;
 use crate::point::Point;
-use crate::sums::add_affine;
+use crate::sums::{add, add_affine, add_pair};
+use numbers::{highest_bit, highest_power};
 
 /// The sum with a finite point where the bit is set.
 fn next<const N: usize, const KIND: usize>(
@@ -32,6 +33,13 @@ fn next<const N: usize, const KIND: usize>(
     p
 }
 
+/// The table of the doubles of a curve's base point: the coordinates of each.
+#[derive(Clone, Copy)]
+pub struct Doubles<'a, const N: usize> {
+    pub xs: &'a [[u64; N]],
+    pub ys: &'a [[u64; N]],
+}
+
 /// The base point doubled so often, of the table.
 fn double_at<const N: usize, const KIND: usize>(
     curve: &Curve<N, KIND>,
@@ -41,7 +49,7 @@ fn double_at<const N: usize, const KIND: usize>(
     one: [u64; N],
 ) -> Point<N>
     requires table { IsTable curve.now.field (domain curve.now) xs.now ys.now }
-    requires i { i < curve.now.bits }
+    requires i { i < 4 * curve.now.digits }
     requires below { Below curve.now.field one }
     requires one { value curve.now.field one ≡ 1 }
     ensures below { IsBelow curve.now.field result }
@@ -53,14 +61,88 @@ fn double_at<const N: usize, const KIND: usize>(
     Point { x, y, z: one }
 }
 
-/// The table of the doubles of a curve's base point: the coordinates of each.
-#[derive(Clone, Copy)]
-pub struct Doubles<'a, const N: usize> {
-    pub xs: &'a [[u64; N]],
-    pub ys: &'a [[u64; N]],
+/// The sum of the doubles of the two lowest bits of a digit that are set: both have z = 1.
+fn lower_half<const N: usize, const KIND: usize>(
+    curve: &Curve<N, KIND>,
+    xs: &[[u64; N]],
+    ys: &[[u64; N]],
+    place: usize,
+    digit: usize,
+    one: [u64; N],
+) -> Option<Point<N>>
+    requires table { IsTable curve.now.field (domain curve.now) xs.now ys.now }
+    requires place { place < curve.now.digits }
+    requires below { Below curve.now.field one }
+    requires one { value curve.now.field one ≡ 1 }
+    ensures below { IfSome result (λ q. IsBelow curve.now.field q) }
+    ensures stands { Stands curve.now.field result (digit_multiple (domain curve.now) (4 * place) 2 digit (Affine (domain curve.now).gx (domain curve.now).gy)) }
+{
+    let first = double_at(curve, xs, ys, 4 * place, one);
+    let second = double_at(curve, xs, ys, 4 * place + 1, one);
+    if digit % 2 == 0 {
+        return next(curve, None, (digit / 2) % 2 == 1, second);
+    }
+    if (digit / 2) % 2 == 0 {
+        return Some(first);
+    }
+    add_pair(curve, first, second)
 }
 
-/// The multiple of the base point: the sum of its doubles whose bit is set, from the lowest.
+/// What a digit of the scalar adds to the multiple of the base point: the sum of the doubles whose bit is set, from the lowest.
+fn step<const N: usize, const KIND: usize>(
+    curve: &Curve<N, KIND>,
+    xs: &[[u64; N]],
+    ys: &[[u64; N]],
+    place: usize,
+    digit: usize,
+    one: [u64; N],
+) -> Option<Point<N>>
+    requires table { IsTable curve.now.field (domain curve.now) xs.now ys.now }
+    requires place { place < curve.now.digits }
+    requires below { Below curve.now.field one }
+    requires one { value curve.now.field one ≡ 1 }
+    ensures below { IfSome result (λ q. IsBelow curve.now.field q) }
+    ensures stands { Stands curve.now.field result (digit_multiple (domain curve.now) (4 * place) 4 digit (Affine (domain curve.now).gx (domain curve.now).gy)) }
+{
+    let mut sum = lower_half(curve, xs, ys, place, digit, one);
+    let mut rest = digit / 4;
+    'bits: for bit in 2..4usize {
+        let double = double_at(curve, xs, ys, 4 * place + bit, one);
+        sum = next(curve, sum, rest % 2 == 1, double);
+        rest = rest / 2;
+    }
+    sum
+}
+
+/// The sum with what a digit adds, which is one of the doubles where one bit is set.
+fn next_digit<const N: usize, const KIND: usize>(
+    curve: &Curve<N, KIND>,
+    xs: &[[u64; N]],
+    ys: &[[u64; N]],
+    sum: Option<Point<N>>,
+    place: usize,
+    digit: usize,
+    one: [u64; N],
+) -> Option<Point<N>>
+    requires table { IsTable curve.now.field (domain curve.now) xs.now ys.now }
+    requires sum { IfSome sum (λ q. IsBelow curve.now.field q) }
+    requires place { place < curve.now.digits }
+    requires digit { digit < 16 }
+    requires below { Below curve.now.field one }
+    requires one { value curve.now.field one ≡ 1 }
+    ensures below { IfSome result (λ q. IsBelow curve.now.field q) }
+    ensures stands { (R : Option CurvePoint) → Stands curve.now.field sum.entry R → Stands curve.now.field result (sum_of (domain curve.now) R (digit_multiple (domain curve.now) (4 * place) 4 digit (Affine (domain curve.now).gx (domain curve.now).gy))) }
+{
+    if digit == highest_power(digit) {
+        let bit = highest_bit(digit);
+        let double = double_at(curve, xs, ys, 4 * place + bit, one);
+        return add_affine(curve, sum, double);
+    }
+    let here = step(curve, xs, ys, place, digit, one);
+    add(curve, sum, here)
+}
+
+/// The multiple of the base point.
 pub fn base_multiple<const N: usize, const KIND: usize>(
     curve: &Curve<N, KIND>,
     xs: &[[u64; N]],
@@ -69,17 +151,16 @@ pub fn base_multiple<const N: usize, const KIND: usize>(
 ) -> Option<Point<N>>
     requires table { IsTable curve.now.field (domain curve.now) xs.now ys.now }
     ensures below { IfSome result (λ q. IsBelow curve.now.field q) }
-    ensures stands { Stands curve.now.field result (sum_of_doubles (domain curve.now) curve.now.bits (number u.entry) (Affine (domain curve.now).gx (domain curve.now).gy)) }
+    ensures stands { Stands curve.now.field result (multiple (domain curve.now) curve.now.digits (number u.entry) (Affine (domain curve.now).gx (domain curve.now).gy)) }
 {
     let mut sum = None;
     let mut rest = u;
-    let bits = curve.bits;
+    let digits = curve.digits;
     let one = curve.field.one();
-    'bits: for i in 0..bits {
-        let (half, set) = halve(rest);
-        let double = double_at(curve, xs, ys, i, one);
-        sum = next(curve, sum, set, double);
-        rest = half;
+    'digits: for place in 0..digits {
+        let split = lowest_digit(rest);
+        sum = next_digit(curve, xs, ys, sum, place, split.lowest, one);
+        rest = split.rest;
     }
     sum
 }

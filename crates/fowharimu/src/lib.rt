@@ -10,14 +10,14 @@
 //! ```
 //!
 //! A [`Validator`] is made once and judges each token that comes; a [`Remembering`] also keeps the tokens that it accepted, and answers the
-//! same of them at once. Its verifiers are for public keys: [`Rsa`], [`Ecdsa`] and
-//! [`Ed25519`] are three, and a caller's own is a [`Verifier`]. The [`Report`] has the [`Verdict`], what became of each signature, and each try of a
+//! same of them at once. Its verifiers are for public keys: [`BuiltIn`] is one for all of [`Rsa`], [`Ecdsa`] and [`Ed25519`], which may have
+//! keys prepared, and a caller's own is a [`Verifier`]. The [`Report`] has the [`Verdict`], what became of each signature, and each try of a
 //! key with its cost.
 //!
 //! An [`AccessRule`] says what an accepted token may do, by [`AccessRule::denial`] of its claims.
 //!
 //! Each other name here is that of one of the libraries below: `jwt_text`, `jwt_mac`, `jwt_keys`, `jwt_jws`, `jwt_policy`, `jwt_access`,
-//! `jwt_verify`, `jwt_memory`, `jwt_issue`, `jwt_rsa`, `jwt_ecdsa` and `jwt_ed25519`. Their modules `laws` stand here as `access_laws`,
+//! `jwt_verify`, `jwt_memory`, `jwt_issue`, `jwt_built_in`, `jwt_rsa`, `jwt_ecdsa` and `jwt_ed25519`. Their modules `laws` stand here as `access_laws`,
 //! `token_laws`, of issuing, `memory_laws` and `verdict_laws`.
 #![tactic(auto)]
 
@@ -42,6 +42,7 @@ pub use jwt_memory::{Basis, Outcome};
 pub use remembering::Remembering;
 
 // Verifiers of signatures by public keys.
+pub use jwt_built_in::{BuiltIn, PREPARED_KEYS};
 pub use jwt_ecdsa::Ecdsa;
 pub use jwt_ed25519::Ed25519;
 pub use jwt_mac::{Answer, EcCurve, EdCurve, KeyView, Message, Verifier};

@@ -17,13 +17,11 @@ ghost use Rattle.jwt_memory.specs.Kept.{AreKept};
 ghost use Rattle.jwt_memory.specs.Outcomes.{report_in, paid_in, is_remembered, IsFound, KeepsOnly};
 ghost use Rattle.fowharimu.specs.Remembering.{built_in, terms_of_documents};
 
-use jwt_ecdsa::Ecdsa;
-use jwt_ed25519::Ed25519;
+use jwt_built_in::{BuiltIn, PREPARED_KEYS};
 use jwt_keys::KeySet;
 use jwt_mac::{Budget, Verifier};
 use jwt_memory::{Memory, Outcome};
 use jwt_policy::Policy;
-use jwt_rsa::Rsa;
 use jwt_told::untried;
 use jwt_verify::Terms;
 use std::alloc::{AllocError, Global};
@@ -32,12 +30,13 @@ use std::num::NonZeroUsize;
 
 /// A policy and the keys of an issuer with a memory of the tokens that they accept, for a service that sees the same token many times.
 ///
-/// Signatures are verified by HMAC, [`Rsa`], [`Ecdsa`] and [`Ed25519`]. A token that comes again is found by its octets, all of which are
+/// Signatures are verified by HMAC and [`BuiltIn`], which has the first 16 keys of the set that can be prepared (see
+/// [`BuiltIn::prepared`] for what that costs, and [`Remembering::prepare`] for another number). A token that comes again is found by its octets, all of which are
 /// compared, and only its claims are looked at anew: the verdict and the report are those of
 /// [`Validator::judge`](crate::Validator::judge). The policy and the keys can't change while the memory lasts: new keys begin a new one.
 ///
-/// Accepted tokens and their claims lie in the memory until they go, and aren't wiped. A kept token of 179 octets takes some 850, one of 1,300
-/// octets with 26 claims some 3,200; none takes more than some twelve times its octets.
+/// Accepted tokens, their claims and their payloads lie in the memory until they go, and aren't wiped. A kept token of 179 octets takes some 950, one
+/// of 1,300 octets with 26 claims some 4,200; none takes more than some thirteen times its octets.
 ///
 /// ```rust
 /// let tokens = NonZeroUsize::new(1000).ok_or(NoRoom)?;
@@ -51,6 +50,7 @@ pub struct Remembering<'p> {
     policy: &'p Policy,
     keys: &'p KeySet,
     memory: Memory,
+    verifier: BuiltIn,
 }
 
 impl<'p> Model for Remembering<'p> {
@@ -71,15 +71,15 @@ impl<'p> Model for Remembering<'p> {
     ghost invariant = { λ r. AreKept r.policy.now r.keys.now built_in r.memory };
 }
 
-/// The terms of a verdict by verifiers that mean what the built-in ones do.
+/// The terms of a verdict by verifiers that mean what the built-in one does.
 fn built_in_terms<'k, 'p, 'v>(
     policy: &'p Policy,
     keys: &'k KeySet,
     now: i64,
     verifiers: &'v [Box<dyn Verifier>],
 ) -> Terms<'k, 'p, 'v>
-    requires three { map meaning verifiers.now ≡ built_in }
-    ensures three { map meaning result.verifiers.now ≡ built_in }
+    requires one { map meaning verifiers.now ≡ built_in }
+    ensures one { map meaning result.verifiers.now ≡ built_in }
     ensures policy { result.policy.now ≡ policy.now }
     ensures keys { result.keys.now ≡ keys.now }
     ensures moment { result.moment ≡ now }
@@ -100,7 +100,7 @@ fn judge_under<'p, B: Budget>(
     under: &Terms<'_, 'p, '_>,
     budget: &mut B,
 ) -> Outcome<'p>
-    requires three { map (λ b. meaning (b.vtable, b.value)) under.now.verifiers.now ≡ built_in }
+    requires one { map (λ b. meaning (b.vtable, b.value)) under.now.verifiers.now ≡ built_in }
     requires no_octets { B.octets budget.old ≡ 0 }
     requires no_calls { B.calls budget.old ≡ 0 }
     requires kept { AreKept under.now.policy.now under.now.keys.now built_in memory.old }
@@ -136,7 +136,7 @@ impl<'p> Remembering<'p> {
     /// With an empty memory, for at most so many tokens of at most so many octets each.
     ///
     /// # Errors
-    /// Where an allocation was refused.
+    /// Where an allocation was refused, one for preparing keys aside.
     pub fn new(
         alloc: Global,
         policy: &'p Policy,
@@ -154,11 +154,19 @@ impl<'p> Remembering<'p> {
             policy,
             keys,
             memory,
+            verifier: BuiltIn::prepared(alloc, keys, PREPARED_KEYS),
         })
     }
 
+    /// Prepares the first keys of the set that can be prepared, at most so many, in place of those that are. No verdict changes.
+    pub fn prepare(&mut self, alloc: Global, most: usize)
+        ensures { self.new ≡ self.old }
+    {
+        self.verifier = BuiltIn::prepared(alloc, self.keys, most);
+    }
+
     /// The verdict on octets in hand, as [`Validator::judge`](crate::Validator::judge) gives it by this policy, these keys and the
-    /// built-in verifiers, with what was paid in this call: nothing, where the token was remembered.
+    /// built-in verifier, with what was paid in this call: nothing, where the token was remembered.
     ///
     /// `now` is in seconds since 1970-01-01T00:00:00Z. The condition: the budget is new. Its ceiling alone is looked at, and
     /// [`Policy::budget`] makes one with the policy's `work`.
@@ -206,16 +214,10 @@ impl<'p> Remembering<'p> {
         ensures room { HasRoomOf self.new.memory self.old.memory }
         ensures held { KeepsOnly octets.now (B.ceiling budget.old) (report_in result) self.old.memory self.new.memory }
     {
-        let Ok(rsa) = Box::new(alloc, Rsa) else {
+        let Ok(verifier) = Box::new(alloc, self.verifier.share()) else {
             return Outcome::Judged(untried(alloc, octets, self.policy));
         };
-        let Ok(ecdsa) = Box::new(alloc, Ecdsa) else {
-            return Outcome::Judged(untried(alloc, octets, self.policy));
-        };
-        let Ok(ed25519) = Box::new(alloc, Ed25519) else {
-            return Outcome::Judged(untried(alloc, octets, self.policy));
-        };
-        let verifiers: [Box<dyn Verifier>; 3] = [rsa, ecdsa, ed25519];
+        let verifiers: [Box<dyn Verifier>; 1] = [verifier];
         let terms = built_in_terms(self.policy, self.keys, now, &verifiers);
         judge_under(&mut self.memory, alloc, octets, &terms, budget)
     }

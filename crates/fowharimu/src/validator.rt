@@ -23,7 +23,7 @@ use std::alloc::Global;
 ///
 /// ```rust
 /// let mut verifiers: Vec<Box<dyn Verifier>> = Vec::new(alloc);
-/// verifiers.push(Box::new(alloc, Rsa)?)?;
+/// verifiers.push(Box::new(alloc, BuiltIn::prepared(alloc, &keys, PREPARED_KEYS))?)?;
 /// let validator = Validator { policy, keys, verifiers };
 /// let report = validator.validate(alloc, &mut source, now, &mut validator.policy.budget());
 /// ```

@@ -1,5 +1,5 @@
 -- One run of a workload.
-use Rattle.std.specs.Prelude.{ℕ, Bool, true, false, ◌&&◌, List, [], length, pos, nat_le, None, Result, if◌then◌else◌}
+use Rattle.std.specs.Prelude.{ℕ, Bool, true, false, ◌&&◌, List, [], ◌∷◌, length, pos, nat_le, None, Result, if◌then◌else◌}
 use Rattle.std.specs.Result.{is_ok}
 use Rattle.std.specs.Option.{option_map_or}
 use Rattle.std.specs.Str.{bytes_eq}
@@ -7,6 +7,7 @@ use Rattle.jwt_text.specs.ObjectText.{object_of}
 use Rattle.jwt_mac.specs.Algorithm.{is_hmac_alg, tag_of, cost_of}
 use Rattle.jwt_mac.specs.Verifying.{Meaning}
 use Rattle.jwt_mac.specs.declared.algorithm.Alg.{Alg}
+use Rattle.jwt_built_in.specs.Meanings.{built_in_meaning}
 use Rattle.jwt_keys.specs.Keys.{KeyParts}
 use Rattle.jwt_keys.specs.KeySets.{key_set_of}
 use Rattle.jwt_jws.specs.Forms.{form_of}
@@ -21,7 +22,7 @@ use Rattle.jwt_issue.specs.Issued.{PairParts, issued_compact, pair_signing_cost,
 use Rattle.jwt_bench.specs.Given.{GivenParts}
 use Rattle.jwt_bench.specs.declared.totals.Ran.{Ran}
 use Rattle.jwt_bench.specs.declared.workload.Workload.{Workload}
-use Rattle.jwt_bench.specs.declared.workload.Workload.TheVariants.{Judge, Public, Signed, Validate, Parse, Object, Keys, Policy, Issue, Hmac}
+use Rattle.jwt_bench.specs.declared.workload.Workload.TheVariants.{Judge, Public, Prepared, Signed, Validate, Parse, Object, Keys, Policy, Issue, Hmac}
 
 -- what is read once: the last key, and of the first signature its algorithm, its header, its signing input and its octets
 pub record ReadyParts : Type 0 where
@@ -85,14 +86,19 @@ hashed b secret =
 
 -- ---- each workload, with these verifiers built in
 
+-- the verifier that is built in, whatever keys it has prepared
+abbrev pub built_in : List Meaning
+built_in = built_in_meaning ∷ []
+
 abbrev pub ran_of : List Meaning → Workload → ReadyParts → Ran
-ran_of built_in Judge b = judged b
-ran_of built_in Public b = judged_by built_in b
-ran_of built_in Signed b = judged b
-ran_of built_in Validate b = judged b
-ran_of built_in Parse b = read_ran (form_of b.policy.run.max_signatures b.given.token)
-ran_of built_in Object b = ran (is_ok (object_of b.header) && is_ok (object_of b.claims)) 0 0
-ran_of built_in Keys b = read_ran (key_set_of b.given.keys)
-ran_of built_in Policy b = read_ran (policy_of b.given.policy)
-ran_of built_in Issue b = issued b
-ran_of built_in Hmac b = option_map_or (hashed b) (secret_in b.key.octets) (ran false 0 0)
+ran_of verifiers Judge b = judged b
+ran_of verifiers Public b = judged_by verifiers b
+ran_of verifiers Prepared b = judged_by verifiers b
+ran_of verifiers Signed b = judged b
+ran_of verifiers Validate b = judged b
+ran_of verifiers Parse b = read_ran (form_of b.policy.run.max_signatures b.given.token)
+ran_of verifiers Object b = ran (is_ok (object_of b.header) && is_ok (object_of b.claims)) 0 0
+ran_of verifiers Keys b = read_ran (key_set_of b.given.keys)
+ran_of verifiers Policy b = read_ran (policy_of b.given.policy)
+ran_of verifiers Issue b = issued b
+ran_of verifiers Hmac b = option_map_or (hashed b) (secret_in b.key.octets) (ran false 0 0)

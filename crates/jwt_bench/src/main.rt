@@ -14,10 +14,6 @@ mod words;
 mod workload;
 
 use crate::run::run;
-use jwt_ecdsa::Ecdsa;
-use jwt_ed25519::Ed25519;
-use jwt_mac::Verifier;
-use jwt_rsa::Rsa;
 use jwt_text::{Reader, Sink, Source, Writer};
 use std::process::ExitCode;
 use std::{env, io};
@@ -38,10 +34,5 @@ fn main(rt: HostRuntime) -> ExitCode {
 fn run_words<R: Source, W: Sink>(rt: &HostRuntime, r: &mut R, w: &mut W) -> io::Result<u8> {
     let args: Vec<String> = env::args(rt)?.collect(rt.alloc())?;
     let words: Vec<&str> = args.iter().map(|word| word.as_str()).collect(rt.alloc())?;
-    let built_in: [Box<dyn Verifier>; 3] = [
-        Box::new(rt.alloc(), Rsa)?,
-        Box::new(rt.alloc(), Ed25519)?,
-        Box::new(rt.alloc(), Ecdsa)?,
-    ];
-    Ok(run(rt.alloc(), words.as_slice(), &built_in, r, w))
+    Ok(run(rt.alloc(), words.as_slice(), r, w))
 }

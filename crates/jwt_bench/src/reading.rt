@@ -6,7 +6,7 @@ ghost use Rattle.jwt_jws.specs.Token.{SignatureParts};
 ghost use Rattle.jwt_keys.specs.KeySets.{key_set, key_set_of};
 ghost use Rattle.jwt_policy.specs.Document.{policy_of};
 ghost use Rattle.jwt_issue.specs.ClaimSets.{claim_set_of};
-ghost use Rattle.jwt_bench.specs.Once.{ReadyParts, ran_of};
+ghost use Rattle.jwt_bench.specs.Once.{ReadyParts, built_in, ran_of};
 ghost use Rattle.jwt_bench.specs.Ready.{IsReadyInput, IsReadyOf, IsReadyOver};
 ghost use Rattle.jwt_bench.specs.Totals.{repeated};
 ghost use Rattle.jwt_bench.specs.Views.{given_view, ready_view};
@@ -16,6 +16,8 @@ use crate::given::{Given, split};
 use crate::ready::Ready;
 use crate::totals::Totals;
 use crate::words::WorkloadRuns;
+use crate::workload::Workload;
+use jwt_built_in::{BuiltIn, PREPARED_KEYS};
 use jwt_issue::ClaimSet;
 use jwt_jws::{FormFault, Signed, parse};
 use jwt_keys::{KeySet, KeysFault};
@@ -132,18 +134,27 @@ fn on_signed(
     alloc: Global,
     order: WorkloadRuns,
     input: InputRead<'_, '_>,
-    built_in: &[Box<dyn Verifier>],
+    verifiers: &[Box<dyn Verifier>],
 ) -> Result<Totals, RunFault>
-    requires { order.count ≤ 10000000 }
+    requires few { order.count ≤ 10000000 }
+    requires meanings { map meaning verifiers.now ≡ built_in }
     ensures { IfOk result (λ t. (b : ReadyParts)
         × IsReadyOver (given_view input.entry.given) input.entry.policy.now
         (key_set input.entry.keys.now).keys (token input.entry.signed.now) b
-        × (t ≡ repeated order.count (ran_of (map meaning built_in.now) order.workload b))) }
+        × (t ≡ repeated order.count (ran_of built_in order.workload b))) }
 {
     let claims = claims(alloc, input.signed)?;
     let header = header_of(alloc, input.signed)?;
     let ready = ready_over(input, &claims, header.as_slice())?;
-    repeat(alloc, order, &ready, built_in)
+    repeat(alloc, order, &ready, verifiers)
+}
+
+/// The verifier of a workload, with keys prepared for the one that asks for that.
+fn verifier_for(alloc: Global, workload: Workload, keys: &KeySet) -> BuiltIn {
+    match workload {
+        Workload::Prepared => BuiltIn::prepared(alloc, keys, PREPARED_KEYS),
+        _ => BuiltIn::plain(),
+    }
 }
 
 /// The policy of a document.
@@ -169,19 +180,18 @@ fn keys_in(alloc: Global, document: &[u8]) -> Result<KeySet, RunFault>
 }
 
 /// The runs over an input in its three parts.
-fn on_given(
-    alloc: Global,
-    order: WorkloadRuns,
-    given: Given<'_>,
-    built_in: &[Box<dyn Verifier>],
-) -> Result<Totals, RunFault>
+fn on_given(alloc: Global, order: WorkloadRuns, given: Given<'_>) -> Result<Totals, RunFault>
     requires { order.count ≤ 10000000 }
     ensures { IfOk result
         (λ t. (b : ReadyParts) × IsReadyOf (given_view given.entry) b
-        × (t ≡ repeated order.count (ran_of (map meaning built_in.now) order.workload b))) }
+        × (t ≡ repeated order.count (ran_of built_in order.workload b))) }
 {
     let policy = policy_in(alloc, given.policy)?;
     let keys = keys_in(alloc, given.keys)?;
+    let Ok(verifier) = Box::new(alloc, verifier_for(alloc, order.workload, &keys)) else {
+        return Err(RunFault::OutOfMemory);
+    };
+    let verifiers: [Box<dyn Verifier>; 1] = [verifier];
     match parse(alloc, given.token, policy.max_signatures()) {
         Ok(signed) => {
             let input = InputRead {
@@ -190,7 +200,7 @@ fn on_given(
                 keys: &keys,
                 signed: &signed,
             };
-            on_signed(alloc, order, input, built_in)
+            on_signed(alloc, order, input, &verifiers)
         }
         Err(FormFault::OutOfMemory) => Err(RunFault::OutOfMemory),
         Err(_) => Err(RunFault::Input),
@@ -198,19 +208,14 @@ fn on_given(
 }
 
 /// The runs over the octets of an input.
-fn on_octets(
-    alloc: Global,
-    order: WorkloadRuns,
-    octets: &[u8],
-    built_in: &[Box<dyn Verifier>],
-) -> Result<Totals, RunFault>
+fn on_octets(alloc: Global, order: WorkloadRuns, octets: &[u8]) -> Result<Totals, RunFault>
     requires { order.count ≤ 10000000 }
     ensures { IfOk result
         (λ t. (b : ReadyParts) × IsReadyInput octets.now b
-        × (t ≡ repeated order.count (ran_of (map meaning built_in.now) order.workload b))) }
+        × (t ≡ repeated order.count (ran_of built_in order.workload b))) }
 {
     match split(octets) {
-        Some(given) => on_given(alloc, order, given, built_in),
+        Some(given) => on_given(alloc, order, given),
         None => Err(RunFault::Input),
     }
 }
@@ -219,18 +224,17 @@ fn on_octets(
 pub(crate) fn totals<R: Source>(
     alloc: Global,
     order: WorkloadRuns,
-    built_in: &[Box<dyn Verifier>],
     r: &mut R,
 ) -> Result<Totals, RunFault>
     requires { order.count ≤ 10000000 }
     ensures { IfSome (R.remaining r.old)
         (λ x. IfOk result
         (λ t. (b : ReadyParts) × IsReadyInput x b
-        × (t ≡ repeated order.count (ran_of (map meaning built_in.now) order.workload b)))) }
+        × (t ≡ repeated order.count (ran_of built_in order.workload b)))) }
 {
     let mut intake = Intake::new(alloc, GREATEST_LIMIT);
     match intake.read_from(r) {
-        Ok(()) => on_octets(alloc, order, intake.octets(), built_in),
+        Ok(()) => on_octets(alloc, order, intake.octets()),
         Err(TextFault::OutOfMemory) => Err(RunFault::OutOfMemory),
         Err(TextFault::Read) => Err(RunFault::Read),
         Err(_) => Err(RunFault::Input),

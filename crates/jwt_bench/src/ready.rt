@@ -256,7 +256,7 @@ impl Ready<'_> {
         }
     }
 
-    /// Runs the workload once; `built_in` are the verifiers of [`Workload::Public`], the scratch is that of [`Workload::Signed`].
+    /// Runs the workload once; `built_in` are the verifiers of [`Workload::Public`] and [`Workload::Prepared`], the scratch is that of [`Workload::Signed`].
     pub(crate) fn once(
         &self,
         alloc: Global,
@@ -270,7 +270,7 @@ impl Ready<'_> {
     {
         match workload {
             Workload::Judge => self.judge(alloc),
-            Workload::Public => self.judge_by(alloc, built_in),
+            Workload::Public | Workload::Prepared => self.judge_by(alloc, built_in),
             Workload::Signed => self.signed(alloc, scratch),
             Workload::Validate => self.validate(alloc),
             Workload::Parse => self.parse(alloc),

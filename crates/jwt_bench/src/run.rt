@@ -7,7 +7,6 @@ ghost use Rattle.jwt_bench.specs.declared.words.WorkloadRuns.{WorkloadRuns as As
 use crate::fault::RunFault;
 use crate::reading::totals;
 use crate::words::{WorkloadRuns, read_words};
-use jwt_mac::Verifier;
 use jwt_text::{Sink, Source, write_out};
 use std::alloc::Global;
 
@@ -15,40 +14,32 @@ use std::alloc::Global;
 fn run_order<R: Source, W: Sink>(
     alloc: Global,
     order: WorkloadRuns,
-    built_in: &[Box<dyn Verifier>],
     r: &mut R,
     w: &mut W,
 ) -> Result<u8, RunFault>
     requires { order.count ≤ 10000000 }
     ensures done { IfSome (R.remaining r.old) (λ x. result ≡ Ok 0
-        → PrintsRuns (map meaning built_in.now) order x (W.contents w.old) (W.contents w.new)) }
+        → PrintsRuns order x (W.contents w.old) (W.contents w.new)) }
     ensures status { IfOk result (λ status. (status ≡ 0) ⊎ (status ≡ 3)) }
     ensures unsent { OnErr result (w.new ≡ w.old) }
 {
-    let line = totals(alloc, order, built_in, r)?.line(alloc)?;
+    let line = totals(alloc, order, r)?.line(alloc)?;
     match write_out(w, line.as_bytes()) {
         Ok(()) => Ok(0),
         Err(_) => Ok(3),
     }
 }
 
-/// Runs what the words ask for on `r`, prints the totals to `w`, and answers the status. The first word is the program's name;
-/// `built_in` are the verifiers of the workload `public`.
+/// Runs what the words ask for on `r`, prints the totals to `w`, and answers the status. The first word is the program's name.
 ///
 /// 0: done; 1: the input is no policy, key set and signed token with claims; 2: wrong words; 3: a read or a write failed; 4: want
 /// of memory. Only where it is done is anything printed, unless a write failed. Which of 1, 3 and 4 it is, where it is neither 0 nor
 /// 2, no clause says: that is tested.
-pub(crate) fn run<R: Source, W: Sink>(
-    alloc: Global,
-    words: &[&str],
-    built_in: &[Box<dyn Verifier>],
-    r: &mut R,
-    w: &mut W,
-) -> u8
+pub(crate) fn run<R: Source, W: Sink>(alloc: Global, words: &[&str], r: &mut R, w: &mut W) -> u8
     // What is printed, where the status is 0.
     ensures done { IfSome (R.remaining r.old) (λ x. result ≡ 0
         → (order : Asked) × Asks (map (λ word. word.now) words.now) order
-        × PrintsRuns (map meaning built_in.now) order x (W.contents w.old) (W.contents w.new)) }
+        × PrintsRuns order x (W.contents w.old) (W.contents w.new)) }
 
     // Wrong words, and no others.
     ensures asked { (order : Asked) → Asks (map (λ word. word.now) words.now) order → result ≢ 2 }
@@ -63,7 +54,7 @@ pub(crate) fn run<R: Source, W: Sink>(
     let Some(order) = read_words(words) else {
         return 2;
     };
-    match run_order(alloc, order, built_in, r, w) {
+    match run_order(alloc, order, r, w) {
         Ok(status) => status,
         Err(RunFault::Input) => 1,
         Err(RunFault::Read) => 3,

@@ -10,6 +10,9 @@ pub(crate) enum Workload {
     /// `judge` on the token with the verifiers that are built in, with a new budget.
     Public,
 
+    /// The same with the keys of the set prepared, at most 16.
+    Prepared,
+
     /// `judge_signed` on the token, with a new budget and the scratch of the runs before.
     Signed,
 
@@ -45,6 +48,7 @@ impl Workload {
         match name {
             "judge" => Some(Workload::Judge),
             "public" => Some(Workload::Public),
+            "prepared" => Some(Workload::Prepared),
             "signed" => Some(Workload::Signed),
             "validate" => Some(Workload::Validate),
             "parse" => Some(Workload::Parse),

@@ -8,7 +8,7 @@ ghost use Rattle.jwt_told.specs.Questions.{kept_parts};
 ghost use Rattle.jwt_handles.specs.Documents.{documents};
 ghost use Rattle.jwt_handles.specs.Reports.{asked_at, IsForgotten};
 ghost use Rattle.jwt_handles.specs.Remembering.{RemembersAlike};
-ghost use Rattle.jwt_handles.specs.Asking.{PutsQuestion, IsTold, StaysLast, StaysAnswered, public_asked, rsa_asked, rsa_says, ed25519_asked, ed25519_says, proved_asked, proved_says};
+ghost use Rattle.jwt_handles.specs.Asking.{PutsQuestion, IsTold, StaysLast, StaysAnswered, public_asked, proved_asked, proved_says};
 
 use jwt_handles::answering;
 use jwt_handles::handle::Handle;
@@ -95,50 +95,6 @@ pub extern "C" fn fow_forget(validator: &mut Handle, alloc: Global)
     ensures last { IfSome validator.old.state (λ d. StaysLast d validator.new.state) }
 {
     answering::forget(validator, alloc);
-}
-
-/// [`answering::answer_rsa`] by its name in C.
-#[unsafe(no_mangle)]
-pub extern "C" fn fow_answer_rsa(
-    validator: &mut Handle,
-    alloc: Global,
-    token: &[u8],
-    signature: u32,
-    key: u32,
-) -> u32
-    ensures none { validator.old.state ≡ None → (result ≡ FOW_NOT_OPEN) × (validator.new.state ≡ None) }
-    ensures told { IfSome validator.old.state (λ d. IsTold
-        (rsa_asked (asked_at (token_of (documents d).policy token.now)
-        (key_set (documents d).keys).keys signature key))
-        (rsa_says (asked_at (token_of (documents d).policy token.now)
-        (key_set (documents d).keys).keys signature key))
-        result d validator.new.state) }
-    ensures remembers { IfSome validator.old.state (λ d. RemembersAlike d validator.new.state) }
-    ensures last { IfSome validator.old.state (λ d. StaysLast d validator.new.state) }
-{
-    answering::answer_rsa(validator, alloc, token, signature, key)
-}
-
-/// [`answering::answer_ed25519`] by its name in C.
-#[unsafe(no_mangle)]
-pub extern "C" fn fow_answer_ed25519(
-    validator: &mut Handle,
-    alloc: Global,
-    token: &[u8],
-    signature: u32,
-    key: u32,
-) -> u32
-    ensures none { validator.old.state ≡ None → (result ≡ FOW_NOT_OPEN) × (validator.new.state ≡ None) }
-    ensures told { IfSome validator.old.state (λ d. IsTold
-        (ed25519_asked (asked_at (token_of (documents d).policy token.now)
-        (key_set (documents d).keys).keys signature key))
-        (ed25519_says (asked_at (token_of (documents d).policy token.now)
-        (key_set (documents d).keys).keys signature key))
-        result d validator.new.state) }
-    ensures remembers { IfSome validator.old.state (λ d. RemembersAlike d validator.new.state) }
-    ensures last { IfSome validator.old.state (λ d. StaysLast d validator.new.state) }
-{
-    answering::answer_ed25519(validator, alloc, token, signature, key)
 }
 
 /// [`answering::answer_proved`] by its name in C.

@@ -7,11 +7,12 @@ ghost use Rattle.jwt_policy.specs.Document.{policy_of};
 ghost use Rattle.jwt_verify.specs.Verdict.{token_of};
 ghost use Rattle.jwt_handles.specs.Documents.{documents};
 ghost use Rattle.jwt_handles.specs.Reports.{IsBeside, IsOpened, IsRefused, IsAlike, IsAskedBy, IsJudgedBy, report_numbers};
-ghost use Rattle.jwt_handles.specs.Evidence.{states_kept, tries_kept, claims_kept};
+ghost use Rattle.jwt_handles.specs.Evidence.{states_kept, tries_kept, claims_kept, payload_kept};
 ghost use Rattle.jwt_handles.specs.Faults.{bare};
 ghost use Rattle.jwt_handles.specs.Keeping.{RemembersProved, RemembersTold};
+ghost use Rattle.jwt_handles.specs.Payloads.{KeepsPayloadBy};
 ghost use Rattle.jwt_handles.specs.Remembering.{Remembers};
-ghost use Rattle.jwt_handles.specs.Written.{PutsPayload, PutsName, IsState, IsTry, PutsSome, PutsNumber, claim_text_at, header_octets_at, number_at, refused_member};
+ghost use Rattle.jwt_handles.specs.Written.{PutsHeld, PutsPayload, PutsName, IsState, IsTry, PutsSome, PutsNumber, claim_text_at, header_octets_at, number_at, refused_member};
 ghost use Rattle.jwt_handles.specs.MostQuestions.{most_questions};
 ghost use Rattle.jwt_handles.specs.Proving.{IsProvedBy};
 ghost use Rattle.jwt_handles.specs.Issuing.{hmac_at, form_at, typ_of, PutsIssued};
@@ -36,6 +37,23 @@ pub extern "C" fn fow_open(
     ensures same { result ≢ FOW_OK → validator.new.state ≡ validator.old.state }
 {
     opening::open(validator, alloc, policy, keys, fault)
+}
+
+/// [`opening::open_prepared`] by its name in C.
+#[unsafe(no_mangle)]
+pub extern "C" fn fow_open_prepared(
+    validator: &mut Handle,
+    alloc: Global,
+    policy: &[u8],
+    keys: &[u8],
+    most: usize,
+    fault: &mut u32,
+) -> u32
+    ensures opened { result ≡ FOW_OK → IsOpened policy.now keys.now validator.new.state }
+    ensures refused { result ≢ FOW_OK → IsRefused policy.now keys.now result fault.new }
+    ensures same { result ≢ FOW_OK → validator.new.state ≡ validator.old.state }
+{
+    opening::open_prepared(validator, alloc, policy, keys, most, fault)
 }
 
 /// [`opening::open_beside`] by its name in C.
@@ -105,8 +123,9 @@ pub extern "C" fn fow_judge(
     ensures judged { IfSome validator.old.state (λ d. result ≤ FOW_REFUSED
         → IsJudgedBy d now token.now report.new validator.new.state) }
 
-    // Claims are kept of an acceptance alone.
+    // Claims are kept of an acceptance alone, and so are the octets of the payload, which are those of the token.
     ensures claims { IfSome validator.new.state (λ e. result ≢ FOW_OK → claims_kept e.last ≡ None) }
+    ensures payload { IfSome validator.old.state (λ d. KeepsPayloadBy (documents d).policy token.now result validator.new.state) }
 
     // It remembers nothing new but this token, where it is accepted: by the answers now, on which what it comes to later rests.
     ensures remembers { IfSome validator.old.state (λ d. RemembersTold d token.now report.new validator.new.state) }
@@ -137,8 +156,9 @@ pub extern "C" fn fow_proved_judge(
         → IsProvedBy d now token.now report.new validator.new.state) }
     ensures never_asks { result ≢ FOW_ASKS }
 
-    // Claims are kept of an acceptance alone.
+    // Claims are kept of an acceptance alone, and so are the octets of the payload, which are those of the token.
     ensures claims { IfSome validator.new.state (λ e. result ≢ FOW_OK → claims_kept e.last ≡ None) }
+    ensures payload { IfSome validator.old.state (λ d. KeepsPayloadBy (documents d).policy token.now result validator.new.state) }
 
     // It remembers nothing new but this token, where it is accepted.
     ensures remembers { IfSome validator.old.state (λ d. RemembersProved d token.now report.new validator.new.state) }
@@ -205,6 +225,23 @@ pub extern "C" fn fow_remembered(validator: &mut Handle, alloc: Global) -> bool
     ensures remembered { IfSome validator.old.state (λ d. result ≡ d.last.remembered) }
 {
     verdicts::remembered(validator, alloc)
+}
+
+/// [`verdicts::accepted_payload`] by its name in C.
+#[unsafe(no_mangle)]
+pub extern "C" fn fow_accepted_payload(
+    validator: &mut Handle,
+    alloc: Global,
+    out: &mut [u8],
+    written: &mut usize,
+) -> u32
+    ensures same { validator.new.state ≡ validator.old.state }
+    ensures none { validator.old.state ≡ None → result ≡ FOW_NOT_OPEN }
+    ensures payload { IfSome validator.old.state (λ d. PutsHeld
+        (payload_kept d.last) result written.new out.old out.new) }
+    ensures unwritten { result ≢ FOW_OK → (out.new ≡ out.old) × (written.new ≡ written.old) }
+{
+    verdicts::accepted_payload(validator, alloc, out, written)
 }
 
 /// [`tokens::payload`] by its name in C.

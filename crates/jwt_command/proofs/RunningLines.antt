@@ -11,7 +11,8 @@ use Rattle.jwt_words.specs.InHand.{Held, unread}
 use Rattle.jwt_command.specs.Lines.{GivesLines, with_held}
 use Rattle.jwt_printing.specs.Printed.{Answer, out_of_memory}
 use Rattle.jwt_command.specs.RunLines.{LinesByKeys, LinesByPolicy, LinesByRule, LinesInHand, LinesNamed, Outcome, Printed, RunsLines}
-use Rattle.jwt_printing.specs.Printer.{printer, printed_file_fault}
+use Rattle.jwt_verdicts.specs.Printer.{printer}
+use Rattle.jwt_printing.specs.Refused.{printed_file_fault}
 use Rattle.jwt_command.specs.Verify.{asked_for, terms_of_keys}
 use Rattle.jwt_words.specs.Words.{LinesOrder}
 use Rattle.jwt_words.specs.declared.printing.Printing.{Printing}

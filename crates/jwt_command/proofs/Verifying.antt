@@ -32,10 +32,12 @@ use Rattle.jwt_command.specs.Documents.{TakesDocument, behind, document, documen
 use Rattle.jwt_text.specs.Intake.{TakesAtMost}
 use Rattle.jwt_command.specs.Issue.{issue_answer, issue_under}
 use Rattle.jwt_issue.specs.Options.{OptionParts}
-use Rattle.jwt_printing.specs.Json.{verdict_json, token_json, payload_of}
-use Rattle.jwt_printing.specs.Printer.{Printer, in_lines, printed_file_fault, unless_read_failed, unless_unread, printer}
+use Rattle.jwt_verdicts.specs.VerdictsJson.{verdict_json, token_json, payload_of}
+use Rattle.jwt_verdicts.specs.Printer.{Printer, in_lines, unless_read_failed, printer}
+use Rattle.jwt_printing.specs.Refused.{printed_file_fault, unless_unread}
 use Rattle.jwt_command.specs.Verify.{keys_answer, payload_in, under_keys, under_policy, verify_answer}
-use Rattle.jwt_printing.specs.Verdicts.{keys_refused, token_answer, verify_line}
+use Rattle.jwt_printing.specs.Refused.{keys_refused}
+use Rattle.jwt_verdicts.specs.Verdicts.{token_answer, verify_line}
 use Rattle.jwt_printing.specs.Printed.{Answer}
 use Rattle.jwt_command.specs.Keys.{list_answer, listed}
 use Rattle.jwt_command.specs.Stops.{behind_keys, behind_policy, keys_most, token_most, verify_most}

@@ -6,9 +6,9 @@ use Rattle.std.proofs.lemmas.Bool.Decides.{nat_tests}
 use Rattle.std.specs.Io.KnownBytes.{Consumes, IsAtEnd, Keeps, prepend_known}
 use Rattle.jwt_command.specs.Lines.{lines, onto_first}
 use Rattle.jwt_printing.specs.Printed.{Answer}
-use Rattle.jwt_printing.specs.Json.{payload_of, token_json, verdict_json}
-use Rattle.jwt_printing.specs.Printer.{in_json, printer, unless_read_failed}
-use Rattle.jwt_printing.specs.Verdicts.{paid_tries, token_answer}
+use Rattle.jwt_verdicts.specs.VerdictsJson.{payload_of, token_json, verdict_json}
+use Rattle.jwt_verdicts.specs.Printer.{in_json, printer, unless_read_failed}
+use Rattle.jwt_verdicts.specs.Verdicts.{paid_tries, token_answer}
 use Rattle.jwt_access.specs.Rules.{Rule}
 use Rattle.jwt_policy.specs.Settings.{Settings}
 use Rattle.jwt_verify.specs.Verdict.{Terms, table, token_of, token_or_none, verdict_of}

@@ -5,7 +5,7 @@ use Rattle.jwt_access.specs.Rules.{Rule}
 use Rattle.jwt_access.specs.declared.access_fault.AccessFault.{AccessFault}
 use Rattle.jwt_verify.specs.Verdict.{Terms}
 use Rattle.jwt_printing.specs.Printed.{Answer}
-use Rattle.jwt_printing.specs.Printer.{Printer}
+use Rattle.jwt_verdicts.specs.Printer.{Printer}
 
 -- a rule that was read
 abbrev pub some_rule : Result Rule AccessFault → Result (Option Rule) AccessFault

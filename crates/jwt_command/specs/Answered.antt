@@ -7,7 +7,8 @@ use Rattle.jwt_command.specs.Keys.{list_answer}
 use Rattle.jwt_command.specs.Mac.{mac_answer, mac_in_hand}
 use Rattle.jwt_printing.specs.Printed.{Answer, line}
 use Rattle.jwt_command.specs.Show.{show_answer}
-use Rattle.jwt_printing.specs.Printer.{printer, unless_unread}
+use Rattle.jwt_verdicts.specs.Printer.{printer}
+use Rattle.jwt_printing.specs.Refused.{unless_unread}
 use Rattle.jwt_command.specs.Verify.{asked_for, verify_answer}
 use Rattle.jwt_words.specs.Words.{Issue, Keys, Mac, MacFile, Order, Show, Verify, Version, files_in_order}
 use Rattle.jwt_words.specs.declared.printing.Printing.{Printing}

@@ -11,8 +11,7 @@ use Rattle.jwt_printing.specs.Faults.{claim_fault_parts, joined_parts, issue_fau
 use Rattle.jwt_verify.specs.Verdict.{without_line_feed}
 use Rattle.jwt_printing.specs.Printed.{Answer, refused}
 use Rattle.jwt_command.specs.Documents.{behind, document}
-use Rattle.jwt_printing.specs.Verdicts.{keys_refused}
-use Rattle.jwt_printing.specs.Printer.{unless_failed}
+use Rattle.jwt_printing.specs.Refused.{keys_refused, unless_failed}
 
 abbrev pub issued_answer : Result (List ℕ) IssueFault → Answer
 issued_answer (Ok token) = record { text = token; status = 0 }

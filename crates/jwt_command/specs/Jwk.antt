@@ -3,8 +3,8 @@ use Rattle.std.specs.Prelude.{◌≡◌, ◌≢◌, ◌≤◌, ◌<◌, ◌⊎�
 use Rattle.jwt_mac.specs.Algorithm.{digest_size, name_of}
 use Rattle.jwt_mac.specs.Verifying.{KeyOctets, OctKey}
 use Rattle.jwt_mac.specs.declared.algorithm.Alg.{Alg}
-use Rattle.key_der.specs.Der.{IsPublicKey}
-use Rattle.key_pem.specs.declared.label.Label.{Label}
+use Rattle.jwt_jwk.specs.der.Der.{IsPublicKey}
+use Rattle.jwt_jwk.specs.declared.text_blocks.label.Label.{Label}
 use Rattle.jwt_jwk.specs.Jwk.{jwk_text, thumbprint_of_key}
 use Rattle.jwt_jwk.specs.Sets.{jwk_set_text}
 use Rattle.jwt_jwk.specs.FaultNames.{jwk_fault_name, remedy}
@@ -16,7 +16,8 @@ use Rattle.jwt_words.specs.InHand.{Held, unread}
 use Rattle.jwt_words.specs.Words.{JwkOrder, KidChoice, KidNamed, KidThumbprint, NoKid, SecretOrder}
 use Rattle.jwt_printing.specs.Jwk.{jwk_line, jwk_refused, random_failed}
 use Rattle.jwt_printing.specs.Printed.{Answer, out_of_memory}
-use Rattle.jwt_printing.specs.Printer.{printed_file_fault, printer}
+use Rattle.jwt_printing.specs.Refused.{printed_file_fault}
+use Rattle.jwt_verdicts.specs.Printer.{printer}
 use Rattle.jwt_command.specs.Documents.{last_most, most_unless_unread}
 use Rattle.jwt_command.specs.RunLines.{Outcome, Printed}
 

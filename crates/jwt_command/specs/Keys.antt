@@ -3,7 +3,7 @@ use Rattle.std.specs.Prelude.{ℕ, Bool, List, Result, Ok, Err}
 use Rattle.jwt_keys.specs.KeySets.{KeyList, key_set_of}
 use Rattle.jwt_keys.specs.declared.fault.KeysFault.{KeysFault}
 use Rattle.jwt_printing.specs.Printed.{Answer}
-use Rattle.jwt_printing.specs.Printer.{printer, unless_read_failed}
+use Rattle.jwt_verdicts.specs.Printer.{printer, unless_read_failed}
 use Rattle.jwt_printing.specs.ListedJson.{printed_set}
 use Rattle.jwt_words.specs.declared.printing.Printing.{Printing}
 

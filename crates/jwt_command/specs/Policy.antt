@@ -15,9 +15,10 @@ use Rattle.jwt_advice.specs.Private.{entries_of, is_private}
 use Rattle.jwt_words.specs.InHand.{Held, unread}
 use Rattle.jwt_words.specs.Words.{PolicyOrder}
 use Rattle.jwt_words.specs.declared.printing.Printing.{Printing}
-use Rattle.jwt_printing.specs.Meant.{printed_policy}
+use Rattle.jwt_verdicts.specs.Meant.{printed_policy}
 use Rattle.jwt_printing.specs.Printed.{Answer}
-use Rattle.jwt_printing.specs.Printer.{printer, unless_unread}
+use Rattle.jwt_verdicts.specs.Printer.{printer}
+use Rattle.jwt_printing.specs.Refused.{unless_unread}
 
 -- the members that stand in a document; none where it is no object
 abbrev pub members_or_none : Result Members TextFault → Members

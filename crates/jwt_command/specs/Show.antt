@@ -5,7 +5,7 @@ use Rattle.jwt_jws.specs.Token.{Token}
 use Rattle.jwt_jws.specs.declared.fault.FormFault.{FormFault}
 use Rattle.jwt_verify.specs.Verdict.{without_line_feed}
 use Rattle.jwt_printing.specs.Printed.{Answer}
-use Rattle.jwt_printing.specs.Printer.{printer, unless_read_failed}
+use Rattle.jwt_verdicts.specs.Printer.{printer, unless_read_failed}
 use Rattle.jwt_printing.specs.ShownJson.{printed_token, printed_form_fault, printed_too_long}
 use Rattle.jwt_words.specs.declared.printing.Printing.{Printing}
 

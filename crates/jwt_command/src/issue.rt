@@ -8,7 +8,7 @@ ghost use Rattle.jwt_command.specs.Stops.{keys_most};
 ghost use Rattle.jwt_command.specs.Issue.{claims_answer, issue_answer, of_claims, issued_answer};
 ghost use Rattle.jwt_issue.specs.ClaimSets.{claim_set_of};
 ghost use Rattle.jwt_printing.specs.Printed.{refused};
-ghost use Rattle.jwt_printing.specs.Printer.{unless_failed};
+ghost use Rattle.jwt_printing.specs.Refused.{unless_failed};
 ghost use Rattle.jwt_printing.specs.Views.{reply_view};
 
 use crate::documents::document;

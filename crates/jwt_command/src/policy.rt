@@ -5,7 +5,7 @@ ghost use Rattle.jwt_keys.specs.KeySets.{key_set, key_set_of};
 ghost use Rattle.jwt_keys.specs.Numbers.{numbers};
 ghost use Rattle.jwt_advice.specs.Findings.{found_alone, found_with};
 ghost use Rattle.jwt_advice.specs.Private.{entries_of, is_private};
-ghost use Rattle.jwt_printing.specs.Meant.{printed_policy};
+ghost use Rattle.jwt_verdicts.specs.Meant.{printed_policy};
 ghost use Rattle.jwt_command.specs.Policy.{document_answer, meaning_of, members_or_none, policy_answer, policy_with_keys};
 ghost use Rattle.jwt_words.specs.Seen.{held_view, policy_view};
 ghost use Rattle.jwt_printing.specs.Views.{reply_view};
@@ -14,10 +14,9 @@ use jwt_advice::{Findings, private_entries};
 use jwt_keys::{KeySet, KeysFault};
 use jwt_mac::Verifier;
 use jwt_policy::{Policy, PolicyFault};
-use jwt_printing::{
-    Reply, printed_file_fault, printed_keys_fault, printed_policy, printed_policy_fault,
-};
+use jwt_printing::{Reply, printed_file_fault, printed_keys_fault, printed_policy_fault};
 use jwt_text::{Object, TextFault, object};
+use jwt_verdicts::printed_policy;
 use jwt_words::{Held, PolicyOrder, Printing, unread};
 use std::alloc::{AllocError, Global};
 

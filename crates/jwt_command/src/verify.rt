@@ -7,12 +7,13 @@ ghost use Rattle.jwt_command.specs.Documents.{last_document, last_most};
 ghost use Rattle.jwt_text.specs.Intake.{TakesAtMost};
 ghost use Rattle.jwt_command.specs.Access.{rule_in_hand, under_rule};
 ghost use Rattle.jwt_command.specs.Stops.{keys_most, token_most, verify_most};
-ghost use Rattle.jwt_printing.specs.Json.{token_json};
-ghost use Rattle.jwt_printing.specs.Printer.{in_json, printer, in_lines, unless_read_failed};
+ghost use Rattle.jwt_verdicts.specs.VerdictsJson.{token_json};
+ghost use Rattle.jwt_verdicts.specs.Printer.{in_json, printer, in_lines, unless_read_failed};
 ghost use Rattle.jwt_command.specs.Verify.{keys_answer, payload_in, terms_of_keys, verify_answer};
-ghost use Rattle.jwt_printing.specs.Verdicts.{token_answer};
+ghost use Rattle.jwt_verdicts.specs.Verdicts.{token_answer};
 ghost use Rattle.jwt_words.specs.Seen.{held_view};
-ghost use Rattle.jwt_printing.specs.Views.{reply_view, rule_view};
+ghost use Rattle.jwt_printing.specs.Views.{reply_view};
+ghost use Rattle.jwt_verdicts.specs.Views.{rule_view};
 
 use crate::access::rule_in_hand;
 use crate::documents::{document, read_document};
@@ -24,9 +25,10 @@ use jwt_mac::{Budget, CountDown, Verifier};
 use jwt_policy::{Policy, PolicyFault};
 use jwt_printing::{
     Reply, printed_access_fault, printed_keys_fault, printed_policy_fault, printed_read_fault,
-    read_failed_json, report_json, report_line,
+    read_failed_json,
 };
 use jwt_text::{Scratch, Source};
+use jwt_verdicts::{report_json, report_line};
 use jwt_verify::laws::{tells_reports, tells_tokens};
 use jwt_verify::{Terms, judge_under, validate};
 use jwt_words::{Held, Moment, Printing};

@@ -9,8 +9,8 @@ ghost use Rattle.jwt_printing.specs.Printed.{out_of_memory};
 ghost use Rattle.jwt_command.specs.RunLines.{LinesByPolicy, Printed, RunsLines};
 ghost use Rattle.jwt_words.specs.Seen.{lines_view, held_view, seconds_of};
 ghost use Rattle.jwt_command.specs.TakenLines.{after_line, first_line};
-ghost use Rattle.jwt_printing.specs.Printer.{printer};
-ghost use Rattle.jwt_printing.specs.Views.{rule_view};
+ghost use Rattle.jwt_verdicts.specs.Printer.{printer};
+ghost use Rattle.jwt_verdicts.specs.Views.{rule_view};
 ghost use Rattle.jwt_command.specs.Verify.{terms_of_keys};
 
 use crate::access::rule_in_hand;

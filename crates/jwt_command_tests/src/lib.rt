@@ -1,5 +1,5 @@
-//! The tests of the command `jwt`, over sources and sinks in memory: what no clause says. Each command has its file, and what they
-//! share is in `runs`.
+//! The tests of the command `jwt`, over sources and sinks in memory, and of the libraries that it alone uses: what no clause says. Each command has its
+//! file, and what they share is in `runs`.
 #![tactic(auto)]
 
 #[cfg(test)]
@@ -10,6 +10,8 @@ mod examples;
 mod issue;
 #[cfg(test)]
 mod jwk;
+#[cfg(test)]
+mod jwk_sets;
 #[cfg(test)]
 mod keys;
 #[cfg(test)]

@@ -8,7 +8,7 @@ use crate::verifying::{verifies_es256, verifies_es384, verifies_es512};
 use jwt_mac::{Alg, Answer, EcCurve, KeyView, Message, Verifier};
 
 /// Whether it is ES256, ES384 or ES512.
-fn is_ecdsa(alg: Alg) -> bool
+pub(crate) fn is_ecdsa(alg: Alg) -> bool
     ensures { result ≡ names_ecdsa alg }
 {
     matches!(alg, Alg::ES256 | Alg::ES384 | Alg::ES512)
@@ -32,7 +32,7 @@ fn is_accepted(alg: Alg, key: &KeyView, message: Message, signature: &[u8]) -> b
 }
 
 /// What is said of a signature.
-fn answer(accepted: bool) -> Answer
+pub(crate) fn answer(accepted: bool) -> Answer
     ensures { AnswersBy accepted false result }
 {
     if accepted {

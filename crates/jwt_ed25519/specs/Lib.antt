@@ -14,9 +14,9 @@ pub mod Encoding
 pub mod Verifying
 -- the meaning of this crate's verifier
 pub mod Meanings
--- ---- What contracts of private functions alone cite, which nobody has to believe
-
 -- numbers of 256 bits, as four limbs of 64
 pub mod Limbs
 -- the elements of the field and the points, as they are held
 pub mod Elements
+-- tables of a point's windows
+pub mod Windows

@@ -1,5 +1,5 @@
 -- Points of Ed25519, their sums and their multiples (RFC 8032, sections 5.1 and 5.1.4).
-use Rattle.std.specs.Prelude.{ℕ, suc, zero, ◌/◌, ◌%◌, ◌==◌, ◌+◌, ◌^◌, if◌then◌else◌}
+use Rattle.std.specs.Prelude.{ℕ, suc, zero, ◌*◌, ◌/◌, ◌%◌, ◌==◌, ◌+◌, ◌^◌, if◌then◌else◌, Option, Some, None}
 use Rattle.jwt_ed25519.specs.Field.{plus, minus, times}
 
 -- extended homogeneous coordinates (section 5.1.4): x = X/Z, y = Y/Z, x * y = T/Z
@@ -61,12 +61,35 @@ double P =
 unfoldable pub negated : Coordinates → Coordinates
 negated P = record { X = minus 0 P.X; Y = P.Y; Z = P.Z; T = minus 0 P.T }
 
--- Q and the multiple of P by the lowest bits of s, so many, from the lowest (section 6, point_mul)
-unfoldable pub added_multiple : ℕ → ℕ → Coordinates → Coordinates → Coordinates
-added_multiple zero s P Q = Q
-added_multiple (suc bits) s P Q =
-    added_multiple bits (s / 2) (double P) (if s % 2 == 1 then add Q P else Q)
+-- the sum of what there is to be summed: a point, or none, for which the neutral point stands in the end
+abbrev pub sum_of : Option Coordinates → Option Coordinates → Option Coordinates
+sum_of None Q = Q
+sum_of (Some P) None = Some P
+sum_of (Some P) (Some Q) = Some (add P Q)
 
--- [s]P, where s is below L, which has 253 bits
-abbrev pub multiple : ℕ → Coordinates → Coordinates
-multiple s P = added_multiple 253 s P neutral
+abbrev pub or_neutral : Option Coordinates → Coordinates
+or_neutral None = neutral
+or_neutral (Some P) = P
+
+-- the point doubled so often
+unfoldable pub doubled : ℕ → Coordinates → Coordinates
+doubled zero P = P
+doubled (suc times) P = double (doubled times P)
+
+-- [digit] of the point doubled so often, by the digit's lowest bits, so many: the sum of those doubles of it whose bit is set, from
+-- the lowest bit
+unfoldable pub digit_multiple : ℕ → ℕ → ℕ → Coordinates → Option Coordinates
+digit_multiple times zero digit P = None
+digit_multiple times (suc bits) digit P =
+    let lower = digit_multiple times bits digit P in
+    if (digit / 2 ^ bits) % 2 == 1 then sum_of lower (Some (doubled (times + bits) P)) else lower
+
+-- [s]P (section 5.1.7), by the lowest hexadecimal digits of s, so many: the sum, from the lowest digit, of each digit's multiple of the
+-- point doubled four times as often as there are digits below it
+unfoldable pub multiple_by : ℕ → ℕ → Coordinates → Option Coordinates
+multiple_by zero s P = None
+multiple_by (suc digits) s P = sum_of (multiple_by digits s P) (digit_multiple (4 * digits) 4 ((s / 16 ^ digits) % 16) P)
+
+-- [s]P, where s is below L, which 64 hexadecimal digits hold
+abbrev pub multiple : ℕ → Coordinates → Option Coordinates
+multiple s P = multiple_by 64 s P

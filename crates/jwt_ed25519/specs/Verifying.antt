@@ -5,7 +5,7 @@ use Rattle.jwt_mac.specs.Algorithm.{sha512_of}
 use Rattle.jwt_ed25519.specs.Decoding.{decoded}
 use Rattle.jwt_ed25519.specs.Encoding.{encoded_point}
 use Rattle.jwt_ed25519.specs.Octets.{number_of}
-use Rattle.jwt_ed25519.specs.Points.{Coordinates, L, base_x, base_y, point, add, double, negated, multiple}
+use Rattle.jwt_ed25519.specs.Points.{Coordinates, L, base_x, base_y, point, double, negated, sum_of, or_neutral, multiple}
 
 -- the neutral point, in any of its coordinates: x = 0, y = 1
 abbrev pub is_neutral : Coordinates → Bool
@@ -29,7 +29,7 @@ challenge r key message = number_of (sha512_of (r ++ key ++ message)) % L
 
 -- R is the encoding of [S]B - [k]A (step 3)
 unfoldable pub equation_holds : Coordinates → List ℕ → ℕ → ℕ → Bool
-equation_holds A r s k = bytes_eq (encoded_point (add (multiple s (point base_x base_y)) (multiple k (negated A)))) r
+equation_holds A r s k = bytes_eq (encoded_point (or_neutral (sum_of (multiple s (point base_x base_y)) (multiple k (negated A))))) r
 
 -- the key decodes, isn't of small order, and R, S and k are as they have to be
 abbrev pub is_key_for : List ℕ → ℕ → ℕ → Option Coordinates → Bool

@@ -12,19 +12,34 @@
 //! let report = validate(alloc, &mut Reader::new(input), &keys, &policy, now, &verifiers, &mut budget);
 //! ```
 //!
-//! Keys of small order are refused, and those whose octets aren't canonical. A key of Ed448 is answered Invalid. Nothing here
-//! allocates, so the verifier never answers NoMemory. Verifying has no secret: nothing is promised of time.
+//! Keys of small order are refused, and those whose octets aren't canonical. A key of Ed448 is answered Invalid. Verifying
+//! allocates nothing, so the verifier never answers NoMemory. It has no secret: nothing is promised of time.
+//!
+//! A service that verifies many tokens by few keys prepares these once, and pushes this verifier in place of `Ed25519`; its answers
+//! are the same:
+//!
+//! ```rust
+//! let mut verifier = PreparedEd25519::new(alloc, 16);
+//! for key in keys.iter() {
+//!     verifier.prepare(alloc, &key.view());
+//! }
+//! verifiers.push(Box::new(alloc, verifier)?)?;
+//! ```
 #![tactic(auto)]
 
-pub use verifier::Ed25519;
-pub use verifying::{is_key, verifies};
+pub use prepared::{PreparedKeys, prepare};
+pub use verifier::{Ed25519, PreparedEd25519};
+pub use verifying::{is_key, verifies, verifies_by};
 
 mod decoding;
 mod encoding;
 mod field;
 pub mod laws;
 mod limbs;
+mod multiples;
 mod point;
+mod prepared;
 mod scalar;
 pub mod verifier;
 pub mod verifying;
+mod windows;

@@ -1,14 +1,13 @@
 //! Points of Ed25519, in extended homogeneous coordinates (RFC 8032, section 5.1.4).
 
-ghost use Rattle.std.specs.Prelude.{◌≡◌, ◌<◌, ◌^◌};
+ghost use Rattle.std.specs.Prelude.{◌≡◌};
 ghost use Rattle.jwt_ed25519.specs.Elements.{element};
-ghost use Rattle.jwt_ed25519.specs.Limbs.{number};
-ghost use Rattle.jwt_ed25519.specs.Points.{base_x, base_y, d, point, neutral, add, double, negated, multiple};
+ghost use Rattle.jwt_ed25519.specs.Points.{base_x, base_y, d, point, neutral, add, double, negated};
 ghost use Rattle.jwt_ed25519.specs.Field.{times};
 ghost use Rattle.jwt_ed25519.specs.Verifying.{is_small};
 
 use crate::field::Residue;
-use crate::limbs::{Limbs, halve};
+use crate::limbs::Limbs;
 
 // A point: x = X/Z, y = Y/Z, x * y = T/Z.
 #[derive(Clone, Copy, Debug)]
@@ -18,9 +17,6 @@ pub struct EdwardsPoint {
     pub z: Residue,
     pub t: Residue,
 }
-
-// The bits of the order of the base point.
-const ORDER_BITS: u32 = 253;
 
 /// d of the curve's equation.
 pub fn curve_d() -> Residue
@@ -101,7 +97,7 @@ impl EdwardsPoint {
     }
 
     /// The neutral point.
-    fn neutral() -> EdwardsPoint
+    pub fn neutral() -> EdwardsPoint
         ensures { coordinates result ≡ neutral }
     {
         EdwardsPoint {
@@ -161,24 +157,6 @@ impl EdwardsPoint {
             z: self.z,
             t: Residue::small(0).minus(self.t),
         }
-    }
-
-    /// The multiple, by the bits of the scalar from the lowest.
-    pub fn multiple(self, scalar: Limbs) -> EdwardsPoint
-        ensures { coordinates result ≡ multiple (number scalar) (coordinates self) }
-    {
-        let mut sum = EdwardsPoint::neutral();
-        let mut doubled = self;
-        let mut rest = scalar;
-        'bits: for _bit in 0..ORDER_BITS {
-            let (half, odd) = halve(rest);
-            if odd {
-                sum = sum.add(doubled);
-            }
-            doubled = doubled.double();
-            rest = half;
-        }
-        sum
     }
 
     /// Whether eight times the point is the neutral point.

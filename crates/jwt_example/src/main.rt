@@ -8,7 +8,7 @@ mod stop;
 
 use crate::judging::report_on;
 use crate::stop::Stop;
-use fowharimu::{KeySet, Policy, Reader, Rsa, Validator, Verdict, Verifier};
+use fowharimu::{BuiltIn, KeySet, PREPARED_KEYS, Policy, Reader, Validator, Verdict, Verifier};
 use std::{fs, io};
 
 // The moment: a second before the token of RFC 7515, appendix A.2, expires. A service asks its clock.
@@ -19,7 +19,8 @@ fn main(rt: HostRuntime) -> Result<(), Stop> {
     let policy = Policy::read(rt.alloc(), &fs::read(&rt, "policy.json")?)?;
     let keys = KeySet::read(rt.alloc(), &fs::read(&rt, "keys.json")?)?;
     let mut verifiers: Vec<Box<dyn Verifier>> = Vec::new(rt.alloc());
-    verifiers.push(Box::new(rt.alloc(), Rsa)?)?;
+    let verifier = BuiltIn::prepared(rt.alloc(), &keys, PREPARED_KEYS);
+    verifiers.push(Box::new(rt.alloc(), verifier)?)?;
     let validator = Validator {
         policy,
         keys,

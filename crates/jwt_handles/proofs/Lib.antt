@@ -7,5 +7,6 @@ pub mod RuleHandles
 -- ---- For several files
 pub mod Adding
 pub mod Counting
+pub mod Payloads
 pub mod Telling
 pub mod Values

@@ -10,7 +10,7 @@ use Rattle.jwt_told.specs.Told.{ToldParts, told_meaning}
 use Rattle.jwt_told.specs.Questions.{AreTries, IsFirstOpen, IsOpen}
 use Rattle.jwt_told.specs.declared.questions.Asking.{Asking}
 use Rattle.jwt_memory.specs.declared.memory.Memory.{Memory}
-use Rattle.jwt_memory.specs.declared.outcome.Outcome.{Outcome}
+use Rattle.jwt_memory.specs.declared.outcome.Handed.{Handed}
 use Rattle.jwt_memory.specs.Outcomes.{is_remembered, report_in}
 use Rattle.jwt_memory.specs.ToldKept.{IsToldNow, IsRecalled}
 use Rattle.jwt_handles.specs.declared.grounds.Documents.{Documents}
@@ -25,11 +25,11 @@ pub rests : (b : Bool) (ts : List ToldParts) (m : Memory) (it : Documents) (now 
 rests false ts m it now x r anew later = anew refl
 rests true ts m it now x r anew later = later refl
 
-pub rests_if : {E : Type 0} (result : Result Outcome E) (ts : List ToldParts) (m : Memory) (it : Documents) (now : ℤ) (x : List ℕ)
-    → IfOk result (λ o. is_remembered o ≡ false → IsToldNow ts it.policy it.keys now x it.policy.run.work (report_in o))
-    → IfOk result (λ o. is_remembered o ≡ true → IsRecalled m it.policy now x it.policy.run.work (report_in o))
-    → IfOk result (λ o. RestsOn (is_remembered o) ts (Some m) it now x (report_in o))
-rests_if (Ok o) ts m it now x anew later = rests (is_remembered o) ts m it now x (report_in o) anew later
+pub rests_if : {E : Type 0} (result : Result Handed E) (ts : List ToldParts) (m : Memory) (it : Documents) (now : ℤ) (x : List ℕ)
+    → IfOk result (λ h. is_remembered h.outcome ≡ false → IsToldNow ts it.policy it.keys now x it.policy.run.work (report_in h.outcome))
+    → IfOk result (λ h. is_remembered h.outcome ≡ true → IsRecalled m it.policy now x it.policy.run.work (report_in h.outcome))
+    → IfOk result (λ h. RestsOn (is_remembered h.outcome) ts (Some m) it now x (report_in h.outcome))
+rests_if (Ok h) ts m it now x anew later = rests (is_remembered h.outcome) ts m it now x (report_in h.outcome) anew later
 rests_if (Err e) ts m it now x anew later = tt
 
 -- what is asked, from its four parts

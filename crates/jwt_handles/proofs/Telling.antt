@@ -12,11 +12,9 @@ use Rattle.jwt_verify.specs.declared.report.Fault.TheVariants as fault
 use Rattle.jwt_verify.specs.declared.report.Verdict.{Verdict}
 use Rattle.jwt_verify.specs.declared.report.Verdict.TheVariants.{Accepted, Refused}
 use Rattle.jwt_told.specs.Questions.{QuestionParts}
-use Rattle.jwt_handles.specs.declared.asking.Proved.{Proved}
-use Rattle.jwt_handles.specs.declared.asking.Proved.TheVariants.{Rsa, Ed25519 as OnEd25519, Any}
 use Rattle.jwt_handles.specs.declared.state.State.{State}
 use Rattle.jwt_handles.specs.declared.status.TheConstants.{FOW_ASKS, FOW_OK, FOW_OUT_OF_MEMORY}
-use Rattle.jwt_handles.specs.Asking.{TellsState, is_ed25519, rsa_says, ed25519_says, proved_says, asked_of, said_by}
+use Rattle.jwt_handles.specs.Asking.{TellsState, is_ed25519, proved_asked, proved_says}
 use Rattle.jwt_handles.specs.Faults.{form_numbers, claim_numbers, verdict_numbers}
 use Rattle.jwt_handles.specs.Reports.{claims_in}
 
@@ -28,13 +26,10 @@ told_if : (b accepts : Bool) (says : QuestionParts → Bool) (q : QuestionParts)
 told_if true accepts says q status d e h t = let same : accepts ≡ says q = cc in subst (λ v. TellsState (Some q) v status d e) same t
 told_if false accepts says q status d e h t = cc
 
-pub tells : (by : Proved) (q : QuestionParts) (accepts : Bool) (status : ℕ) (d e : State)
-    → Some accepts ≡ option_map (λ r. said_by by (Some r)) (asked_of by (Some q)) → TellsState (Some q) accepts status d e
-    → TellsState (asked_of by (Some q)) (said_by by (Some q)) status d e
-tells Rsa q accepts status d e h t = told_if (rsa_meaning.named q.alg) accepts (λ r. rsa_says (Some r)) q status d e h t
-tells OnEd25519 q accepts status d e h t =
-    told_if (ed25519_meaning.named q.alg && is_ed25519 q.key) accepts (λ r. ed25519_says (Some r)) q status d e h t
-tells Any q accepts status d e h t =
+pub tells : (q : QuestionParts) (accepts : Bool) (status : ℕ) (d e : State)
+    → Some accepts ≡ option_map (λ r. proved_says (Some r)) (proved_asked (Some q)) → TellsState (Some q) accepts status d e
+    → TellsState (proved_asked (Some q)) (proved_says (Some q)) status d e
+tells q accepts status d e h t =
     told_if (rsa_meaning.named q.alg || ecdsa_meaning.named q.alg || (ed25519_meaning.named q.alg && is_ed25519 q.key)) accepts (λ r. proved_says (Some r)) q status d e h t
 
 not_if : (b : Bool) (says : QuestionParts → Bool) (q : QuestionParts) → None ≡ option_map says (if b then Some q else None)
@@ -42,10 +37,8 @@ not_if : (b : Bool) (says : QuestionParts → Bool) (q : QuestionParts) → None
 not_if true says q h = cc
 not_if false says q h = refl
 
-pub untold : (by : Proved) (q : QuestionParts) → None ≡ option_map (λ r. said_by by (Some r)) (asked_of by (Some q)) → asked_of by (Some q) ≡ None
-untold Rsa q h = not_if (rsa_meaning.named q.alg) (λ r. rsa_says (Some r)) q h
-untold OnEd25519 q h = not_if (ed25519_meaning.named q.alg && is_ed25519 q.key) (λ r. ed25519_says (Some r)) q h
-untold Any q h =
+pub untold : (q : QuestionParts) → None ≡ option_map (λ r. proved_says (Some r)) (proved_asked (Some q)) → proved_asked (Some q) ≡ None
+untold q h =
     not_if (rsa_meaning.named q.alg || ecdsa_meaning.named q.alg || (ed25519_meaning.named q.alg && is_ed25519 q.key)) (λ r. proved_says (Some r)) q h
 
 -- ---- no verdict asks

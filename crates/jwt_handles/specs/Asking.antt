@@ -14,8 +14,6 @@ use Rattle.jwt_rsa.specs.Meanings.{rsa_meaning}
 use Rattle.jwt_told.specs.Told.{ToldParts, told}
 use Rattle.jwt_told.specs.Questions.{QuestionParts, told_of}
 use Rattle.jwt_told.specs.Ranks.{key_first, key_second}
-use Rattle.jwt_handles.specs.declared.asking.Proved.{Proved}
-use Rattle.jwt_handles.specs.declared.asking.Proved.TheVariants.{Rsa, Ed25519 as OnEd25519, Any}
 use Rattle.jwt_handles.specs.declared.state.State.{State}
 use Rattle.jwt_handles.specs.declared.state.Last.{Last}
 use Rattle.jwt_handles.specs.declared.report.FowQuestion.{FowQuestion}
@@ -112,11 +110,6 @@ StaysAnswered before (Some after) = after.last ≡ unasked before.last
 
 -- ---- the questions that the proved verifiers answer
 
--- the question, where RSA's verifier names its algorithm
-abbrev pub rsa_asked : Option QuestionParts → Option QuestionParts
-rsa_asked None = None
-rsa_asked (Some question) = if rsa_meaning.named question.alg then Some question else None
-
 -- whether RSA's verifier accepts the signature
 abbrev pub rsa_says : Option QuestionParts → Bool
 rsa_says None = false
@@ -126,11 +119,6 @@ rsa_says (Some question) = rsa_meaning.accepts question.alg question.key questio
 abbrev pub is_ed25519 : KeyOctets → Bool
 is_ed25519 (OkpKey Ed25519 x) = true
 is_ed25519 _ = false
-
--- the question, where Ed25519's verifier names its algorithm, and the key is of that curve
-abbrev pub ed25519_asked : Option QuestionParts → Option QuestionParts
-ed25519_asked None = None
-ed25519_asked (Some question) = if ed25519_meaning.named question.alg && is_ed25519 question.key then Some question else None
 
 -- whether Ed25519's verifier accepts the signature
 abbrev pub ed25519_says : Option QuestionParts → Bool
@@ -158,18 +146,17 @@ proved_says (Some question) = if rsa_meaning.named question.alg then rsa_says (S
 abbrev pub TellsOne : QuestionParts → Bool → ℕ → List ToldParts → List ToldParts → Type 0
 TellsOne question valid status old new = (status ≡ FOW_OK → new ≡ old ++ told_of question valid ∷ []) × (status ≢ FOW_OK → (status ≡ FOW_OUT_OF_MEMORY) × (new ≡ old))
 
+-- the question, where RSA's verifier names its algorithm
+abbrev pub rsa_asked : Option QuestionParts → Option QuestionParts
+rsa_asked None = None
+rsa_asked (Some question) = if rsa_meaning.named question.alg then Some question else None
+
 -- the question, where ECDSA's verifier names its algorithm
 abbrev pub ecdsa_asked : Option QuestionParts → Option QuestionParts
 ecdsa_asked None = None
 ecdsa_asked (Some question) = if ecdsa_meaning.named question.alg then Some question else None
 
--- the same by the verifier that is chosen
-abbrev pub asked_of : Proved → Option QuestionParts → Option QuestionParts
-asked_of Rsa question = rsa_asked question
-asked_of OnEd25519 question = ed25519_asked question
-asked_of Any question = proved_asked question
-
-abbrev pub said_by : Proved → Option QuestionParts → Bool
-said_by Rsa question = rsa_says question
-said_by OnEd25519 question = ed25519_says question
-said_by Any question = proved_says question
+-- the question, where Ed25519's verifier names its algorithm, and the key is of that curve
+abbrev pub ed25519_asked : Option QuestionParts → Option QuestionParts
+ed25519_asked None = None
+ed25519_asked (Some question) = if ed25519_meaning.named question.alg && is_ed25519 question.key then Some question else None

@@ -1,5 +1,5 @@
 -- The parts of a report beside its numbers.
-use Rattle.std.specs.Prelude.{Bool, true, false, List, Option, Some, None}
+use Rattle.std.specs.Prelude.{ℕ, Bool, true, false, List, Option, Some, None, option_map}
 use Rattle.std.specs.Arc.{arc_value}
 use Rattle.serde_json.specs.Data.{Members}
 use Rattle.jwt_verify.specs.declared.report.SigState.{SigState}
@@ -10,22 +10,27 @@ use Rattle.jwt_handles.specs.declared.state.Last.{Last}
 
 -- what became of each signature
 abbrev pub states_of : Evidence → List SigState
-states_of (Own states tries claims) = states.items
+states_of (Own states tries claims payload) = states.items
 states_of (Shared basis accepted) = (arc_value basis).states.items
 
 -- the tries that led to it
 abbrev pub tries_of : Evidence → List Try
-tries_of (Own states tries claims) = tries.items
+tries_of (Own states tries claims payload) = tries.items
 tries_of (Shared basis accepted) = (arc_value basis).tries.items
 
-abbrev claims_where : Bool → Members → Option Members
-claims_where true claims = Some claims
-claims_where false claims = None
+abbrev some_where : {X : Type 0} → Bool → X → Option X
+some_where true it = Some it
+some_where false it = None
 
 -- the claims of an acceptance
 abbrev pub evidence_claims : Evidence → Option Members
-evidence_claims (Own states tries claims) = claims
-evidence_claims (Shared basis accepted) = claims_where accepted (arc_value basis).claims
+evidence_claims (Own states tries claims payload) = claims
+evidence_claims (Shared basis accepted) = some_where accepted (arc_value basis).claims
+
+-- the octets of the payload of an acceptance
+abbrev pub evidence_payload : Evidence → Option (List ℕ)
+evidence_payload (Own states tries claims payload) = option_map (λ v. v.items) payload
+evidence_payload (Shared basis accepted) = some_where accepted (arc_value basis).payload.items
 
 -- the same of what is kept of the last judging
 abbrev pub states_kept : Last → List SigState
@@ -36,3 +41,6 @@ tries_kept last = tries_of last.evidence
 
 abbrev pub claims_kept : Last → Option Members
 claims_kept last = evidence_claims last.evidence
+
+abbrev pub payload_kept : Last → Option (List ℕ)
+payload_kept last = evidence_payload last.evidence

@@ -1,12 +1,12 @@
 -- What a judging adds to the memories of a validator.
 use Rattle.std.specs.Prelude.{◌≡◌, ◌⊎◌, ℕ, List, Option, Some, None}
 use Rattle.std.specs.Arc.{arc_value}
-use Rattle.jwt_verify.specs.declared.report.Report.{Report}
 use Rattle.jwt_told.specs.Told.{ToldParts, told}
 use Rattle.jwt_memory.specs.declared.memory.MemoryEntry.{MemoryEntry}
 use Rattle.jwt_memory.specs.declared.memory.Memory.{Memory}
+use Rattle.jwt_memory.specs.declared.outcome.Handed.{Handed}
 use Rattle.jwt_memory.specs.Entries.{Holds}
-use Rattle.jwt_memory.specs.Outcomes.{KeepsNone, KeepsOnly, report_of, acceptance_of}
+use Rattle.jwt_memory.specs.Outcomes.{KeepsNone, KeepsHanded, report_of, acceptance_of}
 use Rattle.jwt_memory.specs.ToldKept.{KeepsTold}
 use Rattle.jwt_handles.specs.declared.state.State.{State}
 use Rattle.jwt_handles.specs.declared.state.Last.{Last}
@@ -44,10 +44,10 @@ RemembersProved before octets said (Some after) = AddsOnly (documents before).po
 
 -- ---- Cited by contracts of private functions alone
 
--- it keeps nothing new but this token, where this report is its acceptance
-abbrev pub AddsReport : ℕ → List ℕ → Report → Option Memory → Option Memory → Type 0
-AddsReport ceiling octets report (Some before) (Some after) = KeepsOnly octets ceiling report before after
-AddsReport ceiling octets report _ _ = Unit {0}
+-- it keeps nothing new but this token, where this outcome is its acceptance
+abbrev pub AddsHanded : ℕ → List ℕ → Handed → Option Memory → Option Memory → Type 0
+AddsHanded ceiling octets handed (Some before) (Some after) = KeepsHanded octets ceiling handed before after
+AddsHanded ceiling octets handed _ _ = Unit {0}
 
 -- it keeps nothing new
 abbrev pub AddsNone : Option Memory → Option Memory → Type 0

@@ -12,6 +12,8 @@ pub mod ProvedKept
 pub mod Remembering
 -- judging, and the report that an exported function writes
 pub mod Reports
+-- the payload that is kept of the last judging
+pub mod Payloads
 -- what a judging adds to the memories of a validator
 pub mod Keeping
 -- the octets that are written for the caller, by the status
@@ -32,3 +34,9 @@ pub mod MostQuestions
 pub mod Proving
 -- the ownership of the handle of an access rule
 pub mod RuleHandles
+-- how the parts of a renewal of keys cross to C
+pub mod Renewals
+-- how what is answered to a request crosses to C
+pub mod Requests
+-- how the parts of a URL, and what follows on an answer, cross to C
+pub mod Urls

@@ -1,9 +1,7 @@
 -- The meaning of the proved verifiers, and the memory of tokens that they accepted.
 use Rattle.std.specs.Prelude.{◌≡◌, List, [], ◌∷◌, Option, Some, None}
 use Rattle.jwt_mac.specs.Verifying.{Meaning}
-use Rattle.jwt_rsa.specs.Meanings.{rsa_meaning}
-use Rattle.jwt_ecdsa.specs.Meanings.{ecdsa_meaning}
-use Rattle.jwt_ed25519.specs.Meanings.{ed25519_meaning}
+use Rattle.jwt_built_in.specs.Meanings.{built_in_meaning}
 use Rattle.jwt_memory.specs.declared.memory.Memory.{Memory}
 use Rattle.jwt_memory.specs.Entries.{HasRoomOf}
 use Rattle.jwt_memory.specs.Kept.{AreKept}
@@ -12,7 +10,7 @@ use Rattle.jwt_handles.specs.declared.grounds.Documents.{Documents}
 
 -- what the proved verifiers mean: RSA (RFC 7518, sections 3.3 and 3.5), ECDSA (section 3.4) and Ed25519 (RFC 8037, section 3.1)
 abbrev pub proved_meanings : List Meaning
-proved_meanings = rsa_meaning ∷ ecdsa_meaning ∷ ed25519_meaning ∷ []
+proved_meanings = built_in_meaning ∷ []
 
 -- At every moment the report on each token that is kept is, by these documents and the proved verifiers, what its claims come to then.
 abbrev pub AreProvedKept : Documents → Option Memory → Type 0

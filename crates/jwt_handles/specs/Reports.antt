@@ -30,7 +30,7 @@ use Rattle.jwt_handles.specs.declared.report.FowState.{FowState}
 use Rattle.jwt_handles.specs.declared.report.FowTry.{FowTry}
 use Rattle.jwt_handles.specs.declared.status.TheConstants.{FOW_OK, FOW_REFUSED, FOW_OUT_OF_MEMORY}
 use Rattle.jwt_handles.specs.Documents.{documents}
-use Rattle.jwt_handles.specs.Evidence.{states_kept, tries_kept, claims_kept}
+use Rattle.jwt_handles.specs.Evidence.{states_kept, tries_kept, claims_kept, payload_kept}
 use Rattle.jwt_handles.specs.Remembering.{RestsOn}
 use Rattle.jwt_handles.specs.Faults.{Numbers, keys_number, policy_number, sig_number, verdict_numbers, missing_in}
 
@@ -71,7 +71,7 @@ try_parts tried = record { cost = tried.cost; signature = tried.signature; key =
 
 -- nothing is kept of a judging
 abbrev pub IsNew : Last → Type 0
-IsNew last = (states_kept last ≡ []) × (tries_kept last ≡ []) × (claims_kept last ≡ None) × (last.missing.items ≡ []) × (last.asked ≡ None) × (last.remembered ≡ false)
+IsNew last = (states_kept last ≡ []) × (tries_kept last ≡ []) × (claims_kept last ≡ None) × (payload_kept last ≡ None) × (last.missing.items ≡ []) × (last.asked ≡ None) × (last.remembered ≡ false)
 
 -- the policy and the key set that these octets spell
 abbrev pub IsRead : List ℕ → List ℕ → Documents → Type 0

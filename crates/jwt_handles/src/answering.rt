@@ -8,9 +8,9 @@ ghost use Rattle.jwt_told.specs.Questions.{kept_parts};
 ghost use Rattle.jwt_handles.specs.Documents.{documents};
 ghost use Rattle.jwt_handles.specs.Reports.{asked_at, IsForgotten};
 ghost use Rattle.jwt_handles.specs.Remembering.{RemembersAlike};
-ghost use Rattle.jwt_handles.specs.Asking.{PutsQuestion, IsTold, StaysLast, StaysAnswered, public_asked, rsa_asked, rsa_says, ed25519_asked, ed25519_says, proved_asked, proved_says};
+ghost use Rattle.jwt_handles.specs.Asking.{PutsQuestion, IsTold, StaysLast, StaysAnswered, public_asked, proved_asked, proved_says};
 
-use crate::asking::{Proved, ask_last, tell, tell_by, tell_last};
+use crate::asking::{ask_last, tell, tell_last, tell_proved};
 use crate::handle::{Handle, take};
 use crate::report::FowQuestion;
 use crate::status::FOW_NOT_OPEN;
@@ -118,73 +118,6 @@ pub fn forget(validator: &mut Handle, alloc: Global)
     }
 }
 
-/// Tells what the proved verifier of RSA says of a signature. `FOW_OK`: that is told from now on; `FOW_OUT_OF_MEMORY`: memory was
-/// refused; `FOW_NOT_OPEN`: nothing is held; `FOW_ABSENT`: there is no such pair, or its algorithm isn't RSA.
-pub fn answer_rsa(
-    validator: &mut Handle,
-    alloc: Global,
-    token: &[u8],
-    signature: u32,
-    key: u32,
-) -> u32
-    ensures none { validator.old.state ≡ None → (result ≡ FOW_NOT_OPEN) × (validator.new.state ≡ None) }
-    ensures told { IfSome validator.old.state (λ d. IsTold
-        (rsa_asked (asked_at (token_of (documents d).policy token.now)
-        (key_set (documents d).keys).keys signature key))
-        (rsa_says (asked_at (token_of (documents d).policy token.now)
-        (key_set (documents d).keys).keys signature key))
-        result d validator.new.state) }
-    ensures remembers { IfSome validator.old.state (λ d. RemembersAlike d validator.new.state) }
-    ensures last { IfSome validator.old.state (λ d. StaysLast d validator.new.state) }
-{
-    let Some(mut state) = take(validator, alloc) else {
-        return FOW_NOT_OPEN;
-    };
-    let status = tell_by(
-        alloc,
-        &mut state,
-        token,
-        OpenPair { signature, key },
-        Proved::Rsa,
-    );
-    *validator = Handle::of(state);
-    status
-}
-
-/// Tells what the proved verifier of Ed25519 says of a signature. `FOW_OK`: that is told from now on; `FOW_OUT_OF_MEMORY`: memory
-/// was refused; `FOW_NOT_OPEN`: nothing is held; `FOW_ABSENT`: there is no such pair, or its algorithm isn't EdDSA or its key is of
-/// another curve.
-pub fn answer_ed25519(
-    validator: &mut Handle,
-    alloc: Global,
-    token: &[u8],
-    signature: u32,
-    key: u32,
-) -> u32
-    ensures none { validator.old.state ≡ None → (result ≡ FOW_NOT_OPEN) × (validator.new.state ≡ None) }
-    ensures told { IfSome validator.old.state (λ d. IsTold
-        (ed25519_asked (asked_at (token_of (documents d).policy token.now)
-        (key_set (documents d).keys).keys signature key))
-        (ed25519_says (asked_at (token_of (documents d).policy token.now)
-        (key_set (documents d).keys).keys signature key))
-        result d validator.new.state) }
-    ensures remembers { IfSome validator.old.state (λ d. RemembersAlike d validator.new.state) }
-    ensures last { IfSome validator.old.state (λ d. StaysLast d validator.new.state) }
-{
-    let Some(mut state) = take(validator, alloc) else {
-        return FOW_NOT_OPEN;
-    };
-    let status = tell_by(
-        alloc,
-        &mut state,
-        token,
-        OpenPair { signature, key },
-        Proved::Ed25519,
-    );
-    *validator = Handle::of(state);
-    status
-}
-
 /// Tells what the proved verifier that names the algorithm says of a signature. `FOW_OK`: that is told from now on;
 /// `FOW_OUT_OF_MEMORY`: memory was refused; `FOW_NOT_OPEN`: nothing is held; `FOW_ABSENT`: there is no such pair, or no proved
 /// verifier names its algorithm, or its key is of the curve Ed448.
@@ -208,13 +141,7 @@ pub fn answer_proved(
     let Some(mut state) = take(validator, alloc) else {
         return FOW_NOT_OPEN;
     };
-    let status = tell_by(
-        alloc,
-        &mut state,
-        token,
-        OpenPair { signature, key },
-        Proved::Any,
-    );
+    let status = tell_proved(alloc, &mut state, token, OpenPair { signature, key });
     *validator = Handle::of(state);
     status
 }

@@ -9,11 +9,12 @@ ghost use Rattle.jwt_told.specs.Questions.{kept_parts, question_parts};
 ghost use Rattle.jwt_told.specs.Told.{told};
 ghost use Rattle.jwt_handles.specs.Documents.{documents};
 ghost use Rattle.jwt_handles.specs.Reports.{asked_at};
-ghost use Rattle.jwt_handles.specs.Asking.{alg_number, kind_number, question_octets, PutsQuestion, TellsOne, TellsState, is_ed25519, is_secret, public_asked, unasked, rsa_asked, rsa_says, ecdsa_asked, ecdsa_says, ed25519_asked, ed25519_says, proved_asked, proved_says, asked_of, said_by};
+ghost use Rattle.jwt_handles.specs.Asking.{alg_number, kind_number, question_octets, PutsQuestion, TellsOne, TellsState, is_ed25519, is_secret, public_asked, unasked, rsa_asked, rsa_says, ecdsa_asked, ecdsa_says, ed25519_asked, ed25519_says, proved_asked, proved_says};
 
 use crate::report::FowQuestion;
 use crate::state::{Last, State};
 use crate::status::{FOW_ABSENT, FOW_OK, FOW_OUT_OF_MEMORY, FOW_TOO_SHORT};
+use jwt_built_in::BuiltIn;
 use jwt_ecdsa::Ecdsa;
 use jwt_ed25519::Ed25519;
 use jwt_mac::{Alg, Answer, EcCurve, EdCurve, KeyView, Verifier};
@@ -233,17 +234,6 @@ pub(crate) fn tell(
     }
 }
 
-/// A proved verifier.
-#[derive(Clone, Copy)]
-pub enum Proved {
-    /// That of RSA.
-    Rsa,
-    /// That of EdDSA with the curve Ed25519.
-    Ed25519,
-    /// The one of RSA, ECDSA and Ed25519 that names the algorithm.
-    Any,
-}
-
 /// Whether the verifier of RSA accepts the signature.
 fn rsa_accepts(asked: &Question<'_>) -> bool
     ensures { result ≡ rsa_says (Some (question_parts asked.now)) }
@@ -255,20 +245,20 @@ fn rsa_accepts(asked: &Question<'_>) -> bool
 }
 
 /// Whether the verifier of Ed25519 accepts the signature.
-fn ed25519_accepts(asked: &Question<'_>) -> bool
+fn ed25519_accepts(verifiers: &BuiltIn, asked: &Question<'_>) -> bool
     ensures { result ≡ ed25519_says (Some (question_parts asked.now)) }
 {
-    match Ed25519.verify(asked.alg, &asked.key, asked.message, asked.signature) {
+    match verifiers.verify_ed25519(asked.alg, &asked.key, asked.message, asked.signature) {
         Answer::Valid => true,
         _ => false,
     }
 }
 
 /// Whether the verifier of ECDSA accepts the signature.
-fn ecdsa_accepts(asked: &Question<'_>) -> bool
+fn ecdsa_accepts(verifiers: &BuiltIn, asked: &Question<'_>) -> bool
     ensures { result ≡ ecdsa_says (Some (question_parts asked.now)) }
 {
-    match Ecdsa.verify(asked.alg, &asked.key, asked.message, asked.signature) {
+    match verifiers.verify_ecdsa(asked.alg, &asked.key, asked.message, asked.signature) {
         Answer::Valid => true,
         _ => false,
     }
@@ -299,73 +289,56 @@ fn rsa_answer(asked: &Question<'_>) -> Option<bool>
 }
 
 /// What the verifier of ECDSA says of a signature; `None` where it names another algorithm.
-fn ecdsa_answer(asked: &Question<'_>) -> Option<bool>
+fn ecdsa_answer(verifiers: &BuiltIn, asked: &Question<'_>) -> Option<bool>
     ensures { result ≡ option_map (λ q. ecdsa_says (Some q)) (ecdsa_asked (Some (question_parts asked.now))) }
 {
     if Ecdsa.names(asked.alg) {
-        Some(ecdsa_accepts(asked))
+        Some(ecdsa_accepts(verifiers, asked))
     } else {
         None
     }
 }
 
 /// What the verifier of Ed25519 says of a signature; `None` where it is about another algorithm or curve.
-fn ed25519_answer(asked: &Question<'_>) -> Option<bool>
+fn ed25519_answer(verifiers: &BuiltIn, asked: &Question<'_>) -> Option<bool>
     ensures { result ≡ option_map (λ q. ed25519_says (Some q)) (ed25519_asked (Some (question_parts asked.now))) }
 {
     if Ed25519.names(asked.alg) && is_ed25519(&asked.key) {
-        Some(ed25519_accepts(asked))
+        Some(ed25519_accepts(verifiers, asked))
     } else {
         None
     }
 }
 
 /// What the verifier that names the algorithm says of a signature; `None` where none does, or the curve is of no verifier.
-fn any_answer(asked: &Question<'_>) -> Option<bool>
+fn proved_answer(verifiers: &BuiltIn, asked: &Question<'_>) -> Option<bool>
     ensures { result ≡ option_map (λ q. proved_says (Some q)) (proved_asked (Some (question_parts asked.now))) }
 {
     if Rsa.names(asked.alg) {
         rsa_answer(asked)
     } else if Ecdsa.names(asked.alg) {
-        ecdsa_answer(asked)
+        ecdsa_answer(verifiers, asked)
     } else {
-        ed25519_answer(asked)
+        ed25519_answer(verifiers, asked)
     }
 }
 
-/// What a proved verifier says of a signature; `None` where it is about an algorithm or a curve of others.
-fn proved_answer(by: Proved, asked: &Question<'_>) -> Option<bool>
-    ensures { result ≡ option_map (λ q. said_by by (Some q))
-        (asked_of by (Some (question_parts asked.now))) }
-{
-    match by {
-        Proved::Rsa => rsa_answer(asked),
-        Proved::Ed25519 => ed25519_answer(asked),
-        Proved::Any => any_answer(asked),
-    }
-}
-
-/// Tells what a proved verifier says of a signature. `FOW_OK`; `FOW_OUT_OF_MEMORY`: memory was refused; `FOW_ABSENT`: there is no such
-/// pair, or it is about an algorithm or a curve of others.
-pub(crate) fn tell_by(
-    alloc: Global,
-    state: &mut State,
-    token: &[u8],
-    pair: OpenPair,
-    by: Proved,
-) -> u32
+/// Tells what the proved verifier that names the algorithm says of a signature. `FOW_OK`; `FOW_OUT_OF_MEMORY`: memory was refused;
+/// `FOW_ABSENT`: there is no such pair, no proved verifier names its algorithm, or its key is of a curve of none.
+pub(crate) fn tell_proved(alloc: Global, state: &mut State, token: &[u8], pair: OpenPair) -> u32
     ensures told { TellsState
-        (asked_of by (asked_at (token_of (documents state.old).policy token.now)
+        (proved_asked (asked_at (token_of (documents state.old).policy token.now)
         (key_set (documents state.old).keys).keys pair.signature pair.key))
-        (said_by by (asked_at (token_of (documents state.old).policy token.now)
+        (proved_says (asked_at (token_of (documents state.old).policy token.now)
         (key_set (documents state.old).keys).keys pair.signature pair.key)) result state.old state.new }
     ensures last { state.new.last ≡ state.old.last }
     ensures memories { (state.new.memory ≡ state.old.memory) × (state.new.grounds ≡ state.old.grounds) }
 {
     let documents = state.grounds.documents();
+    let verifiers = state.grounds.verifiers();
     match read_token(alloc, token, &documents.policy) {
         Ok(Some(signed)) => match pair.about(&signed, &documents.keys) {
-            Some(asked) => match proved_answer(by, &asked) {
+            Some(asked) => match proved_answer(verifiers, &asked) {
                 Some(accepts) => tell_of(alloc, &mut state.answers, &asked, accepts),
                 None => FOW_ABSENT,
             },

@@ -5,6 +5,7 @@ ghost use Rattle.std.specs.Prelude.{◌≡◌, ◌≢◌, ◌≤◌, None, IfSom
 ghost use Rattle.std.specs.Arc.{arc_value};
 
 use crate::judging::Judging;
+use jwt_built_in::BuiltIn;
 use jwt_keys::KeySet;
 use jwt_memory::Memory;
 use jwt_policy::Policy;
@@ -20,11 +21,19 @@ pub struct Documents {
     pub(crate) keys: KeySet,
 }
 
+/// What validators that were opened beside one another share: the documents, and the proved verifiers, which may have some of the keys
+/// prepared.
+#[derive(Drop)]
+pub struct SharedGrounds {
+    pub(crate) documents: Documents,
+    pub(crate) verifiers: BuiltIn,
+}
+
 /// The documents that a validator judges by, with a memory of what the proved verifiers accepted by them, where that is to be remembered.
 /// Contracts see both.
 #[derive(Drop)]
 pub struct Grounds {
-    shared: Arc<Documents>,
+    shared: Arc<SharedGrounds>,
     proved: Option<Memory>,
 }
 
@@ -43,20 +52,21 @@ impl Model for Grounds {
     ghost use Rattle.std.specs.Arc.{arc_value};
     ghost use Rattle.jwt_handles.specs.ProvedKept.{AreProvedKept};
 
-    ghost view = { λ g. (arc_value g.shared, g.proved) };
+    ghost view = { λ g. ((arc_value g.shared).documents, g.proved) };
 
-    ghost invariant = { λ g. AreProvedKept (arc_value g.shared) g.proved };
+    ghost invariant = { λ g. AreProvedKept (arc_value g.shared).documents g.proved };
 }
 
 impl Grounds {
-    ghost use Rattle.jwt_handles.specs.Evidence.{claims_kept};
+    ghost use Rattle.jwt_handles.specs.Evidence.{claims_kept, payload_kept};
     ghost use Rattle.jwt_handles.specs.Keeping.{AddsOnly};
+    ghost use Rattle.jwt_handles.specs.Payloads.{KeepsPayload};
     ghost use Rattle.jwt_handles.specs.ProvedKept.{IsNothingKept, HasSameRoom};
     ghost use Rattle.jwt_handles.specs.Proving.{IsProved};
 
     /// These documents, with no memory.
-    pub(crate) fn new(shared: Arc<Documents>) -> Grounds
-        ensures { result ≡ (arc_value shared, None) }
+    pub(crate) fn new(shared: Arc<SharedGrounds>) -> Grounds
+        ensures { result ≡ ((arc_value shared).documents, None) }
     {
         Grounds {
             shared,
@@ -68,12 +78,17 @@ impl Grounds {
     pub(crate) fn documents(&self) -> &Documents
         ensures { result.now ≡ self.now.0 }
     {
-        &self.shared
+        &self.shared.documents
     }
 
-    /// The documents, for another validator; `None` where too many hold them.
-    pub(crate) fn share(&self) -> Option<Arc<Documents>>
-        ensures { IfSome result (λ it. arc_value it ≡ self.now.0) }
+    /// The proved verifiers.
+    pub(crate) fn verifiers(&self) -> &BuiltIn {
+        &self.shared.verifiers
+    }
+
+    /// The documents and the proved verifiers, for another validator; `None` where too many hold them.
+    pub(crate) fn share(&self) -> Option<Arc<SharedGrounds>>
+        ensures { IfSome result (λ it. (arc_value it).documents ≡ self.now.0) }
     {
         match Arc::try_clone(&self.shared) {
             Ok(shared) => Some(shared),
@@ -101,12 +116,14 @@ impl Grounds {
             → IsProved self.old now octets.now result.said result.last }
         ensures never_asks { result.said.verdict ≢ FOW_ASKS }
         ensures claims { result.said.verdict ≢ FOW_OK → claims_kept result.last ≡ None }
+        ensures payload { KeepsPayload self.old.0.policy octets.now
+            result.said.verdict (payload_kept result.last) }
         ensures documents { self.new.0 ≡ self.old.0 }
         ensures room { HasSameRoom self.new.1 self.old.1 }
         ensures open { result.said.verdict ≤ FOW_OUT_OF_MEMORY }
         ensures adds { AddsOnly self.old.0.policy.run.work octets.now result.said result.last self.old.1 self.new.1 }
     {
-        let documents = &*self.shared;
-        documents.judging_by_proof(alloc, &mut self.proved, octets, now, scratch)
+        let shared = &*self.shared;
+        shared.judging_by_proof(alloc, &mut self.proved, octets, now, scratch)
     }
 }

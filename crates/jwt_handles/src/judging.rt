@@ -1,7 +1,7 @@
 //! The judging of a token by answers.
 
 ghost use Rattle.jwt_handles.specs.declared.status.TheConstants.{FOW_ASKS, FOW_OK, FOW_OUT_OF_MEMORY, FOW_REFUSED};
-ghost use Rattle.std.specs.Prelude.{◌≡◌, ◌≢◌, None, ◌≤◌, [], true, false, IfOk, IfErr, MatchResult, length, option_map};
+ghost use Rattle.std.specs.Prelude.{◌≡◌, ◌≢◌, ◌↔◌, ◌⊎◌, None, ◌≤◌, true, false, IfOk, IfErr, IsTrue, MatchResult, length, option_map};
 ghost use Rattle.std.specs.Arc.{arc_value};
 ghost use Rattle.jwt_jws.specs.Views.{token};
 ghost use Rattle.jwt_keys.specs.KeySets.{key_set};
@@ -9,15 +9,17 @@ ghost use Rattle.jwt_verify.specs.Table.{work};
 ghost use Rattle.jwt_verify.specs.Verdict.{checked};
 ghost use Rattle.jwt_told.specs.Questions.{kept_parts, question_at};
 ghost use Rattle.jwt_told.specs.Told.{told};
-ghost use Rattle.jwt_memory.specs.Outcomes.{report_in, report_of, paid_in, is_remembered};
+ghost use Rattle.jwt_memory.specs.Outcomes.{report_in, report_of, paid_in, is_remembered, payload_in, payload_unless};
+ghost use Rattle.jwt_memory.specs.Payloads.{HandsOut, IsAcceptance};
 ghost use Rattle.jwt_handles.specs.Documents.{documents};
 ghost use Rattle.jwt_handles.specs.declared.state.Evidence.TheVariants.{Shared};
-ghost use Rattle.jwt_handles.specs.Evidence.{states_of, tries_of, evidence_claims, states_kept, tries_kept, claims_kept};
+ghost use Rattle.jwt_handles.specs.Evidence.{tries_kept, claims_kept, payload_kept};
 ghost use Rattle.jwt_handles.specs.Faults.{missing_in, missing_name, bare, verdict_numbers};
 ghost use Rattle.jwt_handles.specs.ProvedKept.{HasSameRoom};
-ghost use Rattle.jwt_handles.specs.Keeping.{AddsNone, AddsOnly, AddsReport, AddsTold};
+ghost use Rattle.jwt_handles.specs.Keeping.{AddsHanded, AddsNone, AddsOnly, AddsTold};
+ghost use Rattle.jwt_handles.specs.Payloads.{KeepsPayload};
 ghost use Rattle.jwt_handles.specs.Remembering.{RestsOn};
-ghost use Rattle.jwt_handles.specs.Reports.{IsNew, IsAsked, IsAsking, IsJudged, Says, claims_in, report_numbers};
+ghost use Rattle.jwt_handles.specs.Reports.{IsAsked, IsAsking, IsJudged, Says, claims_in, report_numbers};
 
 use crate::grounds::Documents;
 use crate::report::FowReport;
@@ -26,76 +28,14 @@ use crate::status::{FOW_ASKS, FOW_OUT_OF_MEMORY};
 use jwt_jws::Signed;
 use jwt_keys::KeySet;
 use jwt_mac::{Budget, CountDown};
-use jwt_memory::{Basis, Memory, Outcome};
+use jwt_memory::laws::read_payloads;
+use jwt_memory::{Basis, Handed, Memory, Outcome};
 use jwt_policy::{ClaimFault, Claims};
 use jwt_text::Scratch;
 use jwt_told::{Answers, Asking, OpenPair, OwnedQuestion, judge_told};
-use jwt_verify::{Fault, Report, SigState, Try, Verdict};
+use jwt_verify::{Fault, Report, Verdict};
 use std::alloc::{AllocError, Global};
 use std::sync::Arc;
-
-impl Evidence {
-    /// None.
-    pub(crate) fn none(alloc: Global) -> Evidence
-        ensures states { states_of result ≡ [] }
-        ensures tries { tries_of result ≡ [] }
-        ensures claims { evidence_claims result ≡ None }
-    {
-        Evidence::Own {
-            states: Vec::new(alloc),
-            tries: Vec::new(alloc),
-            claims: None,
-        }
-    }
-}
-
-impl Last {
-    /// Nothing is kept.
-    pub(crate) fn new(alloc: Global) -> Last
-        ensures { IsNew result }
-    {
-        Last {
-            evidence: Evidence::none(alloc),
-            missing: Vec::new(alloc),
-            asked: None,
-            remembered: false,
-        }
-    }
-
-    /// What became of each signature.
-    pub(crate) fn states(&self) -> &[SigState]
-        ensures { result.now ≡ states_kept self.now }
-    {
-        match &self.evidence {
-            Evidence::Own { states, .. } => states.as_slice(),
-            Evidence::Shared { basis, .. } => basis.states.as_slice(),
-        }
-    }
-
-    /// The tries that led to it.
-    pub(crate) fn tries(&self) -> &[Try]
-        ensures { result.now ≡ tries_kept self.now }
-    {
-        match &self.evidence {
-            Evidence::Own { tries, .. } => tries.as_slice(),
-            Evidence::Shared { basis, .. } => basis.tries.as_slice(),
-        }
-    }
-
-    /// The claims of an acceptance.
-    pub(crate) fn claims(&self) -> Option<&Claims>
-        ensures { option_map (λ c. c.now) result ≡ claims_kept self.now }
-    {
-        match &self.evidence {
-            Evidence::Own { claims, .. } => claims.as_ref(),
-            Evidence::Shared { basis, accepted } => if *accepted {
-                Some(&basis.claims)
-            } else {
-                None
-            },
-        }
-    }
-}
 
 /// A judging, with what is to be kept of it.
 #[derive(Drop)]
@@ -129,6 +69,7 @@ fn missing(alloc: Global, verdict: &Verdict<'_>) -> Result<Vec<u8>, AllocError>
 pub(crate) fn bare(alloc: Global, verdict: u32) -> Judging
     ensures numbers { report_numbers result.said ≡ bare verdict }
     ensures claims { claims_kept result.last ≡ None }
+    ensures payload { payload_kept result.last ≡ None }
     ensures anew { result.last.remembered ≡ false }
 {
     Judging {
@@ -161,6 +102,7 @@ fn asking(alloc: Global, asks: Asking<'_>, keys: &KeySet) -> Result<Judging, All
     ensures count { IfOk result (λ j. j.said.tries ≡ length asks.entry.tries.items) }
     ensures tries { IfOk result (λ j. tries_kept j.last ≡ asks.entry.tries.items) }
     ensures claims { IfOk result (λ j. claims_kept j.last ≡ None) }
+    ensures payload { IfOk result (λ j. payload_kept j.last ≡ None) }
     ensures anew { IfOk result (λ j. j.last.remembered ≡ false) }
     ensures asked { IfOk result (λ j. option_map kept_parts j.last.asked
         ≡ question_at (token asks.entry.token) (key_set keys.now).keys
@@ -179,6 +121,7 @@ fn asking(alloc: Global, asks: Asking<'_>, keys: &KeySet) -> Result<Judging, All
                 states: Vec::new(alloc),
                 tries,
                 claims: None,
+                payload: None,
             },
             missing: Vec::new(alloc),
             asked,
@@ -197,11 +140,12 @@ fn claims_in(verdict: Verdict<'_>) -> Option<Claims>
     }
 }
 
-/// The judging that this report is, whose tries cost so many octets.
-fn kept(report: Report<'_>, cost: u64, missing: Vec<u8>) -> Judging
+/// The judging that this report is, with the payload of an acceptance. Its tries cost so many octets.
+fn kept(report: Report<'_>, payload: Option<Vec<u8>>, cost: u64, missing: Vec<u8>) -> Judging
     requires missing { missing.items ≡ missing_in report.verdict }
     requires cost { cost ≡ work report.tries.items }
     ensures says { Says report.entry result.said result.last }
+    ensures payload { payload_kept result.last ≡ option_map (λ v. v.items) payload }
     ensures anew { result.last.remembered ≡ false }
 {
     let mut said = FowReport::of(&report.verdict);
@@ -219,6 +163,7 @@ fn kept(report: Report<'_>, cost: u64, missing: Vec<u8>) -> Judging
                 states,
                 tries,
                 claims: claims_in(verdict),
+                payload,
             },
             missing,
             asked: None,
@@ -269,6 +214,7 @@ fn recalled(
         (arc_value basis).key (arc_value basis).claims fault.entry) (arc_value basis))
         j.said j.last) }
     ensures remembered { IfOk result (λ j. j.last.remembered ≡ true) }
+    ensures payload { IfOk result (λ j. payload_kept j.last ≡ payload_unless fault.entry (arc_value basis).payload.items) }
     ensures fails { IfErr result (λ _. claims_in (checked (arc_value basis).signature
         (arc_value basis).key (arc_value basis).claims fault.entry) ≡ None) }
 {
@@ -284,22 +230,60 @@ fn recalled(
     }
 }
 
-/// The judging that an outcome is. So many octets were paid for it.
-pub(crate) fn judging_of(
+/// Whether a report is an acceptance.
+fn is_accepted(report: &Report<'_>) -> bool
+    ensures { IsTrue result ↔ IsAcceptance report.now.verdict }
+{
+    match &report.verdict {
+        Verdict::Accepted { .. } => true,
+        Verdict::Refused(_) => false,
+    }
+}
+
+/// The judging that a new report is, with the payload of an acceptance. So many octets were paid for it.
+///
+/// # Errors
+/// Where memory was refused, also for the payload of an acceptance.
+fn judged(
     alloc: Global,
-    outcome: Outcome<'_>,
+    report: Report<'_>,
+    payload: Option<Vec<u8>>,
     paid: u64,
 ) -> Result<Judging, AllocError>
-    requires { paid ≡ work (paid_in outcome) }
-    ensures says { IfOk result (λ j. Says (report_in outcome.entry) j.said j.last) }
-    ensures remembered { IfOk result (λ j. j.last.remembered ≡ is_remembered outcome.entry) }
-    ensures fails { IfErr result (λ _. claims_in (report_in outcome.entry).verdict ≡ None) }
+    requires { paid ≡ work report.tries.items }
+    ensures says { IfOk result (λ j. Says report.entry j.said j.last) }
+    ensures anew { IfOk result (λ j. j.last.remembered ≡ false) }
+    ensures payload { IfOk result (λ j. payload_kept j.last ≡ option_map (λ v. v.items) payload) }
+    ensures whole { IfOk result (λ _. IsAcceptance report.entry.verdict → payload ≢ None) }
+    ensures fails { IfErr result (λ _. (claims_in report.entry.verdict ≡ None) ⊎ (payload ≡ None)) }
 {
+    if payload.is_none() && is_accepted(&report) {
+        return Err(AllocError);
+    }
+    let missing = missing(alloc, &report.verdict)?;
+    Ok(kept(report, payload, paid, missing))
+}
+
+/// The judging that an outcome is, with the payload that it hands out. So many octets were paid for it.
+///
+/// # Errors
+/// Where memory was refused, also for the payload of an acceptance.
+pub(crate) fn judging_of(
+    alloc: Global,
+    handed: Handed<'_>,
+    paid: u64,
+) -> Result<Judging, AllocError>
+    requires { paid ≡ work (paid_in handed.outcome) }
+    ensures says { IfOk result (λ j. Says (report_in handed.entry.outcome) j.said j.last) }
+    ensures remembered { IfOk result (λ j. j.last.remembered ≡ is_remembered handed.entry.outcome) }
+    ensures payload { IfOk result (λ j. payload_kept j.last ≡ payload_in handed.entry) }
+    ensures whole { IfOk result (λ j. IsAcceptance (report_in handed.entry.outcome).verdict → payload_in handed.entry ≢ None) }
+    ensures fails { IfErr result (λ _. (claims_in (report_in handed.entry.outcome).verdict ≡ None)
+        ⊎ (payload_in handed.entry ≡ None)) }
+{
+    let Handed { outcome, payload } = handed;
     match outcome {
-        Outcome::Judged(report) => {
-            let missing = missing(alloc, &report.verdict)?;
-            Ok(kept(report, paid, missing))
-        }
+        Outcome::Judged(report) => judged(alloc, report, payload, paid),
         Outcome::Accepted(basis) => {
             let numbers = FowReport::accepted(basis.signature, basis.key);
             Ok(shared(numbers, basis, true, Vec::new(alloc), false))
@@ -308,7 +292,7 @@ pub(crate) fn judging_of(
     }
 }
 
-/// The outcome of judging by answers, or a question, over a memory where there is one.
+/// What judging by answers hands out, or a question, over a memory where there is one.
 #[tactic(auto, unfolding(jwt_verify::specs::Table::work))]
 fn outcome_of<'a, 'p>(
     alloc: Global,
@@ -319,27 +303,30 @@ fn outcome_of<'a, 'p>(
     answers: &Answers,
     budget: &mut CountDown,
     scratch: &mut Scratch,
-) -> Result<Outcome<'p>, Asking<'a>>
+) -> Result<Handed<'p>, Asking<'a>>
     requires no_octets { ⟦<CountDown as Budget>⟧.octets budget.old ≡ 0 }
     requires no_calls { ⟦<CountDown as Budget>⟧.calls budget.old ≡ 0 }
     requires ceiling { ⟦<CountDown as Budget>⟧.ceiling budget.old ≡ documents.now.policy.run.work }
-    ensures rests { IfOk result (λ o. RestsOn (is_remembered o) (told answers.now) memory.old
-        documents.now now octets.now (report_in o)) }
-    ensures paid { IfOk result (λ o. ⟦<CountDown as Budget>⟧.octets budget.new ≡ work (paid_in o)) }
+    ensures rests { IfOk result (λ h. RestsOn (is_remembered h.outcome) (told answers.now) memory.old
+        documents.now now octets.now (report_in h.outcome)) }
+    ensures paid { IfOk result (λ h. ⟦<CountDown as Budget>⟧.octets budget.new ≡ work (paid_in h.outcome)) }
+    ensures payload { IfOk result (λ h. HandsOut documents.now.policy octets.now
+        (report_in h.outcome).verdict (payload_in h)) }
     ensures adds { MatchResult result
-        (λ o. AddsReport documents.now.policy.run.work octets.now (report_in o) memory.old memory.new)
+        (λ h. AddsHanded documents.now.policy.run.work octets.now h memory.old memory.new)
         (λ _. AddsNone memory.old memory.new) }
     ensures told { AddsTold (told answers.now) documents.now memory.old memory.new }
     ensures room { HasSameRoom memory.new memory.old }
     ensures asks { IfErr result (λ a. IsAsking (told answers.now) documents.now now octets.now a) }
 {
+    read_payloads();
     let Documents { policy, keys } = documents;
     match memory {
         Some(memory) => jwt_memory::judge_told(
             memory, alloc, octets, keys, policy, now, answers, budget, scratch,
         ),
         None => match judge_told(alloc, octets, keys, policy, now, answers, budget, scratch) {
-            Ok(report) => Ok(Outcome::Judged(report)),
+            Ok(judged) => Ok(Handed::of(alloc, judged)),
             Err(asks) => Err(asks),
         },
     }
@@ -352,6 +339,8 @@ fn report_on(alloc: Global, state: &mut State, octets: &[u8], now: i64) -> Judgi
     ensures asks { result.said.verdict ≡ FOW_ASKS
         → IsAsked state.old now octets.now result.said result.last }
     ensures claims { result.said.verdict ≢ FOW_OK → claims_kept result.last ≡ None }
+    ensures payload { KeepsPayload (documents state.old).policy octets.now
+        result.said.verdict (payload_kept result.last) }
     ensures grounds { state.new.grounds ≡ state.old.grounds }
     ensures told { told state.new.answers ≡ told state.old.answers }
     ensures open { result.said.verdict ≤ FOW_OUT_OF_MEMORY }
@@ -373,7 +362,7 @@ fn report_on(alloc: Global, state: &mut State, octets: &[u8], now: i64) -> Judgi
         &mut budget,
         &mut *state.scratch,
     ) {
-        Ok(outcome) => match judging_of(alloc, outcome, budget.octets()) {
+        Ok(handed) => match judging_of(alloc, handed, budget.octets()) {
             Ok(judging) => judging,
             Err(_) => bare(alloc, FOW_OUT_OF_MEMORY),
         },
@@ -390,6 +379,8 @@ pub(crate) fn judge_state(alloc: Global, state: &mut State, octets: &[u8], now: 
         → IsJudged state.old now octets.now result state.new.last }
     ensures asks { result.verdict ≡ FOW_ASKS → IsAsked state.old now octets.now result state.new.last }
     ensures claims { result.verdict ≢ FOW_OK → claims_kept state.new.last ≡ None }
+    ensures payload { KeepsPayload (documents state.old).policy octets.now
+        result.verdict (payload_kept state.new.last) }
     ensures grounds { state.new.grounds ≡ state.old.grounds }
     ensures told { told state.new.answers ≡ told state.old.answers }
     ensures open { result.verdict ≤ FOW_OUT_OF_MEMORY }

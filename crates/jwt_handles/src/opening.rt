@@ -11,12 +11,13 @@ ghost use Rattle.jwt_handles.specs.Written.{PutsSome, refused_member};
 ghost use Rattle.jwt_handles.specs.MostQuestions.{most_questions};
 
 use crate::faults::{keys_number, policy_number};
-use crate::grounds::{Documents, Grounds};
+use crate::grounds::{Documents, Grounds, SharedGrounds};
 use crate::handle::{Handle, take};
 use crate::most_questions::most_of;
 use crate::state::{Last, State};
 use crate::status::{FOW_ABSENT, FOW_NOT_OPEN, FOW_OK, FOW_OUT_OF_MEMORY, FOW_REFUSED, NotHeld};
 use crate::writing::put;
+use jwt_built_in::{BuiltIn, PREPARED_KEYS};
 use jwt_keys::{KeySet, KeysFault};
 use jwt_policy::{Policy, PolicyFault};
 use jwt_text::Scratch;
@@ -25,8 +26,8 @@ use std::alloc::{AllocError, Global};
 use std::sync::Arc;
 
 /// The documents of a policy and a key set, or the status and the number of the fault for which one of them is refused.
-fn documents_of(alloc: Global, policy: &[u8], keys: &[u8]) -> Result<Arc<Documents>, NotHeld>
-    ensures read { IfOk result (λ shared. IsRead policy.now keys.now (arc_value shared)) }
+fn documents_of(alloc: Global, policy: &[u8], keys: &[u8]) -> Result<Documents, NotHeld>
+    ensures read { IfOk result (λ it. IsRead policy.now keys.now it) }
     ensures refused { IfErr result (λ e. IsRefused policy.now keys.now e.status e.fault) }
 {
     let policy = match Policy::read(alloc, policy) {
@@ -51,7 +52,26 @@ fn documents_of(alloc: Global, policy: &[u8], keys: &[u8]) -> Result<Arc<Documen
             fault: keys_number(fault),
         }),
     };
-    match Arc::new(alloc, Documents { policy, keys }) {
+    Ok(Documents { policy, keys })
+}
+
+/// These documents, to be shared, with the proved verifiers, which have at most so many of the keys prepared.
+fn shared_of(
+    alloc: Global,
+    policy: &[u8],
+    keys: &[u8],
+    most: usize,
+) -> Result<Arc<SharedGrounds>, NotHeld>
+    ensures read { IfOk result (λ shared. IsRead policy.now keys.now (arc_value shared).documents) }
+    ensures refused { IfErr result (λ e. IsRefused policy.now keys.now e.status e.fault) }
+{
+    let documents = documents_of(alloc, policy, keys)?;
+    let verifiers = BuiltIn::prepared(alloc, &documents.keys, most);
+    let shared = SharedGrounds {
+        documents,
+        verifiers,
+    };
+    match Arc::new(alloc, shared) {
         Ok(shared) => Ok(shared),
         Err(_) => Err(NotHeld {
             status: FOW_OUT_OF_MEMORY,
@@ -61,8 +81,8 @@ fn documents_of(alloc: Global, policy: &[u8], keys: &[u8]) -> Result<Arc<Documen
 }
 
 /// A handle on these documents, with no answers. `Err`: memory was refused.
-fn handle_on(alloc: Global, shared: Arc<Documents>) -> Result<Handle, AllocError>
-    ensures { IfOk result (λ h. IsFresh (arc_value shared) h.state) }
+fn handle_on(alloc: Global, shared: Arc<SharedGrounds>) -> Result<Handle, AllocError>
+    ensures { IfOk result (λ h. IsFresh (arc_value shared).documents h.state) }
 {
     let Ok(scratch) = Box::new(alloc, Scratch::new(alloc)) else {
         return Err(AllocError);
@@ -80,8 +100,7 @@ fn handle_on(alloc: Global, shared: Arc<Documents>) -> Result<Handle, AllocError
     }
 }
 
-/// Reads a policy and a key set. `FOW_OK`: they are held from now on; `FOW_REFUSED`: one of them is refused, for the fault;
-/// `FOW_OUT_OF_MEMORY`: memory was refused. On any other status the handle holds what it held.
+/// [`open_prepared`] with 16 keys.
 pub fn open(
     validator: &mut Handle,
     alloc: Global,
@@ -93,8 +112,27 @@ pub fn open(
     ensures refused { result ≢ FOW_OK → IsRefused policy.now keys.now result fault.new }
     ensures same { result ≢ FOW_OK → validator.new.state ≡ validator.old.state }
 {
+    open_prepared(validator, alloc, policy, keys, PREPARED_KEYS, fault)
+}
+
+/// Reads a policy and a key set, and prepares the first keys that can be, at most so many, for the proved verifiers: those of ECDSA and
+/// Ed25519. `FOW_OK`: they are held from now on; `FOW_REFUSED`: one of them is refused, for the fault; `FOW_OUT_OF_MEMORY`: memory was
+/// refused, for what isn't prepared; a key for whose preparing it is refused stays unprepared. On any other status the handle holds what
+/// it held.
+pub fn open_prepared(
+    validator: &mut Handle,
+    alloc: Global,
+    policy: &[u8],
+    keys: &[u8],
+    most: usize,
+    fault: &mut u32,
+) -> u32
+    ensures opened { result ≡ FOW_OK → IsOpened policy.now keys.now validator.new.state }
+    ensures refused { result ≢ FOW_OK → IsRefused policy.now keys.now result fault.new }
+    ensures same { result ≢ FOW_OK → validator.new.state ≡ validator.old.state }
+{
     *fault = 0;
-    match documents_of(alloc, policy, keys) {
+    match shared_of(alloc, policy, keys, most) {
         Ok(shared) => match handle_on(alloc, shared) {
             Ok(handle) => {
                 *validator = handle;

@@ -4,30 +4,30 @@ ghost use Rattle.jwt_handles.specs.declared.status.TheConstants.{FOW_ASKS, FOW_O
 ghost use Rattle.std.specs.Prelude.{◌≡◌, ◌≢◌, ◌≤◌, map};
 ghost use Rattle.jwt_verify.specs.Reports.{IsReport, terms};
 ghost use Rattle.jwt_verify.specs.Table.{work};
-ghost use Rattle.jwt_memory.specs.Outcomes.{report_in, paid_in, is_remembered};
+ghost use Rattle.jwt_memory.specs.Outcomes.{report_in, paid_in, is_remembered, payload_in};
+ghost use Rattle.jwt_memory.specs.Payloads.{HandsOut};
 ghost use Rattle.jwt_told.specs.Told.{told};
 ghost use Rattle.jwt_handles.specs.Documents.{documents};
-ghost use Rattle.jwt_handles.specs.Evidence.{claims_kept};
-ghost use Rattle.jwt_handles.specs.Keeping.{AddsOnly, AddsReport};
+ghost use Rattle.jwt_handles.specs.Evidence.{claims_kept, payload_kept};
+ghost use Rattle.jwt_handles.specs.Keeping.{AddsHanded, AddsOnly};
+ghost use Rattle.jwt_handles.specs.Payloads.{KeepsPayload};
 ghost use Rattle.jwt_handles.specs.ProvedKept.{AreProvedKept, HasSameRoom, lent_documents, proved_meanings};
 ghost use Rattle.jwt_handles.specs.Proving.{IsProved};
 ghost use Rattle.jwt_handles.specs.Remembering.{IsHeldIn};
 
-use crate::grounds::Documents;
+use crate::grounds::{Documents, SharedGrounds};
 use crate::judging::{Judging, bare, judging_of};
 use crate::report::FowReport;
 use crate::state::State;
 use crate::status::FOW_OUT_OF_MEMORY;
-use jwt_ecdsa::Ecdsa;
-use jwt_ed25519::Ed25519;
 use jwt_mac::{Budget, CountDown, Verifier};
-use jwt_memory::{Memory, Outcome};
-use jwt_rsa::Rsa;
+use jwt_memory::laws::read_payloads;
+use jwt_memory::{Handed, Memory};
 use jwt_text::Scratch;
-use jwt_verify::{JudgedToken, Terms, judge_under};
+use jwt_verify::{Terms, judge_under};
 use std::alloc::Global;
 
-/// The outcome under terms whose verifiers mean what the proved ones do, over a memory where there is one.
+/// What is handed out under terms whose verifiers mean what the proved ones do, over a memory where there is one.
 #[tactic(auto, unfolding(jwt_verify::specs::Table::work))]
 fn outcome_under<'p>(
     alloc: Global,
@@ -36,7 +36,7 @@ fn outcome_under<'p>(
     under: &Terms<'_, 'p, '_>,
     budget: &mut CountDown,
     scratch: &mut Scratch,
-) -> Outcome<'p>
+) -> Handed<'p>
     requires meanings { map (λ b. meaning (b.vtable, b.value)) under.now.verifiers.now ≡ proved_meanings }
     requires no_octets { ⟦<CountDown as Budget>⟧.octets budget.old ≡ 0 }
     requires no_calls { ⟦<CountDown as Budget>⟧.calls budget.old ≡ 0 }
@@ -45,21 +45,22 @@ fn outcome_under<'p>(
     requires kept { AreProvedKept (lent_documents under.now) memory.old }
     ensures report { IsReport
         (terms under.now.policy.now under.now.keys.now under.now.moment proved_meanings)
-        octets.now under.now.policy.now.run.work (report_in result) }
-    ensures held { IsHeldIn (is_remembered result) memory.old
+        octets.now under.now.policy.now.run.work (report_in result.outcome) }
+    ensures payload { HandsOut under.now.policy.now octets.now
+        (report_in result.outcome).verdict (payload_in result) }
+    ensures held { IsHeldIn (is_remembered result.outcome) memory.old
         octets.now under.now.policy.now.run.work }
-    ensures paid { ⟦<CountDown as Budget>⟧.octets budget.new ≡ work (paid_in result) }
+    ensures paid { ⟦<CountDown as Budget>⟧.octets budget.new ≡ work (paid_in result.outcome) }
     ensures kept { AreProvedKept (lent_documents under.now) memory.new }
     ensures room { HasSameRoom memory.new memory.old }
-    ensures adds { AddsReport under.now.policy.now.run.work octets.now (report_in result) memory.old memory.new }
+    ensures adds { AddsHanded under.now.policy.now.run.work octets.now result memory.old memory.new }
 {
+    read_payloads();
     match memory {
-        Some(memory) => jwt_memory::judge(memory, alloc, octets, under, budget),
+        Some(memory) => jwt_memory::judge_under(memory, alloc, octets, under, budget, scratch),
         None => {
-            let JudgedToken { report, token: _ } = judge_under(
-                alloc, octets, under, budget, scratch,
-            );
-            Outcome::Judged(report)
+            let judged = judge_under(alloc, octets, under, budget, scratch);
+            Handed::of(alloc, judged)
         }
     }
 }
@@ -79,14 +80,16 @@ fn judging_under(
         result.said result.last }
     ensures never_asks { result.said.verdict ≢ FOW_ASKS }
     ensures claims { result.said.verdict ≢ FOW_OK → claims_kept result.last ≡ None }
+    ensures payload { KeepsPayload under.now.policy.now octets.now
+        result.said.verdict (payload_kept result.last) }
     ensures kept { AreProvedKept (lent_documents under.now) memory.new }
     ensures room { HasSameRoom memory.new memory.old }
     ensures open { result.said.verdict ≤ FOW_OUT_OF_MEMORY }
     ensures adds { AddsOnly under.now.policy.now.run.work octets.now result.said result.last memory.old memory.new }
 {
     let mut budget = under.policy.budget();
-    let outcome = outcome_under(alloc, memory, octets, under, &mut budget, scratch);
-    match judging_of(alloc, outcome, budget.octets()) {
+    let handed = outcome_under(alloc, memory, octets, under, &mut budget, scratch);
+    match judging_of(alloc, handed, budget.octets()) {
         Ok(judging) => judging,
         Err(_) => bare(alloc, FOW_OUT_OF_MEMORY),
     }
@@ -111,8 +114,10 @@ impl Documents {
             verifiers,
         }
     }
+}
 
-    /// The judging of a token by these documents and the verifiers of RSA, ECDSA and Ed25519, over a memory where there is one.
+impl SharedGrounds {
+    /// The judging of a token by the documents and the verifiers of RSA, ECDSA and Ed25519, over a memory where there is one.
     pub(crate) fn judging_by_proof(
         &self,
         alloc: Global,
@@ -121,27 +126,23 @@ impl Documents {
         now: i64,
         scratch: &mut Scratch,
     ) -> Judging
-        requires kept { AreProvedKept self.now memory.old }
+        requires kept { AreProvedKept self.now.documents memory.old }
         ensures judged { result.said.verdict ≤ FOW_REFUSED
-            → IsProved (self.now, memory.old) now octets.now result.said result.last }
+            → IsProved (self.now.documents, memory.old) now octets.now result.said result.last }
         ensures never_asks { result.said.verdict ≢ FOW_ASKS }
         ensures claims { result.said.verdict ≢ FOW_OK → claims_kept result.last ≡ None }
-        ensures kept { AreProvedKept self.now memory.new }
+        ensures payload { KeepsPayload self.now.documents.policy octets.now
+            result.said.verdict (payload_kept result.last) }
+        ensures kept { AreProvedKept self.now.documents memory.new }
         ensures room { HasSameRoom memory.new memory.old }
         ensures open { result.said.verdict ≤ FOW_OUT_OF_MEMORY }
-        ensures adds { AddsOnly self.now.policy.run.work octets.now result.said result.last memory.old memory.new }
+        ensures adds { AddsOnly self.now.documents.policy.run.work octets.now result.said result.last memory.old memory.new }
     {
-        let Ok(rsa) = Box::new(alloc, Rsa) else {
+        let Ok(verifier) = Box::new(alloc, self.verifiers.share()) else {
             return bare(alloc, FOW_OUT_OF_MEMORY);
         };
-        let Ok(ecdsa) = Box::new(alloc, Ecdsa) else {
-            return bare(alloc, FOW_OUT_OF_MEMORY);
-        };
-        let Ok(ed25519) = Box::new(alloc, Ed25519) else {
-            return bare(alloc, FOW_OUT_OF_MEMORY);
-        };
-        let verifiers: [Box<dyn Verifier>; 3] = [rsa, ecdsa, ed25519];
-        let terms = self.proved_terms(now, &verifiers);
+        let verifiers: [Box<dyn Verifier>; 1] = [verifier];
+        let terms = self.documents.proved_terms(now, &verifiers);
         judging_under(alloc, memory, octets, &terms, scratch)
     }
 }
@@ -152,6 +153,8 @@ pub(crate) fn prove_state(alloc: Global, state: &mut State, octets: &[u8], now: 
         → IsProved state.old.grounds now octets.now result state.new.last }
     ensures never_asks { result.verdict ≢ FOW_ASKS }
     ensures claims { result.verdict ≢ FOW_OK → claims_kept state.new.last ≡ None }
+    ensures payload { KeepsPayload (documents state.old).policy octets.now
+        result.verdict (payload_kept state.new.last) }
     ensures documents { documents state.new ≡ documents state.old }
     ensures told { told state.new.answers ≡ told state.old.answers }
     ensures memory { state.new.memory ≡ state.old.memory }

@@ -11,13 +11,14 @@ use std::sync::Arc;
 /// What a report has beside its numbers.
 #[derive(Drop)]
 pub enum Evidence {
-    /// It is the state's own, with the claims of an acceptance.
+    /// It is the state's own, with the claims and the payload of an acceptance.
     Own {
         states: Vec<SigState>,
         tries: Vec<Try>,
         claims: Option<Claims>,
+        payload: Option<Vec<u8>>,
     },
-    /// A memory shares it. The claims count where the token is accepted.
+    /// A memory shares it. The claims and the payload count where the token is accepted.
     Shared {
         basis: Arc<Basis>,
         accepted: bool,

@@ -2,12 +2,14 @@
 
 ghost use Rattle.jwt_handles.specs.declared.status.TheConstants.{FOW_ABSENT, FOW_ASKS, FOW_NOT_OPEN, FOW_OK, FOW_OUT_OF_MEMORY, FOW_REFUSED};
 ghost use Rattle.std.specs.Prelude.{◌≡◌, ◌≢◌, ◌≤◌, IfSome, None, slice_get, IsUtf8, false};
+ghost use Rattle.jwt_handles.specs.Documents.{documents};
 ghost use Rattle.jwt_handles.specs.Reports.{IsAlike, IsAskedBy, IsJudgedBy, report_numbers};
-ghost use Rattle.jwt_handles.specs.Evidence.{states_kept, tries_kept, claims_kept};
+ghost use Rattle.jwt_handles.specs.Evidence.{states_kept, tries_kept, claims_kept, payload_kept};
 ghost use Rattle.jwt_handles.specs.Faults.{bare};
 ghost use Rattle.jwt_handles.specs.Keeping.{RemembersProved, RemembersTold};
+ghost use Rattle.jwt_handles.specs.Payloads.{KeepsPayloadBy};
 ghost use Rattle.jwt_handles.specs.Remembering.{Remembers};
-ghost use Rattle.jwt_handles.specs.Written.{PutsName, IsState, IsTry, PutsSome, PutsNumber, claim_text_at, number_at};
+ghost use Rattle.jwt_handles.specs.Written.{PutsHeld, PutsName, IsState, IsTry, PutsSome, PutsNumber, claim_text_at, number_at};
 ghost use Rattle.jwt_handles.specs.Proving.{IsProvedBy};
 
 use crate::handle::{Handle, take};
@@ -36,8 +38,9 @@ pub fn judge(
     ensures judged { IfSome validator.old.state (λ d. result ≤ FOW_REFUSED
         → IsJudgedBy d now token.now report.new validator.new.state) }
 
-    // Claims are kept of an acceptance alone.
+    // Claims are kept of an acceptance alone, and so are the octets of the payload, which are those of the token.
     ensures claims { IfSome validator.new.state (λ e. result ≢ FOW_OK → claims_kept e.last ≡ None) }
+    ensures payload { IfSome validator.old.state (λ d. KeepsPayloadBy (documents d).policy token.now result validator.new.state) }
 
     // It remembers nothing new but this token, where it is accepted: by the answers now, on which what it comes to later rests.
     ensures remembers { IfSome validator.old.state (λ d. RemembersTold d token.now report.new validator.new.state) }
@@ -75,8 +78,9 @@ pub fn proved_judge(
         → IsProvedBy d now token.now report.new validator.new.state) }
     ensures never_asks { result ≢ FOW_ASKS }
 
-    // Claims are kept of an acceptance alone.
+    // Claims are kept of an acceptance alone, and so are the octets of the payload, which are those of the token.
     ensures claims { IfSome validator.new.state (λ e. result ≢ FOW_OK → claims_kept e.last ≡ None) }
+    ensures payload { IfSome validator.old.state (λ d. KeepsPayloadBy (documents d).policy token.now result validator.new.state) }
 
     // It remembers nothing new but this token, where it is accepted.
     ensures remembers { IfSome validator.old.state (λ d. RemembersProved d token.now report.new validator.new.state) }
@@ -195,6 +199,31 @@ pub fn refused_claim(
         FOW_ABSENT
     } else {
         put(&state.last.missing, out, written)
+    };
+    *validator = Handle::of(state);
+    status
+}
+
+/// Writes the octets of the payload of the token that was accepted last. `FOW_OK`; `FOW_NOT_OPEN`: nothing is held; `FOW_TOO_SHORT`: `out` is
+/// too short; `FOW_ABSENT`: the last verdict was no acceptance.
+pub fn accepted_payload(
+    validator: &mut Handle,
+    alloc: Global,
+    out: &mut [u8],
+    written: &mut usize,
+) -> u32
+    ensures same { validator.new.state ≡ validator.old.state }
+    ensures none { validator.old.state ≡ None → result ≡ FOW_NOT_OPEN }
+    ensures payload { IfSome validator.old.state (λ d. PutsHeld
+        (payload_kept d.last) result written.new out.old out.new) }
+    ensures unwritten { result ≢ FOW_OK → (out.new ≡ out.old) × (written.new ≡ written.old) }
+{
+    let Some(state) = take(validator, alloc) else {
+        return FOW_NOT_OPEN;
+    };
+    let status = match state.last.payload() {
+        Some(payload) => put(payload, out, written),
+        None => FOW_ABSENT,
     };
     *validator = Handle::of(state);
     status

@@ -2,12 +2,12 @@
 use Rattle.std.proofs.Common.{◌≡◌, ℕ, zero, suc, ◌-◌, ◌<◌, ◌≤◌, Bool, true, false, inr, codes, List, [], ◌∷◌, ◌++◌, length, Option, Result, Ok, Err, refl, sym, ap, subst, ◌∙◌, append_assoc, append-nil, arith}
 use Rattle.std.specs.Prelude.{IfErr, IfOk, OnOk}
 use Rattle.jwt_mac.specs.Verifying.{KeyOctets}
-use Rattle.key_der.specs.Der.{AreOctets, IsPublicKey}
-use Rattle.key_pem.specs.Pem.{IsBlock, IsFirstFault, IsOneBlock, IsOneFault, trimmed}
-use Rattle.key_pem.specs.declared.fault.PemFault.{PemFault}
-use Rattle.key_pem.specs.declared.fault.PemFault.TheVariants as pem
-use Rattle.key_pem.specs.declared.label.Label.{Label}
-use Rattle.key_pem.specs.declared.label.Label.TheVariants.{PublicKey, RsaPublicKey}
+use Rattle.jwt_jwk.specs.der.Der.{AreOctets, IsPublicKey}
+use Rattle.jwt_jwk.specs.text_blocks.Pem.{IsBlock, IsFirstFault, IsOneBlock, IsOneFault, trimmed}
+use Rattle.jwt_jwk.specs.declared.text_blocks.fault.PemFault.{PemFault}
+use Rattle.jwt_jwk.specs.declared.text_blocks.fault.PemFault.TheVariants as pem
+use Rattle.jwt_jwk.specs.declared.text_blocks.label.Label.{Label}
+use Rattle.jwt_jwk.specs.declared.text_blocks.label.Label.TheVariants.{PublicKey, RsaPublicKey}
 use Rattle.jwt_jwk.specs.declared.fault.JwkFault.{JwkFault}
 use Rattle.jwt_jwk.specs.declared.fault.JwkFault.TheVariants.{Pem, Key, TooManyKeys, OutOfMemory}
 use Rattle.jwt_jwk.specs.Faults.{of_both, pem_fault}

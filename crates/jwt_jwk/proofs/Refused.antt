@@ -1,8 +1,8 @@
 -- A file of one key is refused for want of memory alone.
 use Rattle.std.proofs.Common.{◌≡◌, List, ℕ, Result, Ok, Err, refl}
-use Rattle.key_pem.specs.declared.fault.PemFault.{PemFault}
-use Rattle.key_pem.specs.declared.fault.PemFault.TheVariants as pem
-use Rattle.key_pem.specs.declared.label.Label.{Label}
+use Rattle.jwt_jwk.specs.declared.text_blocks.fault.PemFault.{PemFault}
+use Rattle.jwt_jwk.specs.declared.text_blocks.fault.PemFault.TheVariants as pem
+use Rattle.jwt_jwk.specs.declared.text_blocks.label.Label.{Label}
 use Rattle.jwt_mac.specs.Verifying.{KeyOctets}
 use Rattle.jwt_jwk.specs.declared.fault.JwkFault.TheVariants.{OutOfMemory}
 use Rattle.jwt_jwk.specs.Faults.{pem_fault}

@@ -1,10 +1,10 @@
 -- The public key in a text, and its JWK.
 use Rattle.std.specs.Prelude.{◌≡◌, ◌≤◌, ℕ, Bool, List, [], ◌∷◌, ◌++◌, length, Option, Some, None}
 use Rattle.jwt_mac.specs.Verifying.{KeyOctets}
-use Rattle.key_der.specs.Der.{AreOctets, IsPublicKey, IsRsaText, spki}
-use Rattle.key_pem.specs.Pem.{IsBlock, IsOneBlock, trimmed}
-use Rattle.key_pem.specs.declared.label.Label.{Label}
-use Rattle.key_pem.specs.declared.label.Label.TheVariants.{PublicKey, RsaPublicKey}
+use Rattle.jwt_jwk.specs.der.Der.{AreOctets, IsPublicKey, IsRsaText, spki}
+use Rattle.jwt_jwk.specs.text_blocks.Pem.{IsBlock, IsOneBlock, trimmed}
+use Rattle.jwt_jwk.specs.declared.text_blocks.label.Label.{Label}
+use Rattle.jwt_jwk.specs.declared.text_blocks.label.Label.TheVariants.{PublicKey, RsaPublicKey}
 use Rattle.jwt_jwk.specs.Jwk.{ReadsAsKey, jwk_text, thumbprint_of_key}
 use Rattle.jwt_jwk.specs.Sets.{AreRead, IsJwkSet, jwk_texts}
 use Rattle.jwt_jwk.specs.declared.kid.Kid.{Kid}

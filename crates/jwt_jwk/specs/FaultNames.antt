@@ -1,9 +1,9 @@
 -- The names of faults, and the commands that make a public key of what is refused.
 use Rattle.std.specs.Prelude.{ℕ, List, Option, Some, None, codes}
-use Rattle.key_der.specs.declared.refusal.Refusal.{Refusal}
-use Rattle.key_der.specs.declared.refusal.Refusal.TheVariants as key
-use Rattle.key_pem.specs.declared.fault.PemFault.{PemFault}
-use Rattle.key_pem.specs.declared.fault.PemFault.TheVariants as pem
+use Rattle.jwt_jwk.specs.declared.der.refusal.Refusal.{Refusal}
+use Rattle.jwt_jwk.specs.declared.der.refusal.Refusal.TheVariants as key
+use Rattle.jwt_jwk.specs.declared.text_blocks.fault.PemFault.{PemFault}
+use Rattle.jwt_jwk.specs.declared.text_blocks.fault.PemFault.TheVariants as pem
 use Rattle.jwt_jwk.specs.declared.fault.JwkFault.{JwkFault}
 use Rattle.jwt_jwk.specs.declared.fault.JwkFault.TheVariants.{Pem, Key, TooManyKeys, OutOfMemory}
 

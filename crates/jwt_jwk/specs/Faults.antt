@@ -1,6 +1,6 @@
 -- The faults of a text that is no single block.
-use Rattle.key_pem.specs.declared.fault.PemFault.{PemFault}
-use Rattle.key_pem.specs.declared.fault.PemFault.TheVariants as pem
+use Rattle.jwt_jwk.specs.declared.text_blocks.fault.PemFault.{PemFault}
+use Rattle.jwt_jwk.specs.declared.text_blocks.fault.PemFault.TheVariants as pem
 use Rattle.jwt_jwk.specs.declared.fault.JwkFault.{JwkFault}
 use Rattle.jwt_jwk.specs.declared.fault.JwkFault.TheVariants.{Pem, OutOfMemory}
 

@@ -1,5 +1,9 @@
 -- ---- What contracts of public functions cite, in reading order
 
+-- public keys in DER
+pub mod der
+-- texts between labels
+pub mod text_blocks
 -- the JWK of a key, and how it is read back
 pub mod Jwk
 -- the key set of JWKs, and how it is read back

@@ -1,12 +1,12 @@
 -- Why there is no JWK: the one fault that octets have. Want of memory may stand in place of it.
 use Rattle.std.specs.Prelude.{◌≡◌, ◌≢◌, ◌≤◌, ◌⊎◌, ℕ, ◌-◌, List, [], ◌∷◌, length, Result, Err}
 use Rattle.jwt_mac.specs.Verifying.{KeyOctets}
-use Rattle.key_der.specs.Reading.{read, read_rsa}
-use Rattle.key_der.specs.declared.refusal.Refusal.{Refusal}
-use Rattle.key_pem.specs.Pem.{IsBlock, IsFirstFault, IsOneBlock, IsOneFault, trimmed}
-use Rattle.key_pem.specs.declared.fault.PemFault.TheVariants as pem
-use Rattle.key_pem.specs.declared.label.Label.{Label}
-use Rattle.key_pem.specs.declared.label.Label.TheVariants.{PublicKey, RsaPublicKey}
+use Rattle.jwt_jwk.specs.der.Reading.{read, read_rsa}
+use Rattle.jwt_jwk.specs.declared.der.refusal.Refusal.{Refusal}
+use Rattle.jwt_jwk.specs.text_blocks.Pem.{IsBlock, IsFirstFault, IsOneBlock, IsOneFault, trimmed}
+use Rattle.jwt_jwk.specs.declared.text_blocks.fault.PemFault.TheVariants as pem
+use Rattle.jwt_jwk.specs.declared.text_blocks.label.Label.{Label}
+use Rattle.jwt_jwk.specs.declared.text_blocks.label.Label.TheVariants.{PublicKey, RsaPublicKey}
 use Rattle.jwt_jwk.specs.Converted.{IsFirst}
 use Rattle.jwt_jwk.specs.declared.fault.JwkFault.{JwkFault}
 use Rattle.jwt_jwk.specs.declared.fault.JwkFault.TheVariants.{Pem, Key, TooManyKeys, OutOfMemory}

@@ -3,8 +3,8 @@
 ghost use Rattle.std.specs.Prelude.{◌≡◌, option_map};
 ghost use Rattle.jwt_jwk.specs.FaultNames.{jwk_fault_name, key_name, pem_name, remedy};
 
-use key_der::Refusal;
-use key_pem::PemFault;
+use crate::der::Refusal;
+use crate::text_blocks::PemFault;
 
 /// Why there is no JWK.
 #[derive(Clone, Copy, Debug, PartialEq, Eq)]

@@ -10,11 +10,13 @@
 //! `jwt_keys` reads the key set as exactly the keys that stand in the file, in their order.
 #![tactic(auto)]
 
+pub mod der;
 mod fault;
 mod kid;
 mod pem;
 mod public_key;
 mod set;
+pub mod text_blocks;
 mod writing;
 mod written;
 

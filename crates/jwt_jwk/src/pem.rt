@@ -2,19 +2,19 @@
 
 ghost use Rattle.std.specs.Prelude.{◌≡◌, IfErr, IfOk, IsOkAnd, IsOkUnless};
 ghost use Rattle.jwt_mac.specs.Verifying.{KeyOctets, key_octets};
-ghost use Rattle.key_der.specs.Der.{IsPublicKey};
-ghost use Rattle.key_der.specs.Reading.{AgreesWith};
+ghost use Rattle.jwt_jwk.specs.der.Der.{IsPublicKey};
+ghost use Rattle.jwt_jwk.specs.der.Reading.{AgreesWith};
 ghost use Rattle.jwt_jwk.specs.Jwk.{optional_text};
 ghost use Rattle.jwt_jwk.specs.Faults.{pem_fault};
 ghost use Rattle.jwt_jwk.specs.Refusals.{IsKeyFault, IsPemFault, reading_of};
 ghost use Rattle.jwt_jwk.specs.Converted.{IsEncoding, IsJwkOfBlock, IsPemOf, IsJwkOfPem, kid_of};
 
+use crate::der::{Refusal, read_public_key, read_rsa_public_key};
 use crate::fault::JwkFault;
 use crate::kid::Kid;
+use crate::text_blocks::{Label, PemFault, only_block};
 use crate::written::write;
 use jwt_mac::KeyView;
-use key_der::{Refusal, read_public_key, read_rsa_public_key};
-use key_pem::{Label, PemFault, only_block};
 use std::alloc::Global;
 
 /// The key whose encoding octets are, by the kind that this label announces.

@@ -2,18 +2,18 @@
 
 ghost use Rattle.std.specs.Prelude.{◌≡◌, IfErr, IfOk, IsOkUnless};
 ghost use Rattle.jwt_mac.specs.Verifying.{KeyOctets};
-ghost use Rattle.key_der.specs.Der.{IsPublicKey};
+ghost use Rattle.jwt_jwk.specs.der.Der.{IsPublicKey};
 ghost use Rattle.jwt_jwk.specs.Jwk.{optional_text};
 ghost use Rattle.jwt_jwk.specs.Converted.{IsEncoding, IsJwkOf, IsSetOfOne, kid_of};
 ghost use Rattle.jwt_jwk.specs.Faults.{of_both};
 ghost use Rattle.jwt_jwk.specs.Refusals.{IsDerFault};
-ghost use Rattle.key_pem.specs.declared.label.Label.{Label as AnyLabel};
+ghost use Rattle.jwt_jwk.specs.declared.text_blocks.label.Label.{Label as AnyLabel};
 
 use crate::fault::JwkFault;
 use crate::kid::Kid;
 use crate::pem::jwk_of_block;
 use crate::set::set_of_jwk;
-use key_pem::Label;
+use crate::text_blocks::Label;
 use std::alloc::Global;
 
 /// Why octets are no key in either encoding: want of memory, else why they aren't in the first.

@@ -11,11 +11,11 @@ ghost use Rattle.jwt_jwk.specs.Refusals.{IsFault, IsSetFault};
 use crate::fault::JwkFault;
 use crate::kid::Kid;
 use crate::pem::{jwk_of_block, pem_fault};
+use crate::text_blocks::{PemFault, first_block, trim};
 use crate::writing::write_jwk;
 use jwt_mac::KeyView;
 use jwt_text::TextFault;
 use jwt_text::laws::{object_texts, quoted_texts};
-use key_pem::{PemFault, first_block, trim};
 use std::alloc::{AllocError, Global};
 
 /// Appends a JWK, after a comma where it isn't the first.

@@ -2,6 +2,8 @@
 
 -- the laws of a memory
 pub mod Laws
+-- the payload of a token that is kept, and what is handed out of one that is judged
+pub mod Payloads
 -- the table of a memory
 pub mod Tables
 -- the entries of a memory

@@ -1,6 +1,7 @@
 -- An outcome as contracts see it.
-use Rattle.std.specs.Prelude.{◌≡◌, ◌⊎◌, ℕ, Bool, true, false, List, []}
+use Rattle.std.specs.Prelude.{◌≡◌, ◌⊎◌, ℕ, Bool, true, false, List, [], Option, Some, None, option_map}
 use Rattle.std.specs.Arc.{arc_value}
+use Rattle.jwt_policy.specs.declared.claim_fault.ClaimFault.{ClaimFault}
 use Rattle.jwt_verify.specs.declared.report.Try.{Try}
 use Rattle.jwt_verify.specs.declared.report.Report.{Report}
 use Rattle.jwt_verify.specs.declared.report.Verdict.{Verdict}
@@ -9,6 +10,7 @@ use Rattle.jwt_verify.specs.Verdict.{checked}
 use Rattle.jwt_memory.specs.declared.memory.Basis.{Basis}
 use Rattle.jwt_memory.specs.declared.memory.MemoryEntry.{MemoryEntry}
 use Rattle.jwt_memory.specs.declared.memory.Memory.{Memory}
+use Rattle.jwt_memory.specs.declared.outcome.Handed.{Handed}
 use Rattle.jwt_memory.specs.declared.outcome.Outcome.{Outcome}
 use Rattle.jwt_memory.specs.declared.outcome.Outcome.TheVariants.{Judged, Accepted, Remembered}
 use Rattle.jwt_memory.specs.Entries.{Holds}
@@ -38,6 +40,28 @@ is_remembered (Judged report) = false
 is_remembered (Accepted basis) = false
 is_remembered (Remembered basis fault) = true
 
+-- ---- the payload that is handed out
+
+-- the payload of a token that is remembered, where its claims aren't refused now
+abbrev pub payload_unless : Option ClaimFault → List ℕ → Option (List ℕ)
+payload_unless None payload = Some payload
+payload_unless (Some fault) payload = None
+
+-- the payload that a memory shares, or else the one that stands beside the outcome
+abbrev pub payload_or : Option (List ℕ) → Outcome → Option (List ℕ)
+payload_or beside (Judged report) = beside
+payload_or beside (Accepted basis) = Some (arc_value basis).payload.items
+payload_or beside (Remembered basis fault) = payload_unless fault (arc_value basis).payload.items
+
+abbrev pub payload_in : Handed → Option (List ℕ)
+payload_in handed = payload_or (option_map (λ v. v.items) handed.payload) handed.outcome
+
+-- the payload that an outcome has by itself
+abbrev pub shared_payload : Outcome → Option (List ℕ)
+shared_payload outcome = payload_or None outcome
+
+-- ---- what a memory holds
+
 -- what is remembered is held by the memory: all these octets, accepted under this ceiling
 abbrev pub IsFound : Bool → Memory → List ℕ → ℕ → Type 0
 IsFound false memory octets ceiling = Unit {0}
@@ -51,3 +75,9 @@ KeepsNone before after = (entry : MemoryEntry) → Holds after entry → Holds b
 abbrev pub KeepsOnly : List ℕ → ℕ → Report → Memory → Memory → Type 0
 KeepsOnly octets ceiling report before after = (entry : MemoryEntry) → Holds after entry
     → Holds before entry ⊎ ((entry.octets.items ≡ octets) × (entry.ceiling ≡ ceiling) × (report ≡ report_of (acceptance_of (arc_value entry.basis)) (arc_value entry.basis)))
+
+-- The same, and what is handed out is the payload that it holds.
+abbrev pub KeepsHanded : List ℕ → ℕ → Handed → Memory → Memory → Type 0
+KeepsHanded octets ceiling handed before after = (entry : MemoryEntry) → Holds after entry
+    → Holds before entry ⊎ ((entry.octets.items ≡ octets) × (entry.ceiling ≡ ceiling) × (report_in handed.outcome ≡ report_of (acceptance_of (arc_value entry.basis)) (arc_value entry.basis))
+    × (payload_in handed ≡ Some (arc_value entry.basis).payload.items))

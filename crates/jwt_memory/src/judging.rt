@@ -1,8 +1,8 @@
 //! Judges a token, by a memory or anew.
 
-ghost use Rattle.std.specs.Prelude.{◌≡◌, ◌≢◌, ◌⊎◌, false, length, map};
-ghost use Rattle.std.specs.Arc.{arc_value};
+ghost use Rattle.std.specs.Prelude.{◌≡◌, ◌≢◌, IfSome, false, length, map};
 ghost use Rattle.std.specs.List.{AllPairs};
+ghost use Rattle.jwt_jws.specs.Forms.{opens_object};
 ghost use Rattle.jwt_verify.specs.Table.{work};
 ghost use Rattle.jwt_verify.specs.Accepted.{IsVerdict};
 ghost use Rattle.jwt_verify.specs.Laws.{IsBefore};
@@ -12,90 +12,37 @@ ghost use Rattle.jwt_verify.specs.TermsTable.{terms_meant};
 ghost use Rattle.jwt_verify.specs.declared.report.InputFault.TheVariants.{Read};
 ghost use Rattle.jwt_verify.specs.declared.report.Fault.TheVariants.{OutOfMemory, Text};
 ghost use Rattle.jwt_verify.specs.declared.report.Verdict.TheVariants.{Refused};
-ghost use Rattle.jwt_memory.specs.Entries.{Holds, HasRoomOf};
+ghost use Rattle.jwt_memory.specs.Entries.{HasRoomOf};
 ghost use Rattle.jwt_memory.specs.Kept.{AreKept};
-ghost use Rattle.jwt_memory.specs.Outcomes.{report_in, paid_in, report_of, acceptance_of, is_remembered, IsFound, KeepsOnly};
+ghost use Rattle.jwt_memory.specs.Outcomes.{report_in, paid_in, is_remembered, shared_payload, IsFound, KeepsOnly};
+ghost use Rattle.jwt_memory.specs.Payloads.{HandsOut, IsAcceptance, IsCompactPayload};
 
-use crate::laws::accepted_ever;
-use crate::memory::{Basis, Memory};
-use crate::outcome::Outcome;
+use crate::laws::{accepted_ever, compact_payloads};
+use crate::memory::Memory;
+use crate::outcome::{Handed, Outcome};
+use jwt_jws::{compact_texts, opens_object};
 use jwt_mac::{Budget, Verifier};
 use jwt_policy::check;
-use jwt_verify::{Report, Terms, Verdict};
+use jwt_text::decode;
+use jwt_text::laws::octets_are_spelled;
+use jwt_verify::{Terms, Verdict};
 use std::alloc::Global;
-use std::sync::Arc;
 
-impl Memory {
-    /// The outcome that an acceptance is. The memory keeps it, where it may and memory is there.
-    fn accepted<'p>(
-        &mut self,
-        alloc: Global,
-        octets: &[u8],
-        ceiling: u64,
-        basis: Basis,
-    ) -> Outcome<'p>
-        ensures report { report_in result ≡ report_of (acceptance_of basis) basis }
-        ensures paid { paid_in result ≡ basis.tries.items }
-        ensures anew { is_remembered result ≡ false }
-        ensures held { (entry : _) → Holds self.new entry → Holds self.old entry
-            ⊎ ((entry.octets.items ≡ octets.now) × (entry.ceiling ≡ ceiling)
-            × (arc_value entry.basis ≡ basis)) }
-        ensures room { HasRoomOf self.new self.old }
-    {
-        match Arc::new(alloc, basis) {
-            Ok(basis) => {
-                self.keep(alloc, octets, ceiling, &basis);
-                Outcome::Accepted(basis)
-            }
-            Err(refused) => Outcome::Judged(refused.value.into_report()),
-        }
+/// The payload of a token in compact form that is accepted; `None` of any other, and where memory was refused.
+fn compact_payload(alloc: Global, verdict: &Verdict<'_>, octets: &[u8]) -> Option<Vec<u8>>
+    ensures accepted { IfSome result (λ _. IsAcceptance verdict.now) }
+    ensures closed { IfSome result (λ _. opens_object octets.now ≡ false) }
+    ensures payload { IfSome result (λ v. IsCompactPayload octets.now v.items) }
+{
+    let Verdict::Accepted { .. } = verdict else {
+        return None;
+    };
+    if opens_object(octets) {
+        return None;
     }
-
-    /// The outcome that a report on the octets is, whose tries cost so many octets. The memory keeps an acceptance, where it may and memory
-    /// is there.
-    pub(crate) fn kept<'p>(
-        &mut self,
-        alloc: Global,
-        octets: &[u8],
-        ceiling: u64,
-        report: Report<'p>,
-        cost: u64,
-    ) -> Outcome<'p>
-        requires { cost ≡ work report.tries.items }
-        ensures report { report_in result ≡ report.entry }
-        ensures paid { paid_in result ≡ report.entry.tries.items }
-        ensures anew { is_remembered result ≡ false }
-        ensures held { KeepsOnly octets.now ceiling report.entry self.old self.new }
-        ensures room { HasRoomOf self.new self.old }
-    {
-        let Report {
-            verdict,
-            states,
-            tries,
-        } = report;
-        match verdict {
-            Verdict::Accepted {
-                signature,
-                key,
-                claims,
-            } => {
-                let basis = Basis {
-                    signature,
-                    key,
-                    claims,
-                    states,
-                    tries,
-                    cost,
-                };
-                self.accepted(alloc, octets, ceiling, basis)
-            }
-            Verdict::Refused(fault) => Outcome::Judged(Report {
-                verdict: Verdict::Refused(fault),
-                states,
-                tries,
-            }),
-        }
-    }
+    octets_are_spelled();
+    let texts = compact_texts(octets)?;
+    decode(alloc, texts.payload).ok()
 }
 
 /// The verdict on octets in hand, as [`jwt_verify::judge`] gives it. Where the memory holds the same octets, and they were accepted under
@@ -153,8 +100,12 @@ pub fn judge<'p, B: Budget>(
 
     // It keeps nothing new but this token, where it is accepted now.
     ensures held { KeepsOnly octets.now (B.ceiling budget.old) (report_in result) memory.old memory.new }
+
+    // The payload that an outcome has is that of the token, which is accepted.
+    ensures payload { HandsOut terms.now.policy.now octets.now (report_in result).verdict (shared_payload result) }
 {
     accepted_ever();
+    compact_payloads();
     let ceiling = budget.left();
     match memory.recall(octets, ceiling) {
         Some(basis) => {
@@ -171,7 +122,13 @@ pub fn judge<'p, B: Budget>(
                 terms.verifiers,
                 budget,
             );
-            memory.kept(alloc, octets, ceiling, report, budget.octets())
+            let payload = compact_payload(alloc, &report.verdict, octets);
+            let handed = memory.kept(alloc, octets, ceiling, report, payload, budget.octets());
+            let Handed {
+                outcome,
+                payload: _,
+            } = handed;
+            outcome
         }
     }
 }

@@ -1,20 +1,24 @@
 //! A memory of accepted tokens that changes no verdict.
 //!
-//! A [`Memory`] keeps tokens that [`judge`] accepted, each with what it was accepted by: the signature, the key, the claims, the states, the
-//! tries. When the same octets come again, nothing is hashed and no verifier is asked: the claims are held against the policy at the new
+//! A [`Memory`] keeps tokens that [`judge`] accepted, each with what it was accepted by: the signature, the key, the claims, the payload, the
+//! states, the tries. When the same octets come again, nothing is hashed and no verifier is asked: the claims are held against the policy at the new
 //! moment. The verdict is the one that [`jwt_verify::judge`] gives, by the same clauses.
 //!
 //! A memory is of one policy, one key set and one list of verifiers: `AreKept` of `specs/Kept.antt` says of each token that it holds
-//! that at every moment the report on it is what its claims come to then. [`judge_told`] is the same over [`jwt_told::judge_told`].
+//! that at every moment the report on it is what its claims come to then. [`judge_under`] hands out the payload too, and so does [`judge_told`], which is
+//! the same over [`jwt_told::judge_told`].
 #![tactic(auto)]
 
+mod handing;
 mod judging;
 pub mod laws;
 mod memory;
 mod outcome;
 mod telling;
+mod under;
 
 pub use judging::judge;
 pub use memory::{Basis, Memory, MemoryEntry};
-pub use outcome::Outcome;
+pub use outcome::{Handed, Outcome};
 pub use telling::judge_told;
+pub use under::judge_under;

@@ -1,12 +1,14 @@
 //! A bounded memory of tokens.
 
-ghost use Rattle.std.specs.Prelude.{◌≡◌, ◌≤◌, ◌⊎◌, ℕ, List, [], Contains, false, length, IfOk, IfSome, IsTrue};
+ghost use Rattle.std.specs.Prelude.{◌≡◌, ◌≤◌, ◌⊎◌, ℕ, List, [], Some, Contains, false, length, IfOk, IfSome, IsTrue};
 ghost use Rattle.std.specs.Arc.{arc_value};
 ghost use Rattle.std.specs.NonZero.{non_zero_usize_get};
 ghost use Rattle.jwt_jws.specs.Forms.{opens_object};
 ghost use Rattle.jwt_verify.specs.Table.{work};
+ghost use Rattle.jwt_memory.specs.Payloads.{IsCompactPayload};
 ghost use Rattle.jwt_memory.specs.Tables.{Has};
 
+use crate::outcome::{Handed, Outcome};
 use jwt_jws::opens_object;
 use jwt_mac::same_octets;
 use jwt_policy::Claims;
@@ -25,6 +27,8 @@ pub struct Basis {
     pub key: u32,
     /// The payload's claims.
     pub claims: Claims,
+    /// The payload's octets.
+    pub payload: Vec<u8>,
     /// What became of each signature, in the token's order.
     pub states: Vec<SigState>,
     /// The tries that led to it, which were paid where the token was first accepted.
@@ -35,28 +39,36 @@ pub struct Basis {
 }
 
 impl Basis {
-    ghost use Rattle.jwt_memory.specs.Outcomes.{report_of, acceptance_of};
+    ghost use Rattle.jwt_memory.specs.Outcomes.{report_of, acceptance_of, report_in, paid_in, is_remembered, payload_in};
 
-    /// The report on the acceptance.
-    pub(crate) fn into_report<'p>(self) -> Report<'p>
-        ensures { result ≡ report_of (acceptance_of self) self }
+    /// The acceptance, which no memory shares.
+    pub(crate) fn into_handed<'p>(self) -> Handed<'p>
+        ensures report { report_in result.outcome ≡ report_of (acceptance_of self) self }
+        ensures paid { paid_in result.outcome ≡ self.tries.items }
+        ensures anew { is_remembered result.outcome ≡ false }
+        ensures payload { payload_in result ≡ Some self.payload.items }
     {
         let Basis {
             signature,
             key,
             claims,
+            payload,
             states,
             tries,
             ..
         } = self;
-        Report {
-            verdict: Verdict::Accepted {
-                signature,
-                key,
-                claims,
-            },
-            states,
-            tries,
+        let verdict = Verdict::Accepted {
+            signature,
+            key,
+            claims,
+        };
+        Handed {
+            outcome: Outcome::Judged(Report {
+                verdict,
+                states,
+                tries,
+            }),
+            payload: Some(payload),
         }
     }
 }
@@ -67,6 +79,7 @@ pub struct MemoryEntry {
     pub(crate) octets: Vec<u8>,
     pub(crate) ceiling: u64,
     pub(crate) basis: Arc<Basis>,
+    ghost payload: { IsCompactPayload octets.items (arc_value basis).payload.items },
 }
 
 impl MemoryEntry {
@@ -172,6 +185,8 @@ impl Memory {
 
     /// Keeps a token that was accepted under a ceiling, if it is in compact form and not too long, and memory is there.
     pub(crate) fn keep(&mut self, alloc: Global, octets: &[u8], ceiling: u64, basis: &Arc<Basis>)
+        requires payload { opens_object octets.now ≡ false
+            → IsCompactPayload octets.now (arc_value basis.now).payload.items }
         ensures held { (e : _) → Holds self.new e → Holds self.old e
             ⊎ ((e.octets.items ≡ octets.now) × (e.ceiling ≡ ceiling)
             × (arc_value e.basis ≡ arc_value basis.now)) }

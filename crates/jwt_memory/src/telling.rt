@@ -13,16 +13,18 @@ ghost use Rattle.jwt_told.specs.Told.{told, told_meaning};
 ghost use Rattle.jwt_told.specs.Questions.{AreTries, IsFirstOpen, IsOpen};
 ghost use Rattle.jwt_memory.specs.Entries.{HasRoomOf};
 ghost use Rattle.jwt_memory.specs.ToldKept.{IsToldNow, IsRecalled, KeepsTold};
-ghost use Rattle.jwt_memory.specs.Outcomes.{report_in, paid_in, is_remembered, KeepsNone, KeepsOnly};
+ghost use Rattle.jwt_memory.specs.Outcomes.{report_in, paid_in, is_remembered, payload_in, KeepsNone, KeepsHanded};
+ghost use Rattle.jwt_memory.specs.Payloads.{HandsOut};
 
-use crate::laws::{accepted_ever, accepted_verdicts};
+use crate::laws::{accepted_ever, accepted_verdicts, compact_payloads, read_payloads};
 use crate::memory::Memory;
-use crate::outcome::Outcome;
+use crate::outcome::{Handed, Outcome, payload_of};
 use jwt_keys::KeySet;
 use jwt_mac::{Budget, CountDown};
 use jwt_policy::{Policy, check};
 use jwt_text::Scratch;
 use jwt_told::{Answers, Asking};
+use jwt_verify::JudgedToken;
 use std::alloc::Global;
 
 /// The verdict on octets in hand, or a question, as [`jwt_told::judge_told`] gives it. Where the memory holds the same octets, and they
@@ -32,6 +34,8 @@ use std::alloc::Global;
 /// A remembered verdict rests on the answers that were there when its token was kept: it is what they came to, and the true one where
 /// they were true. So a wrong answer stays wrong for as long as its token is remembered, also where the answers were cleared, and
 /// spoils no other.
+///
+/// It hands out the payload of an accepted token, as [`judge_under`](crate::judge_under) does.
 ///
 /// The condition: the budget is new.
 ///
@@ -51,24 +55,28 @@ pub fn judge_told<'a, 'p>(
     answers: &Answers,
     budget: &mut CountDown,
     scratch: &mut Scratch,
-) -> Result<Outcome<'p>, Asking<'a>>
+) -> Result<Handed<'p>, Asking<'a>>
     requires no_octets { ⟦<CountDown as Budget>⟧.octets budget.old ≡ 0 }
     requires no_calls { ⟦<CountDown as Budget>⟧.calls budget.old ≡ 0 }
 
     // A new judging rests on the answers now, whatever the memory holds, as jwt_told::judge_told says it.
-    ensures anew { IfOk result (λ o. is_remembered o ≡ false → IsToldNow (told answers.now)
-        policy.now keys.now now octets.now (⟦<CountDown as Budget>⟧.ceiling budget.old) (report_in o)) }
+    ensures anew { IfOk result (λ h. is_remembered h.outcome ≡ false → IsToldNow (told answers.now)
+        policy.now keys.now now octets.now (⟦<CountDown as Budget>⟧.ceiling budget.old) (report_in h.outcome)) }
 
     // A remembered verdict is what the claims of a token that the memory held come to now: of all these octets, accepted under this
     // ceiling.
-    ensures remembered { IfOk result (λ o. is_remembered o ≡ true → IsRecalled memory.old
-        policy.now now octets.now (⟦<CountDown as Budget>⟧.ceiling budget.old) (report_in o)) }
+    ensures remembered { IfOk result (λ h. is_remembered h.outcome ≡ true → IsRecalled memory.old
+        policy.now now octets.now (⟦<CountDown as Budget>⟧.ceiling budget.old) (report_in h.outcome)) }
 
-    ensures memory { IfOk result (λ o. (report_in o).verdict ≡ Refused OutOfMemory → TakesMemory policy.now octets.now) }
+    // What is handed out is the payload of the token, which is accepted.
+    ensures payload { IfOk result (λ h. HandsOut policy.now octets.now (report_in h.outcome).verdict (payload_in h)) }
 
-    // The memory keeps nothing new but this token, where it is accepted now; and by the answers now, on which what it comes to later rests.
+    ensures memory { IfOk result (λ h. (report_in h.outcome).verdict ≡ Refused OutOfMemory → TakesMemory policy.now octets.now) }
+
+    // The memory keeps nothing new but this token, where it is accepted now, with the payload that is handed out; and by the answers now, on
+    // which what it comes to later rests.
     ensures held { MatchResult result
-        (λ o. KeepsOnly octets.now (⟦<CountDown as Budget>⟧.ceiling budget.old) (report_in o) memory.old memory.new)
+        (λ h. KeepsHanded octets.now (⟦<CountDown as Budget>⟧.ceiling budget.old) h memory.old memory.new)
         (λ _. KeepsNone memory.old memory.new) }
     ensures kept { KeepsTold (told answers.now) policy.now keys.now memory.old memory.new }
     ensures room { HasRoomOf memory.new memory.old }
@@ -87,10 +95,10 @@ pub fn judge_told<'a, 'p>(
 
     // What the budget counts: what was paid in this call.
     ensures octets { MatchResult result
-        (λ o. ⟦<CountDown as Budget>⟧.octets budget.new ≡ work (paid_in o))
+        (λ h. ⟦<CountDown as Budget>⟧.octets budget.new ≡ work (paid_in h.outcome))
         (λ a. ⟦<CountDown as Budget>⟧.octets budget.new ≡ work a.tries.items) }
     ensures calls { MatchResult result
-        (λ o. ⟦<CountDown as Budget>⟧.calls budget.new ≡ length (paid_in o))
+        (λ h. ⟦<CountDown as Budget>⟧.calls budget.new ≡ length (paid_in h.outcome))
         (λ a. ⟦<CountDown as Budget>⟧.calls budget.new ≡ length a.tries.items) }
     ensures within { IsWithin policy.now.max_calls (⟦<CountDown as Budget>⟧.calls budget.new) }
     ensures ceiling { ⟦<CountDown as Budget>⟧.ceiling budget.new
@@ -98,16 +106,25 @@ pub fn judge_told<'a, 'p>(
 {
     accepted_ever();
     accepted_verdicts();
+    compact_payloads();
+    read_payloads();
     let ceiling = budget.left();
     match memory.recall(octets, ceiling) {
         Some(basis) => {
             let fault = check(policy, &basis.claims, now);
-            Ok(Outcome::Remembered(basis, fault))
+            Ok(Handed {
+                outcome: Outcome::Remembered(basis, fault),
+                payload: None,
+            })
         }
         None => match jwt_told::judge_told(
             alloc, octets, keys, policy, now, answers, budget, scratch,
         ) {
-            Ok(report) => Ok(memory.kept(alloc, octets, ceiling, report, budget.octets())),
+            Ok(judged) => {
+                let payload = payload_of(alloc, &judged);
+                let JudgedToken { report, token: _ } = judged;
+                Ok(memory.kept(alloc, octets, ceiling, report, payload, budget.octets()))
+            }
             Err(asking) => Err(asking),
         },
     }

@@ -2,8 +2,6 @@
 pub mod ShowingJson
 -- ---- For keys.rt
 pub mod Listing
--- ---- For laws.rt
-pub mod Passing
 -- ---- For nearest.rt
 pub mod NearLemmas
 -- ---- For pretty.rt

@@ -17,9 +17,6 @@ use Rattle.jwt_access.specs.declared.access_fault.AccessFault.{AccessFault}
 use Rattle.jwt_access.specs.declared.access_fault.AccessFault.TheVariants as access
 use Rattle.jwt_access.specs.declared.denial.Denial.{Denial}
 use Rattle.jwt_access.specs.declared.denial.Denial.TheVariants as lack
-use Rattle.jwt_verify.specs.FaultNames.{fault_name}
-use Rattle.jwt_verify.specs.declared.report.Fault.{Fault}
-use Rattle.jwt_verify.specs.declared.report.Fault.TheVariants as fault
 use Rattle.jwt_issue.specs.FaultNames.{issue_fault_name}
 use Rattle.jwt_issue.specs.declared.fault.IssueFault.{IssueFault}
 use Rattle.jwt_issue.specs.declared.fault.IssueFault.TheVariants as issue
@@ -77,17 +74,6 @@ claim_fault_place _ = []
 
 abbrev pub claim_fault_parts : ClaimFault → List (List ℕ)
 claim_fault_parts f = claim_fault_name f ∷ claim_fault_place f
-
-abbrev pub fault_place : Fault → List (List ℕ)
-fault_place (fault.Form f) = form_fault_place f
-fault_place (fault.WorkExceeded i j) = codes " sig=" ∷ decimal i ∷ codes " key=" ∷ decimal j ∷ []
-fault_place (fault.Signature i f) = codes " sig=" ∷ decimal i ∷ []
-fault_place (fault.Claim f) = claim_fault_place f
-fault_place (fault.CallsExceeded i j) = codes " sig=" ∷ decimal i ∷ codes " key=" ∷ decimal j ∷ []
-fault_place _ = []
-
-abbrev pub fault_parts : Fault → List (List ℕ)
-fault_parts f = fault_name f ∷ fault_place f
 
 abbrev pub issue_fault_place : IssueFault → List (List ℕ)
 issue_fault_place (issue.AlgNotHmac i) = codes " sig=" ∷ decimal i ∷ []

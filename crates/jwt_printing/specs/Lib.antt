@@ -1,17 +1,17 @@
 -- ---- What contracts of public functions cite, in reading order
 
--- the first demand of an access rule that the claims of an accepted token don't meet
-pub mod Denied
 -- the names of faults, with their places, as the lines of the commands have them
 pub mod Faults
 -- the member of a policy that is near to a name
 pub mod Nearest
 -- the output of a command, and its status
 pub mod Printed
--- the line of a verdict, and those of a policy, of a key set and of an access rule that are refused
-pub mod Verdicts
--- the output of `verify --json`
+-- objects on one line, what faults name, and the refusals of documents
 pub mod Json
+-- the tokens of the objects that are printed, as they are written one by one
+pub mod JsonTokens
+-- the answers for a document that is refused and for what can't be read, in JSON or in lines
+pub mod Refused
 -- the lines of a key set, as `jwt keys` prints them
 pub mod Listed
 -- the lines of a token, as `jwt show` prints them
@@ -24,15 +24,7 @@ pub mod Jwk
 pub mod ListedJson
 -- the line of a tag
 pub mod Mac
--- the two ways to print an answer
-pub mod Printer
 -- a token for a person, as `jwt show --pretty` prints it
 pub mod Pretty
 -- this crate's own values as contracts see them
 pub mod Views
--- what `jwt policy` prints
-pub mod Meant
--- ---- What contracts of private functions alone cite, which nobody has to believe
-
--- the tokens of the objects that are printed, as they are written one by one
-pub mod JsonTokens

@@ -1,7 +1,5 @@
 -- This crate's own values as contracts see them.
-use Rattle.std.specs.Prelude.{Option, option_map, string_bytes}
-use Rattle.std.specs.Borrow.{Bor}
-use Rattle.jwt_access.specs.Rules.{Rule}
+use Rattle.std.specs.Prelude.{option_map, string_bytes}
 use Rattle.jwt_printing.specs.declared.mac.Digest.{Digest as CodeDigest}
 use Rattle.jwt_printing.specs.declared.reply.Reply.{Reply}
 use Rattle.jwt_printing.specs.declared.pretty.DateTexts.{DateTexts}
@@ -14,10 +12,6 @@ digest_view d = record { tag = d.tag; equal = d.equal }
 
 abbrev pub reply_view : Reply → Answer
 reply_view r = record { text = r.text.items; status = r.status }
-
--- an access rule, where there is one
-abbrev pub rule_view : Option (Bor Rule) → Option Rule
-rule_view rule = option_map (λ r. r.now) rule
 
 -- ---- Cited by contracts of private functions alone
 

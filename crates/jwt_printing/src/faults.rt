@@ -1,18 +1,17 @@
 //! The names of faults and of denials, with their places, as the lines of the commands have them.
 ghost use Rattle.std.specs.Prelude.{◌≡◌, ◌++◌, IfOk, string_bytes};
 ghost use Rattle.json.specs.Print.{quoted as quoted_text};
-ghost use Rattle.jwt_printing.specs.Faults.{access_fault_parts, claim_fault_parts, denial_parts, fault_parts, form_fault_parts, issue_fault_parts, joined_parts, policy_fault_parts};
+ghost use Rattle.jwt_printing.specs.Faults.{access_fault_parts, claim_fault_parts, denial_parts, form_fault_parts, issue_fault_parts, joined_parts, policy_fault_parts};
 
 use jwt_access::{AccessFault, Denial};
 use jwt_issue::IssueFault;
 use jwt_jws::{FormFault, Place};
 use jwt_policy::{ClaimFault, PolicyFault};
 use jwt_text::quoted;
-use jwt_verify::Fault;
 use std::alloc::{AllocError, Global};
 
 /// Why octets are no signed token, with its place.
-pub(crate) fn form_fault_text(alloc: Global, fault: FormFault) -> Result<String, AllocError>
+pub fn form_fault_text(alloc: Global, fault: FormFault) -> Result<String, AllocError>
     ensures { IfOk result (λ s. string_bytes s ≡ joined_parts (form_fault_parts fault)) }
 {
     let name = fault.name();
@@ -72,7 +71,7 @@ pub(crate) fn access_fault_text(alloc: Global, fault: &AccessFault) -> Result<Ve
 }
 
 /// What claims lack of an access rule, with the scope or the claim.
-pub(crate) fn denial_text(alloc: Global, denial: &Denial<'_>) -> Result<Vec<u8>, AllocError>
+pub fn denial_text(alloc: Global, denial: &Denial<'_>) -> Result<Vec<u8>, AllocError>
     ensures { IfOk result (λ v. v.items ≡ joined_parts (denial_parts denial.now)) }
 {
     let name = denial.name();
@@ -85,7 +84,7 @@ pub(crate) fn denial_text(alloc: Global, denial: &Denial<'_>) -> Result<Vec<u8>,
 }
 
 /// Why claims are refused, with the claim.
-pub(crate) fn claim_fault_text(alloc: Global, fault: &ClaimFault<'_>) -> Result<Vec<u8>, AllocError>
+pub fn claim_fault_text(alloc: Global, fault: &ClaimFault<'_>) -> Result<Vec<u8>, AllocError>
     ensures { IfOk result (λ v. v.items ≡ joined_parts (claim_fault_parts fault.now)) }
 {
     let name = fault.name();
@@ -94,22 +93,6 @@ pub(crate) fn claim_fault_text(alloc: Global, fault: &ClaimFault<'_>) -> Result<
             labelled(alloc, name, " claim=", claim.name())
         }
         ClaimFault::ClaimMissing(claim) => labelled(alloc, name, " claim=", claim.text()),
-        _ => name.as_bytes().to_vec(alloc),
-    }
-}
-
-/// Why a token is refused, with its place.
-pub(crate) fn fault_text(alloc: Global, fault: &Fault<'_>) -> Result<Vec<u8>, AllocError>
-    ensures { IfOk result (λ v. v.items ≡ joined_parts (fault_parts fault.now)) }
-{
-    let name = fault.name();
-    match fault {
-        Fault::Form(fault) => Ok(form_fault_text(alloc, *fault)?.into_bytes()),
-        Fault::Claim(fault) => claim_fault_text(alloc, fault),
-        Fault::Signature(i, _) => Ok(format!(in alloc; "{name} sig={i}")?.into_bytes()),
-        Fault::WorkExceeded(i, j) | Fault::CallsExceeded(i, j) => {
-            Ok(format!(in alloc; "{name} sig={i} key={j}")?.into_bytes())
-        }
         _ => name.as_bytes().to_vec(alloc),
     }
 }

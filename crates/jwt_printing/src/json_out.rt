@@ -17,7 +17,7 @@ use std::marker::Model;
 
 /// A line of JSON that is being written. Contracts see its tokens so far.
 #[derive(Drop)]
-pub(crate) struct JsonOut {
+pub struct JsonOut {
     writer: Writer,
 }
 
@@ -36,7 +36,7 @@ impl Model for JsonOut {
 
 impl JsonOut {
     /// The start of an object.
-    pub(crate) fn object(alloc: Global) -> Result<JsonOut, AllocError>
+    pub fn object(alloc: Global) -> Result<JsonOut, AllocError>
         ensures { IfOk result (λ o. o ≡ begin_object ∷ []) }
     {
         let mut writer = Writer::new(Vec::new(alloc));
@@ -45,7 +45,7 @@ impl JsonOut {
     }
 
     /// Nothing yet: a value is to stand alone.
-    pub(crate) fn bare(alloc: Global) -> JsonOut
+    pub fn bare(alloc: Global) -> JsonOut
         ensures { result ≡ [] }
     {
         JsonOut {
@@ -54,28 +54,28 @@ impl JsonOut {
     }
 
     /// The text of what was written.
-    pub(crate) fn into_text(self) -> Vec<u8>
+    pub fn into_text(self) -> Vec<u8>
         ensures { result.items ≡ print self }
     {
         let JsonOut { writer } = self;
         writer.into_inner()
     }
     /// Opens an object.
-    pub(crate) fn begin_object(&mut self) -> Result<(), AllocError>
+    pub fn begin_object(&mut self) -> Result<(), AllocError>
         ensures { OnOk result (self.new ≡ self.old ++ begin_object ∷ []) }
     {
         self.writer.begin_object()
     }
 
     /// Closes an object.
-    pub(crate) fn end_object(&mut self) -> Result<(), AllocError>
+    pub fn end_object(&mut self) -> Result<(), AllocError>
         ensures { OnOk result (self.new ≡ self.old ++ end_object ∷ []) }
     {
         self.writer.end_object()
     }
 
     /// A name, and the start of the list that it has.
-    pub(crate) fn begin_list(&mut self, name: &str) -> Result<(), AllocError>
+    pub fn begin_list(&mut self, name: &str) -> Result<(), AllocError>
         ensures { OnOk result (self.new ≡ self.old ++ key name.now ∷ begin_array ∷ []) }
     {
         self.writer.key(name)?;
@@ -83,55 +83,55 @@ impl JsonOut {
     }
 
     /// The start of a list without a name.
-    pub(crate) fn begin_array(&mut self) -> Result<(), AllocError>
+    pub fn begin_array(&mut self) -> Result<(), AllocError>
         ensures { OnOk result (self.new ≡ self.old ++ begin_array ∷ []) }
     {
         self.writer.begin_array()
     }
     /// Closes a list.
-    pub(crate) fn end_list(&mut self) -> Result<(), AllocError>
+    pub fn end_list(&mut self) -> Result<(), AllocError>
         ensures { OnOk result (self.new ≡ self.old ++ end_array ∷ []) }
     {
         self.writer.end_array()
     }
 
     /// A name, whose value is to come.
-    pub(crate) fn key(&mut self, name: &str) -> Result<(), AllocError>
+    pub fn key(&mut self, name: &str) -> Result<(), AllocError>
         ensures { OnOk result (self.new ≡ self.old ++ key name.now ∷ []) }
     {
         self.writer.key(name)
     }
 
     /// A text without a name.
-    pub(crate) fn string(&mut self, value: &str) -> Result<(), AllocError>
+    pub fn string(&mut self, value: &str) -> Result<(), AllocError>
         ensures { OnOk result (self.new ≡ self.old ++ json_tokens (string value.now)) }
     {
         self.writer.string(value)
     }
 
     /// A whole number without a name.
-    pub(crate) fn number(&mut self, value: u64) -> Result<(), AllocError>
+    pub fn number(&mut self, value: u64) -> Result<(), AllocError>
         ensures { OnOk result (self.new ≡ self.old ++ json_tokens (number (decimal value))) }
     {
         self.writer.u64(value)
     }
 
     /// A truth value without a name.
-    pub(crate) fn boolean(&mut self, value: bool) -> Result<(), AllocError>
+    pub fn boolean(&mut self, value: bool) -> Result<(), AllocError>
         ensures { OnOk result (self.new ≡ self.old ++ json_tokens (boolean value)) }
     {
         self.writer.boolean(value)
     }
 
     /// Puts null.
-    pub(crate) fn null(&mut self) -> Result<(), AllocError>
+    pub fn null(&mut self) -> Result<(), AllocError>
         ensures { OnOk result (self.new ≡ self.old ++ json_tokens null) }
     {
         self.writer.null()
     }
 
     /// A name with a text.
-    pub(crate) fn text(&mut self, name: &str, value: &str) -> Result<(), AllocError>
+    pub fn text(&mut self, name: &str, value: &str) -> Result<(), AllocError>
         ensures { OnOk result (self.new ≡ self.old ++ named_tokens (text name.now value.now ∷ [])) }
     {
         self.writer.key(name)?;
@@ -139,7 +139,7 @@ impl JsonOut {
     }
 
     /// A name with a text, where there is one.
-    pub(crate) fn some_text(&mut self, name: &str, value: Option<&str>) -> Result<(), AllocError>
+    pub fn some_text(&mut self, name: &str, value: Option<&str>) -> Result<(), AllocError>
         ensures { OnOk result (self.new ≡ self.old
             ++ named_tokens (some_text name.now (option_map (λ t. t.now) value.entry))) }
     {
@@ -150,7 +150,7 @@ impl JsonOut {
     }
 
     /// A name with a whole number.
-    pub(crate) fn count(&mut self, name: &str, value: u64) -> Result<(), AllocError>
+    pub fn count(&mut self, name: &str, value: u64) -> Result<(), AllocError>
         ensures { OnOk result (self.new ≡ self.old ++ named_tokens (count name.now value ∷ [])) }
     {
         self.writer.key(name)?;
@@ -158,7 +158,7 @@ impl JsonOut {
     }
 
     /// A name, and the start of the object that it has.
-    pub(crate) fn begin_named(&mut self, name: &str) -> Result<(), AllocError>
+    pub fn begin_named(&mut self, name: &str) -> Result<(), AllocError>
         ensures { OnOk result (self.new ≡ self.old ++ key name.now ∷ begin_object ∷ []) }
     {
         self.writer.key(name)?;
@@ -166,7 +166,7 @@ impl JsonOut {
     }
 
     /// A name with a value: member by member, and digit by digit.
-    pub(crate) fn tree(&mut self, name: &str, value: &Value<'_>) -> Result<(), AllocError>
+    pub fn tree(&mut self, name: &str, value: &Value<'_>) -> Result<(), AllocError>
         requires { HasNumbers (value_view value.now) }
         ensures { OnOk result (self.new
             ≡ self.old ++ named_tokens ((name.now, value_view value.now) ∷ [])) }
@@ -176,7 +176,7 @@ impl JsonOut {
     }
 
     /// A name with the JSON value that a text is; null where it is none.
-    pub(crate) fn value(&mut self, alloc: Global, name: &str, text: &[u8]) -> Result<(), AllocError>
+    pub fn value(&mut self, alloc: Global, name: &str, text: &[u8]) -> Result<(), AllocError>
         ensures { OnOk result
             (self.new ≡ self.old ++ named_tokens ((name.now, json_value text.now) ∷ [])) }
     {
@@ -186,7 +186,7 @@ impl JsonOut {
     }
 
     /// The object's end, and the line feed behind it.
-    pub(crate) fn reply(mut self, status: u8) -> Result<Reply, AllocError>
+    pub fn reply(mut self, status: u8) -> Result<Reply, AllocError>
         ensures { IfOk result (λ a. reply_view a
             ≡ record { text = print (self ++ end_object ∷ []) ++ 10 ∷ []; status = status }) }
     {

@@ -12,7 +12,7 @@ ghost use Rattle.jwt_printing.specs.ShownJson.{claim_fault_members, claims_refus
 ghost use Rattle.jwt_printing.specs.Views.{reply_view};
 
 use crate::json_out::{JsonOut, value_in};
-use crate::json_verdict::{put_claim_place, put_form_place};
+use crate::json_refusals::{put_claim_place, put_form_place};
 use crate::reply::Reply;
 use crate::show::form_name;
 use json::{Scratch, Value};

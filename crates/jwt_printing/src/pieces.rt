@@ -29,7 +29,7 @@ pub(crate) fn number_or_dash(alloc: Global, number: Option<i64>) -> Result<Vec<u
 }
 
 /// Adds a label and the octets that it names.
-pub(crate) fn put_labelled(out: &mut Vec<u8>, label: &str, value: &[u8]) -> Result<(), AllocError>
+pub fn put_labelled(out: &mut Vec<u8>, label: &str, value: &[u8]) -> Result<(), AllocError>
     ensures { IfOk result (λ _. out.new.items ≡ out.old.items ++ (label.now ++ value.now)) }
 {
     out.extend_from_slice(label.as_bytes())?;

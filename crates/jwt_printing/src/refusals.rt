@@ -1,13 +1,12 @@
 //! The answers of a command besides a verdict, in JSON or in lines.
 ghost use Rattle.std.specs.Prelude.{◌≡◌, IfOk};
-ghost use Rattle.jwt_printing.specs.Printer.{file_failed, printer, printed_file_fault};
-ghost use Rattle.jwt_printing.specs.Verdicts.{access_refused, policy_refused};
+ghost use Rattle.jwt_printing.specs.Refused.{access_refused, file_failed, policy_refused, printed_access_fault, printed_file_fault, printed_keys_fault, printed_policy_fault, printed_read_fault};
 ghost use Rattle.jwt_printing.specs.Views.{reply_view};
 ghost use Rattle.jwt_printing.specs.Faults.{claim_fault_parts, joined_parts};
 ghost use Rattle.jwt_printing.specs.Printed.{refused};
 
 use crate::faults::{access_fault_text, claim_fault_text, policy_fault_text};
-use crate::json_verdict::{
+use crate::json_refusals::{
     access_refused_json, file_failed_json, keys_refused_json, policy_refused_json, read_failed_json,
 };
 use crate::reply::Reply;
@@ -20,7 +19,7 @@ use std::alloc::{AllocError, Global};
 
 /// A read failed.
 pub fn printed_read_fault(alloc: Global, printing: Printing) -> Result<Reply, AllocError>
-    ensures { IfOk result (λ a. reply_view a ≡ (printer printing).read_failed) }
+    ensures { IfOk result (λ a. reply_view a ≡ printed_read_fault printing) }
 {
     match printing {
         Printing::Json => read_failed_json(alloc),
@@ -66,7 +65,7 @@ pub fn printed_policy_fault(
     printing: Printing,
     fault: &PolicyFault,
 ) -> Result<Reply, AllocError>
-    ensures { IfOk result (λ a. reply_view a ≡ (printer printing).policy_refused fault.now) }
+    ensures { IfOk result (λ a. reply_view a ≡ printed_policy_fault printing fault.now) }
 {
     match printing {
         Printing::Json => policy_refused_json(alloc, fault),
@@ -88,7 +87,7 @@ pub fn printed_access_fault(
     printing: Printing,
     fault: &AccessFault,
 ) -> Result<Reply, AllocError>
-    ensures { IfOk result (λ a. reply_view a ≡ (printer printing).access_refused fault.now) }
+    ensures { IfOk result (λ a. reply_view a ≡ printed_access_fault printing fault.now) }
 {
     match printing {
         Printing::Json => access_refused_json(alloc, fault),
@@ -102,7 +101,7 @@ pub fn printed_keys_fault(
     printing: Printing,
     fault: &KeysFault,
 ) -> Result<Reply, AllocError>
-    ensures { IfOk result (λ a. reply_view a ≡ (printer printing).keys_refused fault.now) }
+    ensures { IfOk result (λ a. reply_view a ≡ printed_keys_fault printing fault.now) }
 {
     match printing {
         Printing::Json => keys_refused_json(alloc, fault),

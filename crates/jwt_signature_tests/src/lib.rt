@@ -4,6 +4,8 @@
 #[cfg(test)]
 mod advice;
 #[cfg(test)]
+mod built_in;
+#[cfg(test)]
 mod ed25519;
 #[cfg(test)]
 mod elliptic;

@@ -1,4 +1,5 @@
-//! The tests of what works on whole tokens: validating, access rules, judging by what is told, issuing, and the one crate that a service
+//! The tests of what works on whole tokens: validating, access rules, judging by what is told, issuing,
+//! what a service decides beside a verdict, and the one crate that a service
 //! lists.
 #![tactic(auto)]
 
@@ -11,6 +12,14 @@ mod issue;
 #[cfg(test)]
 mod memory;
 #[cfg(test)]
+mod once;
+#[cfg(test)]
+mod renewal;
+#[cfg(test)]
+mod request;
+#[cfg(test)]
 mod told;
+#[cfg(test)]
+mod urls;
 #[cfg(test)]
 mod verify;

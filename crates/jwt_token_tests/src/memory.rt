@@ -52,6 +52,7 @@ const AGAIN: Step = Step {
 const IN_JSON: Step = Step {
     shows: "a token in JSON form isn't kept",
     token: r#"{"payload":"<PAYLOAD_A>","protected":"<HEADER_A>","signature":"<SIGNATURE_A>"}"#,
+    says: "judged: accepted",
     ..FIRST
 };
 
@@ -211,7 +212,7 @@ fn word_by(
         &mut budget,
         &mut scratch,
     ) {
-        Ok(outcome) => word_of(&outcome),
+        Ok(handed) => word_of(&handed.outcome),
         Err(_) => "asks",
     }
 }

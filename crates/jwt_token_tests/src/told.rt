@@ -6,7 +6,7 @@ use jwt_policy::{Policy, SigFault};
 use jwt_support::examples::{KEYS_A2, NOW, TOKEN_A2};
 use jwt_text::Scratch;
 use jwt_told::{Answers, Asking, OpenPair, Question, judge_told, read_token};
-use jwt_verify::{Fault, Report, Verdict};
+use jwt_verify::{Fault, JudgedToken, Verdict};
 use std::alloc::Global;
 use std::test::Fail;
 
@@ -68,9 +68,9 @@ static CASES: [ToldCase; 6] = [
 ];
 
 /// The word for what is made of the token.
-fn word_of(judged: &Result<Report<'_>, Asking>) -> &'static str {
+fn word_of(judged: &Result<JudgedToken<'_, '_>, Asking>) -> &'static str {
     match judged {
-        Ok(report) => match &report.verdict {
+        Ok(judged) => match &judged.report.verdict {
             Verdict::Accepted { .. } => "accepted",
             Verdict::Refused(Fault::Signature(0, SigFault::BadSignature)) => "bad signature",
             Verdict::Refused(_) => "another fault",

@@ -142,6 +142,8 @@ fn judge_by<'a, 'p>(
 /// # Refused
 /// As [`judge`] refuses.
 ///
+/// It comes with the token that was read for it, so that a caller who wants more of it needn't read it again.
+///
 /// # Errors
 /// The token, the tries of the run, and the first of them without an answer. Where memory was refused, that is the report, and nothing is
 /// asked.
@@ -154,26 +156,29 @@ pub fn judge_told<'a, 'p>(
     answers: &Answers,
     budget: &mut CountDown,
     scratch: &mut Scratch,
-) -> Result<Report<'p>, Asking<'a>>
+) -> Result<JudgedToken<'a, 'p>, Asking<'a>>
     requires no_octets { ⟦<CountDown as Budget>⟧.octets budget.old ≡ 0 }
     requires no_calls { ⟦<CountDown as Budget>⟧.calls budget.old ≡ 0 }
 
     // The report is that of a run by the answers.
-    ensures report { IfOk result (IsReport
+    ensures report { IfOk result (λ j. IsReport
         (terms policy.now keys.now now (told_meaning (told answers.now) ∷ []))
-        octets.now (⟦<CountDown as Budget>⟧.ceiling budget.old)) }
-    ensures memory { IfOk result (λ r. r.verdict ≡ Refused OutOfMemory → TakesMemory policy.now octets.now) }
+        octets.now (⟦<CountDown as Budget>⟧.ceiling budget.old) j.report) }
+    ensures memory { IfOk result (λ j. j.report.verdict ≡ Refused OutOfMemory → TakesMemory policy.now octets.now) }
+
+    // It comes with the token that the octets are.
+    ensures read { IfOk result (λ j. IsReadAs policy.now octets.now j.report.verdict j.token) }
 
     // Where the answers are true, the verdict is the true one, unless memory was refused.
-    ensures right { IfOk result (λ r. FoundMemory r.verdict
+    ensures right { IfOk result (λ j. FoundMemory j.report.verdict
         → (truth : Truth) → AreRight truth (told answers.now)
         → IsVerdict
         (terms policy.now keys.now now (true_meaning truth ∷ []))
-        octets.now (⟦<CountDown as Budget>⟧.ceiling budget.old) r.verdict) }
+        octets.now (⟦<CountDown as Budget>⟧.ceiling budget.old) j.report.verdict) }
 
     // Each of its tries has an answer, unless memory was refused.
-    ensures told { IfOk result (λ r. FoundMemory r.verdict → NoneOpen (told answers.now)
-        policy.now octets.now (key_set keys.now).keys r.tries.items) }
+    ensures told { IfOk result (λ j. FoundMemory j.report.verdict → NoneOpen (told answers.now)
+        policy.now octets.now (key_set keys.now).keys j.report.tries.items) }
 
     // It asks about the first try of that run that has no answer.
     ensures tries { IfErr result (λ a. AreTries
@@ -186,15 +191,15 @@ pub fn judge_told<'a, 'p>(
         policy.now octets.now (key_set keys.now).keys
         a.pair.signature a.pair.key) }
 
-    // It comes with the token.
+    // A question comes with the token too.
     ensures token { IfErr result (λ a. token_of policy.now octets.now ≡ Ok (token a.token)) }
 
     // What the budget counts.
     ensures octets { MatchResult result
-        (λ r. ⟦<CountDown as Budget>⟧.octets budget.new ≡ work r.tries.items)
+        (λ j. ⟦<CountDown as Budget>⟧.octets budget.new ≡ work j.report.tries.items)
         (λ a. ⟦<CountDown as Budget>⟧.octets budget.new ≡ work a.tries.items) }
     ensures calls { MatchResult result
-        (λ r. ⟦<CountDown as Budget>⟧.calls budget.new ≡ length r.tries.items)
+        (λ j. ⟦<CountDown as Budget>⟧.calls budget.new ≡ length j.report.tries.items)
         (λ a. ⟦<CountDown as Budget>⟧.calls budget.new ≡ length a.tries.items) }
     ensures within { IsWithin policy.now.max_calls (⟦<CountDown as Budget>⟧.calls budget.new) }
     ensures ceiling { ⟦<CountDown as Budget>⟧.ceiling budget.new
@@ -206,13 +211,19 @@ pub fn judge_told<'a, 'p>(
         alloc, octets, keys, policy, now, answers, budget, scratch,
     );
     if !found_memory(&report.verdict) {
-        return Ok(report);
+        return Ok(JudgedToken { report, token });
     }
     match token {
         Some(signed) => match first_open(answers, &signed, keys, &report.tries) {
             Some(first) => Err(asking(first, report, signed)),
-            None => Ok(report),
+            None => Ok(JudgedToken {
+                report,
+                token: Some(signed),
+            }),
         },
-        None => Ok(report),
+        None => Ok(JudgedToken {
+            report,
+            token: None,
+        }),
     }
 }

@@ -18,15 +18,15 @@ use crate::saying::{
     reads_der, say_hint, say_how_to_go_on, say_what_is_waited_for, say_why_refused,
 };
 use crate::words::{Spelled, as_meant};
+use jwt_built_in::{BuiltIn, PREPARED_KEYS};
 use jwt_command::documents::Held;
 use jwt_command::run::{lack_memory, run_read};
 use jwt_command::{Moment, Request, WordsFault, octets_asked, read_words};
-use jwt_ecdsa::Ecdsa;
-use jwt_ed25519::Ed25519;
+use jwt_keys::KeySet;
 use jwt_mac::Verifier;
 use jwt_printing::{give, printed_file_fault};
-use jwt_rsa::Rsa;
 use jwt_text::{Reader, Sink, Source, Writer};
+use std::alloc::Global;
 use std::process::ExitCode;
 use std::random::RandomSource;
 use std::{env, io};
@@ -92,6 +92,25 @@ fn random<'a>(
     Some(asked)
 }
 
+/// The verifier for public keys: for the tokens of many lines with keys of the key set prepared, for one token with none, since to
+/// prepare a key takes longer than to verify one signature. The key set is read here for that alone.
+fn verifier_for(
+    alloc: Global,
+    request: &Result<Request<'_>, WordsFault>,
+    keys: Option<&[u8]>,
+) -> BuiltIn {
+    let (Ok(Request::EachLine(order)), Some(keys)) = (request, keys) else {
+        return BuiltIn::plain();
+    };
+    if !order.public_keys {
+        return BuiltIn::plain();
+    }
+    match KeySet::read(alloc, keys) {
+        Ok(keys) => BuiltIn::prepared(alloc, &keys, PREPARED_KEYS),
+        Err(_) => BuiltIn::plain(),
+    }
+}
+
 /// Reads the files that the words name, and runs the command with what they hold.
 fn run_words<R: Source, W: Sink>(
     rt: &HostRuntime,
@@ -100,17 +119,14 @@ fn run_words<R: Source, W: Sink>(
     r: &mut Recorded<R>,
     w: &mut Answered<W>,
 ) -> io::Result<u8> {
-    let built_in: [Box<dyn Verifier>; 3] = [
-        Box::new(rt.alloc(), Rsa)?,
-        Box::new(rt.alloc(), Ed25519)?,
-        Box::new(rt.alloc(), Ecdsa)?,
-    ];
     let request = read_words(rt.alloc(), words, clock);
     if request.is_err() {
         say_hint(rt, words);
     }
     say_what_is_waited_for(rt, &request);
     let files = read_files(rt, &request)?;
+    let verifier = verifier_for(rt.alloc(), &request, octets(&files.keys));
+    let built_in: [Box<dyn Verifier>; 1] = [Box::new(rt.alloc(), verifier)?];
     let mut fresh = [0; 64];
     let held = Held {
         policy: octets(&files.policy),

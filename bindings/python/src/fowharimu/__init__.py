@@ -74,7 +74,7 @@ __all__ = [
 Claims = Dict[str, Any]
 
 # What json.loads calls of a text, after a look at its other arguments.
-_decode = json.JSONDecoder().decode
+_decoder = json.JSONDecoder()
 
 _PARTS = {1: "payload", 2: "protected", 3: "signature"}
 _STATES = {1: "barred", 2: "no key", 3: "bad signature", 4: "verified", 5: "not reached", 6: "stopped"}
@@ -129,13 +129,16 @@ def _number(number: SupportsIndex, what: str, least: int, greatest: int) -> int:
 
 
 def _moment(now: Optional[SupportsIndex]) -> int:
-    return time.time_ns() // 1_000_000_000 if now is None else _number(now, "now", -(2**63), 2**63 - 1)
+    if now is None:
+        return time.time_ns() // 1_000_000_000
+    return now if type(now) is int and -(2**63) <= now < 2**63 else _number(now, "now", -(2**63), 2**63 - 1)
 
 
 def _object(text: str, what: str) -> Dict[str, Any]:
     """The object that a JSON text spells. Raises Unreadable where Python's `json` doesn't take it, though the library does."""
     try:
-        members: Dict[str, Any] = _decode(text)
+        # (the library has read the whole text: what stands behind the object is white space, which need not be looked at once more)
+        members: Dict[str, Any] = _decoder.raw_decode(text)[0] if text.startswith("{") else _decoder.decode(text)
     except ValueError:
         raise Unreadable(what, text.encode()) from None
     return members

@@ -3,20 +3,14 @@
 from __future__ import annotations
 
 import logging
-import re
 from typing import Any, Callable, Dict, List, Optional, Protocol, TypeVar, Union
 
 from . import Claims, Denied, TokenRefused, Undecided, Validator
 from ._access import NO_RULE, Rule, checked
+from ._replies import NoToken, Outcome, checked_realm, reply_to, token_in
 from ._waiting import Waiting
 
 _LOG = logging.getLogger("fowharimu")
-# (of no octets the library says that the token is empty)
-_B64TOKEN = re.compile(r"([A-Za-z0-9._~+/-]+=*)?")
-_QUOTABLE = re.compile(r"[ !#-\[\]-~]*")
-_INVALID_TOKEN = 'Bearer error="invalid_token"'
-_INVALID_REQUEST = 'Bearer error="invalid_request"'
-_INSUFFICIENT_SCOPE = 'Bearer error="insufficient_scope"'
 _Said = TypeVar("_Said")
 
 
@@ -39,13 +33,11 @@ class Bearer:
     """Asks a validator, and an access rule where there is one, for the token behind the scheme Bearer."""
 
     def __init__(self, validator: Validates, access: Rule, realm: str) -> None:
-        if not _QUOTABLE.fullmatch(realm):
-            raise ValueError("a realm has printable characters of ASCII, and neither quotation marks nor backslashes")
         self._validator = validator
         self._access = checked(access)
         # (what stands for a validator may know no rules)
         self._words: Dict[str, Any] = {} if access is NO_RULE else {"access": access}
-        self._realm = realm
+        self._realm = checked_realm(realm)
 
     def claims(self, values: List[str]) -> Claims:
         """The claims of the request whose headers Authorization have these values. Raises Challenged, and MemoryError, Closed and Undecided where
@@ -75,23 +67,24 @@ class Bearer:
         except Undecided:
             raise
         except Denied as denial:
-            scope = "" if denial.scope is None else f', scope="{" ".join(denial.scopes)}"'
             _LOG.info("%s", denial)
-            raise Challenged(403, _INSUFFICIENT_SCOPE + scope) from denial
+            outcome = Outcome.NOT_GRANTED if denial.scope is None else Outcome.SCOPE_MISSING
+            raise self._challenged(outcome, " ".join(denial.scopes)) from denial
         except TokenRefused as refusal:
             _LOG.info("%s", refusal)
-            if refusal.fault == "KeysTooOld":
-                raise Challenged(503) from refusal
-            raise Challenged(401, _INVALID_TOKEN) from refusal
+            outcome = Outcome.KEYS_TOO_OLD if refusal.fault == "KeysTooOld" else Outcome.NOT_ACCEPTED
+            raise self._challenged(outcome) from refusal
+
+    def _challenged(self, outcome: Outcome, scopes: str = "") -> Challenged:
+        """The answer to a request of whose token this is known."""
+        return Challenged(*reply_to(outcome, self._realm, scopes.encode()))
 
     def _token(self, values: List[str]) -> str:
-        """The one b64token behind the scheme, in any case of its letters."""
+        """The token of the one header. Raises Challenged."""
         if len(values) > 1:
-            raise Challenged(400, _INVALID_REQUEST)
-        scheme, _, token = "".join(values).strip(" \t").partition(" ")
-        if scheme.lower() != "bearer":
-            raise Challenged(401, f'Bearer realm="{self._realm}"')
-        token = token.lstrip(" ")
-        if not _B64TOKEN.fullmatch(token):
-            raise Challenged(401, _INVALID_TOKEN)
-        return token
+            raise self._challenged(Outcome.SEVERAL)
+        try:
+            # (as WSGI has it, each character an octet)
+            return token_in("".join(values).encode("latin-1", "replace")).decode()
+        except NoToken as lacking:
+            raise self._challenged(lacking.outcome) from None

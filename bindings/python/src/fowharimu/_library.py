@@ -15,7 +15,7 @@ from ._faults import AnotherLibrary
 
 # The number of the interface that this package is made for, and the most questions of one token that are taken as a rule: FOW_ABI and
 # FOW_MOST_QUESTIONS of fowharimu.h.
-ABI, MOST_QUESTIONS = 2, 64
+ABI, MOST_QUESTIONS = 3, 64
 
 OK, REFUSED, ASKS, OUT_OF_MEMORY, NOT_OPEN, TOO_SHORT, ABSENT, DENIED, UNNAMED = range(9)
 
@@ -70,12 +70,53 @@ class CTry(ctypes.Structure):
     _fields_ = [("cost", ctypes.c_uint64), ("signature", ctypes.c_uint32), ("key", ctypes.c_uint32)]
 
 
-_U32, _SIZE = ctypes.c_uint32, ctypes.c_size_t
+class CReply(ctypes.Structure):
+    """fow_reply."""
+
+    _fields_ = [("status", ctypes.c_uint32), ("challenge", ctypes.c_uint32)]
+
+
+class CRenewal(ctypes.Structure):
+    """fow_renewal."""
+
+    _fields_ = [
+        (name, ctypes.c_uint64)
+        for name in (
+            *("refresh_after", "cool_down", "max_age", "timeout"),
+            *("heard", "keys_age", "keys_ticket", "begun_age", "ticket", "is_open"),
+            *("waiting", "first", "second", "third", "fourth"),
+        )
+    ]
+
+
+class CRenewalAnswer(ctypes.Structure):
+    """fow_renewal_answer."""
+
+    _fields_ = [(name, ctypes.c_uint64) for name in ("has_keys", "keys", "fetch", "ticket", "left")]
+
+
+class CUrl(ctypes.Structure):
+    """fow_url."""
+
+    _fields_ = [
+        *((name, ctypes.c_uint32) for name in ("https", "port")),
+        *((name, ctypes.c_size_t) for name in ("host", "host_end", "target")),
+    ]
+
+
+class CNext(ctypes.Structure):
+    """fow_next."""
+
+    _fields_ = [("step", ctypes.c_uint32), ("most", ctypes.c_uint32)]
+
+
+_U32, _U64, _SIZE = ctypes.c_uint32, ctypes.c_uint64, ctypes.c_size_t
 _IN = [ctypes.c_char_p, _SIZE]
 _OUT = [ctypes.c_char_p, _SIZE, ctypes.POINTER(_SIZE)]
 _VALIDATOR = ctypes.POINTER(CValidator)
 _ACCESS = ctypes.POINTER(CAccess)
 _REPORT = ctypes.POINTER(CReport)
+_RENEWAL = ctypes.POINTER(CRenewal)
 
 _SIGNATURES = {
     "fow_open": (_U32, [_VALIDATOR, *_IN, *_IN, ctypes.POINTER(_U32)]),
@@ -88,7 +129,7 @@ _SIGNATURES = {
     "fow_state_of": (_U32, [_VALIDATOR, _U32, ctypes.POINTER(CState)]),
     "fow_try_of": (_U32, [_VALIDATOR, ctypes.c_uint64, ctypes.POINTER(CTry)]),
     "fow_refused_claim": (_U32, [_VALIDATOR, *_OUT]),
-    "fow_payload": (_U32, [_VALIDATOR, *_IN, *_OUT]),
+    "fow_accepted_payload": (_U32, [_VALIDATOR, *_OUT]),
     "fow_unverified_header": (_U32, [_VALIDATOR, *_IN, _U32, *_OUT]),
     "fow_unverified_issuer": (_U32, [_VALIDATOR, *_IN, *_OUT]),
     "fow_sole_issuer": (_U32, [_VALIDATOR, *_OUT]),
@@ -103,6 +144,21 @@ _SIGNATURES = {
     "fow_denied_name": (_U32, [_VALIDATOR, _ACCESS, *_OUT]),
     "fow_fault_name": (ctypes.c_char_p, [_U32]),
     "fow_issue": (_U32, [_VALIDATOR, _U32, _U32, _U32, *_IN, *_IN, *_OUT, _REPORT]),
+    "fow_credentials": (_U32, [*_IN, ctypes.POINTER(_SIZE), ctypes.POINTER(_SIZE)]),
+    "fow_reply_to": (None, [_U32, ctypes.POINTER(CReply)]),
+    "fow_quotable": (ctypes.c_bool, _IN),
+    "fow_challenge": (_U32, [_U32, *_IN, *_IN, *_OUT]),
+    "fow_url_of": (_U32, [*_IN, ctypes.c_bool, ctypes.POINTER(CUrl)]),
+    "fow_redirected": (_U32, [*_IN, *_IN, *_OUT]),
+    "fow_metadata_url": (_U32, [_U32, *_IN, *_OUT]),
+    "fow_keys_url": (_U32, [*_IN, *_IN, *_OUT]),
+    "fow_next_step": (None, [_U32, _U32, _U32, ctypes.POINTER(CNext)]),
+    "fow_renewal_begin": (None, [_RENEWAL, *[_U64] * 5]),
+    "fow_renewal_ask": (None, [_RENEWAL, _U64, _U64, _U64, ctypes.POINTER(CRenewalAnswer)]),
+    "fow_renewal_took": (ctypes.c_bool, [_RENEWAL, _U64, _U64]),
+    "fow_renewal_failed": (ctypes.c_bool, [_RENEWAL, _U64, _U64]),
+    "fow_renewal_wait": (ctypes.c_bool, [_RENEWAL, _U64, _U64, _U64]),
+    "fow_renewal_quiet_for": (_U64, [_RENEWAL]),
     "fow_proved_judge": (_U32, [_VALIDATOR, *_IN, ctypes.c_int64, _REPORT]),
 }
 # What the library over OpenSSL has besides.

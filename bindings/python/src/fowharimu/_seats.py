@@ -105,7 +105,7 @@ class Seat:
 
     def _addresses(self) -> Tuple[int, int, int, int, int, int]:
         """Where the library has its functions, and the seat what they change."""
-        functions = (self.library.fow_proved_judge, self.library.fow_payload)
+        functions = (self.library.fow_proved_judge, self.library.fow_accepted_payload)
         alone, payload = (ctypes.cast(it, ctypes.c_void_p).value or 0 for it in functions)
         over = ctypes.cast(self.library.fow_openssl_judge, ctypes.c_void_p).value or 0 if self.is_over_openssl else 0
         crypto, held, report = (ctypes.addressof(it) for it in (self.crypto, self.held, self.report))
@@ -134,12 +134,12 @@ class Seat:
         return bool(self.library.fow_remembered(self.held))
 
     def payload(self, octets: bytes) -> bytes:
-        """The payload of the token that was judged last, and accepted. Raises MemoryError where memory is refused."""
+        """The payload of the token that was judged last, whose octets these are, and accepted. Raises MemoryError where memory is refused."""
         size = len(octets)
         library = self.holding if size <= SHORT else self.library
         if size > len(self.room):
             self._make_room(size)
-        if library.fow_payload(self.held, octets, size, self.room, len(self.room), self.length) != _library.OK:
+        if library.fow_accepted_payload(self.held, self.room, len(self.room), self.length) != _library.OK:
             raise MemoryError
         return bytes(self.view[: self.length.value])
 
@@ -179,11 +179,19 @@ class Seats:
         seat whose call is cut off before it is given back, as by a signal, is freed."""
         while _is_forking:
             _wait_for_fork()
-        seat = self.take()
+        # (as `take` and `give` do: two calls of Python are a tenth of what it adds to one of the library)
         try:
+            seat = self._free.pop()
+        except IndexError:
+            seat = self._open()
+        try:
+            if self._is_closed:
+                raise Closed
             return work(seat, *words)
         finally:
-            self.give(seat)
+            self._free.append(seat)
+            if self._is_closed:
+                self._close_free()
 
     def take(self) -> Seat:
         """A seat that no other call has. Raises as `call` does."""

@@ -8,6 +8,7 @@
 
 from __future__ import annotations
 
+import contextlib
 import functools
 import http.client
 import logging
@@ -19,32 +20,22 @@ import ssl
 import threading
 import time
 import traceback
-import urllib.error
-import urllib.parse
-import urllib.request
 import weakref
 from types import TracebackType
-from typing import Any, Callable, Dict, List, Optional, Set, SupportsIndex, Tuple, Type, Union
+from typing import Any, Callable, Dict, List, NamedTuple, Optional, SupportsIndex, Tuple, Type, Union
 
 from . import Claims, Closed, FowharimuError, Report, SignatureRefused, TokenRefused, Validator
 from ._access import NO_RULE, Rule
 from ._library import load
+from ._renewal import Asker, Renewal
 from ._seats import written
 from ._texts import Document, Text, document_of, octets_of
+from ._urls import Asked, Step, Url, keys_url, metadata_url, next_step, redirected, url_of
 from ._waiting import Waiting
 
 __all__ = ["KeysTooOld", "KeysUnavailable", "RemoteKeys"]
 
 _log = logging.getLogger("fowharimu")
-
-# The most octets that a key set, or what tells where it stands, may have.
-_MOST = 4_194_304
-
-# The most redirections within the origin that are followed.
-_MOST_REDIRECTS = 5
-
-# The most tokens that wait for one fetch.
-_MOST_WAITING = 4
 
 # The greatest of each time, in seconds: a connection takes no longer deadline.
 _GREATEST = {"refresh_after": math.inf, "cooldown": math.inf, "max_age": math.inf, "timeout": 2_147_483}
@@ -52,7 +43,7 @@ _GREATEST = {"refresh_after": math.inf, "cooldown": math.inf, "max_age": math.in
 # The clock of ages: where there is one, one that goes on while the machine is suspended.
 _clock = functools.partial(time.clock_gettime, time.CLOCK_BOOTTIME) if hasattr(time, "CLOCK_BOOTTIME") else time.monotonic
 
-_ACCEPTS = {"Accept": "application/jwk-set+json, application/json", "Accept-Encoding": "identity"}
+_HEADERS = {"Accept": "application/jwk-set+json, application/json", "Accept-Encoding": "identity", "Connection": "close"}
 
 
 class KeysUnavailable(FowharimuError):
@@ -74,58 +65,21 @@ def _check_times(**given: Any) -> None:
             raise ValueError(f"{name} has to be a number of seconds from 0 to {greatest}")
 
 
-def _origin(url: str) -> Tuple[str, Optional[str], Optional[int]]:
-    """The scheme, the host and the port of a URL (RFC 6454, section 4)."""
-    parts = urllib.parse.urlsplit(url)
-    return parts.scheme, parts.hostname, parts.port or {"https": 443, "http": 80}.get(parts.scheme)
-
-
-def _checked(url: str, allow_http: bool) -> str:
+def _checked(url: str, allow_http: bool) -> Url:
     """A URL from which keys may be fetched. Raises ValueError for any other."""
-    # (of these http.client says where they stand, with the query, which may hide a secret)
-    if re.search(r"[\x00-\x20\x7f]", url):
-        raise ValueError("the URL of a key set has neither spaces nor control characters")
-    parts = urllib.parse.urlsplit(url)
-    if parts.scheme != "https" and not (allow_http and parts.scheme == "http"):
-        raise ValueError("the URL of a key set begins with https://")
-    if not parts.hostname or parts.username is not None or parts.password is not None:
-        raise ValueError("the URL of a key set has a host, and neither a name nor a password")
-    return url
-
-
-class _SameOrigin(urllib.request.HTTPRedirectHandler):
-    """Follows redirections to the same scheme, host and port alone, and few of them in one fetch."""
-
-    # (they are counted below, whether they lead to the same URL or to others)
-    max_repeats = max_redirections = _MOST_REDIRECTS + 1
-
-    def __init__(self) -> None:
-        self._followed = 0
-
-    def redirect_request(
-        self, req: urllib.request.Request, fp: Any, code: int, msg: str, headers: Any, newurl: str
-    ) -> Optional[urllib.request.Request]:
-        if _origin(newurl) != _origin(req.full_url):
-            raise urllib.error.URLError("it redirects to another origin")
-        self._followed += 1
-        if self._followed > _MOST_REDIRECTS:
-            raise urllib.error.URLError("it redirects too often")
-        return super().redirect_request(req, fp, code, msg, headers, newurl)
-
-    def http_error_302(self, req: urllib.request.Request, fp: Any, code: int, msg: str, headers: Any) -> Any:
-        # (else what the answer has beside its headers would be read, however long it is)
-        fp.close()
-        return super().http_error_302(req, fp, code, msg, headers)
-
-    http_error_301 = http_error_303 = http_error_307 = http_error_308 = http_error_302
+    checked = url_of(url, allow_http)
+    if checked is None:
+        # (not told: its query may hide a secret)
+        raise ValueError("the URL of a key set is https, and has a host and neither a name nor a password, nor a fragment")
+    return checked
 
 
 class _Fetch:
     """One fetch, which ends at its deadline: then its connection is shut, whatever it waits for."""
 
-    def __init__(self, timeout: float) -> None:
+    def __init__(self, timeout: float, ticket: int = 0) -> None:
         self.done = threading.Event()
-        self._kids: Set[str] = set()
+        self.ticket = ticket
         self._told: List[Callable[[], None]] = []
         self._telling = threading.Lock()
         self._ends = time.monotonic() + timeout
@@ -162,74 +116,69 @@ class _Fetch:
                 return
         ended()
 
-    def admits(self, kid: str) -> bool:
-        """Whether a token of this `kid` may wait: few do, since anyone can send tokens for which a key is lacking."""
-        if len(self._kids) >= _MOST_WAITING or kid in self._kids:
-            return False
-        self._kids.add(kid)
-        return True
-
-    def get(self, url: str, context: Optional[ssl.SSLContext], allow_http: bool) -> bytes:
-        """What stands at the URL. Raises OSError, ValueError and HTTPException where it can't be had in time."""
+    def get(self, url: Url, context: Optional[ssl.SSLContext], asked: Asked = Asked.KEYS) -> Optional[bytes]:
+        """What stands at the URL; None where the other metadata are to be asked for. Raises OSError, ValueError and HTTPException where it can't be
+        had in time."""
         self._timer.start()
         try:
-            return self._read(self._opener(context, allow_http), url)
+            followed = 0
+            while True:
+                came = self._answer(url, context, asked, followed)
+                if not isinstance(came, Url):
+                    return came
+                url, followed = came, followed + 1
         finally:
             self._timer.cancel()
 
-    def _opener(self, context: Optional[ssl.SSLContext], allow_http: bool) -> urllib.request.OpenerDirector:
-        opener = urllib.request.OpenerDirector()
-        # (no proxy, no file and no other scheme)
-        for handler in (
-            _Https(self, context),
-            *([_Http(self)] if allow_http else []),
-            _SameOrigin(),
-            urllib.request.HTTPDefaultErrorHandler(),
-            urllib.request.HTTPErrorProcessor(),
-        ):
-            opener.add_handler(handler)
-        return opener
+    def _answer(self, url: Url, context: Optional[ssl.SSLContext], asked: Asked, followed: int) -> Union[bytes, Url, None]:
+        """What an answer has, or where it redirects to; None where the other metadata are to be asked for."""
+        with contextlib.closing(self._connected(url, context)) as connection:
+            connection.request("GET", url.target, headers=_HEADERS)
+            # (of what it has beside its headers nothing is read that isn't taken, however long it is)
+            with connection.getresponse() as response:
+                step, most = next_step(asked, response.status, followed)
+                if step is Step.TAKE:
+                    return self._content(response, most)
+                location = response.headers["Location"] or ""
+        if step is Step.ASK_OAUTH:
+            return None
+        if step is not Step.FOLLOW:
+            raise ValueError("it redirects too often" if step is Step.TOO_OFTEN else f"its status is {response.status}")
+        to = redirected(url, location)
+        if to is None:
+            raise ValueError("it redirects to another origin, or to no URL")
+        return to
 
-    def _read(self, opener: urllib.request.OpenerDirector, url: str) -> bytes:
+    def _content(self, response: http.client.HTTPResponse, most: int) -> bytes:
         octets = bytearray()
-        with self._answer(opener, url) as response:
-            if response.status != 200:
-                raise ValueError(f"its status is {response.status}")
-            _check_lengths(response.headers.get_all("Content-Length", []))
-            while True:
-                part = response.read1(65_536)
-                # (a connection that was shut may look like an answer that is whole)
-                if self.left == 0:
-                    raise TimeoutError("it comes too slowly")
-                if not part:
-                    break
-                octets += part
-                if len(octets) > _MOST:
-                    raise ValueError(f"it has more than {_MOST} octets")
-            if response.length:
-                raise ValueError("it is cut off")
+        _check_lengths(response.headers.get_all("Content-Length", []))
+        while True:
+            part = response.read1(65_536)
+            # (a connection that was shut may look like an answer that is whole)
+            if self.left == 0:
+                raise TimeoutError("it comes too slowly")
+            if not part:
+                break
+            octets += part
+            if len(octets) > most:
+                raise ValueError(f"it has more than {most} octets")
+        if response.length:
+            raise ValueError("it is cut off")
         return bytes(octets)
 
-    def _answer(self, opener: urllib.request.OpenerDirector, url: str) -> Any:
-        try:
-            return opener.open(urllib.request.Request(url, headers=_ACCEPTS), timeout=self.left or 1e-3)
-        except urllib.error.HTTPError as error:
-            # (it would hold its connection for as long as it is told why the fetch failed)
-            error.close()
-            raise
-
-    def opened(self, kind: Callable[..., http.client.HTTPConnection], *words: Any, **named: Any) -> Any:
-        """A connection that is shut at the deadline: it is held here, since it is forgotten there once an answer begins."""
-        connection = kind(*words, **named)
-        connect = connection.connect
-
-        def connect_held() -> None:
-            connect()
-            self._held = connection.sock
-            if self.done.is_set():
-                raise TimeoutError("it takes too long")
-
-        connection.connect = connect_held  # type: ignore[method-assign]
+    def _connected(self, url: Url, context: Optional[ssl.SSLContext]) -> http.client.HTTPConnection:
+        """A connection that is shut at the deadline."""
+        left = self.left or 1e-3
+        if url.is_https:
+            secure = context or _secured()
+            connection: http.client.HTTPConnection = http.client.HTTPSConnection(url.host, url.port, timeout=left, context=secure)
+        else:
+            connection = http.client.HTTPConnection(url.host, url.port, timeout=left)
+        connection.connect()
+        self._held = connection.sock
+        if self.done.is_set():
+            connection.close()
+            raise TimeoutError("it takes too long")
         return connection
 
 
@@ -245,35 +194,6 @@ def _secured() -> ssl.SSLContext:
     context.check_hostname, context.verify_mode = True, ssl.CERT_REQUIRED
     context.minimum_version = ssl.TLSVersion.TLSv1_2
     return context
-
-
-class _Https(urllib.request.HTTPSHandler):
-    """Opens connections that their fetch may shut."""
-
-    def __init__(self, fetch: _Fetch, context: Optional[ssl.SSLContext]) -> None:
-        super().__init__()
-        self._fetch, self._given = fetch, context or _secured()
-
-    def https_open(self, req: urllib.request.Request) -> http.client.HTTPResponse:
-        return self.do_open(
-            lambda *words, **named: self._fetch.opened(
-                http.client.HTTPSConnection, *words, context=self._given, **named
-            ),
-            req,
-        )
-
-
-class _Http(urllib.request.HTTPHandler):
-    """The same without TLS."""
-
-    def __init__(self, fetch: _Fetch) -> None:
-        super().__init__()
-        self._fetch = fetch
-
-    def http_open(self, req: urllib.request.Request) -> http.client.HTTPResponse:
-        return self.do_open(
-            lambda *words, **named: self._fetch.opened(http.client.HTTPConnection, *words, **named), req
-        )
 
 
 def _public_policy(policy: Document, issuer: Optional[str] = None) -> bytes:
@@ -326,6 +246,15 @@ def _member(document: bytes, name: bytes) -> Optional[str]:
     return None if text is None else text.decode()
 
 
+class _Used(NamedTuple):
+    """What a token is judged by, from the one moment to the other, and the ticket of its keys."""
+
+    validator: Validator
+    keys: int
+    since: float
+    until: float
+
+
 class RemoteKeys:
     """A policy, and a key set at a URL, which is fetched at once, and again as docs/REMOTE-KEYS.md says: in the background after `refresh_after`
     seconds; where a token is refused for want of a key or by a bad signature, at most once in `cooldown` seconds. Where that fails, the
@@ -334,7 +263,7 @@ class RemoteKeys:
 
     `options` are those of `Validator`.
 
-    Raises ValueError for a URL that isn't https or has a name or a password in it, a time that is none, or a policy with an HMAC algorithm;
+    Raises ValueError for a URL that isn't https, or has a name, a password or a fragment in it, a time that is none, or a policy with an HMAC algorithm;
     KeysUnavailable where the keys can't be fetched; PolicyRefused, TooManyQuestions, AnotherLibrary and MemoryError as `Validator` does.
     """
 
@@ -353,14 +282,17 @@ class RemoteKeys:
     ) -> None:
         self._policy, self._url = _public_policy(policy), _checked(url, allow_http)
         _check_times(refresh_after=refresh_after, cooldown=cooldown, max_age=max_age, timeout=timeout)
-        self._refresh_after, self._cooldown, self._max_age = refresh_after, cooldown, max_age
-        self._timeout, self._allow_http, self._context, self._options = timeout, allow_http, context, options
+        self._timeout, self._context, self._options = timeout, context, options
         # (whoever is told of a fetch may ask for it)
         self._lock = threading.RLock()
+        self._renewal = Renewal(
+            _clock(), refresh_after=refresh_after, cooldown=cooldown, max_age=max_age, timeout=timeout
+        )
         self._fetch: Optional[_Fetch] = None
         self._validator: Optional[Validator] = None
+        # What a token is judged by until it has to ask again: so no lock is taken for each.
+        self._quiet: Optional[_Used] = None
         self._closed = False
-        self._got = self._tried = _clock()
         self.error: Optional[BaseException] = None
         """Why the last fetch failed; None where it didn't."""
         _forked.add(self)
@@ -377,10 +309,13 @@ class RemoteKeys:
         """
         allow_http = how.get("allow_http", False)
         _checked(issuer, allow_http)
+        if metadata_url(issuer, Asked.OPENID) is None:
+            raise ValueError("an issuer has no query")
         _check_times(**how)
         _public_policy(policy, issuer)
         try:
-            url = _keys_url(issuer, how.get("timeout", 5), how.get("context"), allow_http)
+            url = _keys_url(issuer, how.get("timeout", 5), how.get("context"))
+            _checked(url, allow_http)
         except _Failed as error:
             raise KeysUnavailable(str(error)) from error
         return cls(policy, url, **how)
@@ -390,7 +325,7 @@ class RemoteKeys:
         octets = octets_of(token, "a token")
         used = self._current(octets)
         try:
-            return used.validate(octets, now, access)
+            return used.validator.validate(octets, now, access)
         except SignatureRefused as refusal:
             newer = self._newer(used, refusal, octets)
             if newer is None:
@@ -400,23 +335,24 @@ class RemoteKeys:
     def _validate_at_once(self, token: Text, access: Rule) -> Union[Claims, Waiting]:
         """As validate, but for waiting: that is who asks to do."""
         octets = octets_of(token, "a token")
-        used = self._young()
+        used = self._used()
         if used is None:
-            return self._at_last(self._admitted(self._held(), octets), lambda: self._fresh().validate(octets, None, access))
+            fetch = self._admitted(Asker.TOKEN, 0, octets)
+            return self._at_last(fetch, lambda: self._fresh().validator.validate(octets, None, access))
         try:
-            return used.validate(octets, None, access)
+            return used.validator.validate(octets, None, access)
         except SignatureRefused as refusal:
             if not _asks_for_keys(refusal):
                 raise
-            why = refusal.with_traceback(None)
+            why, by = refusal.with_traceback(None), used
 
         def judge() -> Claims:
-            newer = self._other(used)
+            newer = self._other(by)
             if newer is None:
                 raise why
             return newer.validate(octets, None, access)
 
-        return self._at_last(self._admitted(used, octets), judge)
+        return self._at_last(self._admitted(Asker.REFUSED, by.keys, octets), judge)
 
     def _at_last(self, fetch: Optional[_Fetch], judge: Callable[[], Claims]) -> Union[Claims, Waiting]:
         """What is judged when a fetch is over; at once where none is waited for."""
@@ -436,7 +372,7 @@ class RemoteKeys:
             used = self._current(octets)
         except KeysTooOld as refusal:
             return Report(refusal=refusal, signature=0, key=0, work=0, states=[], tries=[])
-        report = used.judge(octets, now)
+        report = used.validator.judge(octets, now)
         newer = self._newer(used, report.refusal, octets)
         return report if newer is None else newer.judge(octets, now)
 
@@ -456,17 +392,15 @@ class RemoteKeys:
 
     def refresh(self) -> bool:
         """Fetches the key set now, whatever the cool-down, and says whether that went well. Where a fetch is under way it waits for that one."""
-        with self._lock:
-            if self._closed:
-                raise Closed
-            before, fetch = self._validator, self._fetch or self._begin()
+        before = self._validator
+        _, fetch = self._asked(Asker.OWNER)
         self._wait(fetch)
         return self._validator is not before
 
     def close(self) -> None:
         """Frees what is held. A fetch that is under way is dropped; later calls raise Closed. It may be called twice."""
         with self._lock:
-            self._closed, validator, self._validator = True, self._validator, None
+            self._closed, validator, self._validator, self._quiet = True, self._validator, None, None
             fetch, self._fetch = self._fetch, None
         if fetch is not None:
             fetch.end()
@@ -492,64 +426,65 @@ class RemoteKeys:
         """As of Validator."""
         return self._held()._named(octets)
 
-    def _young(self) -> Optional[Validator]:
-        """The validator that is held, and None where its keys are too old. Where they are old, a fetch begins. Raises Closed."""
-        # (before a fetch begins, so that it is the old one)
-        validator, age = self._validator, _clock() - self._got
-        if age >= self._refresh_after:
-            self._begun(validator)
-        if age >= self._max_age:
-            return None
-        if validator is None:
-            raise Closed
-        return validator
+    def _used(self) -> Optional[_Used]:
+        """What a token is judged by first; None where the keys are too old. Where they are old, a fetch begins. Raises Closed."""
+        quiet = self._quiet
+        if quiet is not None and quiet.since <= _clock() < quiet.until:
+            return quiet
+        used, _ = self._asked(Asker.TOKEN)
+        return used
 
-    def _current(self, octets: bytes) -> Validator:
-        """The validator by which a token is judged first. Raises KeysTooOld, and Closed."""
-        young = self._young()
-        if young is not None:
-            return young
-        self._wait(self._admitted(self._held(), octets))
+    def _asked(self, asker: Asker, keys: int = 0) -> Tuple[Optional[_Used], Optional[_Fetch]]:
+        """What is to be used, None where the keys are too old; and the fetch that whoever asked may wait for. Raises Closed."""
+        with self._lock:
+            if self._closed:
+                raise Closed
+            now = _clock()
+            answer = self._renewal.ask(now, asker, keys)
+            # (before a fetch begins, so that it is the old one)
+            used = None
+            if answer.keys is not None and self._validator is not None:
+                used = _Used(self._validator, answer.keys, now, self._renewal.quiet_until())
+            self._quiet = used
+            if answer.begins is not None:
+                self._begin(answer.begins)
+            return used, self._fetch if answer.is_under_way else None
+
+    def _current(self, octets: bytes) -> _Used:
+        """What a token is judged by first. Raises KeysTooOld, and Closed."""
+        used = self._used()
+        if used is not None:
+            return used
+        self._wait(self._admitted(Asker.TOKEN, 0, octets))
         return self._fresh()
 
-    def _fresh(self) -> Validator:
-        """The validator that is held, whose keys aren't too old. Raises KeysTooOld, and Closed."""
-        if _clock() - self._got >= self._max_age:
+    def _fresh(self) -> _Used:
+        """What is used now. Raises KeysTooOld, and Closed."""
+        used, _ = self._asked(Asker.WAITED)
+        if used is None:
             raise KeysTooOld("KeysTooOld")
-        return self._held()
+        return used
 
-    def _newer(self, used: Validator, refusal: Optional[TokenRefused], octets: bytes) -> Optional[Validator]:
+    def _newer(self, used: _Used, refusal: Optional[TokenRefused], octets: bytes) -> Optional[Validator]:
         """Another validator than the one that was used, where newer keys may change the refusal and are there or can be fetched."""
         if not _asks_for_keys(refusal):
             return None
-        self._wait(self._admitted(used, octets))
+        self._wait(self._admitted(Asker.REFUSED, used.keys, octets))
         return self._other(used)
 
-    def _other(self, used: Validator) -> Optional[Validator]:
+    def _other(self, used: _Used) -> Optional[Validator]:
         """Another validator than the one that was used, where there is one."""
         held = self._validator
-        return None if held is used else held
+        return None if held is used.validator else held
 
-    def _admitted(self, used: Validator, octets: bytes) -> Optional[_Fetch]:
+    def _admitted(self, asker: Asker, keys: int, octets: bytes) -> Optional[_Fetch]:
         """The fetch for which a token may wait, which is under way or begins; else None."""
-        fetch = self._begun(used)
+        _, fetch = self._asked(asker, keys)
         if fetch is None:
             return None
-        kid = _kid_of(used, octets)
+        kid = _kid_of(self._held(), octets)
         with self._lock:
-            return fetch if fetch.admits(kid) else None
-
-    def _begun(self, used: Optional[Validator]) -> Optional[_Fetch]:
-        """The fetch that is under way, or a new one where the cool-down is over; None where there is none, and where others than these keys are held
-        already."""
-        with self._lock:
-            if self._validator is not used:
-                return None
-            if self._fetch is not None and self._fetch.left == 0:
-                self._fail(self._fetch, TimeoutError("it takes too long"))
-            if self._fetch is None and not self._closed and _clock() - self._tried >= self._cooldown:
-                self._begin()
-            return self._fetch
+            return fetch if self._renewal.wait(_clock(), fetch.ticket, kid) else None
 
     def _wait(self, fetch: Optional[_Fetch]) -> None:
         """Waits until a fetch is over, where there is one, and no longer than its deadline."""
@@ -564,20 +499,20 @@ class RemoteKeys:
             with self._lock:
                 self._fail(fetch, TimeoutError("it takes too long"))
 
-    def _begin(self) -> _Fetch:
+    def _begin(self, ticket: int) -> None:
         """Begins a fetch, in a thread of its own, so that nobody waits for it past its deadline. The lock is held."""
-        self._tried = _clock()
-        self._fetch = fetch = _Fetch(self._timeout)
+        if self._fetch is not None:
+            self._fail(self._fetch, TimeoutError("it takes too long"))
+        self._fetch = fetch = _Fetch(self._timeout, ticket)
         try:
             threading.Thread(target=self._run, args=(fetch,), name="fowharimu-keys", daemon=True).start()
         except RuntimeError as error:
             # (the system gives no more threads)
             self._fail(fetch, error)
-        return fetch
 
     def _run(self, fetch: _Fetch) -> None:
         try:
-            keys = fetch.get(self._url, self._context, self._allow_http)
+            keys = fetch.get(self._url, self._context) or b""
             validator = _public(self._policy, keys, self._options)
         except _Failed as error:
             with self._lock:
@@ -585,10 +520,12 @@ class RemoteKeys:
             return
         is_taken = False
         with self._lock:
-            if fetch is self._fetch:
+            if fetch is self._fetch and self._renewal.took(_clock(), fetch.ticket):
                 # The old one is freed when the last call that uses it has ended, since nothing else names it then.
-                self._validator, self._got, self.error, self._fetch = validator, _clock(), None, None
+                self._validator, self._quiet, self.error, self._fetch = validator, None, None, None
                 is_taken = True
+            else:
+                self._fail(fetch, TimeoutError("it takes too long"))
         fetch.end()
         if is_taken:
             _tell(logging.INFO, "the key set at %s was fetched, %d octets", _shown(self._url), len(keys))
@@ -597,6 +534,7 @@ class RemoteKeys:
         """Notes that a fetch failed. The lock is held."""
         is_it = fetch is self._fetch
         if is_it:
+            self._renewal.failed(_clock(), fetch.ticket)
             self._fetch, self.error = None, error
         fetch.end()
         if is_it:
@@ -605,31 +543,24 @@ class RemoteKeys:
 
     def _after_fork(self) -> None:
         """In a child the threads of the parent are gone, and with them a fetch that was under way."""
-        self._lock, self._fetch = threading.RLock(), None
+        self._lock, fetch, self._fetch, self._quiet = threading.RLock(), self._fetch, None, None
+        if fetch is not None:
+            self._renewal.failed(_clock(), fetch.ticket)
 
 
-def _shown(url: str) -> str:
+def _shown(url: Url) -> str:
     """A URL for a log: without its query, in which a service may have a secret."""
-    return urllib.parse.urlunsplit(urllib.parse.urlsplit(url)._replace(query="", fragment=""))
+    return url.text.partition("?")[0]
 
 
-def _keys_url(issuer: str, timeout: float, context: Optional[ssl.SSLContext], allow_http: bool) -> str:
+def _keys_url(issuer: str, timeout: float, context: Optional[ssl.SSLContext]) -> str:
     """The URL that an issuer's metadata tell of its keys. Raises what a fetch may fail by."""
-    parts = urllib.parse.urlsplit(issuer[:-1] if issuer.endswith("/") else issuer)
-    by_discovery = urllib.parse.urlunsplit(parts._replace(path=f"{parts.path}/.well-known/openid-configuration"))
-    by_oauth = urllib.parse.urlunsplit(parts._replace(path=f"/.well-known/oauth-authorization-server{parts.path}"))
-    try:
-        text = _Fetch(timeout).get(by_discovery, context, allow_http)
-    except urllib.error.HTTPError as error:
-        if error.code != 404:
-            raise
-        text = _Fetch(timeout).get(by_oauth, context, allow_http)
-    if _member(text, b"issuer") != issuer:
-        raise ValueError("the metadata are of another issuer")
-    address = _member(text, b"jwks_uri")
-    if address is None:
-        raise ValueError("the metadata have no jwks_uri")
-    return _checked(address, allow_http)
+    for asked in (Asked.OPENID, Asked.OAUTH):
+        url = metadata_url(issuer, asked)
+        metadata = None if url is None else _Fetch(timeout).get(url, context, asked)
+        if metadata is not None:
+            return keys_url(metadata, issuer)
+    raise ValueError("it has no metadata")
 
 
 _forked: "weakref.WeakSet[RemoteKeys]" = weakref.WeakSet()

@@ -14,20 +14,16 @@
 //! # }
 //! ```
 
-use fowharimu::{Access, Claims, Error, Validator};
+use fowharimu::request::{bearer_token, is_quotable, reply_to, Outcome};
+use fowharimu::{Access, Claims, Error, Judging};
 use http::header::{AUTHORIZATION, WWW_AUTHENTICATE};
 use http::{HeaderMap, HeaderValue, Request, Response, StatusCode};
 use std::sync::Arc;
 
-const INVALID_REQUEST: &str = "Bearer error=\"invalid_request\"";
-const INVALID_TOKEN: &str = "Bearer error=\"invalid_token\"";
-const INSUFFICIENT_SCOPE: &str = "Bearer error=\"insufficient_scope\"";
-const SCHEME: &[u8] = b"bearer";
-
-/// A validator, and an access rule where there is one, that requests are held against. Threads share it.
+/// What judges tokens, and an access rule where there is one, that requests are held against. Threads share it.
 #[derive(Debug)]
 pub struct Guard {
-    validator: Arc<Validator>,
+    judging: Box<dyn Judging>,
     access: Option<Arc<Access>>,
     realm: String,
     hides_token: bool,
@@ -36,9 +32,9 @@ pub struct Guard {
 /// Why a request isn't let through: what it is answered with, and the error of the token, where it has one.
 #[derive(Clone, Debug, PartialEq, Eq)]
 pub struct Refusal {
-    /// 400, 401 or 403; 500 where nothing is said of the token.
+    /// 400, 401 or 403; 500 where nothing is said of the token, and 503 where the keys are too old.
     pub status: StatusCode,
-    /// The value of `WWW-Authenticate` (RFC 6750, section 3); none beside 500.
+    /// The value of `WWW-Authenticate` (RFC 6750, section 3); none beside 500 and 503.
     pub challenge: Option<String>,
     /// What the validator said of the token; none where it wasn't asked.
     pub error: Option<Error>,
@@ -46,9 +42,9 @@ pub struct Refusal {
 
 impl Guard {
     /// A guard that asks for an accepted token, in the realm `jwt`. Several guards may have one validator, as an `Arc`.
-    pub fn new(validator: impl Into<Arc<Validator>>) -> Guard {
+    pub fn new(judging: impl Judging + 'static) -> Guard {
         Guard {
-            validator: validator.into(),
+            judging: Box::new(judging),
             access: None,
             realm: "jwt".to_owned(),
             hides_token: false,
@@ -68,9 +64,8 @@ impl Guard {
     /// # Panics
     /// Where a quoted string can't have it: it has other characters than the printable ones of ASCII, a quotation mark or a backslash.
     pub fn realm(self, realm: &str) -> Guard {
-        let is_quotable = |it: u8| (b' '..=b'~').contains(&it) && it != b'"' && it != b'\\';
         assert!(
-            realm.bytes().all(is_quotable),
+            is_quotable(realm),
             "a realm has printable characters of ASCII, and neither quotation marks nor backslashes"
         );
         Guard {
@@ -104,60 +99,49 @@ impl Guard {
     fn claims(&self, headers: &HeaderMap) -> Result<Claims, Refusal> {
         let token = self.token(headers)?;
         let said = match &self.access {
-            Some(rule) => self.validator.validate_for(token, rule),
-            None => self.validator.validate(token),
+            Some(rule) => self.judging.validate_for(token, rule),
+            None => self.judging.validate(token),
         };
         said.map_err(|error| self.refusal(error))
     }
 
-    /// The one b64token behind the scheme Bearer, in any case of its letters.
+    /// The token of the one header.
     fn token<'h>(&self, headers: &'h HeaderMap) -> Result<&'h [u8], Refusal> {
         let mut values = headers.get_all(AUTHORIZATION).iter();
         let value = values.next().map_or(&b""[..], HeaderValue::as_bytes);
-        if values.next().is_some() {
-            return Err(told(StatusCode::BAD_REQUEST, INVALID_REQUEST.to_owned()));
-        }
-        let absent = || {
-            told(
-                StatusCode::UNAUTHORIZED,
-                format!("Bearer realm=\"{}\"", self.realm),
-            )
+        let outcome = match values.next() {
+            Some(_) => Outcome::Several,
+            None => match bearer_token(value) {
+                Ok(token) => return Ok(token),
+                Err(outcome) => outcome,
+            },
         };
-        let token = bearer(value).ok_or_else(absent)?;
-        if is_b64token(token) {
-            Ok(token)
-        } else {
-            Err(told(StatusCode::UNAUTHORIZED, INVALID_TOKEN.to_owned()))
-        }
+        Err(self.told(outcome, None))
     }
 
     fn refusal(&self, error: Error) -> Refusal {
-        let (status, challenge) = match &error {
-            Error::Denied { fault, .. } => (StatusCode::FORBIDDEN, Some(self.insufficient(fault))),
+        let outcome = match &error {
+            Error::Denied { fault, .. } if *fault == "ScopeMissing" => Outcome::ScopeMissing,
+            Error::Denied { .. } => Outcome::NotGranted,
+            Error::KeysTooOld => Outcome::KeysTooOld,
             Error::TooLong
             | Error::Form { .. }
             | Error::Ceiling { .. }
             | Error::Signature { .. }
-            | Error::Claims { .. } => (StatusCode::UNAUTHORIZED, Some(INVALID_TOKEN.to_owned())),
-            _ => (StatusCode::INTERNAL_SERVER_ERROR, None),
+            | Error::Claims { .. } => Outcome::NotAccepted,
+            _ => Outcome::Unanswered,
         };
-        Refusal {
-            status,
-            challenge,
-            error: Some(error),
-        }
+        self.told(outcome, Some(error))
     }
 
-    /// The challenge of a denial, with the rule's scopes where one of them is missing.
-    fn insufficient(&self, fault: &str) -> String {
-        match &self.access {
-            Some(rule) if fault == "ScopeMissing" => {
-                format!(
-                    "{INSUFFICIENT_SCOPE}, scope=\"{}\"",
-                    rule.scopes().join(" ")
-                )
-            }
-            _ => INSUFFICIENT_SCOPE.to_owned(),
+    /// What a request is answered of whose token this is known.
+    fn told(&self, outcome: Outcome, error: Option<Error>) -> Refusal {
+        let scopes = self.access.as_ref().map(|rule| rule.scopes().join(" "));
+        let reply = reply_to(outcome, &self.realm, &scopes.unwrap_or_default());
+        Refusal {
+            status: StatusCode::from_u16(reply.status).unwrap_or(StatusCode::INTERNAL_SERVER_ERROR),
+            challenge: reply.challenge,
+            error,
         }
     }
 }
@@ -173,28 +157,4 @@ impl Refusal {
         }
         response
     }
-}
-
-fn told(status: StatusCode, challenge: String) -> Refusal {
-    Refusal {
-        status,
-        challenge: Some(challenge),
-        error: None,
-    }
-}
-
-/// What stands behind the scheme, where that is Bearer.
-fn bearer(value: &[u8]) -> Option<&[u8]> {
-    let (scheme, rest) = (value.get(..SCHEME.len())?, &value[SCHEME.len()..]);
-    let is_bearer =
-        scheme.eq_ignore_ascii_case(SCHEME) && rest.first().map_or(true, |it| *it == b' ');
-    let begin = rest.iter().position(|it| *it != b' ').unwrap_or(rest.len());
-    is_bearer.then(|| &rest[begin..])
-}
-
-/// Whether a token is spelled as the header has it (RFC 6750, section 2.1). Of no octets the library says that the token is empty.
-fn is_b64token(token: &[u8]) -> bool {
-    let is_one = |it: &u8| it.is_ascii_alphanumeric() || b"-._~+/".contains(it);
-    let count = token.iter().take_while(|it| is_one(it)).count();
-    (count > 0 || token.is_empty()) && token[count..].iter().all(|it| *it == b'=')
 }

@@ -4,7 +4,7 @@
 use std::os::raw::{c_char, c_void};
 
 /// The number of the interface that stands here.
-pub const FOW_ABI: u32 = 2;
+pub const FOW_ABI: u32 = 3;
 pub const FOW_MOST_QUESTIONS: u32 = 64;
 
 pub const FOW_OK: u32 = 0;
@@ -16,6 +16,25 @@ pub const FOW_TOO_SHORT: u32 = 5;
 pub const FOW_ABSENT: u32 = 6;
 pub const FOW_DENIED: u32 = 7;
 pub const FOW_UNNAMED: u32 = 8;
+
+pub const FOW_NO_FETCH: u64 = 0;
+pub const FOW_FETCH_BEGINS: u64 = 1;
+pub const FOW_FETCH_UNDER_WAY: u64 = 2;
+
+pub const FOW_ASKER_TOKEN: u64 = 0;
+pub const FOW_ASKER_REFUSED: u64 = 1;
+pub const FOW_ASKER_OWNER: u64 = 2;
+pub const FOW_ASKER_WAITED: u64 = 3;
+
+pub const FOW_ASKED_KEYS: u32 = 0;
+pub const FOW_ASKED_OPENID: u32 = 1;
+pub const FOW_ASKED_OAUTH: u32 = 2;
+
+pub const FOW_STEP_FAIL: u32 = 0;
+pub const FOW_STEP_TAKE: u32 = 1;
+pub const FOW_STEP_FOLLOW: u32 = 2;
+pub const FOW_STEP_ASK_OAUTH: u32 = 3;
+pub const FOW_STEP_TOO_OFTEN: u32 = 4;
 
 /// A policy, a key set, what was told of signatures, and the last report.
 #[repr(C)]
@@ -47,6 +66,65 @@ pub struct fow_report {
     pub claim: u32,
 }
 
+/// What is answered to a request.
+#[repr(C)]
+#[derive(Clone, Copy, Debug, Default)]
+pub struct fow_reply {
+    pub status: u32,
+    pub challenge: u32,
+}
+
+/// What stands of the fetches of keys by URL. A caller hands it to the calls, and looks at none of it.
+#[repr(C)]
+#[derive(Clone, Copy, Debug, Default)]
+pub struct fow_renewal {
+    pub refresh_after: u64,
+    pub cool_down: u64,
+    pub max_age: u64,
+    pub timeout: u64,
+    pub heard: u64,
+    pub keys_age: u64,
+    pub keys_ticket: u64,
+    pub begun_age: u64,
+    pub ticket: u64,
+    pub is_open: u64,
+    pub waiting: u64,
+    pub first: u64,
+    pub second: u64,
+    pub third: u64,
+    pub fourth: u64,
+}
+
+/// Which keys are to be used, and what becomes of fetches.
+#[repr(C)]
+#[derive(Clone, Copy, Debug, Default)]
+pub struct fow_renewal_answer {
+    pub has_keys: u64,
+    pub keys: u64,
+    pub fetch: u64,
+    pub ticket: u64,
+    pub left: u64,
+}
+
+/// Where the parts of a URL stand.
+#[repr(C)]
+#[derive(Clone, Copy, Debug, Default)]
+pub struct fow_url {
+    pub https: u32,
+    pub port: u32,
+    pub host: usize,
+    pub host_end: usize,
+    pub target: usize,
+}
+
+/// What follows on an answer.
+#[repr(C)]
+#[derive(Clone, Copy, Debug, Default)]
+pub struct fow_next {
+    pub step: u32,
+    pub most: u32,
+}
+
 /// What OpenSSL made of the keys of one opened validator.
 #[repr(C)]
 #[derive(Debug)]
@@ -71,6 +149,16 @@ extern "C" {
         fault: *mut u32,
     ) -> u32;
 
+    pub fn fow_open_prepared(
+        validator: *mut fow_validator,
+        policy: *const u8,
+        policy_len: usize,
+        keys: *const u8,
+        keys_len: usize,
+        most: usize,
+        fault: *mut u32,
+    ) -> u32;
+
     pub fn fow_open_beside(validator: *mut fow_validator, another: *mut fow_validator) -> u32;
 
     pub fn fow_most_questions(validator: *mut fow_validator, most: *mut u32) -> u32;
@@ -89,10 +177,18 @@ extern "C" {
 
     pub fn fow_close(validator: *mut fow_validator);
 
-    pub fn fow_payload(
+    pub fn fow_accepted_payload(
+        validator: *mut fow_validator,
+        out: *mut u8,
+        out_len: usize,
+        written: *mut usize,
+    ) -> u32;
+
+    pub fn fow_unverified_header(
         validator: *mut fow_validator,
         token: *const u8,
         token_len: usize,
+        signature: u32,
         out: *mut u8,
         out_len: usize,
         written: *mut usize,
@@ -118,8 +214,105 @@ extern "C" {
 
     pub fn fow_documents_are_public(validator: *mut fow_validator) -> bool;
 
+    pub fn fow_text_member(
+        document: *const u8,
+        document_len: usize,
+        name: *const u8,
+        name_len: usize,
+        out: *mut u8,
+        out_len: usize,
+        written: *mut usize,
+    ) -> u32;
+
+    pub fn fow_url_of(
+        url: *const u8,
+        url_len: usize,
+        allows_http: bool,
+        parts: *mut fow_url,
+    ) -> u32;
+
+    pub fn fow_redirected(
+        url: *const u8,
+        url_len: usize,
+        location: *const u8,
+        location_len: usize,
+        out: *mut u8,
+        out_len: usize,
+        written: *mut usize,
+    ) -> u32;
+
+    pub fn fow_metadata_url(
+        asked: u32,
+        issuer: *const u8,
+        issuer_len: usize,
+        out: *mut u8,
+        out_len: usize,
+        written: *mut usize,
+    ) -> u32;
+
+    pub fn fow_keys_url(
+        metadata: *const u8,
+        metadata_len: usize,
+        issuer: *const u8,
+        issuer_len: usize,
+        out: *mut u8,
+        out_len: usize,
+        written: *mut usize,
+    ) -> u32;
+
+    pub fn fow_next_step(asked: u32, status: u32, redirections: u32, next: *mut fow_next);
+
+    pub fn fow_renewal_begin(
+        renewal: *mut fow_renewal,
+        refresh_after: u64,
+        cool_down: u64,
+        max_age: u64,
+        timeout: u64,
+        now: u64,
+    );
+
+    pub fn fow_renewal_ask(
+        renewal: *mut fow_renewal,
+        now: u64,
+        asker: u64,
+        keys: u64,
+        answer: *mut fow_renewal_answer,
+    );
+
+    pub fn fow_renewal_took(renewal: *mut fow_renewal, now: u64, ticket: u64) -> bool;
+
+    pub fn fow_renewal_failed(renewal: *mut fow_renewal, now: u64, ticket: u64) -> bool;
+
+    pub fn fow_renewal_wait(renewal: *mut fow_renewal, now: u64, ticket: u64, name: u64) -> bool;
+
+    pub fn fow_renewal_due(renewal: *const fow_renewal) -> u64;
+
+    pub fn fow_renewal_quiet_for(renewal: *const fow_renewal) -> u64;
+
     pub fn fow_refused_claim(
         validator: *mut fow_validator,
+        out: *mut u8,
+        out_len: usize,
+        written: *mut usize,
+    ) -> u32;
+
+    pub fn fow_credentials(
+        value: *const u8,
+        value_len: usize,
+        from: *mut usize,
+        to: *mut usize,
+    ) -> u32;
+
+    pub fn fow_reply_to(outcome: u32, reply: *mut fow_reply);
+
+    pub fn fow_quotable(text: *const u8, text_len: usize) -> bool;
+
+    pub fn fow_challenge(
+        challenge: u32,
+        realm: *const u8,
+        realm_len: usize,
+        scope: *const u8,
+        scope_len: usize,
         out: *mut u8,
         out_len: usize,
         written: *mut usize,

@@ -1,6 +1,7 @@
 //! An access rule: what an accepted token may do.
 
-use crate::seat::{compare, fault_name, written, NAME_ROOM};
+use crate::seat::{compare, fault_name};
+use crate::texts::{written, NAME_ROOM};
 use crate::Error;
 use fowharimu_sys as sys;
 use std::ptr;

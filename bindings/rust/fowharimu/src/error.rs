@@ -35,6 +35,15 @@ pub enum Error {
     },
     /// The key set is refused.
     Keys { fault: String },
+    /// Keys aren't fetched from this URL: it isn't `https`, has no host, or has a name, a password or a fragment in it; or, of an issuer, a query.
+    Url,
+    /// The policy is none for keys by URL: it has an HMAC algorithm, while what is fetched is public, or it doesn't name exactly the issuer whose keys
+    /// are fetched.
+    PolicyByUrl,
+    /// The keys can't be fetched, for this reason.
+    KeysUnavailable { reason: String },
+    /// The keys are too old, and newer ones can't be fetched: nothing is said of the token. A service answers 503 to this.
+    KeysTooOld,
     /// There is no issuer, or one under which a policy stands that doesn't name exactly it.
     Issuers,
     /// The access rule is refused, for this member, or this claim, where the fault speaks of one.
@@ -94,6 +103,16 @@ impl fmt::Display for Error {
                 member.iter().try_for_each(|it| write!(f, " {it:?}"))
             }
             Error::Keys { fault } => write!(f, "the key set is refused: {fault}"),
+            Error::Url => write!(
+                f,
+                "keys are fetched from a URL that is https, and has a host and neither a name, a password nor a fragment"
+            ),
+            Error::PolicyByUrl => write!(
+                f,
+                "the policy is none for keys by URL: it has an HMAC algorithm, or doesn't name the issuer in issuers, and no other"
+            ),
+            Error::KeysUnavailable { reason } => write!(f, "the keys can't be fetched: {reason}"),
+            Error::KeysTooOld => write!(f, "the token isn't accepted: KeysTooOld"),
             Error::Issuers => write!(
                 f,
                 "the policy of each issuer has to name it in issuers, and no other"

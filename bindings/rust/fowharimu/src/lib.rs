@@ -15,13 +15,26 @@
 mod access;
 mod crypto;
 mod error;
+mod fetch;
 mod issuers;
+mod judging;
+mod remote;
+mod remote_keys;
+mod renewal;
+pub mod request;
 mod seat;
 mod seats;
+mod source;
+mod texts;
+mod urls;
 
 pub use access::Access;
 pub use error::{Error, Part};
-pub use issuers::Issuers;
+pub use fetch::{Answer, Fetch, Get};
+pub use issuers::{Issuers, Judge};
+pub use judging::Judging;
+pub use remote::{Fetched, Remote};
+pub use remote_keys::RemoteKeys;
 
 use seat::{Named, Seat, Terms};
 use seats::Seats;
@@ -83,14 +96,7 @@ impl Validator {
         keys: &[u8],
         most_questions: u32,
     ) -> Result<Validator, Error> {
-        let mut documents = Seat::open(policy, keys)?;
-        let most = documents.most_questions()?;
-        if most > most_questions {
-            return Err(Error::TooManyQuestions {
-                most,
-                allowed: most_questions,
-            });
-        }
+        let mut documents = Seat::open_within(policy, keys, most_questions)?;
         let terms = documents.terms()?;
         Ok(Validator {
             terms,
@@ -133,10 +139,7 @@ impl Validator {
     /// # Errors
     /// `OutOfMemory`.
     pub fn unverified_issuer(&self, token: &[u8]) -> Result<Option<String>, Error> {
-        Ok(match self.named(token)? {
-            Named::Issuer(issuer) => Some(issuer),
-            Named::Nobody | Named::NoToken => None,
-        })
+        Ok(self.named(token)?.issuer())
     }
 
     fn named(&self, token: &[u8]) -> Result<Named, Error> {

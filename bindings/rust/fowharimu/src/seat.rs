@@ -1,6 +1,7 @@
 //! What one call at a time judges with.
 
 use crate::crypto::Crypto;
+use crate::texts::{text_member, written, NAME_ROOM};
 use crate::{Access, Claims, Error, Part};
 use fowharimu_sys as sys;
 use std::ffi::CStr;
@@ -8,9 +9,6 @@ use std::ptr;
 
 /// The names of the claims, by the numbers from 1 that the library gives them.
 const CLAIMS: [&str; 7] = ["iss", "sub", "aud", "exp", "nbf", "iat", "jti"];
-
-/// The octets of room that a name is first given. A longer one gets more.
-pub(crate) const NAME_ROOM: usize = 256;
 
 /// What is told of a policy and a key set.
 #[derive(Debug)]
@@ -30,11 +28,22 @@ pub(crate) enum Named {
     Issuer(String),
 }
 
+impl Named {
+    pub(crate) fn issuer(self) -> Option<String> {
+        match self {
+            Named::Issuer(issuer) => Some(issuer),
+            Named::Nobody | Named::NoToken => None,
+        }
+    }
+}
+
 /// A validator of the library, and what verifies its public keys.
 #[derive(Debug)]
 pub(crate) struct Seat {
     held: sys::fow_validator,
     crypto: Crypto,
+    /// The number of its documents, which are 0 where no others come after them.
+    documents: u64,
 }
 
 // SAFETY: what is written is owned by the seat alone, the documents that it shares with others are only read, and no function keeps
@@ -49,11 +58,24 @@ impl Seat {
                 held: false,
             },
             crypto: Crypto::new(),
+            documents: 0,
         }
     }
 
+    /// The number of the policy and the key set that it holds.
+    pub(crate) fn documents(&self) -> u64 {
+        self.documents
+    }
+
+    /// The same under another number.
+    pub(crate) fn numbered(self, documents: u64) -> Seat {
+        let mut seat = self;
+        seat.documents = documents;
+        seat
+    }
+
     /// Reads a policy and a key set, where the library has the interface that this crate is made for.
-    pub(crate) fn open(policy: &[u8], keys: &[u8]) -> Result<Seat, Error> {
+    fn open(policy: &[u8], keys: &[u8]) -> Result<Seat, Error> {
         compare()?;
         let mut seat = Seat::new();
         let mut fault = 0;
@@ -75,8 +97,18 @@ impl Seat {
         }
     }
 
+    /// The same, where one token can raise at most so many questions.
+    pub(crate) fn open_within(policy: &[u8], keys: &[u8], allowed: u32) -> Result<Seat, Error> {
+        let mut seat = Seat::open(policy, keys)?;
+        let most = seat.most_questions()?;
+        if most > allowed {
+            return Err(Error::TooManyQuestions { most, allowed });
+        }
+        Ok(seat)
+    }
+
     /// How many questions one token can raise.
-    pub(crate) fn most_questions(&mut self) -> Result<u32, Error> {
+    fn most_questions(&mut self) -> Result<u32, Error> {
         let mut most = 0;
         // SAFETY: it is the one that the other calls had.
         match unsafe { sys::fow_most_questions(&mut self.held, &mut most) } {
@@ -126,9 +158,22 @@ impl Seat {
         })
     }
 
+    /// The `kid` of the first signature of a token, for which nobody vouches; nothing where there is none.
+    pub(crate) fn kid(&mut self, token: &[u8]) -> Result<Option<String>, Error> {
+        let held = &mut self.held;
+        // SAFETY: the slices are as long as their lengths say, and aren't null.
+        let header = written(token.len() + 1, |out, room, len| unsafe {
+            sys::fow_unverified_header(held, token.as_ptr(), token.len(), 0, out, room, len)
+        })?;
+        match header {
+            Some(header) => text_member(header.as_bytes(), "kid"),
+            None => Ok(None),
+        }
+    }
+
     /// A seat with the same documents, which aren't read again. It remembers so many tokens of so many octets.
     pub(crate) fn open_beside(&mut self, tokens: usize, octets: usize) -> Result<Seat, Error> {
-        let mut seat = Seat::new();
+        let mut seat = Seat::new().numbered(self.documents);
         // SAFETY: both are those that the other calls had, and this one has them to itself.
         let opened = unsafe { sys::fow_open_beside(&mut seat.held, &mut self.held) };
         if opened != sys::FOW_OK {
@@ -158,9 +203,9 @@ impl Seat {
         let held = &mut self.held;
         // SAFETY: it is the one that judged.
         let remembered = unsafe { sys::fow_remembered(held) };
-        // SAFETY: the slices are as long as their lengths say, and aren't null.
+        // SAFETY: the room is as long as its length says, and isn't null.
         let payload = written(token.len() + 1, |out, room, len| unsafe {
-            sys::fow_payload(held, token.as_ptr(), token.len(), out, room, len)
+            sys::fow_accepted_payload(held, out, room, len)
         })?;
         // An accepted token has a payload: where there is none, nothing is known.
         payload
@@ -275,77 +320,5 @@ fn document_refused(number: u32, policy: &[u8]) -> Error {
     match member {
         Ok(member) => Error::Policy { fault, member },
         Err(error) => error,
-    }
-}
-
-/// The text that a call writes, in as much room as it needs and at least this; nothing where there is nothing to write.
-///
-/// # Errors
-/// `OutOfMemory`, also where there is no such room, and `NotUtf8`.
-pub(crate) fn written(
-    mut room: usize,
-    mut call: impl FnMut(*mut u8, usize, *mut usize) -> u32,
-) -> Result<Option<String>, Error> {
-    loop {
-        let mut out = Vec::new();
-        out.try_reserve_exact(room)
-            .map_err(|_| Error::OutOfMemory)?;
-        out.resize(room, 0);
-        let mut len = 0;
-        match call(out.as_mut_ptr(), room, &mut len) {
-            sys::FOW_OK => {
-                out.truncate(len);
-                return String::from_utf8(out).map(Some).map_err(|_| Error::NotUtf8);
-            }
-            sys::FOW_ABSENT => return Ok(None),
-            sys::FOW_TOO_SHORT => room = room.checked_mul(2).ok_or(Error::OutOfMemory)?,
-            _ => return Err(Error::OutOfMemory),
-        }
-    }
-}
-
-#[cfg(test)]
-mod tests {
-    use super::*;
-
-    /// What is written by a call that writes these octets where there is room for them.
-    fn written_of(octets: &[u8], room: usize) -> Result<Option<String>, Error> {
-        written(room, |out, room, len| {
-            if room < octets.len() {
-                return sys::FOW_TOO_SHORT;
-            }
-            // SAFETY: there is as much room.
-            unsafe {
-                ptr::copy_nonoverlapping(octets.as_ptr(), out, octets.len());
-                *len = octets.len();
-            }
-            sys::FOW_OK
-        })
-    }
-
-    #[test]
-    fn it_asks_again_with_more_room() {
-        assert_eq!(written_of(b"role", 1), Ok(Some("role".to_owned())));
-        assert_eq!(written_of(b"", 1), Ok(Some(String::new())));
-        let long = "x".repeat(100_000);
-        assert_eq!(written_of(long.as_bytes(), 1), Ok(Some(long)));
-    }
-
-    #[test]
-    fn no_answer_is_taken_for_another() {
-        assert_eq!(written_of(b"\xff", 8), Err(Error::NotUtf8));
-        assert_eq!(written(8, |_, _, _| sys::FOW_ABSENT), Ok(None));
-        assert_eq!(
-            written(8, |_, _, _| sys::FOW_OUT_OF_MEMORY),
-            Err(Error::OutOfMemory)
-        );
-        assert_eq!(
-            written(8, |_, _, _| sys::FOW_NOT_OPEN),
-            Err(Error::OutOfMemory)
-        );
-        assert_eq!(
-            written(usize::MAX, |_, _, _| sys::FOW_OK),
-            Err(Error::OutOfMemory)
-        );
     }
 }

@@ -2,7 +2,7 @@
 
 use crate::seat::Seat;
 use crate::Error;
-use std::sync::atomic::{AtomicUsize, Ordering};
+use std::sync::atomic::{AtomicU64, AtomicUsize, Ordering};
 use std::sync::{Mutex, PoisonError, TryLockError};
 use std::thread;
 
@@ -25,7 +25,7 @@ impl Place {
     fn call<T, C: FnOnce(&mut Seat) -> T>(
         &self,
         call: C,
-        open: impl FnOnce() -> Result<Seat, Error>,
+        seats: &Seats,
     ) -> Result<Result<T, Error>, C> {
         let mut held = match self.0.try_lock() {
             Ok(held) => held,
@@ -33,12 +33,12 @@ impl Place {
             Err(TryLockError::Poisoned(poisoned)) => poisoned.into_inner(),
             Err(TryLockError::WouldBlock) => return Err(call),
         };
-        let mut seat = match held.take().map_or_else(open, Ok) {
+        let mut seat = match seats.seat(held.take()) {
             Ok(seat) => seat,
             Err(error) => return Ok(Err(error)),
         };
         let result = call(&mut seat);
-        *held = Some(seat);
+        *held = Some(seat).filter(|it| seats.is_current(it));
         Ok(Ok(result))
     }
 }
@@ -49,6 +49,8 @@ impl Place {
 pub(crate) struct Seats {
     /// The policy and the key set, which every seat holds too.
     documents: Mutex<Seat>,
+    /// Their number.
+    current: AtomicU64,
     /// How many tokens of how many octets each seat remembers.
     remembers: (usize, usize),
     places: Box<[Place]>,
@@ -62,6 +64,7 @@ impl Seats {
         let mut places = Vec::new();
         places.resize_with(2 * processors, Place::default);
         Seats {
+            current: AtomicU64::new(documents.documents()),
             documents: Mutex::new(documents),
             remembers: (0, 0),
             places: places.into_boxed_slice(),
@@ -83,18 +86,50 @@ impl Seats {
         let first = NUMBER.with(|it| *it) % self.places.len();
         let (before, after) = self.places.split_at(first);
         for place in after.iter().chain(before) {
-            match place.call(call, || self.open()) {
+            match place.call(call, self) {
                 Ok(result) => return result,
                 Err(again) => call = again,
             }
         }
-        let mut seat = match locked(&self.others).pop() {
-            Some(seat) => seat,
-            None => self.open()?,
-        };
+        let other = locked(&self.others).pop();
+        let mut seat = self.seat(other)?;
         let result = call(&mut seat);
-        locked(&self.others).push(seat);
+        let mut others = locked(&self.others);
+        others.extend(Some(seat).filter(|it| self.is_current(it)));
         Ok(result)
+    }
+
+    /// The number of the documents by which a call that begins now judges.
+    pub(crate) fn current(&self) -> u64 {
+        self.current.load(Ordering::Acquire)
+    }
+
+    /// Exchanges the documents. A call that is under way ends by the old ones.
+    pub(crate) fn exchange(&self, documents: Seat) {
+        let mut held = locked(&self.documents);
+        self.current.store(documents.documents(), Ordering::Release);
+        *held = documents;
+    }
+
+    /// Closes each seat of older documents, and waits for the calls that are under way with one.
+    pub(crate) fn close_older(&self) {
+        for place in self.places.iter() {
+            let mut held = locked(&place.0);
+            *held = held.take().filter(|it| self.is_current(it));
+        }
+        locked(&self.others).retain(|it| self.is_current(it));
+    }
+
+    fn is_current(&self, seat: &Seat) -> bool {
+        seat.documents() == self.current()
+    }
+
+    /// This seat, or where its documents were exchanged another one.
+    fn seat(&self, held: Option<Seat>) -> Result<Seat, Error> {
+        match held.filter(|it| self.is_current(it)) {
+            Some(seat) => Ok(seat),
+            None => self.open(),
+        }
     }
 
     fn open(&self) -> Result<Seat, Error> {
@@ -104,6 +139,6 @@ impl Seats {
 }
 
 /// Nothing that is done under a lock leaves what it guards half written, so a panic in another thread is no reason to stop.
-fn locked<T>(lock: &Mutex<T>) -> std::sync::MutexGuard<'_, T> {
+pub(crate) fn locked<T>(lock: &Mutex<T>) -> std::sync::MutexGuard<'_, T> {
     lock.lock().unwrap_or_else(PoisonError::into_inner)
 }

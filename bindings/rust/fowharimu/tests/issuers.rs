@@ -1,6 +1,9 @@
 //! Several issuers: tests/issuers has the table of what is answered.
 
-use fowharimu::{Access, Error, Issuers, Validator};
+use fowharimu::{Access, Error, Get, Issuers, Judge, Judging, Remote, Validator};
+use std::sync::Arc;
+use std::thread;
+use std::time::Duration;
 
 const NO_KEYS: &[u8] = br#"{"keys":[]}"#;
 const SECRET: &[u8] =
@@ -8,6 +11,9 @@ const SECRET: &[u8] =
 /// RFC 7515, appendix A.1: its `iss` is `joe`.
 const TOKEN: &[u8] = include_bytes!("../../../../examples/rfc7515-a1.jwt");
 const KEYS: &[u8] = include_bytes!("../../../../examples/rfc7515-a1.keys");
+/// Its `iss` is `joe` too.
+const RSA_TOKEN: &[u8] = include_bytes!("../../../../tests/tokens/RS256.jwt");
+const RSA_KEYS: &[u8] = include_bytes!("../../../../tests/tokens/RS256.keys");
 const NOW: i64 = 1_300_819_379;
 
 /// (without the line feed at its end)
@@ -90,6 +96,33 @@ fn each_judges_its_own() {
         claim: None,
     };
     assert_eq!(alone.validate_at(token, NOW), Err(refusal));
+}
+
+#[test]
+fn keys_by_url_stand_under_their_issuer() {
+    let policy = br#"{"algs":["RS256"],"issuers":["joe"]}"#;
+    let client = |get: &Get<'_>| Ok(get.answer(200, None, RSA_KEYS)?);
+    let remote = Remote::by(client)
+        .max_age(Duration::from_secs(1))
+        .cool_down(Duration::from_secs(60));
+    let keys = remote.open(policy, "https://joe.example/keys").unwrap();
+    let issuers = Issuers::new([
+        ("joe".to_owned(), Judge::from(keys)),
+        (
+            "eve".to_owned(),
+            open(r#"{"algs":["RS256"],"issuers":["eve"]}"#, NO_KEYS).into(),
+        ),
+    ])
+    .unwrap();
+    assert!(issuers.validate_at(RSA_TOKEN, NOW).is_ok());
+    let access = Access::open(br#"{"scopes":["read"]}"#).unwrap();
+    let denied = issuers.validate_for_at(RSA_TOKEN, NOW, &access);
+    assert!(matches!(denied, Err(Error::Denied { .. })));
+    thread::sleep(Duration::from_millis(1_050));
+    let shared: Arc<dyn Judging> = Arc::new(issuers);
+    assert_eq!(shared.validate(RSA_TOKEN), Err(Error::KeysTooOld));
+    let said = Arc::clone(&shared).validate_for(RSA_TOKEN, &access);
+    assert_eq!(said, Err(Error::KeysTooOld));
 }
 
 #[test]

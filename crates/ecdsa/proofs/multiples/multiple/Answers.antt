@@ -1,46 +1,44 @@
-use Rattle.std.proofs.Common.{◌≡◌, ◌+◌, ◌*◌, ◌^◌, ap, ◌∙◌, subst, arith}
-use Rattle.std.specs.Int.{from_bool}
+use Rattle.std.proofs.Common.{◌≡◌, ◌+◌, ◌*◌, sym, subst, arith}
 use Rattle.numbers.specs.Limbs.{number}
-use Rattle.ecdsa.specs.Curve.{multiple}
+use Rattle.ecdsa.specs.Curve.{doubled, digit_multiple, multiple}
 use Rattle.ecdsa.specs.Domains.{domain}
-use Rattle.ecdsa.specs.Stands.{Stands}
-use Rattle.ecdsa.proofs.MultipleSteps.{multiple_none, multiple_more, begun, bit_more, ended, spare_bits}
+use Rattle.ecdsa.specs.Field.{size, value}
+use Rattle.ecdsa.specs.Stands.{AreFor, Stands}
+use Rattle.numbers.proofs.Digits.{all_digits, digit_less}
+use Rattle.ecdsa.proofs.MultipleSteps.{doubled_none, multiple_none, multiple_more}
 use Rattle.ecdsa.proofs.multiples.multiple.Goals as goal
 
-pub bits-init : goal.bits-init
-bits-init g c = record {
-  below = tt;
-  small = c.requires.u;
-  done = 0;
-  so_far = begun (number c.args.u) ((2 ^ 64) ^ g.row.N);
-  stands = λ P at. multiple_none (domain c.args.curve.now) P;
-}
+pub digits-init : goal.digits-init
+digits-init g c =
+    let f = c.args.curve.now.field in
+    record {
+      below = tt;
+      point_below = c.requires.p;
+      rest = all_digits (number c.args.u);
+      point = λ P at. subst (λ o. AreFor (size f) (value f c.args.p.x) (value f c.args.p.y) (value f c.args.p.z) o) (doubled_none (domain c.args.curve.now) P) at;
+      stands = λ P at. sym (multiple_none (domain c.args.curve.now) (number c.args.u) P);
+    }
 
-pub bits-preserved : goal.bits-preserved
-bits-preserved g c =
+pub digits-preserved : goal.digits-preserved
+digits-preserved g c =
     let f = c.args.curve.now.field in
     let E = domain c.args.curve.now in
-    let i = c.bits._bit in
-    let done = c.bits.invariant.done in
-    let set = c.add-low.result.1 in
+    let i = c.digits._place in
+    let u = number c.args.u in
+    let split = c.lowest_digit-split.result in
+    let it = c.digits.invariant in
+    let next : 4 * i + 4 ≡ 4 * (i + 1) = omega arith in
     record {
-      below = c.next-sum.ensures.below;
-      small = c.add-low.ensures.below;
-      done = 2 * done + from_bool set;
-      so_far = bit_more (number c.args.u) ((2 ^ 64) ^ g.row.N) i done (number c.bits.rest) (number c.add-low.result.0) set c.bits.invariant.so_far c.add-low.ensures.sum;
+      below = c.add-sum.ensures.below;
+      point_below = c.step-here.ensures.next_below;
+      rest = digit_less u i (number c.digits.rest) (number split.rest) split.lowest it.rest c.lowest_digit-split.ensures.split c.lowest_digit-split.ensures.below;
+      point = λ P at. subst (λ n. Stands f c.step-here.result.next (doubled E n P)) next (c.step-here.ensures.next P (4 * i) (it.point P at));
       stands = λ P at.
-          subst (λ o. Stands f c.next-sum.result o) (multiple_more E i done set P)
-          (c.next-sum.ensures.stands (multiple E i done P) P (c.bits.invariant.stands P at) at);
+          subst (λ o. Stands f c.add-sum.result o) (multiple_more E i u (number c.digits.rest) (number split.rest) split.lowest P it.rest c.lowest_digit-split.ensures.split c.lowest_digit-split.ensures.below)
+          (c.add-sum.ensures.stands (multiple E i u P) (digit_multiple E (4 * i) 4 split.lowest P) (it.stands P at) (c.step-here.ensures.sum P (4 * i) (it.point P at)));
     }
 
 pub returns-clause-stands : goal.returns-clause-stands
 returns-clause-stands g c P at =
-    let f = c.args.curve.now.field in
-    let E = domain c.args.curve.now in
-    let end : c.bits._bit ≡ 64 * g.row.N = omega arith in
-    let is : c.bits.invariant.done ≡ number c.args.u =
-    ended (number c.args.u) g.row.N c.bits._bit c.bits.invariant.done (number c.bits.rest) end c.bits.invariant.small c.bits.invariant.so_far in
-    subst (λ o. Stands f c.bits.sum o)
-    (ap (λ k. multiple E k c.bits.invariant.done P) end ∙ ap (λ k. multiple E (64 * g.row.N) k P) is
-    ∙ spare_bits E (64 * g.row.N) c.args.curve.now.bits (number c.args.u) P c.args.curve.now.few_bits c.requires.held)
-    (c.bits.invariant.stands P at)
+    let end : c.digits._place ≡ c.args.curve.now.digits = omega arith in
+    subst (λ k. Stands c.args.curve.now.field c.digits.sum (multiple (domain c.args.curve.now) k (number c.args.u) P)) end (c.digits.invariant.stands P at)

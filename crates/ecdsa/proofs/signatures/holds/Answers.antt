@@ -8,7 +8,7 @@ use Rattle.ecdsa.proofs.SignatureVerdicts.{holds_tests}
 use Rattle.ecdsa.proofs.signatures.holds.Goals as goal
 
 pub returns-then-not-is_scalar : goal.returns-then-not-is_scalar
-returns-then-not-is_scalar g c =
+returns-then-not-is_scalar g c base own =
     let E = domain c.args.curve.now in
     let rest = holds_by E (number c.args.claimed.now.x) (number c.args.claimed.now.y) (number c.args.claimed.now.e) (number c.args.claimed.now.r) (inverse E.n (number c.args.claimed.now.s)) in
     let key = is_key E (number c.args.claimed.now.x) (number c.args.claimed.now.y) in
@@ -17,7 +17,7 @@ returns-then-not-is_scalar g c =
     ∙ holds_tests E (number c.args.claimed.now.x) (number c.args.claimed.now.y) (number c.args.claimed.now.e) (number c.args.claimed.now.r) (number c.args.claimed.now.s)
 
 pub returns-then-not-is_scalar-2 : goal.returns-then-not-is_scalar-2
-returns-then-not-is_scalar-2 g c =
+returns-then-not-is_scalar-2 g c base own =
     let E = domain c.args.curve.now in
     let rest = holds_by E (number c.args.claimed.now.x) (number c.args.claimed.now.y) (number c.args.claimed.now.e) (number c.args.claimed.now.r) (inverse E.n (number c.args.claimed.now.s)) in
     let key = is_key E (number c.args.claimed.now.x) (number c.args.claimed.now.y) in
@@ -26,7 +26,7 @@ returns-then-not-is_scalar-2 g c =
     ∙ holds_tests E (number c.args.claimed.now.x) (number c.args.claimed.now.y) (number c.args.claimed.now.e) (number c.args.claimed.now.r) (number c.args.claimed.now.s)
 
 pub returns-then-not-is_key : goal.returns-then-not-is_key
-returns-then-not-is_key g c =
+returns-then-not-is_key g c base own =
     let E = domain c.args.curve.now in
     let rest = holds_by E (number c.args.claimed.now.x) (number c.args.claimed.now.y) (number c.args.claimed.now.e) (number c.args.claimed.now.r) (inverse E.n (number c.args.claimed.now.s)) in
     let key = is_key E (number c.args.claimed.now.x) (number c.args.claimed.now.y) in
@@ -36,12 +36,12 @@ returns-then-not-is_key g c =
     ∙ holds_tests E (number c.args.claimed.now.x) (number c.args.claimed.now.y) (number c.args.claimed.now.e) (number c.args.claimed.now.r) (number c.args.claimed.now.s)
 
 pub returns : goal.returns
-returns g c =
+returns g c base own =
     let E = domain c.args.curve.now in
     let rest = holds_by E (number c.args.claimed.now.x) (number c.args.claimed.now.y) (number c.args.claimed.now.e) (number c.args.claimed.now.r) (inverse E.n (number c.args.claimed.now.s)) in
     let key = is_key E (number c.args.claimed.now.x) (number c.args.claimed.now.y) in
     let s_test = nat_lt 0 (number c.args.claimed.now.s) && nat_lt (number c.args.claimed.now.s) E.n in
-    c.holds_with.ensures
+    c.holds_with.ensures base own
     ∙ ap₂ (λ a b. a && (b && (true && rest))) (sym c.if-not-is_scalar.false ∙ c.is_scalar.ensures) (sym c.if-not-is_scalar-2.false ∙ c.is_scalar-2.ensures)
     ∙ ap (λ b. (nat_lt 0 (number c.args.claimed.now.r) && nat_lt (number c.args.claimed.now.r) E.n) && (s_test && (b && rest))) (sym c.if-not-is_key.false ∙ c.is_key.ensures.is)
     ∙ holds_tests E (number c.args.claimed.now.x) (number c.args.claimed.now.y) (number c.args.claimed.now.e) (number c.args.claimed.now.r) (number c.args.claimed.now.s)

@@ -4,7 +4,7 @@ use Rattle.jwt_printing.specs.Printed.{Answer}
 use Rattle.jwt_keys.specs.KeySets.{key_set, key_set_of}
 use Rattle.jwt_command.specs.Documents.{document}
 use Rattle.jwt_command.specs.Stops.{behind_keys, token_most}
-use Rattle.jwt_printing.specs.Printer.{printer}
+use Rattle.jwt_verdicts.specs.Printer.{printer}
 use Rattle.jwt_words.specs.Seen.{held_view}
 use Rattle.jwt_printing.specs.Views.{reply_view}
 use Rattle.jwt_command.proofs.Verifying.{behind_keys_taken, document_stops, keys_line_too_long}

@@ -1,7 +1,8 @@
 use Rattle.std.proofs.Common.{◌∙◌, subst}
 use Rattle.jwt_verify.specs.Reports.{IsReport}
 use Rattle.jwt_verify.specs.TermsTable.{terms_meant}
-use Rattle.jwt_printing.specs.Views.{reply_view, rule_view}
+use Rattle.jwt_printing.specs.Views.{reply_view}
+use Rattle.jwt_verdicts.specs.Views.{rule_view}
 use Rattle.jwt_command.proofs.Verifying.{answered_in_json, both_ok, read_payload}
 use Rattle.jwt_command.proofs.verify.on_octets_in_json.Goals as goal
 

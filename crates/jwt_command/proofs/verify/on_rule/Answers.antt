@@ -1,5 +1,5 @@
 use Rattle.std.proofs.Common.{rules, ◌≡◌, Err}
-use Rattle.jwt_printing.specs.Printer.{printer}
+use Rattle.jwt_verdicts.specs.Printer.{printer}
 use Rattle.jwt_printing.specs.Views.{reply_view}
 use Rattle.jwt_words.specs.Seen.{held_view}
 use Rattle.jwt_command.specs.Access.{rule_in_hand}

@@ -2,7 +2,8 @@ use Rattle.std.proofs.Common.{rules, ◌≡◌, ◌+◌, ◌∙◌, map, subst, 
 use Rattle.jwt_verify.specs.Reports.{IsReport, terms}
 use Rattle.std.proofs.lemmas.Option.{IfSome_then}
 use Rattle.jwt_verify.specs.TermsTable.{terms_meant}
-use Rattle.jwt_printing.specs.Views.{reply_view, rule_view}
+use Rattle.jwt_printing.specs.Views.{reply_view}
+use Rattle.jwt_verdicts.specs.Views.{rule_view}
 use Rattle.jwt_command.proofs.Verifying.{front_taken, answered, both_ok}
 use Rattle.jwt_command.proofs.verify.on_token.Goals as goal
 

@@ -1,7 +1,8 @@
 use Rattle.std.proofs.Common.{◌∙◌}
 use Rattle.std.proofs.lemmas.Option.{IfSome_then}
 use Rattle.jwt_verify.specs.TermsTable.{terms_meant}
-use Rattle.jwt_printing.specs.Views.{reply_view, rule_view}
+use Rattle.jwt_printing.specs.Views.{reply_view}
+use Rattle.jwt_verdicts.specs.Views.{rule_view}
 use Rattle.jwt_command.proofs.WalkedLines.{json_taken}
 use Rattle.jwt_command.proofs.verify.on_token_json.Goals as goal
 

@@ -4,7 +4,7 @@ use Rattle.jwt_printing.specs.Printed.{Answer}
 use Rattle.jwt_policy.specs.Document.{policy_of}
 use Rattle.jwt_command.specs.Documents.{behind, document}
 use Rattle.jwt_command.specs.Stops.{behind_policy, keys_most, token_most}
-use Rattle.jwt_printing.specs.Printer.{printer}
+use Rattle.jwt_verdicts.specs.Printer.{printer}
 use Rattle.jwt_words.specs.Seen.{held_view}
 use Rattle.jwt_printing.specs.Views.{reply_view}
 use Rattle.jwt_command.proofs.Verifying.{document_stops, document_then_stops, policy_line_too_long, policy_read, under_policy_taken}

@@ -5,8 +5,8 @@ use Rattle.jwt_keys.specs.KeySets.{key_set}
 use Rattle.jwt_words.specs.Seen.{seconds_of}
 use Rattle.jwt_command.specs.Lines.{LineAnswered, with_held}
 use Rattle.jwt_printing.specs.Printed.{Answer}
-use Rattle.jwt_printing.specs.Printer.{printer}
-use Rattle.jwt_printing.specs.Views.{rule_view}
+use Rattle.jwt_verdicts.specs.Printer.{printer}
+use Rattle.jwt_verdicts.specs.Views.{rule_view}
 use Rattle.jwt_command.specs.declared.input.line.LineFault.TheVariants.{OutOfMemory}
 use Rattle.jwt_command.specs.Verify.{terms_of_keys}
 use Rattle.jwt_command.proofs.AnsweredLines.{Answering, Bounded, answering_kept, answering_more, answering_none, lines_cut, lines_done, lines_memory, lines_stopped}

@@ -3,8 +3,8 @@ use Rattle.std.specs.Io.KnownBytes.{prepend_known}
 use Rattle.jwt_keys.specs.KeySets.{key_set}
 use Rattle.jwt_words.specs.Seen.{seconds_of}
 use Rattle.jwt_command.specs.Lines.{with_held}
-use Rattle.jwt_printing.specs.Printer.{printer}
-use Rattle.jwt_printing.specs.Views.{rule_view}
+use Rattle.jwt_verdicts.specs.Printer.{printer}
+use Rattle.jwt_verdicts.specs.Views.{rule_view}
 use Rattle.jwt_command.specs.Verify.{terms_of_keys}
 use Rattle.jwt_command.proofs.AnsweredLines.{Answering}
 use Rattle.jwt_command.proofs.verify_lines.answer_lines.Given as goal

@@ -1,7 +1,8 @@
 use Rattle.std.proofs.Common.{rules, ◌≡◌, ◌∙◌, sym, ap, map, option_map, Ok, Err}
 use Rattle.jwt_keys.specs.KeySets.{key_set, key_set_of}
 use Rattle.jwt_policy.specs.Document.{policy_of}
-use Rattle.jwt_printing.specs.Views.{reply_view, rule_view}
+use Rattle.jwt_printing.specs.Views.{reply_view}
+use Rattle.jwt_verdicts.specs.Views.{rule_view}
 use Rattle.jwt_command.specs.Access.{rule_in_hand}
 use Rattle.jwt_words.specs.Seen.{seconds_of}
 use Rattle.jwt_command.proofs.RunningLines.{keys_are_refused, lines_are_given, lines_by_rule_are_given, policy_is_refused, rule_is_refused}

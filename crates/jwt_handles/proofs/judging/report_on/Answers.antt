@@ -6,19 +6,21 @@ use Rattle.jwt_keys.specs.KeySets.{key_set}
 use Rattle.jwt_verify.specs.Verdict.{token_of}
 use Rattle.jwt_told.specs.Told.{told, told_meaning}
 use Rattle.jwt_told.specs.Questions.{AreTries, IsFirstOpen, IsOpen, kept_parts}
-use Rattle.jwt_memory.specs.Outcomes.{is_remembered, report_in}
+use Rattle.jwt_memory.specs.Outcomes.{is_remembered, payload_in, report_in}
 use Rattle.jwt_handles.specs.Documents.{documents}
-use Rattle.jwt_handles.specs.Evidence.{tries_kept}
+use Rattle.jwt_handles.specs.Evidence.{tries_kept, payload_kept}
 use Rattle.jwt_handles.specs.Keeping.{AddsOnly, AddsTold}
+use Rattle.jwt_handles.specs.Payloads.{KeepsPayload}
 use Rattle.jwt_handles.specs.Remembering.{RestsOn}
 use Rattle.jwt_handles.specs.Reports.{IsAsking, asked_at}
 use Rattle.jwt_handles.proofs.Adding.{adds_said, adds_nothing, adds_none}
+use Rattle.jwt_handles.proofs.Payloads.{keeps_payload}
 use Rattle.jwt_handles.proofs.Telling.{is_small, never_asks, no_claims}
 use Rattle.jwt_handles.proofs.judging.report_on.Goals as goal
 
 pub returns-in-Ok-judging_of-clause-judged : goal.returns-in-Ok-judging_of-clause-judged
 returns-in-Ok-judging_of-clause-judged c _ =
-    let d = c.args.state.now in let x = c.args.octets.now in let o = c.in-Ok.outcome in let r = report_in o in let ts = told d.answers in
+    let d = c.args.state.now in let x = c.args.octets.now in let o = c.in-Ok.handed.outcome in let r = report_in o in let ts = told d.answers in
     let lent = c.documents-documents.result.now in let is = c.in-Ok-judging_of.ensures in let last = c.in-Ok-judging_of.judging.last in
     let rests : RestsOn last.remembered ts d.memory (documents d) c.args.now x r =
     subst (λ b. RestsOn b ts d.memory (documents d) c.args.now x r) (sym is.remembered)
@@ -27,12 +29,12 @@ returns-in-Ok-judging_of-clause-judged c _ =
     (r, rests, is.says)
 
 pub returns-in-Ok-judging_of-clause-asks : goal.returns-in-Ok-judging_of-clause-asks
-returns-in-Ok-judging_of-clause-asks c asks = absurd (never_asks (report_in c.in-Ok.outcome).verdict (sym (ap (λ n. n.verdict) c.in-Ok-judging_of.ensures.says.0) ∙ asks))
+returns-in-Ok-judging_of-clause-asks c asks = absurd (never_asks (report_in c.in-Ok.handed.outcome).verdict (sym (ap (λ n. n.verdict) c.in-Ok-judging_of.ensures.says.0) ∙ asks))
 
 pub returns-in-Ok-judging_of-clause-claims : goal.returns-in-Ok-judging_of-clause-claims
 returns-in-Ok-judging_of-clause-claims c h =
     let says = c.in-Ok-judging_of.ensures.says in
-    says.3.2 ∙ no_claims (report_in c.in-Ok.outcome).verdict (λ z. h (ap (λ n. n.verdict) says.0 ∙ z))
+    says.3.2 ∙ no_claims (report_in c.in-Ok.handed.outcome).verdict (λ z. h (ap (λ n. n.verdict) says.0 ∙ z))
 
 pub returns-in-Ok-judging_of-clause-kept : goal.returns-in-Ok-judging_of-clause-kept
 returns-in-Ok-judging_of-clause-kept c =
@@ -42,7 +44,14 @@ pub returns-in-Ok-judging_of-clause-adds : goal.returns-in-Ok-judging_of-clause-
 returns-in-Ok-judging_of-clause-adds c =
     let d = c.args.state.now in let x = c.args.octets.now in let lent = c.documents-documents.result.now in
     subst (λ it. AddsOnly it.policy.run.work x c.in-Ok-judging_of.judging.said c.in-Ok-judging_of.judging.last d.memory c.outcome_of.new.memory) c.documents-documents.ensures
-    (adds_said lent.policy.run.work x c.in-Ok-judging_of.judging.said c.in-Ok-judging_of.judging.last (report_in c.in-Ok.outcome) c.in-Ok-judging_of.ensures.says d.memory c.outcome_of.new.memory c.in-Ok.ensures.adds)
+    (adds_said lent.policy.run.work x c.in-Ok-judging_of.judging.said c.in-Ok-judging_of.judging.last c.in-Ok.handed c.in-Ok-judging_of.ensures.says d.memory c.outcome_of.new.memory c.in-Ok.ensures.adds)
+
+pub returns-in-Ok-judging_of-clause-payload : goal.returns-in-Ok-judging_of-clause-payload
+returns-in-Ok-judging_of-clause-payload c =
+    let is = c.in-Ok-judging_of.ensures in let j = c.in-Ok-judging_of.judging in let x = c.args.octets.now in
+    subst (λ it. KeepsPayload it.policy x j.said.verdict (payload_kept j.last)) c.documents-documents.ensures
+    (keeps_payload c.documents-documents.result.now.policy x (report_in c.in-Ok.handed.outcome).verdict j.said.verdict (payload_kept j.last) (payload_in c.in-Ok.handed)
+    (ap (λ n. n.verdict) is.says.0) is.payload c.in-Ok.ensures.payload is.whole)
 
 pub returns-in-Ok-asking-clause-asks : goal.returns-in-Ok-asking-clause-asks
 returns-in-Ok-asking-clause-asks c _ =
@@ -87,7 +96,7 @@ pub returns-in-Err-judging_of-clause-adds : goal.returns-in-Err-judging_of-claus
 returns-in-Err-judging_of-clause-adds c =
     let d = c.args.state.now in let x = c.args.octets.now in let lent = c.documents-documents.result.now in
     subst (λ it. AddsOnly it.policy.run.work x c.bare.result.said c.bare.result.last d.memory c.outcome_of.new.memory) c.documents-documents.ensures
-    (adds_nothing lent.policy.run.work x c.bare.result.said c.bare.result.last (report_in c.in-Ok.outcome) c.in-Err-judging_of.ensures.fails d.memory c.outcome_of.new.memory c.in-Ok.ensures.adds)
+    (adds_nothing lent.policy.run.work x c.bare.result.said c.bare.result.last c.in-Ok.handed c.in-Err-judging_of.ensures.fails d.memory c.outcome_of.new.memory c.in-Ok.ensures.adds)
 
 pub returns-in-Err-asking-clause-kept : goal.returns-in-Err-asking-clause-kept
 returns-in-Err-asking-clause-kept c =
@@ -101,4 +110,4 @@ returns-in-Err-asking-clause-adds c =
 
 pub returns-in-Ok-judging_of-clause-open : goal.returns-in-Ok-judging_of-clause-open
 returns-in-Ok-judging_of-clause-open c =
-    subst (λ n. n ≤ 3) (sym (ap (λ n. n.verdict) c.in-Ok-judging_of.ensures.says.0)) (is_small (report_in c.in-Ok.outcome).verdict)
+    subst (λ n. n ≤ 3) (sym (ap (λ n. n.verdict) c.in-Ok-judging_of.ensures.says.0)) (is_small (report_in c.in-Ok.handed.outcome).verdict)

@@ -1,6 +1,6 @@
 use Rattle.std.proofs.Common.{ℕ, Vec, Global, ◌∙◌}
-use Rattle.key_pem.specs.declared.label.Label.{Label}
-use Rattle.key_pem.specs.declared.fault.PemFault.TheVariants as pem
+use Rattle.jwt_jwk.specs.declared.text_blocks.label.Label.{Label}
+use Rattle.jwt_jwk.specs.declared.text_blocks.fault.PemFault.TheVariants as pem
 use Rattle.jwt_jwk.proofs.Refused.{for_memory, value_is_no_fault, encoded_here}
 use Rattle.jwt_jwk.proofs.pem.jwk_of_pem.Goals as goal
 

@@ -1,7 +1,7 @@
 use Rattle.std.proofs.Common.{◌≡◌, ◌==◌, ◌-◌, ℕ, List, length, ap, ◌∙◌, arith}
 use Rattle.std.proofs.lemmas.Bool.{both_ways}
-use Rattle.key_pem.specs.declared.text.Block.{Block}
-use Rattle.key_pem.specs.declared.fault.PemFault.TheVariants as pem
+use Rattle.jwt_jwk.specs.declared.text_blocks.text.Block.{Block}
+use Rattle.jwt_jwk.specs.declared.text_blocks.fault.PemFault.TheVariants as pem
 use Rattle.jwt_jwk.specs.Jwk.{optional_text}
 use Rattle.jwt_jwk.specs.Converted.{Adds, kid_of}
 use Rattle.jwt_jwk.specs.Refusals.{IsFault}

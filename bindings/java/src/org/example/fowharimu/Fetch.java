@@ -6,7 +6,6 @@ import java.io.InterruptedIOException;
 import java.io.UncheckedIOException;
 import java.lang.ref.WeakReference;
 import java.net.URI;
-import java.net.URISyntaxException;
 import java.net.http.HttpClient;
 import java.net.http.HttpHeaders;
 import java.net.http.HttpRequest;
@@ -15,9 +14,7 @@ import java.net.http.HttpTimeoutException;
 import java.nio.ByteBuffer;
 import java.security.NoSuchAlgorithmException;
 import java.time.Duration;
-import java.util.HashSet;
 import java.util.List;
-import java.util.Locale;
 import java.util.Map;
 import java.util.Optional;
 import java.util.Set;
@@ -35,14 +32,6 @@ import javax.net.ssl.SSLParameters;
 
 /** One fetch, which ends at its deadline. */
 final class Fetch {
-    /** The most octets that a key set, or what tells where it stands, may have. */
-    private static final int MOST = 4_194_304;
-
-    private static final int MOST_REDIRECTS = 5;
-    private static final Set<Integer> REDIRECTS = Set.of(301, 302, 303, 307, 308);
-    /** The most tokens that wait for one fetch. */
-    private static final int MOST_WAITING = 4;
-
     /** The clients by what they trust, as long as somebody holds them: each has threads and descriptors of its own. */
     private static final Map<SSLContext, WeakReference<HttpClient>> CLIENTS = new WeakHashMap<>();
 
@@ -52,38 +41,12 @@ final class Fetch {
     private volatile boolean isDropped;
     /** Whether it went well; it is written before it is over. */
     private volatile boolean isGood;
-    /** The {@code kid} of each token that waits for it. */
-    private final Set<String> kids = new HashSet<>();
+    /** Its number. */
+    final long ticket;
 
-    Fetch(Duration timeout) {
+    Fetch(Duration timeout, long ticket) {
+        this.ticket = ticket;
         ends = System.nanoTime() + timeout.toNanos();
-    }
-
-    /** An answer with another status than 200. */
-    static final class StatusException extends IOException {
-        private static final long serialVersionUID = 1;
-        /** The status. */
-        final int status;
-
-        StatusException(int status) {
-            super("its status is " + status);
-            this.status = status;
-        }
-    }
-
-    /** A URL from which keys may be fetched. Throws IllegalArgumentException for any other. */
-    static URI checked(String url, boolean allowsHttp) {
-        try {
-            URI at = new URI(url);
-            String scheme = String.valueOf(at.getScheme()).toLowerCase(Locale.ROOT);
-            boolean isTaken = scheme.equals("https") || allowsHttp && scheme.equals("http");
-            if (isTaken && at.getHost() != null && !at.getHost().isEmpty() && at.getRawUserInfo() == null) {
-                return at;
-            }
-        } catch (URISyntaxException e) {
-            // (not told: it has the URL in it, whose query may hide a secret)
-        }
-        throw new IllegalArgumentException("the URL of a key set is https, and has a host and neither a name nor a password");
     }
 
     /** A client that uses no proxy, and follows no redirection by itself: the one that others have who trust the same. */
@@ -124,25 +87,24 @@ final class Fetch {
         }
     }
 
-    /** What stands at a URL, with redirections within its origin followed. */
-    byte[] get(HttpClient client, URI from) throws IOException {
+    /** What stands at a URL, with redirections followed; empty where the other metadata are to be asked for. */
+    Optional<byte[]> get(HttpClient client, URI from, Urls.Asked asked) throws IOException {
         URI at = from;
-        for (int hops = 0; ; hops++) {
-            HttpResponse<byte[]> response = answer(client, at);
-            Optional<String> to = response.headers().firstValue("Location");
-            if (!REDIRECTS.contains(response.statusCode()) || to.isEmpty()) {
-                return body(response);
+        for (int followed = 0; ; followed++) {
+            HttpResponse<byte[]> response = answer(client, at, asked, followed);
+            switch (Urls.next(asked, response.statusCode(), followed).step()) {
+                case TAKE -> {
+                    checkLengths(response.headers());
+                    return Optional.of(response.body());
+                }
+                case FOLLOW -> at = Urls.redirected(at, response.headers().firstValue("Location"));
+                case ASK_OAUTH -> {
+                    return Optional.empty();
+                }
+                case TOO_OFTEN -> throw new IOException("it redirects too often");
+                default -> throw new IOException("its status is " + response.statusCode());
             }
-            if (hops == MOST_REDIRECTS) {
-                throw new IOException("it redirects too often");
-            }
-            at = next(from, at, to.get());
         }
-    }
-
-    /** Whether a token of this {@code kid} may wait: few do, since anyone can send tokens for which a key is lacking. */
-    synchronized boolean admits(String kid) {
-        return kids.size() < MOST_WAITING && kids.add(kid);
     }
 
     /** Says that it is over, and whether it went well. */
@@ -174,14 +136,6 @@ final class Fetch {
         return Math.max(0, ends - System.nanoTime());
     }
 
-    private static byte[] body(HttpResponse<byte[]> response) throws IOException {
-        if (response.statusCode() != 200) {
-            throw new StatusException(response.statusCode());
-        }
-        checkLengths(response.headers());
-        return response.body();
-    }
-
     /** Refuses an answer with two lengths, or one that is none (RFC 9110, section 8.6): who else reads it may read another one. */
     private static void checkLengths(HttpHeaders headers) throws IOException {
         List<String> lengths = headers.allValues("Content-Length");
@@ -190,35 +144,16 @@ final class Fetch {
         }
     }
 
-    /** Where a redirection leads, which has to be the same origin. */
-    private static URI next(URI from, URI at, String location) throws IOException {
-        URI to;
-        try {
-            to = at.resolve(location);
-        } catch (IllegalArgumentException e) {
-            throw new IOException("it redirects to no URL");
-        }
-        if (to.getHost() == null || to.getRawUserInfo() != null || !origin(to).equals(origin(from))) {
-            throw new IOException("it redirects to another origin");
-        }
-        return to;
-    }
-
-    /** The scheme, the host and the port of a URL (RFC 6454, section 4). */
-    private static List<String> origin(URI at) {
-        String scheme = String.valueOf(at.getScheme()).toLowerCase(Locale.ROOT);
-        int port = at.getPort() >= 0 ? at.getPort() : scheme.equals("https") ? 443 : 80;
-        return List.of(scheme, at.getHost().toLowerCase(Locale.ROOT), String.valueOf(port));
-    }
-
     /** One answer, whole, before the deadline. */
-    private HttpResponse<byte[]> answer(HttpClient client, URI at) throws IOException {
+    private HttpResponse<byte[]> answer(HttpClient client, URI at, Urls.Asked asked, int followed) throws IOException {
         HttpRequest request = HttpRequest.newBuilder(at)
                 .header("Accept", "application/jwk-set+json, application/json")
                 .header("Accept-Encoding", "identity")
                 .build();
-        CompletableFuture<HttpResponse<byte[]>> begun = client.sendAsync(
-                request, it -> it.statusCode() == 200 ? new Octets() : nothing());
+        CompletableFuture<HttpResponse<byte[]>> begun = client.sendAsync(request, it -> {
+            Urls.Next next = Urls.next(asked, it.statusCode(), followed);
+            return next.step() == Urls.Step.TAKE ? new Octets(next.most()) : nothing();
+        });
         answer = begun;
         if (isDropped) {
             begun.cancel(true);
@@ -250,11 +185,16 @@ final class Fetch {
         });
     }
 
-    /** Keeps octets as they come, and no more than a key set may have. */
+    /** Keeps octets as they come, and no more than are taken. */
     private static final class Octets implements HttpResponse.BodySubscriber<byte[]> {
         private final CompletableFuture<byte[]> body = new CompletableFuture<>();
         private final ByteArrayOutputStream octets = new ByteArrayOutputStream();
+        private final int most;
         private Flow.Subscription subscription;
+
+        Octets(int most) {
+            this.most = most;
+        }
 
         @Override
         public CompletableFuture<byte[]> getBody() {
@@ -270,9 +210,9 @@ final class Fetch {
         @Override
         public void onNext(List<ByteBuffer> parts) {
             for (ByteBuffer part : parts) {
-                if (part.remaining() > MOST - octets.size()) {
+                if (part.remaining() > most - octets.size()) {
                     subscription.cancel();
-                    body.completeExceptionally(new IOException("it has more than " + MOST + " octets"));
+                    body.completeExceptionally(new IOException("it has more than " + most + " octets"));
                     return;
                 }
                 byte[] copy = new byte[part.remaining()];

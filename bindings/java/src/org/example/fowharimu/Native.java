@@ -156,4 +156,41 @@ final class Native {
 
     /** The text of a member of a JSON object; null where there is none. It throws OutOfMemoryError. */
     static native byte[] textMember(byte[] document, byte[] name);
+
+    /** What {@code fow_credentials} answers, and the places of the token. */
+    static native int[] credentials(byte[] value);
+
+    /** The status that a request is answered with. */
+    static native int statusOf(int outcome);
+
+    /** The challenge that is sent; empty where none is, and null where the realm or the scopes can't be quoted. */
+    static native byte[] challengeOf(int outcome, byte[] realm, byte[] scopes);
+
+    static native boolean isQuotable(byte[] text);
+
+    /** Begins a {@code fow_renewal}, whose numbers stand in {@code state}. */
+    static native void renewalBegin(long[] state, long refreshAfter, long cooldown, long maxAge, long timeout, long now);
+
+    /** Puts into {@code answer} whether there are keys, their ticket, the kind of fetch, its ticket, and for how long nobody need ask. */
+    static native void renewalAsk(long[] state, long now, int asker, long keys, long[] answer);
+
+    static native boolean renewalTook(long[] state, long now, long ticket);
+
+    static native boolean renewalFailed(long[] state, long now, long ticket);
+
+    static native boolean renewalWait(long[] state, long now, long ticket, long name);
+
+    static native boolean isUrl(byte[] url, boolean allowsHttp);
+
+    /** The URL to which a redirection leads; null where it isn't followed. It throws OutOfMemoryError, as those below do. */
+    static native byte[] redirected(byte[] url, byte[] location);
+
+    /** The URL of an issuer's keys, as its metadata tell it; null where they tell none, and the status says why. */
+    static native byte[] keysUrl(byte[] metadata, byte[] issuer, int[] status);
+
+    /** The URL of these metadata of an issuer; null where it has none. */
+    static native byte[] metadataUrl(int asked, byte[] issuer);
+
+    /** The step and the most of what {@code fow_next_step} answers. */
+    static native int[] nextStep(int asked, int status, int redirections);
 }

@@ -2,7 +2,6 @@ package org.example.fowharimu;
 
 import java.io.IOException;
 import java.net.URI;
-import java.net.URISyntaxException;
 import java.net.http.HttpClient;
 import java.nio.charset.StandardCharsets;
 import java.time.Duration;
@@ -23,8 +22,6 @@ import java.util.Optional;
  */
 public final class RemoteKeys implements Judging {
     private static final byte[] NO_KEYS = "{\"keys\":[]}".getBytes(StandardCharsets.UTF_8);
-    private static final String DISCOVERY = "/.well-known/openid-configuration";
-    private static final String OAUTH = "/.well-known/oauth-authorization-server";
 
     private final byte[] policy;
     private final URI address;
@@ -33,11 +30,11 @@ public final class RemoteKeys implements Judging {
     private final Remember remember;
     private final HttpClient client;
     private volatile Validator validator;
-    /** When the last fetch that went well ended; it is written before the validator. */
-    private volatile long got;
+    /** What a token is judged by until it has to ask again: so no lock is taken for each. Null where it has to. */
+    private volatile Used quiet;
     // What follows is guarded by this object's lock.
+    private final Renewal renewal;
     private Fetch fetch;
-    private long tried;
     private boolean isClosed;
     private Exception error;
 
@@ -48,7 +45,7 @@ public final class RemoteKeys implements Judging {
      * @param url where the key set stands
      * @throws Refused where the policy is refused
      * @throws KeysUnavailable where the keys can't be fetched
-     * @throws IllegalArgumentException for a URL that isn't https, has no host, or has a name or a password in it, and for a policy with an HMAC
+     * @throws IllegalArgumentException for a URL that isn't https, has no host, or has a name, a password or a fragment in it, and for a policy with an HMAC
      *     algorithm, since what is fetched is public
      */
     public RemoteKeys(byte[] policy, String url) throws Refused, KeysUnavailable {
@@ -83,11 +80,12 @@ public final class RemoteKeys implements Judging {
      */
     public RemoteKeys(byte[] policy, String url, Fetching how, int mostQuestions, Remember remember) throws Refused, KeysUnavailable {
         this.policy = publicPolicy(policy, null);
-        this.address = Fetch.checked(url, how.allowsHttp());
+        this.address = Urls.checked(url, how.allowsHttp());
         this.how = how;
         this.mostQuestions = mostQuestions;
         this.remember = Objects.requireNonNull(remember, "remember");
         this.client = Fetch.client(how);
+        this.renewal = new Renewal(how);
         if (!refresh()) {
             throw new KeysUnavailable(error().orElseGet(() -> new IOException("it takes too long")));
         }
@@ -107,11 +105,12 @@ public final class RemoteKeys implements Judging {
      */
     public static RemoteKeys discover(byte[] policy, String issuer, Fetching how) throws Refused, KeysUnavailable {
         publicPolicy(policy, issuer);
-        URI at = Fetch.checked(issuer, how.allowsHttp());
+        Urls.checked(issuer, how.allowsHttp());
+        URI metadata = Urls.metadata(Urls.Asked.OPENID, issuer);
         String url;
         try {
-            url = keysUrl(issuer, at, how);
-        } catch (IOException | URISyntaxException | IllegalArgumentException e) {
+            url = keysUrl(issuer, metadata, how);
+        } catch (IOException | IllegalArgumentException e) {
             throw new KeysUnavailable(e);
         }
         return new RemoteKeys(policy, url, how);
@@ -135,8 +134,8 @@ public final class RemoteKeys implements Judging {
     public Verdict judge(byte[] token, long now) {
         Call<Verdict, RuntimeException> call = it -> it.judge(token, now);
         try {
-            Validator used = current(token);
-            Verdict verdict = onceMore(used, call);
+            Used used = current(token);
+            Verdict verdict = onceMore(used.validator(), call);
             Validator newer = verdict.accepted() ? null : newer(used, verdict.refusal().get(), token);
             return newer == null ? verdict : onceMore(newer, call);
         } catch (Refused tooOld) {
@@ -166,14 +165,7 @@ public final class RemoteKeys implements Judging {
      * @return whether that went well
      */
     public boolean refresh() {
-        Fetch under;
-        synchronized (this) {
-            if (isClosed) {
-                throw closed();
-            }
-            under = fetch == null ? begin() : fetch;
-        }
-        return under.await();
+        return ask(Renewal.Asker.OWNER, 0).under().await();
     }
 
     /**
@@ -189,6 +181,7 @@ public final class RemoteKeys implements Judging {
     @Override
     public synchronized void close() {
         isClosed = true;
+        quiet = null;
         if (fetch != null) {
             fetch.drop();
         }
@@ -205,9 +198,9 @@ public final class RemoteKeys implements Judging {
 
     /** What comes of a call on the keys, and on newer ones where these may change it and can be had. */
     private <T, E extends Exception> T by(byte[] token, Call<T, E> call) throws Refused, E {
-        Validator used = current(token);
+        Used used = current(token);
         try {
-            return onceMore(used, call);
+            return onceMore(used.validator(), call);
         } catch (Refused refusal) {
             Validator newer = newer(used, refusal, token);
             if (newer == null) {
@@ -241,45 +234,66 @@ public final class RemoteKeys implements Judging {
         return it;
     }
 
-    /** The validator by which a token is judged first. */
-    private Validator current(byte[] token) throws Refused {
+    /** What tokens are judged by, the ticket of its keys, and until when nobody need ask. */
+    private record Used(Validator validator, long keys, long until) {}
+
+    /** What is to be used, null where the keys are too old; and the fetch that whoever asked may wait for, null where there is none. */
+    private record Asked(Used used, Fetch under) {}
+
+    /** Has the library say what is to be used, and begins a fetch where it says so. */
+    private synchronized Asked ask(Renewal.Asker asker, long keys) {
+        if (isClosed) {
+            throw closed();
+        }
+        Renewal.Answer said = renewal.ask(asker, keys);
         // (before a fetch begins, so that it is the old one)
-        Validator used = held();
-        boolean isTooOld = !isYounger(how.maxAge());
-        if (!isTooOld && isYounger(how.refreshAfter())) {
-            return used;
+        Used used = said.hasKeys() && validator != null ? new Used(validator, said.keys(), said.until()) : null;
+        quiet = used;
+        if (said.begins()) {
+            begin(said.ticket());
         }
-        Fetch under = begun(used);
-        if (!isTooOld) {
-            return used;
-        }
-        waitFor(under, used, token);
-        if (!isYounger(how.maxAge())) {
-            throw new Refused(Refused.Kind.KEYS_TOO_OLD, "KeysTooOld", null, 0, 0);
-        }
-        return held();
+        return new Asked(used, said.isUnderWay() ? fetch : null);
     }
 
-    private boolean isYounger(Duration age) {
-        return System.nanoTime() - got < age.toNanos();
+    /** What a token is judged by first. */
+    private Used current(byte[] token) throws Refused {
+        Used known = quiet;
+        if (known != null && renewal.now() < known.until()) {
+            return known;
+        }
+        Used used = ask(Renewal.Asker.TOKEN, 0).used();
+        if (used != null) {
+            return used;
+        }
+        await(Renewal.Asker.TOKEN, 0, token);
+        Used newer = ask(Renewal.Asker.WAITED, 0).used();
+        if (newer == null) {
+            throw new Refused(Refused.Kind.KEYS_TOO_OLD, "KeysTooOld", null, 0, 0);
+        }
+        return newer;
     }
 
     /** Another validator than the one that was used, where newer keys may change the refusal and are there or can be fetched; else null. */
-    private Validator newer(Validator used, Refused refusal, byte[] token) {
+    private Validator newer(Used used, Refused refusal, byte[] token) {
         boolean asks = refusal.kind() == Refused.Kind.SIGNATURE && (refusal.fault().equals("NoKey") || refusal.fault().equals("BadSignature"));
         if (!asks) {
             return null;
         }
-        waitFor(begun(used), used, token);
+        await(Renewal.Asker.REFUSED, used.keys(), token);
         Validator it = validator;
-        return it == used ? null : it;
+        return it == used.validator() ? null : it;
     }
 
     /** Waits for a fetch, where there is one for which this token may wait. */
-    private static void waitFor(Fetch under, Validator used, byte[] token) {
-        if (under != null && under.admits(kid(used, token))) {
+    private void await(Renewal.Asker asker, long keys, byte[] token) {
+        Fetch under = ask(asker, keys).under();
+        if (under != null && mayWait(under, kid(held(), token))) {
             under.await();
         }
+    }
+
+    private synchronized boolean mayWait(Fetch under, String kid) {
+        return renewal.await(under.ticket, kid);
     }
 
     /** The {@code kid} of a token, for which nobody vouches; empty where there is none. */
@@ -293,21 +307,9 @@ public final class RemoteKeys implements Judging {
         }
     }
 
-    /** The fetch that is under way, or a new one where the cool-down is over; null where there is none, and where others than these are held already. */
-    private synchronized Fetch begun(Validator used) {
-        if (validator != used) {
-            return null;
-        }
-        if (fetch == null && !isClosed && System.nanoTime() - tried >= how.cooldown().toNanos()) {
-            begin();
-        }
-        return fetch;
-    }
-
     /** Begins a fetch, in a thread of its own, so that nobody waits for it past its deadline. The lock is held. */
-    private Fetch begin() {
-        Fetch under = new Fetch(how.timeout());
-        tried = System.nanoTime();
+    private void begin(long ticket) {
+        Fetch under = new Fetch(how.timeout(), ticket);
         fetch = under;
         Thread thread = new Thread(() -> run(under), "fowharimu-keys");
         thread.setDaemon(true);
@@ -315,11 +317,9 @@ public final class RemoteKeys implements Judging {
             thread.start();
         } catch (OutOfMemoryError e) {
             // (the system gives no more threads)
-            fetch = null;
-            error = new IOException(e);
+            exchange(under, null, new IOException(e));
             under.end(false);
         }
-        return under;
     }
 
     private void run(Fetch under) {
@@ -327,7 +327,7 @@ public final class RemoteKeys implements Judging {
         Validator newer = null;
         Exception failure = null;
         try {
-            keys = under.get(client, address);
+            keys = under.get(client, address, Urls.Asked.KEYS).orElseThrow();
             newer = open(keys);
         } catch (IOException | Refused | RuntimeException e) {
             failure = e;
@@ -335,29 +335,34 @@ public final class RemoteKeys implements Judging {
             // (else no other fetch would begin)
             failure = new IOException(e);
         }
-        exchange(newer, failure);
+        failure = exchange(under, newer, failure);
         under.end(failure == null);
         how.listener().fetched(shown(), keys.length, Optional.ofNullable(failure));
     }
 
-    /** Takes the new validator, where there is one, in place of the old one, and ends the fetch. */
-    private synchronized void exchange(Validator newer, Exception failure) {
-        fetch = null;
-        error = failure;
-        if (newer == null) {
-            return;
+    /** Takes the new validator, where there is one whose keys count, in place of the old one, and ends the fetch. Gives why it failed; null where it didn't. */
+    private synchronized Exception exchange(Fetch under, Validator newer, Exception failure) {
+        Exception why = newer != null && !renewal.took(under.ticket) ? new IOException("it takes too long") : failure;
+        renewal.failed(under.ticket);
+        if (fetch == under) {
+            fetch = null;
+            error = why;
         }
-        if (isClosed) {
+        if (newer == null) {
+            return why;
+        }
+        if (why != null || isClosed) {
             newer.close();
-            return;
+            return why;
         }
         Validator old = validator;
-        got = System.nanoTime();
+        quiet = null;
         validator = newer;
         if (old != null) {
             // (calls that are under way end as if it weren't closed)
             old.close();
         }
+        return null;
     }
 
     /** The policy over keys that were fetched, among which there may be no secret (RFC 8725, section 2.1). */
@@ -372,7 +377,7 @@ public final class RemoteKeys implements Judging {
 
     /** The URL for those who are told of a fetch: without its query, in which a service may have a secret. */
     private String shown() {
-        return address.getScheme() + "://" + address.getRawAuthority() + Objects.requireNonNullElse(address.getRawPath(), "");
+        return address.toString().split("\\?", 2)[0];
     }
 
     /** A copy of a policy for keys by URL, and for exactly this issuer, where there is one. */
@@ -390,37 +395,21 @@ public final class RemoteKeys implements Judging {
     }
 
     /** The URL of an issuer's keys, which its metadata tell. */
-    private static String keysUrl(String issuer, URI at, Fetching how) throws IOException, URISyntaxException {
-        Fetch under = new Fetch(how.timeout());
+    private static String keysUrl(String issuer, URI at, Fetching how) throws IOException {
+        Fetch under = new Fetch(how.timeout(), 0);
         HttpClient client = Fetch.client(how);
-        String path = Objects.requireNonNullElse(at.getRawPath(), "").replaceFirst("/$", "");
-        byte[] metadata;
-        try {
-            metadata = under.get(client, withPath(at, path + DISCOVERY));
-        } catch (Fetch.StatusException e) {
-            if (e.status != 404) {
-                throw e;
-            }
-            metadata = under.get(client, withPath(at, OAUTH + path));
+        Optional<byte[]> metadata = under.get(client, at, Urls.Asked.OPENID);
+        if (metadata.isEmpty()) {
+            metadata = under.get(client, Urls.metadata(Urls.Asked.OAUTH, issuer), Urls.Asked.OAUTH);
         }
-        if (!issuer.equals(member(metadata, "issuer"))) {
-            throw new IOException("the metadata are of another issuer");
-        }
-        String url = member(metadata, "jwks_uri");
-        if (url == null) {
-            throw new IOException("the metadata have no jwks_uri");
-        }
-        Fetch.checked(url, how.allowsHttp());
+        String url = Urls.keys(metadata.orElseThrow(), issuer);
+        Urls.checked(url, how.allowsHttp());
         return url;
     }
 
     /** The text of a member of a JSON object, as the library reads it; null where there is none. */
     private static String member(byte[] document, String name) {
         return Text.of(Native.textMember(document, name.getBytes(StandardCharsets.UTF_8)));
-    }
-
-    private static URI withPath(URI at, String path) throws URISyntaxException {
-        return new URI(at.getScheme() + "://" + at.getRawAuthority() + path);
     }
 
     private static IllegalStateException closed() {

@@ -29,14 +29,6 @@ pub returns-in_default-clause-verdict : goal.returns-in_default-clause-verdict
 returns-in_default-clause-verdict g c =
     (c.untried.ensures.report (terms_of_documents c.args.self.now c.args.now) (g.B.Budget.ceiling c.args.budget.now) (sym (ap (λ (v : WithMemory). v.policy) c.self.view_is))).verdict
 
-pub returns-in_default-new-clause-verdict : goal.returns-in_default-new-clause-verdict
-returns-in_default-new-clause-verdict g c =
-    (c.untried-in_default-new.ensures.report (terms_of_documents c.args.self.now c.args.now) (g.B.Budget.ceiling c.args.budget.now) (sym (ap (λ (v : WithMemory). v.policy) c.self.view_is))).verdict
-
-pub returns-in_default-new-2-clause-verdict : goal.returns-in_default-new-2-clause-verdict
-returns-in_default-new-2-clause-verdict g c =
-    (c.untried-in_default-new-2.ensures.report (terms_of_documents c.args.self.now c.args.now) (g.B.Budget.ceiling c.args.budget.now) (sym (ap (λ (v : WithMemory). v.policy) c.self.view_is))).verdict
-
 pub returns-clause-memory : goal.returns-clause-memory
 returns-clause-memory g c =
     let t = c.built_in_terms-terms.ensures in

@@ -7,5 +7,5 @@ pub returns-clause-judged : goal.returns-clause-judged
 returns-clause-judged c small =
     let j = c.judging_by_proof.result in let x = c.args.octets.now in let memory = c.self.inside.proved in
     subst (λ v. IsProved v c.args.now x j.said j.last) c.self.view_is
-    (subst (λ it. IsProved (it, memory) c.args.now x j.said j.last) c.deref-documents.ensures
-    (subst (λ n. IsProved (c.deref-documents.result.now, memory) n x j.said j.last) (to_z-of_z c.ranges.now) (c.judging_by_proof.ensures.judged small)))
+    (subst (λ it. IsProved (it.documents, memory) c.args.now x j.said j.last) c.deref-shared.ensures
+    (subst (λ n. IsProved (c.deref-shared.result.now.documents, memory) n x j.said j.last) (to_z-of_z c.ranges.now) (c.judging_by_proof.ensures.judged small)))

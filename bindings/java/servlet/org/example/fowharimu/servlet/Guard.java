@@ -12,12 +12,13 @@ import java.util.Collections;
 import java.util.List;
 import java.util.Objects;
 import java.util.Optional;
-import java.util.regex.Matcher;
-import java.util.regex.Pattern;
 import org.example.fowharimu.Access;
+import org.example.fowharimu.Credentials;
 import org.example.fowharimu.Denied;
 import org.example.fowharimu.Judging;
+import org.example.fowharimu.Outcome;
 import org.example.fowharimu.Refused;
+import org.example.fowharimu.Reply;
 
 /**
  * Lets HTTP requests through where their token is accepted (RFC 6750). Their claims, a JSON text, are the request's attribute {@link #CLAIMS}.
@@ -33,14 +34,6 @@ import org.example.fowharimu.Refused;
 public class Guard implements Filter {
     /** The name of the attribute that has the claims of a request that was let through. */
     public static final String CLAIMS = "org.example.fowharimu.claims";
-
-    private static final String INVALID_REQUEST = "Bearer error=\"invalid_request\"";
-    private static final String INVALID_TOKEN = "Bearer error=\"invalid_token\"";
-    private static final String INSUFFICIENT_SCOPE = "Bearer error=\"insufficient_scope\"";
-    // (of no octets the library says that the token is empty)
-    private static final Pattern B64TOKEN = Pattern.compile("(?:[A-Za-z0-9._~+/-]+=*)?");
-    private static final Pattern CREDENTIALS = Pattern.compile("bearer(?: +(.*))?", Pattern.CASE_INSENSITIVE | Pattern.DOTALL);
-    private static final Pattern QUOTABLE = Pattern.compile("[ !#-\\[\\]-~]*");
 
     private final Judging validator;
     private final Optional<Access> access;
@@ -94,7 +87,7 @@ public class Guard implements Filter {
     }
 
     private Guard(Judging validator, Optional<Access> access, String realm, boolean hidesToken) {
-        if (!QUOTABLE.matcher(realm).matches()) {
+        if (!Reply.isQuotable(realm)) {
             throw new IllegalArgumentException("a realm has printable characters of ASCII, and neither quotation marks nor backslashes");
         }
         this.validator = Objects.requireNonNull(validator, "validator");
@@ -109,16 +102,15 @@ public class Guard implements Filter {
         HttpServletResponse answer = (HttpServletResponse) response;
         List<String> values = Collections.list(asked.getHeaders("Authorization"));
         if (values.size() > 1) {
-            refuse(answer, HttpServletResponse.SC_BAD_REQUEST, INVALID_REQUEST);
+            refuse(answer, Outcome.SEVERAL, List.of());
             return;
         }
-        Matcher credentials = CREDENTIALS.matcher(String.join("", values));
-        if (!credentials.matches()) {
-            refuse(answer, HttpServletResponse.SC_UNAUTHORIZED, "Bearer realm=\"" + realm + "\"");
+        Credentials credentials = Credentials.of(String.join("", values));
+        if (credentials.outcome() != Outcome.ADMITTED) {
+            refuse(answer, credentials.outcome(), List.of());
             return;
         }
-        String token = credentials.group(1) == null ? "" : credentials.group(1);
-        if (isAccepted(asked, answer, token)) {
+        if (isAccepted(asked, answer, credentials.token())) {
             chain.doFilter(hidesToken ? new Hiding(asked) : asked, response);
         }
     }
@@ -133,31 +125,22 @@ public class Guard implements Filter {
 
     /** Whether the token is accepted and meets the rule; the claims are the request's attribute then, and else the answer is given. */
     private boolean isAccepted(HttpServletRequest request, HttpServletResponse answer, String token) {
-        if (!B64TOKEN.matcher(token).matches()) {
-            refuse(answer, HttpServletResponse.SC_UNAUTHORIZED, INVALID_TOKEN);
-            return false;
-        }
         try {
             request.setAttribute(CLAIMS, access.isEmpty() ? validator.validate(token) : validator.validate(token, access.get()));
             return true;
         } catch (Refused refusal) {
             refused(request, refusal);
-            if (refusal.kind() == Refused.Kind.KEYS_TOO_OLD) {
-                // (it says nothing of the token)
-                answer.setStatus(HttpServletResponse.SC_SERVICE_UNAVAILABLE);
-            } else {
-                refuse(answer, HttpServletResponse.SC_UNAUTHORIZED, INVALID_TOKEN);
-            }
+            refuse(answer, refusal.kind() == Refused.Kind.KEYS_TOO_OLD ? Outcome.KEYS_TOO_OLD : Outcome.NOT_ACCEPTED, List.of());
         } catch (Denied denial) {
             refused(request, denial);
-            String scope = denial.scope().isEmpty() ? "" : ", scope=\"" + String.join(" ", denial.scopes()) + "\"";
-            refuse(answer, HttpServletResponse.SC_FORBIDDEN, INSUFFICIENT_SCOPE + scope);
+            refuse(answer, denial.scope().isEmpty() ? Outcome.NOT_GRANTED : Outcome.SCOPE_MISSING, denial.scopes());
         }
         return false;
     }
 
-    private static void refuse(HttpServletResponse answer, int status, String challenge) {
-        answer.setStatus(status);
-        answer.setHeader("WWW-Authenticate", challenge);
+    private void refuse(HttpServletResponse answer, Outcome outcome, List<String> scopes) {
+        Reply reply = Reply.to(outcome, realm, scopes);
+        answer.setStatus(reply.status());
+        reply.challenge().ifPresent(it -> answer.setHeader("WWW-Authenticate", it));
     }
 }

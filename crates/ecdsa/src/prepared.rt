@@ -1,0 +1,327 @@
+//! Keys that are prepared once, to verify many signatures.
+
+ghost use Rattle.std.specs.Prelude.{◌≡◌, ◌*◌, ◌^◌, ◌≤◌, true, length, IfSome, IfOk};
+ghost use Rattle.std.specs.Int.Digits.{number_from_digits};
+ghost use Rattle.ecdsa.specs.Curve.{Point.Affine};
+ghost use Rattle.ecdsa.specs.Curves.{P256, P384, P521, curve_over};
+ghost use Rattle.ecdsa.specs.Domains.{domain};
+ghost use Rattle.ecdsa.specs.Doubles.{IsTable};
+ghost use Rattle.ecdsa.specs.Ecdsa.{ecdsa};
+ghost use Rattle.ecdsa.specs.Field.{size};
+ghost use Rattle.ecdsa.specs.Windows.{AreBelow, AreWindows};
+
+use crate::asserted::{Asserted, verifies};
+use crate::constants::{p256, p384, p521};
+use crate::curve::Curve;
+use crate::laws::{p256_table, p384_table, p521_table};
+use crate::octets::from_octets;
+use crate::p256_doubles::{P256_X, P256_Y};
+use crate::p384_doubles::{P384_X, P384_Y};
+use crate::p521_doubles::{P521_X, P521_Y};
+use crate::signatures::{Tables, affine, is_key};
+use crate::tables::Doubles;
+use crate::windows::{Windows, make_windows};
+use std::alloc::{AllocError, Global};
+
+/// The windows of the base point of the curve over so many limbs.
+#[derive(Drop)]
+struct PreparedBase<const N: usize> {
+    windows: Windows<N>,
+    ghost below: { AreBelow (curve_over N) windows.xs.items windows.ys.items },
+    ghost are: { ∥ AreWindows N (curve_over N) (Affine (curve_over N).gx (curve_over N).gy) windows.xs.items windows.ys.items ∥₁ },
+}
+
+/// A key of the curve over so many limbs: the octets of its coordinates, and its windows.
+#[derive(Drop)]
+struct PreparedKey<const N: usize> {
+    x: Vec<u8>,
+    y: Vec<u8>,
+    windows: Windows<N>,
+    ghost below: { AreBelow (curve_over N) windows.xs.items windows.ys.items },
+    ghost are: { ∥ AreWindows N (curve_over N) (Affine (number_from_digits 256 x.items) (number_from_digits 256 y.items)) windows.xs.items windows.ys.items ∥₁ },
+}
+
+/// Prepared keys of one curve: of P-256 over 4 limbs of 64 bits, of P-384 over 6, of P-521 over 9. Beside the first key stand the
+/// windows of the base point, once for all.
+///
+/// A key takes 64 KiB on P-256, 144 KiB on P-384 and 295 KiB on P-521, and the base point as much.
+#[derive(Drop)]
+pub struct PreparedKeys<const N: usize> {
+    base: Option<PreparedBase<N>>,
+    keys: Vec<PreparedKey<N>>,
+}
+
+impl<const N: usize> PreparedKeys<N> {
+    /// None yet. It takes no memory.
+    pub fn new(alloc: Global) -> PreparedKeys<N> {
+        PreparedKeys {
+            base: None,
+            keys: Vec::new(alloc),
+        }
+    }
+}
+
+/// The octets, copied.
+fn copied(alloc: Global, octets: &[u8]) -> Result<Vec<u8>, AllocError>
+    ensures { IfOk result (λ copy. copy.items ≡ octets.now) }
+{
+    let mut copy = Vec::new(alloc);
+    copy.extend_from_slice(octets)?;
+    Ok(copy)
+}
+
+/// The base point with its windows; None where one of them isn't finite.
+fn prepare_base<const N: usize, const KIND: usize>(
+    alloc: Global,
+    curve: &Curve<N, KIND>,
+) -> Result<Option<PreparedBase<N>>, AllocError>
+    requires { domain curve.now ≡ curve_over N }
+{
+    let gx = curve.gx_form();
+    let gy = curve.gy_form();
+    let base = affine(&curve.field, gx, gy);
+    let Some(windows) = make_windows(alloc, curve, base)? else {
+        return Ok(None);
+    };
+    Ok(Some(PreparedBase { windows }))
+}
+
+/// The key (x, y) with its windows; None where it is no key, or where one of them isn't finite.
+fn prepare_key<const N: usize, const KIND: usize>(
+    alloc: Global,
+    curve: &Curve<N, KIND>,
+    octets: usize,
+    x: &[u8],
+    y: &[u8],
+) -> Result<Option<PreparedKey<N>>, AllocError>
+    requires known { domain curve.now ≡ curve_over N }
+    requires octets { octets ≤ 8 * N }
+{
+    if x.len() != octets {
+        return Ok(None);
+    }
+    if y.len() != octets {
+        return Ok(None);
+    }
+    let key_x = from_octets(x);
+    let key_y = from_octets(y);
+    if !is_key(curve, key_x, key_y) {
+        return Ok(None);
+    }
+    let f = &curve.field;
+    let x_form = f.form(key_x);
+    let y_form = f.form(key_y);
+    let key = affine(f, x_form, y_form);
+    let Some(windows) = make_windows(alloc, curve, key)? else {
+        return Ok(None);
+    };
+    let x_copy = copied(alloc, x)?;
+    let y_copy = copied(alloc, y)?;
+    Ok(Some(PreparedKey {
+        x: x_copy,
+        y: y_copy,
+        windows,
+    }))
+}
+
+/// Whether a prepared key has these coordinates, octet by octet to their ends.
+fn is_of<const N: usize>(key: &PreparedKey<N>, x: &[u8], y: &[u8]) -> bool
+    ensures x { result ≡ true → key.now.x.items ≡ x.now }
+    ensures y { result ≡ true → key.now.y.items ≡ y.now }
+{
+    key.x.as_slice() == x && key.y.as_slice() == y
+}
+
+/// The windows of the key with these coordinates, if it is prepared.
+fn windows_of<'a, const N: usize, const KIND: usize>(
+    curve: &Curve<N, KIND>,
+    keys: &'a [PreparedKey<N>],
+    x: &[u8],
+    y: &[u8],
+) -> Option<&'a Windows<N>>
+    requires { domain curve.now ≡ curve_over N }
+    ensures below { IfSome result (λ t. AreBelow (domain curve.now) t.now.xs.items t.now.ys.items) }
+    ensures are { ∥ IfSome result (λ t. AreWindows N (domain curve.now) (Affine (number_from_digits 256 x.now) (number_from_digits 256 y.now)) t.now.xs.items t.now.ys.items) ∥₁ }
+{
+    'keys: for key in keys {
+        if is_of(key, x, y) {
+            return Some(&key.windows);
+        }
+    }
+    None
+}
+
+/// The windows of the base point, if they were made.
+fn windows_of_base<'a, const N: usize, const KIND: usize>(
+    curve: &Curve<N, KIND>,
+    base: &'a Option<PreparedBase<N>>,
+) -> Option<&'a Windows<N>>
+    requires { domain curve.now ≡ curve_over N }
+    ensures below { IfSome result (λ t. AreBelow (domain curve.now) t.now.xs.items t.now.ys.items) }
+    ensures are { ∥ IfSome result (λ t. AreWindows N (domain curve.now) (Affine (domain curve.now).gx (domain curve.now).gy) t.now.xs.items t.now.ys.items) ∥₁ }
+{
+    match base {
+        None => None,
+        Some(base) => Some(&base.windows),
+    }
+}
+
+/// Prepares a key beside the others, and before the first one the base point. False where it is no key, or is prepared already.
+fn prepare<const N: usize, const KIND: usize>(
+    alloc: Global,
+    curve: &Curve<N, KIND>,
+    keys: &mut PreparedKeys<N>,
+    octets: usize,
+    x: &[u8],
+    y: &[u8],
+) -> Result<bool, AllocError>
+    requires known { domain curve.now ≡ curve_over N }
+    requires octets { octets ≤ 8 * N }
+{
+    if windows_of(curve, keys.keys.as_slice(), x, y).is_some() {
+        return Ok(false);
+    }
+    let Some(key) = prepare_key(alloc, curve, octets, x, y)? else {
+        return Ok(false);
+    };
+    if keys.base.is_none() {
+        keys.base = prepare_base(alloc, curve)?;
+    }
+    keys.keys.push(key)?;
+    Ok(true)
+}
+
+/// Whether it is the signature of the digest by the public key, each number in so many octets.
+fn verifies_by<const N: usize, const KIND: usize>(
+    curve: &Curve<N, KIND>,
+    doubles: Doubles<'_, N>,
+    keys: &PreparedKeys<N>,
+    octets: usize,
+    asserted: &Asserted<'_>,
+) -> bool
+    requires known { domain curve.now ≡ curve_over N }
+    requires table { IsTable curve.now.field (domain curve.now) doubles.xs.now doubles.ys.now }
+    requires octets { octets ≤ 8 * N }
+    requires digest { length asserted.now.digest.now ≤ 8 * N }
+    requires large { 256 ^ length asserted.now.digest.now ≤ 2 * size curve.now.order }
+    ensures { result ≡ ecdsa (domain curve.now) octets asserted.now.digest.now asserted.now.x.now asserted.now.y.now asserted.now.signature.now }
+{
+    let base = windows_of_base(curve, &keys.base);
+    let key = windows_of(curve, keys.keys.as_slice(), asserted.x, asserted.y);
+    let tables = Tables { doubles, base, key };
+    verifies(curve, &tables, octets, asserted)
+}
+
+/// Prepares the key (x, y) of P-256, in 32 octets each, beside the others. False where it is no key, or is prepared already. Where
+/// memory is refused, the keys prepared before it stay as they are.
+pub fn prepare_p256(
+    alloc: Global,
+    keys: &mut PreparedKeys<4>,
+    x: &[u8],
+    y: &[u8],
+) -> Result<bool, AllocError> {
+    prepare(alloc, &p256(), keys, 32, x, y)
+}
+
+/// Whether a signature of 64 octets, R and S, is that of a digest of 32 octets by the public key (x, y) of P-256: as
+/// `verifies_p256`, and faster where the key is among the prepared ones.
+pub fn verifies_p256_by(
+    keys: &PreparedKeys<4>,
+    digest: &[u8],
+    x: &[u8],
+    y: &[u8],
+    signature: &[u8],
+) -> bool
+    requires { length digest.now ≡ 32 }
+    ensures { result ≡ ecdsa P256 32 digest.now x.now y.now signature.now }
+{
+    let curve = p256();
+    p256_table(&curve);
+    let doubles = Doubles {
+        xs: &P256_X,
+        ys: &P256_Y,
+    };
+    let asserted = Asserted {
+        digest,
+        x,
+        y,
+        signature,
+    };
+    verifies_by(&curve, doubles, keys, 32, &asserted)
+}
+
+/// Prepares the key (x, y) of P-384, in 48 octets each, beside the others. False where it is no key, or is prepared already. Where
+/// memory is refused, the keys prepared before it stay as they are.
+pub fn prepare_p384(
+    alloc: Global,
+    keys: &mut PreparedKeys<6>,
+    x: &[u8],
+    y: &[u8],
+) -> Result<bool, AllocError> {
+    prepare(alloc, &p384(), keys, 48, x, y)
+}
+
+/// Whether a signature of 96 octets, R and S, is that of a digest of 48 octets by the public key (x, y) of P-384: as
+/// `verifies_p384`, and faster where the key is among the prepared ones.
+pub fn verifies_p384_by(
+    keys: &PreparedKeys<6>,
+    digest: &[u8],
+    x: &[u8],
+    y: &[u8],
+    signature: &[u8],
+) -> bool
+    requires { length digest.now ≡ 48 }
+    ensures { result ≡ ecdsa P384 48 digest.now x.now y.now signature.now }
+{
+    let curve = p384();
+    p384_table(&curve);
+    let doubles = Doubles {
+        xs: &P384_X,
+        ys: &P384_Y,
+    };
+    let asserted = Asserted {
+        digest,
+        x,
+        y,
+        signature,
+    };
+    verifies_by(&curve, doubles, keys, 48, &asserted)
+}
+
+/// Prepares the key (x, y) of P-521, in 66 octets each, beside the others. False where it is no key, or is prepared already. Where
+/// memory is refused, the keys prepared before it stay as they are.
+pub fn prepare_p521(
+    alloc: Global,
+    keys: &mut PreparedKeys<9>,
+    x: &[u8],
+    y: &[u8],
+) -> Result<bool, AllocError> {
+    prepare(alloc, &p521(), keys, 66, x, y)
+}
+
+/// Whether a signature of 132 octets, R and S, is that of a digest of 64 octets by the public key (x, y) of P-521: as
+/// `verifies_p521`, and faster where the key is among the prepared ones.
+pub fn verifies_p521_by(
+    keys: &PreparedKeys<9>,
+    digest: &[u8],
+    x: &[u8],
+    y: &[u8],
+    signature: &[u8],
+) -> bool
+    requires { length digest.now ≡ 64 }
+    ensures { result ≡ ecdsa P521 66 digest.now x.now y.now signature.now }
+{
+    let curve = p521();
+    p521_table(&curve);
+    let doubles = Doubles {
+        xs: &P521_X,
+        ys: &P521_Y,
+    };
+    let asserted = Asserted {
+        digest,
+        x,
+        y,
+        signature,
+    };
+    verifies_by(&curve, doubles, keys, 66, &asserted)
+}

@@ -1,0 +1,4 @@
+-- ---- What contracts of public functions cite, in reading order
+
+-- what the built-in verifier means
+pub mod Meanings

@@ -1,0 +1,15 @@
+use Rattle.std.proofs.Common.{◌↔◌, ◌≤◌, ◌∷◌, ℕ, List, subst}
+use Rattle.jwt_renewal.specs.History.{Event, passed}
+use Rattle.jwt_renewal.specs.Rules.{Wants, MayBegin}
+use Rattle.jwt_renewal.specs.Standing.{Stands}
+use Rattle.jwt_renewal.specs.declared.renewal.Renewal.{Renewal}
+use Rattle.jwt_renewal.specs.declared.asker.Asker.TheVariants.{Token}
+use Rattle.jwt_handles.proofs.renewal.due.Goals as goal
+
+pub returns : goal.returns
+returns c = record {
+  due = subst
+      (λ (it : Renewal). (h : List Event) (more : ℕ) → Stands it h
+      → (c.due.result ≤ more) ↔ (Wants it.times Token (passed more ∷ h) × MayBegin it.times Token (passed more ∷ h)))
+      c.renewal.ensures c.due.ensures;
+}

@@ -1,0 +1,48 @@
+-- That marks tell apart, and what many calls do.
+use Rattle.std.specs.Prelude.{ℕ, ◌≡◌, ◌≢◌, ◌⊎◌, ◌≤◌, ◌<◌, List, [], ◌∷◌, ◌++◌}
+use Rattle.jwt_mac.specs.Algorithm.{sha256_of}
+use Rattle.jwt_once.specs.declared.once.Once.{Once}
+use Rattle.jwt_once.specs.declared.once.Taken.{Taken}
+use Rattle.jwt_once.specs.declared.once.Taken.TheVariants.{New}
+use Rattle.jwt_once.specs.Marks.{mark_of}
+use Rattle.jwt_once.specs.Steps.{IsTaken}
+
+-- two texts with one SHA-256 digest
+abbrev pub Collision : Type 0
+Collision = (a b : List ℕ) × (a ≢ b) × (sha256_of a ≡ sha256_of b)
+
+-- whoever finds two pairs with one mark has found two texts with one digest
+abbrev pub TellsApart : (issuer jti other_issuer other_jti : List ℕ) → Type 0
+TellsApart issuer jti other_issuer other_jti = mark_of issuer jti ≡ mark_of other_issuer other_jti → ((issuer ≡ other_issuer) × (jti ≡ other_jti)) ⊎ Collision
+
+-- ---- Cited by laws alone
+
+-- a call, with its answer
+pub record Call : Type 0 where
+  pub mark : List ℕ
+  pub until : ℕ
+  pub now : ℕ
+  pub answer : Taken
+
+-- these calls, in this order, take the one memory to the other
+abbrev pub IsRun : Once → List Call → Once → Type 0
+IsRun first [] last = first ≡ last
+IsRun first (call ∷ calls) last = (next : Once) × IsTaken first call.mark call.until call.now call.answer next × IsRun next calls last
+
+-- the calls of a run that ends with two calls for one mark, both of which were answered New
+pub record IsTakenTwice (one two : Call) (last : Once) : Type 0 where
+  pub first : Once
+  pub before : List Call
+  pub between : List Call
+  pub run : IsRun first (before ++ (one ∷ (between ++ (two ∷ [])))) last
+  pub one_is_new : one.answer ≡ New
+  pub two_is_new : two.answer ≡ New
+  pub same : one.mark ≡ two.mark
+
+-- Between two New for one mark the first one's moment has passed, at the greatest moment that was told.
+abbrev pub NoTokenTwice : Type 0
+NoTokenTwice = (one two : Call) (last : Once) → IsTakenTwice one two last → (one.until < last.latest) × (last.latest ≤ two.until)
+
+-- So no token is New twice that has the same moment both times.
+abbrev pub NeverTwice : Type 0
+NeverTwice = (one two : Call) (last : Once) → one.until ≡ two.until → IsTakenTwice one two last → ⊥

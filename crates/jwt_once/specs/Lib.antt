@@ -1,0 +1,10 @@
+-- ---- What contracts of public functions cite, in reading order
+
+-- the digest of a pair of issuer and jti
+pub mod Marks
+-- the two tables of a memory
+pub mod Tables
+-- what one call does
+pub mod Steps
+-- that marks tell apart, and what many calls do
+pub mod Laws

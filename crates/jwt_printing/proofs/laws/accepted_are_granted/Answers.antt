@@ -1,8 +1,0 @@
-use Rattle.jwt_printing.proofs.Passing.{json_passes, lines_pass}
-use Rattle.jwt_printing.proofs.laws.accepted_are_granted.Goals as goal
-
-pub returns-clause-lines : goal.returns-clause-lines
-returns-clause-lines c = λ rule verdict tries work. lines_pass c.denials_are_said.ensures.granted rule verdict tries work
-
-pub returns-clause-json : goal.returns-clause-json
-returns-clause-json c = λ rule verdict payload states tries work. json_passes c.denials_are_said.ensures.granted rule verdict payload states tries work

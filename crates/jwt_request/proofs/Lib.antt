@@ -1,0 +1,2 @@
+-- ---- For credentials.rt
+pub mod Places

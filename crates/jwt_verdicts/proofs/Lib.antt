@@ -1,0 +1,2 @@
+-- ---- For laws.rt
+pub mod Passing
