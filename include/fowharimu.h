@@ -295,8 +295,8 @@ uint32_t fow_open(fow_validator *validator, const uint8_t *policy, size_t policy
  * of the set that are of P-256, P-384, P-521 or Ed25519. A signature by a prepared key is verified in about a third of the time. With 0 none
  * is prepared, as for a service that asks OpenSSL instead.
  *
- * A key costs about 0.7 ms and 64 KB on P-256, 3 ms and 144 KB on P-384, 5 ms and 295 KB on P-521, and 140 KB on Ed25519; the first key of a
- * curve costs as much again, for the base point of the curve. RSA and HMAC keys cost nothing. Validators that are opened beside this one
+ * A key costs about 0.7 ms and 64 KB on P-256, 3 ms and 144 KB on P-384, 5 ms and 295 KB on P-521, and 0.3 ms and 140 KB on Ed25519; the first
+ * key of a curve costs as much again, for the base point of the curve. RSA and HMAC keys cost nothing. Validators that are opened beside this one
  * (fow_open_beside) share what is prepared. No verdict depends on it. A key for whose preparing memory is refused stays unprepared, and that
  * isn't answered FOW_OUT_OF_MEMORY. (Tested: tests/c/prepared.c.)
  *

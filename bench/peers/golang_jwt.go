@@ -1,11 +1,13 @@
 // Command golang_jwt prints how many calls a second so many goroutines make of golang-jwt: golang_jwt THREADS SECONDS NAME BURST
 //
-// NAME.key is the secret of a token by HS256, NAME.pem the public key of one by RS256. bench/rates puts the bursts of bindings/go/rates beside it.
+// NAME ends with the algorithm. NAME.key is the secret of a token by HS256, NAME.pem the public key of any other. bench/rates puts the bursts of bindings/go/rates beside it.
 package main
 
 import (
 	"log"
 	"os"
+	"path/filepath"
+	"strings"
 	"time"
 
 	"github.com/golang-jwt/jwt"
@@ -33,12 +35,24 @@ func validate(parser *jwt.Parser, key interface{}, token string) {
 
 // keyOf gives the algorithm and the key of this name.
 func keyOf(name string) (string, interface{}) {
-	if secret, err := os.ReadFile(name + ".key"); err == nil {
-		return "HS256", secret
+	alg := filepath.Base(name)
+	if alg == "HS256" {
+		return alg, read(name + ".key")
 	}
-	key, err := jwt.ParseRSAPublicKeyFromPEM(read(name + ".pem"))
+	pem := read(name + ".pem")
+	if alg == "Ed25519" {
+		return "EdDSA", checked(jwt.ParseEdPublicKeyFromPEM(pem))
+	}
+	if strings.HasPrefix(alg, "ES") {
+		return alg, checked(jwt.ParseECPublicKeyFromPEM(pem))
+	}
+	return alg, checked(jwt.ParseRSAPublicKeyFromPEM(pem))
+}
+
+// checked ends the program where there is no key.
+func checked[T any](key T, err error) T {
 	if err != nil {
 		log.Fatal(err)
 	}
-	return "RS256", key
+	return key
 }

@@ -1,6 +1,6 @@
 """Prints how many calls a second so many threads make of PyJWT: pyjwt.py THREADS SECONDS NAME BURST
 
-NAME.key is the secret of a token by HS256, NAME.pem the public key of one by RS256. The end isn't looked at, since the moment can't be
+NAME ends with the algorithm. NAME.key is the secret of a token by HS256, NAME.pem the public key of any other. The end isn't looked at, since the moment can't be
 set, and the tokens of the RFC ended in 2011. The bursts are those of bindings/python.
 """
 
@@ -15,11 +15,10 @@ OPTIONS = {"verify_exp": False, "require": ["exp", "iss"]}
 
 def key_of(name):
     """The key of this name, and its algorithm."""
-    secret = pathlib.Path(f"{name}.key")
-    if secret.exists():
-        return secret.read_bytes(), "HS256"
-    pem = pathlib.Path(f"{name}.pem").read_bytes()
-    return jwt.algorithms.RSAAlgorithm(jwt.algorithms.RSAAlgorithm.SHA256).prepare_key(pem), "RS256"
+    ending = pathlib.Path(name).name
+    algorithm = "EdDSA" if ending == "Ed25519" else ending
+    octets = pathlib.Path(f"{name}.{'key' if algorithm == 'HS256' else 'pem'}").read_bytes()
+    return jwt.algorithms.get_default_algorithms()[algorithm].prepare_key(octets), algorithm
 
 
 def main():

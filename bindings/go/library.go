@@ -20,6 +20,12 @@ static void crypto_clear(crypto *it)
 {
 	(void)it;
 }
+
+static uint32_t crypto_open(fow_validator *validator, const uint8_t *policy, size_t policy_len, const uint8_t *keys, size_t keys_len,
+	uint32_t *fault)
+{
+	return fow_open(validator, policy, policy_len, keys, keys_len, fault);
+}
 #else
 #include <fowharimu_openssl.h>
 
@@ -34,6 +40,13 @@ static void crypto_judge(crypto *it, fow_validator *validator, const uint8_t *to
 static void crypto_clear(crypto *it)
 {
 	fow_openssl_clear(it);
+}
+
+// No key is prepared, since OpenSSL verifies.
+static uint32_t crypto_open(fow_validator *validator, const uint8_t *policy, size_t policy_len, const uint8_t *keys, size_t keys_len,
+	uint32_t *fault)
+{
+	return fow_open_prepared(validator, policy, policy_len, keys, keys_len, 0, fault);
 }
 #endif
 
@@ -51,7 +64,7 @@ static const uint8_t *at(_GoString_ text)
 
 static uint32_t held_open(held *it, _GoString_ policy, _GoString_ keys, uint32_t *fault)
 {
-	return fow_open(&it->validator, at(policy), _GoStringLen(policy), at(keys), _GoStringLen(keys), fault);
+	return crypto_open(&it->validator, at(policy), _GoStringLen(policy), at(keys), _GoStringLen(keys), fault);
 }
 
 static uint32_t held_most_questions(held *it, uint32_t *most)

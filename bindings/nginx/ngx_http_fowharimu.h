@@ -262,6 +262,8 @@ ngx_int_t ngx_http_fowharimu_note_claim(ngx_http_fowharimu_main_conf_t *mcf,
 ngx_int_t ngx_http_fowharimu_add_variables(ngx_conf_t *cf);
 ngx_int_t ngx_http_fowharimu_open(ngx_conf_t *cf,
     ngx_http_fowharimu_loc_conf_t *lcf);
+uint32_t ngx_http_fowharimu_open_documents(fow_validator *handle,
+    ngx_str_t *policy, ngx_str_t *keys, uint32_t *fault);
 ngx_int_t ngx_http_fowharimu_watch(ngx_conf_t *cf,
     ngx_http_fowharimu_file_t *file, ngx_http_fowharimu_opening_t *opening);
 ngx_int_t ngx_http_fowharimu_init_process(ngx_cycle_t *cycle);

@@ -54,6 +54,17 @@ ngx_http_fowharimu_open(ngx_conf_t *cf, ngx_http_fowharimu_loc_conf_t *lcf)
 }
 
 
+/* by OpenSSL, which verifies here, no key needs to be prepared */
+
+uint32_t
+ngx_http_fowharimu_open_documents(fow_validator *handle, ngx_str_t *policy,
+    ngx_str_t *keys, uint32_t *fault)
+{
+    return fow_open_prepared(handle, policy->data, policy->len, keys->data,
+                             keys->len, 0, fault);
+}
+
+
 /*
  * The policy of each allows exactly the issuer under which it stands.  That
  * with the least limit says what is a token; of those with the same limit it is
@@ -233,8 +244,8 @@ ngx_http_fowharimu_open_validator(ngx_conf_t *cf,
         status = fow_open_beside(handle, &other[i]->validator->handle);
 
     } else {
-        status = fow_open(handle, opening->policy.data, opening->policy.len,
-                          opening->keys.data, opening->keys.len, &fault);
+        status = ngx_http_fowharimu_open_documents(handle, &opening->policy,
+                                                   &opening->keys, &fault);
     }
 
     if (status != FOW_OK) {
@@ -555,8 +566,8 @@ ngx_http_fowharimu_check(ngx_conf_t *cf, ngx_str_t *name, ngx_str_t *policy,
     mcf->named = 1;
 
     fault = FOW_NO_FAULT;
-    status = fow_open(&validator, policy->data, policy->len, keys->data,
-                      keys->len, &fault);
+    status = ngx_http_fowharimu_open_documents(&validator, policy, keys,
+                                               &fault);
     fow_close(&validator);
 
     if (status == FOW_OK) {

@@ -396,8 +396,9 @@ ngx_http_fowharimu_open_newer(ngx_http_fowharimu_watch_t *watch,
     for (i = 0; i < watch->openings.nelts; i++) {
 
         status = i ? fow_open_beside(&newer[i], &newer[0])
-                   : fow_open(&newer[0], watch->policy.data, watch->policy.len,
-                              keys->data, keys->len, fault);
+                   : ngx_http_fowharimu_open_documents(&newer[0],
+                                                       &watch->policy, keys,
+                                                       fault);
 
         if (status == FOW_OK) {
             status = fow_remember(&newer[i], opening[i]->tokens,

@@ -63,8 +63,10 @@ final class Bursts {
         Map<Long, Double> rates = new HashMap<>();
         long period = burst + PAUSE;
         for (long n = clock() / period + 1; n * period < end; n++) {
+            // (read before the pause, since reading it takes part of a burst)
+            long before = switchedOut();
             TimeUnit.NANOSECONDS.sleep(n * period - clock());
-            double rate = rate(n * period, burst, call);
+            double rate = rate(n * period, before, burst, call);
             if (rate > 0) {
                 rates.put(n, rate);
             }
@@ -72,9 +74,9 @@ final class Bursts {
         return rates;
     }
 
-    /** The calls a second of a burst that begins at this moment; 0 where the thread was disturbed. */
-    private static double rate(long start, long burst, Call call) throws Exception {
-        long before = switchedOut(), late = clock() - start, began = System.nanoTime(), took = 0;
+    /** The calls a second of a burst that begins at this moment; 0 where the thread was disturbed, which had been switched out so often before. */
+    private static double rate(long start, long before, long burst, Call call) throws Exception {
+        long late = clock() - start, began = System.nanoTime(), took = 0;
         int calls = 0;
         while (took < burst - late) {
             for (int n = 0; n < CALLS; n++) {

@@ -1,6 +1,6 @@
 //! Prints how many calls a second so many threads make of jsonwebtoken: rates THREADS SECONDS NAME BURST
 //!
-//! NAME.key is the secret of a token by HS256, NAME.pem the public key of one by RS256. `bench/rates` puts the bursts of the crate's own example
+//! NAME ends with the algorithm. NAME.key is the secret of a token by HS256, NAME.pem the public key of any other. `bench/rates` puts the bursts of the crate's own example
 //! beside it.
 
 mod bursts;
@@ -22,10 +22,14 @@ fn main() -> Result<(), Box<dyn error::Error>> {
 
 /// The key of this name, and its algorithm.
 fn key_of(name: &str) -> Result<(DecodingKey, Algorithm), Box<dyn error::Error>> {
-    match fs::read(format!("{name}.key")) {
-        Ok(secret) => Ok((DecodingKey::from_secret(&secret), Algorithm::HS256)),
-        Err(_) => Ok((DecodingKey::from_rsa_pem(&fs::read(format!("{name}.pem"))?)?, Algorithm::RS256)),
-    }
+    let pem = || fs::read(format!("{name}.pem"));
+    Ok(match name.rsplit('/').next() {
+        Some("HS256") => (DecodingKey::from_secret(&fs::read(format!("{name}.key"))?), Algorithm::HS256),
+        Some("ES256") => (DecodingKey::from_ec_pem(&pem()?)?, Algorithm::ES256),
+        Some("ES384") => (DecodingKey::from_ec_pem(&pem()?)?, Algorithm::ES384),
+        Some("Ed25519") => (DecodingKey::from_ed_pem(&pem()?)?, Algorithm::EdDSA),
+        _ => (DecodingKey::from_rsa_pem(&pem()?)?, Algorithm::RS256),
+    })
 }
 
 /// The issuer is asked for. The end isn't looked at, since the moment can't be set, and the tokens of the RFC ended in 2011.

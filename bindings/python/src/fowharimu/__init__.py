@@ -175,9 +175,7 @@ class Validator:
         policy_octets, key_octets = document_of(policy, "a policy"), document_of(keys, "a key set")
         documents = Seat()
         fault = ctypes.c_uint32()
-        status = self._library.fow_open(
-            documents.held, policy_octets, len(policy_octets), key_octets, len(key_octets), fault
-        )
+        status = _library.opened(self._library, documents.held, policy_octets, key_octets, fault)
         if status == _library.OUT_OF_MEMORY:
             raise MemoryError
         if status != _library.OK:

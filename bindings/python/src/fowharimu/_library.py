@@ -120,6 +120,7 @@ _RENEWAL = ctypes.POINTER(CRenewal)
 
 _SIGNATURES = {
     "fow_open": (_U32, [_VALIDATOR, *_IN, *_IN, ctypes.POINTER(_U32)]),
+    "fow_open_prepared": (_U32, [_VALIDATOR, *_IN, *_IN, _SIZE, ctypes.POINTER(_U32)]),
     "fow_open_beside": (_U32, [_VALIDATOR, _VALIDATOR]),
     "fow_most_questions": (_U32, [_VALIDATOR, ctypes.POINTER(_U32)]),
     "fow_close": (None, [_VALIDATOR]),
@@ -198,6 +199,14 @@ def _declare(library: ctypes.CDLL) -> None:
 def is_over_openssl(library: ctypes.CDLL) -> bool:
     """Whether the library is the one over OpenSSL."""
     return hasattr(library, "fow_openssl_judge")
+
+
+def opened(library: ctypes.CDLL, validator: CValidator, policy: bytes, keys: bytes, fault: ctypes.c_uint32) -> int:
+    """What the library answers where it opens a validator. Where OpenSSL verifies, no key is prepared."""
+    documents = (policy, len(policy), keys, len(keys))
+    if is_over_openssl(library):
+        return library.fow_open_prepared(validator, *documents, 0, fault)
+    return library.fow_open(validator, *documents, fault)
 
 
 def _shipped() -> Optional[str]:

@@ -23,6 +23,28 @@ impl Crypto {
         })
     }
 
+    /// Reads a policy and a key set. No key is prepared, since OpenSSL verifies.
+    pub(crate) fn open(
+        &self,
+        held: &mut sys::fow_validator,
+        policy: &[u8],
+        keys: &[u8],
+        fault: &mut u32,
+    ) -> u32 {
+        // SAFETY: the slices are as long as their lengths say, and aren't null.
+        unsafe {
+            sys::fow_open_prepared(
+                held,
+                policy.as_ptr(),
+                policy.len(),
+                keys.as_ptr(),
+                keys.len(),
+                0,
+                fault,
+            )
+        }
+    }
+
     /// What is said of a token.
     pub(crate) fn judge(
         &mut self,
@@ -60,6 +82,27 @@ impl Drop for Crypto {
 impl Crypto {
     pub(crate) fn new() -> Crypto {
         Crypto
+    }
+
+    /// Reads a policy and a key set, and prepares keys for the proved verifiers.
+    pub(crate) fn open(
+        &self,
+        held: &mut sys::fow_validator,
+        policy: &[u8],
+        keys: &[u8],
+        fault: &mut u32,
+    ) -> u32 {
+        // SAFETY: the slices are as long as their lengths say, and aren't null.
+        unsafe {
+            sys::fow_open(
+                held,
+                policy.as_ptr(),
+                policy.len(),
+                keys.as_ptr(),
+                keys.len(),
+                fault,
+            )
+        }
     }
 
     /// What is said of a token.

@@ -79,18 +79,7 @@ impl Seat {
         compare()?;
         let mut seat = Seat::new();
         let mut fault = 0;
-        // SAFETY: the slices are as long as their lengths say, and aren't null.
-        let status = unsafe {
-            sys::fow_open(
-                &mut seat.held,
-                policy.as_ptr(),
-                policy.len(),
-                keys.as_ptr(),
-                keys.len(),
-                &mut fault,
-            )
-        };
-        match status {
+        match seat.crypto.open(&mut seat.held, policy, keys, &mut fault) {
             sys::FOW_OK => Ok(seat),
             sys::FOW_REFUSED => Err(document_refused(fault, policy)),
             _ => Err(Error::OutOfMemory),
