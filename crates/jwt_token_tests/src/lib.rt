@@ -8,6 +8,8 @@ mod access;
 #[cfg(test)]
 mod door;
 #[cfg(test)]
+mod expected;
+#[cfg(test)]
 mod issue;
 #[cfg(test)]
 mod memory;
