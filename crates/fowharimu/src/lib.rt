@@ -14,11 +14,12 @@
 //! keys prepared, and a caller's own is a [`Verifier`]. The [`Report`] has the [`Verdict`], what became of each signature, and each try of a
 //! key with its cost.
 //!
-//! An [`AccessRule`] says what an accepted token may do, by [`AccessRule::denial`] of its claims.
+//! An [`AccessRule`] says what an accepted token may do, by [`AccessRule::denial`] of its claims. Where a token counts once, as the last step a
+//! [`Once`] is asked: [`Once::take_accepted`] answers [`Taken::New`] of each token one time, and nothing else lets it through.
 //!
 //! Each other name here is that of one of the libraries below: `jwt_text`, `jwt_mac`, `jwt_keys`, `jwt_jws`, `jwt_policy`, `jwt_access`,
-//! `jwt_verify`, `jwt_memory`, `jwt_issue`, `jwt_built_in`, `jwt_rsa`, `jwt_ecdsa` and `jwt_ed25519`. Their modules `laws` stand here as `access_laws`,
-//! `token_laws`, of issuing, `memory_laws` and `verdict_laws`.
+//! `jwt_verify`, `jwt_memory`, `jwt_once`, `jwt_issue`, `jwt_built_in`, `jwt_rsa`, `jwt_ecdsa` and `jwt_ed25519`. Their modules `laws` stand here as `access_laws`,
+//! `token_laws`, of issuing, `memory_laws`, `once_laws` and `verdict_laws`.
 #![tactic(auto)]
 
 mod remembering;
@@ -36,6 +37,9 @@ pub use validator::Validator;
 
 // What an accepted token may do.
 pub use jwt_access::{AccessFault, AccessRule, Denial, DeniedName, RuleMember, has_scope};
+
+// Taking a token once.
+pub use jwt_once::{Lack, Once, Taken};
 
 // Judging the same token many times.
 pub use jwt_memory::{Basis, Outcome};
@@ -60,4 +64,5 @@ pub use jwt_issue::{
 pub use jwt_access::laws as access_laws;
 pub use jwt_issue::laws as token_laws;
 pub use jwt_memory::laws as memory_laws;
+pub use jwt_once::laws as once_laws;
 pub use jwt_verify::laws as verdict_laws;
