@@ -34,6 +34,7 @@ from ._faults import (
     FowharimuError,
     IssueRefused,
     KeysRefused,
+    NotTaken,
     PolicyRefused,
     SignatureRefused,
     TokenRefused,
@@ -42,6 +43,7 @@ from ._faults import (
     Undecided,
     Unreadable,
 )
+from ._once import Once
 from ._seats import SHORT, Seat, Seats, said, written
 from ._texts import Document, Text, document_of, octets_of
 
@@ -58,6 +60,7 @@ __all__ = [
     "FowharimuError",
     "IssueRefused",
     "KeysRefused",
+    "NotTaken",
     "PolicyRefused",
     "Report",
     "SignatureRefused",
@@ -158,6 +161,11 @@ class Validator:
     is found by all its octets, and only its claims are looked at. Each call that is under way at once has a memory of its own. Accepted tokens
     lie in memory until they go, and aren't wiped.
 
+    `once=tokens` lets each token in once: `validate` takes what is accepted and meets the access rule, by issuer and `jti`, until its `exp` and the
+    leeway, and refuses what was taken (NotTaken), what has no `jti` or no `exp`, and what there is no room for. So many tokens are held at most: as many as
+    are accepted within the lifetime of one. A process that has a validator of its own lets a token in once a process; after fork each child has its own.
+    `now` is then the clock's moment: one far in the future closes the memory. `judge` takes nothing.
+
     Raises PolicyRefused, KeysRefused or TooManyQuestions, AnotherLibrary where another library was loaded than this package is made for,
     and MemoryError where memory is refused.
     """
@@ -169,8 +177,10 @@ class Validator:
         *,
         most_questions: Optional[int] = _library.MOST_QUESTIONS,
         remember: Tuple[SupportsIndex, SupportsIndex] = (0, 0),
+        once: Optional[SupportsIndex] = None,
     ) -> None:
         tokens, octets = (_number(it, "remember", 0, 2 * sys.maxsize + 1) for it in remember)
+        room = None if once is None else _number(once, "once", 1, 2 * sys.maxsize + 1)
         self._library = _library.load()
         policy_octets, key_octets = document_of(policy, "a policy"), document_of(keys, "a key set")
         documents = Seat()
@@ -188,6 +198,7 @@ class Validator:
         limit = ctypes.c_uint32()
         self._library.fow_token_limit(documents.held, limit)
         self._limit = limit.value
+        self._once = None if room is None else Once(room)
         # (a signature by a public key, and a try of many secrets, take long enough for another thread to go on)
         self._seats = Seats(documents, (tokens, octets), SHORT if questions == 0 and len(key_octets) <= SHORT else -1)
 
@@ -209,6 +220,8 @@ class Validator:
         denial = None if access is NO_RULE else access.denial(seat)
         if denial is not None:
             raise denial
+        if self._once is not None:
+            self._once.take(seat, moment)
         return payload
 
     def judge(self, token: Text, now: Optional[SupportsIndex] = None) -> Report:

@@ -196,7 +196,7 @@ impl RemoteKeys {
     ) -> Result<Claims, Error> {
         let shared = &self.shared;
         shared.find_keys(token)?;
-        let judge = |seat: &mut Seat| (seat.documents(), seat.claims(token, now, access));
+        let judge = |seat: &mut Seat| (seat.documents(), seat.claims(token, now, access, None));
         let (keys, said) = shared.seats.call(judge)?;
         if !said.as_ref().err().map_or(false, asks_for_keys) {
             return said;
