@@ -1,6 +1,6 @@
 //! Tokens that count once: one is let in by one call, whichever thread makes it.
 
-use fowharimu::{Access, Error, NotTaken, Once, Validator};
+use fowharimu::{Access, Answer, Error, Get, NotTaken, Once, Remote, Validator};
 use std::fs;
 use std::num::NonZeroUsize;
 use std::path::Path;
@@ -102,6 +102,28 @@ fn a_token_that_cant_be_held_is_refused() {
         taking("logout-token", &once).validate_at(&good("logout-token"), NOW),
         Err(refused(NotTaken::Full))
     );
+}
+
+#[test]
+fn what_was_taken_stays_so_under_new_keys() {
+    let client = |_: &Get<'_>| {
+        Ok(Answer {
+            status: 200,
+            body: read(ASSERTION, "keys.json"),
+            ..Answer::default()
+        })
+    };
+    let keys = Remote::by(client)
+        .taking(memory(1000))
+        .open(
+            &read(ASSERTION, "policy.json"),
+            "https://issuer.example/keys",
+        )
+        .unwrap();
+    let token = good(ASSERTION);
+    assert!(keys.validate_at(&token, NOW).is_ok());
+    keys.refresh().unwrap();
+    assert_eq!(keys.validate_at(&token, NOW), Err(refused(NotTaken::Seen)));
 }
 
 #[test]
