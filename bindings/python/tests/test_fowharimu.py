@@ -16,7 +16,7 @@ import sys
 import threading
 import time
 import unittest
-from typing import Any, Callable, Iterator, List
+from typing import Any, Callable, Iterator, List, Union
 
 from fowharimu import (
     Access,
@@ -31,6 +31,7 @@ from fowharimu import (
     IssueRefused,
     KeysRefused,
     NotTaken,
+    Once,
     PolicyRefused,
     SignatureRefused,
     TokenRefused,
@@ -125,7 +126,7 @@ class Remembering(unittest.TestCase):
 class Taking(unittest.TestCase):
     """Tokens that count once."""
 
-    def taking(self, once: int = 10) -> Validator:
+    def taking(self, once: Union[Once, int] = 10) -> Validator:
         """A validator that takes so many tokens, which it issues too."""
         return Validator({"algs": ["HS256"], "leeway": 60}, HMAC.with_suffix(".keys").read_bytes(), once=once)
 
@@ -161,6 +162,15 @@ class Taking(unittest.TestCase):
     def test_none_is_taken_unless_it_is_asked_for(self) -> None:
         with validator_of(HMAC) as validator:
             self.assertEqual([validator.validate(token_of(HMAC), NOW)["iss"] for _ in range(2)], ["joe", "joe"])
+
+    def test_validators_share_a_memory(self) -> None:
+        once = Once(10)
+        with self.taking(once) as first, self.taking(once) as second:
+            token = first.issue({"iss": "i", "jti": "a", "exp": 1000})
+            first.validate(token, 900)
+            self.refused(second, token, 900, "Seen")
+        with self.assertRaises(TypeError):
+            copy.copy(once)
 
     def test_numbers_that_are_none(self) -> None:
         for once in (0, -1, 2**64):

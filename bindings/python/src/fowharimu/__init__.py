@@ -19,7 +19,7 @@ import sys
 import time
 from dataclasses import dataclass
 from types import TracebackType
-from typing import Any, Dict, List, NoReturn, Optional, SupportsIndex, Tuple, Type
+from typing import Any, Dict, List, NoReturn, Optional, SupportsIndex, Tuple, Type, Union
 
 from . import _library
 from ._access import NO_RULE, Access, Rule, checked
@@ -43,7 +43,7 @@ from ._faults import (
     Undecided,
     Unreadable,
 )
-from ._once import Once
+from ._once import Once, once_of
 from ._seats import SHORT, Seat, Seats, said, written
 from ._texts import Document, Text, document_of, octets_of
 
@@ -61,6 +61,7 @@ __all__ = [
     "IssueRefused",
     "KeysRefused",
     "NotTaken",
+    "Once",
     "PolicyRefused",
     "Report",
     "SignatureRefused",
@@ -162,9 +163,9 @@ class Validator:
     lie in memory until they go, and aren't wiped.
 
     `once=tokens` lets each token in once: `validate` takes what is accepted and meets the access rule, by issuer and `jti`, until its `exp` and the
-    leeway, and refuses what was taken (NotTaken), what has no `jti` or no `exp`, and what there is no room for. So many tokens are held at most: as many as
-    are accepted within the lifetime of one. A process that has a validator of its own lets a token in once a process; after fork each child has its own.
-    `now` is then the clock's moment: one far in the future closes the memory. `judge` takes nothing.
+    leeway, and refuses what was taken (NotTaken), what has no `jti` or no `exp`, and what there is no room for. So many tokens are held at most: as
+    many as are accepted within the lifetime of one. `once=Once(tokens)` is a memory that validators share. A token is let in once a memory, so once a
+    process; after fork each child has its own. `now` is then the clock's moment: one far in the future closes the memory. `judge` takes nothing.
 
     Raises PolicyRefused, KeysRefused or TooManyQuestions, AnotherLibrary where another library was loaded than this package is made for,
     and MemoryError where memory is refused.
@@ -177,10 +178,10 @@ class Validator:
         *,
         most_questions: Optional[int] = _library.MOST_QUESTIONS,
         remember: Tuple[SupportsIndex, SupportsIndex] = (0, 0),
-        once: Optional[SupportsIndex] = None,
+        once: Union[Once, SupportsIndex, None] = None,
     ) -> None:
         tokens, octets = (_number(it, "remember", 0, 2 * sys.maxsize + 1) for it in remember)
-        room = None if once is None else _number(once, "once", 1, 2 * sys.maxsize + 1)
+        self._once = once_of(once)
         self._library = _library.load()
         policy_octets, key_octets = document_of(policy, "a policy"), document_of(keys, "a key set")
         documents = Seat()
@@ -198,7 +199,6 @@ class Validator:
         limit = ctypes.c_uint32()
         self._library.fow_token_limit(documents.held, limit)
         self._limit = limit.value
-        self._once = None if room is None else Once(room)
         # (a signature by a public key, and a try of many secrets, take long enough for another thread to go on)
         self._seats = Seats(documents, (tokens, octets), SHORT if questions == 0 and len(key_octets) <= SHORT else -1)
 
