@@ -55,6 +55,8 @@ SENTENCES = {
     "of 301, 302, 303, 307 and 308 five are followed": ["step"],
     "is asked for exactly where FOW_ASKED_OPENID is answered by 404": ["step"],
     "whoever keeps this time beside the keys asks": ["quiet"],
+    "between two that are new for one issuer and `jti`": ["taken"],
+    "what counts in the memory stays": ["taken"],
 }
 # No clause can say that an allocation was refused.
 UNSAID = "FOW_OUT_OF_MEMORY"

@@ -25,15 +25,15 @@
  *    call at a time. It isn't copied while it holds something, but may be moved: assigned to another place, after which the old one
  *    isn't used until it is zeroed. Another thread may use it after a lock or a join. Validators
  *    that were opened beside one another (fow_open_beside) may be used by as many threads at once. The same holds of a fow_access
- *    (FOW_ACCESS_INIT), which each thread opens for itself.
+ *    (FOW_ACCESS_INIT), which each thread opens for itself, and of a fow_once (FOW_ONCE_INIT), which threads share under a lock.
  *  - A pointer with a length beside it is to so many readable octets (const) or writable octets (else), fewer than 2^63. It
  *    isn't NULL, even where the length is 0: hand in the address of any octet then. Every other pointer is to one readable and
  *    writable value of its type, and isn't NULL.
- *  - What a call writes to doesn't overlap with what it is handed, nor with the validator, nor with the access rule.
+ *  - What a call writes to doesn't overlap with what it is handed, nor with the validator, the access rule and the memory.
  *  - A bool is 0 or 1.
  *  - malloc, realloc and free are those of one allocator, and no call is made from a signal handler.
  *
- * A validator or an access rule that was never opened, or was closed, is no error: a call answers FOW_NOT_OPEN then. Nothing is leaked where
+ * A validator, an access rule or a memory that was never opened, or was closed, is no error: a call answers FOW_NOT_OPEN then. Nothing is leaked where
  * memory is refused. Each call ends. Nothing is promised of time, or of keys that are left in memory. An open validator keeps
  * what reading a token needs from one fow_judge to the next: 16 KiB, and room that grows with the longest token that was judged.
  *
@@ -81,7 +81,7 @@ enum fow_status {
     FOW_REFUSED = 1,       /* refused, for the fault that is named */
     FOW_ASKS = 2,          /* of a verdict alone: it needs to know whether a key made a signature */
     FOW_OUT_OF_MEMORY = 3, /* an allocation was refused */
-    FOW_NOT_OPEN = 4,      /* the validator holds nothing */
+    FOW_NOT_OPEN = 4,      /* the validator, or what stands beside it, holds nothing */
     FOW_TOO_SHORT = 5,     /* what is to be written has more octets than there is room for */
     FOW_ABSENT = 6,        /* there is no such thing */
     FOW_DENIED = 7,        /* of fow_denied alone: the accepted token may not do this */
@@ -549,6 +549,55 @@ uint32_t fow_denied(fow_validator *validator, fow_access *access, uint32_t *deni
  * Proved: FOW_OK: `out` begins with it, and it has *written octets. FOW_ABSENT: the claims meet the rule, or the last verdict was no
  * acceptance. FOW_NOT_OPEN: as of fow_denied. Both hold what they held. */
 uint32_t fow_denied_name(fow_validator *validator, fow_access *access, uint8_t *out, size_t out_len, size_t *written);
+
+/* A memory of tokens that count once, by their issuer and `jti` (RFC 7519, section 4.1.7): what keeps a token that was caught from being shown again, as
+ * DPoP proofs, client assertions (RFC 7523) and logout tokens ask for. It is asked behind the verdict, with each token that was accepted and that no access
+ * rule denies, as the last step before the request is let through. It takes some 130 octets for each token that it holds. The members are private.
+ *
+ * One memory lets a token in once. A process that has one of its own lets each token in once a process, and several processes or machines need one store
+ * that they share. Such a store has to do in one step what fow_once_take does: say of issuer and `jti` that they are new, and hold them for everybody from
+ * then on until `exp` and the leeway have passed; drop none before; and where it can't be asked, or has no room, the token is refused.
+ *
+ * It may be asked about by as many validators as there are, whose policies have the same `leeway`. A fow_once is used by one call at a time: the lock that
+ * threads need is the caller's. Take it for the call alone. */
+typedef struct fow_once {
+    void *at;
+    bool held;
+} fow_once;
+
+#define FOW_ONCE_INIT { NULL, false }
+
+/* What became of a token that is asked about. */
+enum fow_taken {
+    FOW_TAKEN_NOTHING = 0, /* nothing was taken, for another reason than those below; the status says it */
+    FOW_TAKEN_NEW = 1,     /* it wasn't taken before, and is held from now on */
+    FOW_TAKEN_SEEN = 2,    /* it was taken before */
+    FOW_TAKEN_LATE = 3,    /* its `exp` and the leeway have passed by the greatest moment that the memory was told, so nobody can say */
+    FOW_TAKEN_FULL = 4,    /* as many tokens as there is room for are held, and none of them has passed */
+    FOW_TAKEN_NO_ID = 5,   /* it has no `jti` */
+    FOW_TAKEN_NO_END = 6   /* it has no `exp`, so it would have to be held for ever */
+};
+
+/* Makes an empty memory for at most so many tokens. Room is needed for as many as are accepted within the lifetime of one: where it is too small, tokens that
+ * are good are refused.
+ *
+ * Proved: FOW_OK: the memory is held from now on, is empty and has room for so many. FOW_REFUSED: `tokens` is 0. Where the answer isn't FOW_OK, the
+ * fow_once holds what it held. */
+uint32_t fow_once_open(fow_once *once, size_t tokens);
+
+/* Takes the token that was accepted last. `now` is the moment of that verdict, and no other: the greatest moment that was told is the one that is meant, so
+ * that a clock that goes back lets nothing in again. So one moment far in the future closes the memory: each token is FOW_TAKEN_LATE then, until it is opened
+ * anew. A moment before 1970 counts as 0. A service answers 401 to FOW_REFUSED, as to a token that isn't accepted, and lets through nothing but FOW_OK.
+ *
+ * Proved: FOW_OK: it wasn't taken before, and is held from now on until `exp` and the policy's leeway; *taken is FOW_TAKEN_NEW. FOW_REFUSED: *taken says
+ * why it isn't taken, and nothing new is held. FOW_ABSENT: the last verdict was no acceptance. FOW_NOT_OPEN: the validator or the memory holds nothing. No
+ * token is taken twice: between two that are new for one issuer and `jti` the first one's `exp` and leeway have passed, and the same claims are never new
+ * twice. What counts in the memory stays. The validator holds what it held. */
+uint32_t fow_once_take(fow_once *once, fow_validator *validator, int64_t now, uint32_t *taken);
+
+/* Frees what is held. It may be called twice, and before anything was opened. What was taken is forgotten: a token may come again in the memory that is opened
+ * next. Proved: nothing is held. */
+void fow_once_close(fow_once *once);
 
 /* Issues the claims as a token signed by HMAC: `alg` is FOW_HS256, FOW_HS384 or FOW_HS512, `form` is enum fow_form, and `typ` the
  * protected header's `typ` in UTF-8, such as `at+jwt`; where typ_len is 0, it has none. In compact and flattened form key `key` of

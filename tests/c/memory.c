@@ -206,6 +206,30 @@ static uint32_t name_denied(void)
     return fow_denied_name(&validator, &access, out, sizeof out, &written);
 }
 
+/* A memory of tokens that count once, which is opened anew where it is open, and a token with `jti` and `exp`. */
+static fow_once once = FOW_ONCE_INIT;
+
+static uint32_t open_once(void)
+{
+    return fow_once_open(&once, 64);
+}
+
+static uint32_t take_it(void)
+{
+    uint32_t taken;
+    return fow_once_take(&once, &validator, NOW, &taken);
+}
+
+static void judge_one_with_jti(int number)
+{
+    char claims[64];
+    fow_report report;
+    int len = snprintf(claims, sizeof claims, "{\"jti\":\"%d\",\"exp\":1300819380}", number);
+    CHECK(fow_issue(&validator, FOW_HS256, FOW_COMPACT, 0, out, 0, (const uint8_t *)claims, (size_t)len, token.at, sizeof token.at, &token.len,
+              &report) == FOW_OK);
+    CHECK(judge_it() == FOW_OK);
+}
+
 /* Refuses each allocation of a call in turn, and then all after it, until the call needs no more. */
 static void refuse_each(const char *name, uint32_t (*call)(void), uint32_t right)
 {
@@ -289,6 +313,7 @@ static void refuse_on(const char *name, uint32_t verdict)
 int main(int argc, char **argv)
 {
     CHECK(argc == 4);
+    long nothing = held;
     refuse_on(argv[2], FOW_ASKS);
     refuse_on(argv[3], FOW_ASKS);
     refuse_on(argv[1], FOW_OK);
@@ -307,7 +332,18 @@ int main(int argc, char **argv)
     refuse_each("fow_denied_name", name_denied, FOW_OK);
     CHECK(asked_for == asked);
     fow_access_close(&access);
+
+    /* (where memory is refused, the token isn't taken, and is new the next time) */
+    refuse_each("fow_once_open", open_once, FOW_OK);
+    refuse_each("fow_once_open, opened anew", open_once, FOW_OK);
+    for (int i = 0; i < 64; i++) {
+        judge_one_with_jti(i);
+        refuse_each("fow_once_take", take_it, FOW_OK);
+        CHECK(take_it() == FOW_REFUSED);
+    }
+    fow_once_close(&once);
     fow_close(&validator);
+    CHECK(held == nothing);
     printf("%ld allocations, nothing is left\n", asked_for);
     return 0;
 }

@@ -16,7 +16,7 @@ import sys
 import threading
 import time
 import unittest
-from typing import Any, Callable, Iterator, List
+from typing import Any, Callable, Iterator, List, Union
 
 from fowharimu import (
     Access,
@@ -30,6 +30,8 @@ from fowharimu import (
     FowharimuError,
     IssueRefused,
     KeysRefused,
+    NotTaken,
+    Once,
     PolicyRefused,
     SignatureRefused,
     TokenRefused,
@@ -119,6 +121,78 @@ class Remembering(unittest.TestCase):
         strange: Any = (1, "x")
         with self.assertRaises(TypeError):
             Validator({"algs": ["HS256"]}, {"keys": []}, remember=strange)
+
+
+class Taking(unittest.TestCase):
+    """Tokens that count once."""
+
+    def taking(self, once: Union[Once, int] = 10) -> Validator:
+        """A validator that takes so many tokens, which it issues too."""
+        return Validator({"algs": ["HS256"], "leeway": 60}, HMAC.with_suffix(".keys").read_bytes(), once=once)
+
+    def refused(self, validator: Validator, token: str, now: int, fault: str) -> None:
+        """That an accepted token isn't taken, for this reason."""
+        with self.assertRaises(NotTaken) as caught:
+            validator.validate(token, now)
+        self.assertEqual((caught.exception.fault, str(caught.exception)), (fault, f"the token counts once, and isn't taken: {fault}"))
+        self.assertIsInstance(caught.exception, TokenRefused)
+
+    def test_a_token_is_let_in_once(self) -> None:
+        with self.taking() as validator:
+            token = validator.issue({"iss": "i", "jti": "a", "exp": 1000})
+            self.assertTrue(validator.judge(token, 900).accepted)
+            with self.assertRaises(Denied):
+                validator.validate(token, 900, Access({"scopes": ["read"]}))
+            self.assertEqual(validator.validate(token, 900)["jti"], "a")
+            self.refused(validator, token, 900, "Seen")
+            self.refused(validator, validator.issue({"iss": "i", "jti": "a", "exp": 1001}), 1060, "Seen")
+            self.assertEqual(validator.validate(validator.issue({"jti": "a", "exp": 1000}), 900)["jti"], "a")
+            with self.assertRaises(ClaimsRefused):
+                validator.validate(token, 1060)
+
+    def test_why_a_token_is_not_taken(self) -> None:
+        with self.taking(1) as validator:
+            self.refused(validator, validator.issue({"iss": "i", "exp": 1000}), 900, "NoId")
+            self.refused(validator, validator.issue({"iss": "i", "jti": "a"}), 900, "NoEnd")
+            validator.validate(validator.issue({"jti": "a", "exp": 1000}), 900)
+            self.refused(validator, validator.issue({"jti": "b", "exp": 2000}), 900, "Full")
+            validator.validate(validator.issue({"jti": "b", "exp": 2000}), 1061)
+            self.refused(validator, validator.issue({"jti": "a", "exp": 1000}), 900, "Late")
+
+    def test_none_is_taken_unless_it_is_asked_for(self) -> None:
+        with validator_of(HMAC) as validator:
+            self.assertEqual([validator.validate(token_of(HMAC), NOW)["iss"] for _ in range(2)], ["joe", "joe"])
+
+    def test_validators_share_a_memory(self) -> None:
+        once = Once(10)
+        with self.taking(once) as first, self.taking(once) as second:
+            token = first.issue({"iss": "i", "jti": "a", "exp": 1000})
+            first.validate(token, 900)
+            self.refused(second, token, 900, "Seen")
+        with self.assertRaises(TypeError):
+            copy.copy(once)
+
+    def test_numbers_that_are_none(self) -> None:
+        for once in (0, -1, 2**64):
+            with self.subTest(once), self.assertRaises(ValueError):
+                Validator({"algs": ["HS256"]}, {"keys": []}, once=once)
+
+    def test_of_many_threads_one_is_let_in(self) -> None:
+        let_in = []
+        with self.taking() as validator:
+            token = validator.issue({"iss": "i", "jti": "a", "exp": 1000})
+
+            def validate_often() -> None:
+                for _ in range(50):
+                    with contextlib.suppress(NotTaken):
+                        let_in.append(validator.validate(token, 900))
+
+            threads = [threading.Thread(target=validate_often) for _ in range(8)]
+            for thread in threads:
+                thread.start()
+            for thread in threads:
+                thread.join()
+        self.assertEqual(len(let_in), 1)
 
 
 class Rules(unittest.TestCase):

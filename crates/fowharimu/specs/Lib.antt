@@ -56,6 +56,12 @@ pub use Rattle.jwt_memory.specs.Entries
 pub use Rattle.jwt_memory.specs.Kept
 pub use Rattle.jwt_memory.specs.Laws as MemoryLaws
 pub use Rattle.jwt_memory.specs.Outcomes
+pub use Rattle.jwt_once.specs.Accepted as OnceAccepted
+pub use Rattle.jwt_once.specs.Laws as OnceLaws
+pub use Rattle.jwt_once.specs.Marks as OnceMarks
+pub use Rattle.jwt_once.specs.Steps as OnceSteps
+pub use Rattle.jwt_once.specs.declared.accepted.Lack.TheVariants as LackVariants
+pub use Rattle.jwt_once.specs.declared.once.Taken.TheVariants as TakenVariants
 pub use Rattle.jwt_issue.specs.ClaimSets
 pub use Rattle.jwt_issue.specs.FaultNames as IssueFaultNames
 pub use Rattle.jwt_issue.specs.Issued

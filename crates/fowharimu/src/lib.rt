@@ -15,11 +15,12 @@
 //! key with its cost.
 //!
 //! An [`AccessRule`] says what an accepted token may do, by [`AccessRule::denial`] of its claims. What one call knows of them, as the `nonce` of a
-//! login, is held against them by [`first_unmet`].
+//! login, is held against them by [`first_unmet`]. Where a token counts once, as the last step a [`Once`] is asked: [`Once::take_accepted`] answers
+//! [`Taken::New`] of each token one time, and nothing else lets it through.
 //!
 //! Each other name here is that of one of the libraries below: `jwt_text`, `jwt_mac`, `jwt_keys`, `jwt_jws`, `jwt_policy`, `jwt_access`,
-//! `jwt_verify`, `jwt_memory`, `jwt_issue`, `jwt_expected`, `jwt_built_in`, `jwt_rsa`, `jwt_ecdsa` and `jwt_ed25519`. Their modules `laws` stand here as
-//! `access_laws`, `expected_laws`, `token_laws`, of issuing, `memory_laws` and `verdict_laws`.
+//! `jwt_verify`, `jwt_memory`, `jwt_once`, `jwt_issue`, `jwt_expected`, `jwt_built_in`, `jwt_rsa`, `jwt_ecdsa` and `jwt_ed25519`. Their modules `laws` stand
+//! here as `access_laws`, `expected_laws`, `token_laws`, of issuing, `memory_laws`, `once_laws` and `verdict_laws`.
 #![tactic(auto)]
 
 mod remembering;
@@ -40,6 +41,9 @@ pub use jwt_access::{AccessFault, AccessRule, Denial, DeniedName, RuleMember, ha
 
 // What one call knows of an accepted token's claims: texts, as a `nonce`, and octets whose hash a claim has to be, as `at_hash`.
 pub use jwt_expected::{Expected, Unmet, Wanted, first_unmet};
+
+// Taking a token once.
+pub use jwt_once::{Lack, Once, Taken};
 
 // Judging the same token many times.
 pub use jwt_memory::{Basis, Outcome};
@@ -65,4 +69,5 @@ pub use jwt_access::laws as access_laws;
 pub use jwt_expected::laws as expected_laws;
 pub use jwt_issue::laws as token_laws;
 pub use jwt_memory::laws as memory_laws;
+pub use jwt_once::laws as once_laws;
 pub use jwt_verify::laws as verdict_laws;

@@ -7,6 +7,7 @@
 pub mod answer_exports;
 pub mod exports;
 pub mod issuer_exports;
+pub mod once_exports;
 pub mod renewal_exports;
 pub mod request_exports;
 pub mod rule_exports;

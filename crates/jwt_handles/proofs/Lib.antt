@@ -2,6 +2,8 @@
 pub mod Handles
 -- ---- For judging.rt
 pub mod Resting
+-- ---- For once_handle.rt
+pub mod OnceHandles
 -- ---- For rule_handle.rt
 pub mod RuleHandles
 -- ---- For several files

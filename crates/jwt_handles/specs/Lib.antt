@@ -32,6 +32,10 @@ pub mod Issuing
 pub mod MostQuestions
 -- a token judged by the proved verifiers
 pub mod Proving
+-- memories of tokens that count once, and what they answer of the token that was accepted last
+pub mod Taking
+-- the ownership of the handle of such a memory
+pub mod OnceHandles
 -- the ownership of the handle of an access rule
 pub mod RuleHandles
 -- how the parts of a renewal of keys cross to C

@@ -2,7 +2,8 @@
 //!
 //! A validator is a [`handle::Handle`], which holds a [`state::State`] or nothing. Contracts see what it holds. Each function on one takes that
 //! out, works on it in safe code, and puts it back. So does each on an access rule, which is a [`rule_handle::RuleHandle`] with a
-//! [`rule_state::RuleState`].
+//! [`rule_state::RuleState`], and each on a memory of tokens that count once, which is a [`once_handle::OnceHandle`] with a
+//! [`once_state::OnceState`].
 #![tactic(auto)]
 
 mod access;
@@ -17,6 +18,9 @@ mod judging;
 pub mod key_sources;
 mod last;
 mod most_questions;
+pub mod once_handle;
+pub mod once_state;
+pub mod onces;
 pub mod opening;
 mod proving;
 mod raw_box;

@@ -1,11 +1,16 @@
 -- That marks tell apart, and what many calls do.
-use Rattle.std.specs.Prelude.{ℕ, ◌≡◌, ◌≢◌, ◌⊎◌, ◌≤◌, ◌<◌, List, [], ◌∷◌, ◌++◌}
+use Rattle.std.specs.Prelude.{ℕ, ℤ, ◌≡◌, ◌≢◌, ◌⊎◌, ◌≤◌, ◌<◌, List, [], ◌∷◌, ◌++◌, codes, Some, None}
+use Rattle.serde_json.specs.Data.{Members}
 use Rattle.jwt_mac.specs.Algorithm.{sha256_of}
+use Rattle.jwt_text.specs.Members.{text_at, whole_at}
+use Rattle.jwt_policy.specs.Settings.{Settings}
+use Rattle.jwt_policy.specs.Checks.{check_of}
 use Rattle.jwt_once.specs.declared.once.Once.{Once}
 use Rattle.jwt_once.specs.declared.once.Taken.{Taken}
 use Rattle.jwt_once.specs.declared.once.Taken.TheVariants.{New}
 use Rattle.jwt_once.specs.Marks.{mark_of}
 use Rattle.jwt_once.specs.Steps.{IsTaken}
+use Rattle.jwt_once.specs.Accepted.{seconds, end_of, mark_in}
 
 -- two texts with one SHA-256 digest
 abbrev pub Collision : Type 0
@@ -46,3 +51,19 @@ NoTokenTwice = (one two : Call) (last : Once) → IsTakenTwice one two last → 
 -- So no token is New twice that has the same moment both times.
 abbrev pub NeverTwice : Type 0
 NeverTwice = (one two : Call) (last : Once) → one.until ≡ two.until → IsTakenTwice one two last → ⊥
+
+-- the call is what one for these claims under this policy comes to
+abbrev pub IsCallFor : Settings → Members → Call → Type 0
+IsCallFor policy claims call =
+    (jti : List ℕ) × (exp : ℤ) × (text_at (codes "jti") claims ≡ Some jti) × (whole_at (codes "exp") claims ≡ Some exp)
+    × (call.mark ≡ mark_in claims jti) × (call.until ≡ end_of policy exp)
+
+-- So the same claims are never New twice under one policy.
+abbrev pub NeverTwiceFor : Type 0
+NeverTwiceFor = (policy : Settings) (claims : Members) (one two : Call) (last : Once) → IsCallFor policy claims one → IsCallFor policy claims two
+    → IsTakenTwice one two last → ⊥
+
+-- At a moment at which a policy accepts claims, their own moment hasn't passed: they are Late by a later moment alone that was told.
+abbrev pub InTime : Type 0
+InTime = (policy : Settings) (claims : Members) (now exp : ℤ) → check_of policy claims now ≡ None → whole_at (codes "exp") claims ≡ Some exp
+    → seconds now ≤ end_of policy exp

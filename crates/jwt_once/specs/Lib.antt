@@ -6,5 +6,7 @@ pub mod Marks
 pub mod Tables
 -- what one call does
 pub mod Steps
+-- what one call for an accepted token does
+pub mod Accepted
 -- that marks tell apart, and what many calls do
 pub mod Laws

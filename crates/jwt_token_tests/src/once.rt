@@ -1,4 +1,6 @@
-use jwt_once::{Once, Taken};
+use jwt_once::{Lack, Once, Taken};
+use jwt_policy::{Claims, Policy};
+use std::alloc::Global;
 use std::num::NonZeroUsize;
 use std::test::Fail;
 
@@ -31,5 +33,76 @@ fn a_refused_growth_takes_no_token(rt: HostRuntime) -> Result<(), Fail> {
         assert!(rt; is_held || taken == Taken::OutOfMemory);
         assert_eq!(rt; once.len() > before, is_held);
     }
+    Ok(())
+}
+
+/// What the memory answers of a token with these claims, under a policy with a leeway of 60 seconds.
+fn taken(
+    alloc: Global,
+    once: &mut Once,
+    claims: &str,
+    now: i64,
+) -> Result<Result<Taken, Lack>, Fail> {
+    let Ok(policy) = Policy::read(alloc, b"{\"algs\":[\"HS256\"],\"leeway\":60}") else {
+        return Err(Fail::from("no policy"));
+    };
+    let Ok(claims) = Claims::read(alloc, claims.as_bytes()) else {
+        return Err(Fail::from("no claims"));
+    };
+    Ok(once.take_accepted(&policy, &claims, now))
+}
+
+#[test]
+fn an_accepted_token_is_taken_until_its_end(rt: HostRuntime) -> Result<(), Fail> {
+    let alloc = rt.alloc();
+    let room = NonZeroUsize::new(9).ok_or("no room")?;
+    let mut once = Once::new(alloc, room);
+    let first = "{\"iss\":\"i\",\"jti\":\"a\",\"exp\":100}";
+    let nameless = "{\"jti\":\"a\",\"exp\":100}";
+    let longer = "{\"iss\":\"i\",\"jti\":\"a\",\"exp\":9223372036854775807}";
+    assert_eq!(rt; taken(alloc, &mut once, first, 99)?, Ok(Taken::New));
+    assert_eq!(rt; taken(alloc, &mut once, first, 159)?, Ok(Taken::Seen));
+    assert_eq!(rt; taken(alloc, &mut once, nameless, 159)?, Ok(Taken::New));
+    assert_eq!(rt;
+        taken(
+            alloc,
+            &mut once,
+            "{\"iss\":\"\",\"jti\":\"a\",\"exp\":100}",
+            159
+        )?,
+        Ok(Taken::Seen)
+    );
+    assert_eq!(rt;
+        taken(alloc, &mut once, "{\"sub\":\"s\",\"exp\":100}", 159)?,
+        Err(Lack::NoId)
+    );
+    assert_eq!(rt;
+        taken(alloc, &mut once, "{\"sub\":\"s\"}", 159)?,
+        Err(Lack::NoId)
+    );
+    assert_eq!(rt;
+        taken(alloc, &mut once, "{\"jti\":\"b\"}", 159)?,
+        Err(Lack::NoEnd)
+    );
+    assert_eq!(rt; once.len(), 2);
+    assert_eq!(rt; taken(alloc, &mut once, longer, 161)?, Ok(Taken::New));
+    assert_eq!(rt; taken(alloc, &mut once, longer, i64::MAX)?, Ok(Taken::Seen));
+    assert_eq!(rt; taken(alloc, &mut once, first, 100)?, Ok(Taken::Late));
+    Ok(())
+}
+
+/// Before 1970 each moment is the same one.
+#[test]
+fn moments_before_1970_are_one(rt: HostRuntime) -> Result<(), Fail> {
+    let alloc = rt.alloc();
+    let room = NonZeroUsize::new(9).ok_or("no room")?;
+    let mut once = Once::new(alloc, room);
+    let early = "{\"jti\":\"a\",\"exp\":-9223372036854775808}";
+    assert_eq!(rt; taken(alloc, &mut once, early, i64::MIN)?, Ok(Taken::New));
+    assert_eq!(rt; taken(alloc, &mut once, early, -1)?, Ok(Taken::Seen));
+    let across = "{\"jti\":\"b\",\"exp\":-20}";
+    assert_eq!(rt; taken(alloc, &mut once, across, -30)?, Ok(Taken::New));
+    assert_eq!(rt; taken(alloc, &mut once, across, 39)?, Ok(Taken::Seen));
+    assert_eq!(rt; taken(alloc, &mut once, across, 41)?, Ok(Taken::Late));
     Ok(())
 }

@@ -19,7 +19,7 @@ import sys
 import time
 from dataclasses import dataclass
 from types import TracebackType
-from typing import Any, Dict, List, NoReturn, Optional, SupportsIndex, Tuple, Type
+from typing import Any, Dict, List, NoReturn, Optional, SupportsIndex, Tuple, Type, Union
 
 from . import _library
 from ._access import NO_RULE, Access, Rule, checked
@@ -34,6 +34,7 @@ from ._faults import (
     FowharimuError,
     IssueRefused,
     KeysRefused,
+    NotTaken,
     PolicyRefused,
     SignatureRefused,
     TokenRefused,
@@ -42,6 +43,7 @@ from ._faults import (
     Undecided,
     Unreadable,
 )
+from ._once import Once, once_of
 from ._seats import SHORT, Seat, Seats, said, written
 from ._texts import Document, Text, document_of, octets_of
 
@@ -58,6 +60,8 @@ __all__ = [
     "FowharimuError",
     "IssueRefused",
     "KeysRefused",
+    "NotTaken",
+    "Once",
     "PolicyRefused",
     "Report",
     "SignatureRefused",
@@ -158,6 +162,11 @@ class Validator:
     is found by all its octets, and only its claims are looked at. Each call that is under way at once has a memory of its own. Accepted tokens
     lie in memory until they go, and aren't wiped.
 
+    `once=tokens` lets each token in once: `validate` takes what is accepted and meets the access rule, by issuer and `jti`, until its `exp` and the
+    leeway, and refuses what was taken (NotTaken), what has no `jti` or no `exp`, and what there is no room for. So many tokens are held at most: as
+    many as are accepted within the lifetime of one. `once=Once(tokens)` is a memory that validators share. A token is let in once a memory, so once a
+    process; after fork each child has its own. `now` is then the clock's moment: one far in the future closes the memory. `judge` takes nothing.
+
     Raises PolicyRefused, KeysRefused or TooManyQuestions, AnotherLibrary where another library was loaded than this package is made for,
     and MemoryError where memory is refused.
     """
@@ -169,8 +178,10 @@ class Validator:
         *,
         most_questions: Optional[int] = _library.MOST_QUESTIONS,
         remember: Tuple[SupportsIndex, SupportsIndex] = (0, 0),
+        once: Union[Once, SupportsIndex, None] = None,
     ) -> None:
         tokens, octets = (_number(it, "remember", 0, 2 * sys.maxsize + 1) for it in remember)
+        self._once = once_of(once)
         self._library = _library.load()
         policy_octets, key_octets = document_of(policy, "a policy"), document_of(keys, "a key set")
         documents = Seat()
@@ -207,6 +218,8 @@ class Validator:
         denial = None if access is NO_RULE else access.denial(seat)
         if denial is not None:
             raise denial
+        if self._once is not None:
+            self._once.take(seat, moment)
         return payload
 
     def judge(self, token: Text, now: Optional[SupportsIndex] = None) -> Report:

@@ -124,6 +124,14 @@ class TokenRefused(FowharimuError):
         return f"the token is refused: {_named(self.fault, _meanings.TOKEN)}"
 
 
+class NotTaken(TokenRefused):
+    """The token is accepted, and counts once. `fault` is `Seen`: it was taken before; `Late`: its `exp` and the leeway have passed by the greatest moment
+    that was judged at; `Full`: as many tokens are held as there is room for; `NoId`, `NoEnd`: it has no `jti`, or no `exp`."""
+
+    def __str__(self) -> str:
+        return f"the token counts once, and isn't taken: {self.fault}"
+
+
 class TooLong(TokenRefused):
     """The token has more octets than the policy's `limit`."""
 

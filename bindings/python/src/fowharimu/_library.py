@@ -32,6 +32,12 @@ class CAccess(ctypes.Structure):
     _fields_ = [("at", ctypes.c_void_p), ("held", ctypes.c_bool)]
 
 
+class COnce(ctypes.Structure):
+    """fow_once."""
+
+    _fields_ = [("at", ctypes.c_void_p), ("held", ctypes.c_bool)]
+
+
 class COpenssl(ctypes.Structure):
     """fow_openssl."""
 
@@ -115,6 +121,7 @@ _IN = [ctypes.c_char_p, _SIZE]
 _OUT = [ctypes.c_char_p, _SIZE, ctypes.POINTER(_SIZE)]
 _VALIDATOR = ctypes.POINTER(CValidator)
 _ACCESS = ctypes.POINTER(CAccess)
+_ONCE = ctypes.POINTER(COnce)
 _REPORT = ctypes.POINTER(CReport)
 _RENEWAL = ctypes.POINTER(CRenewal)
 
@@ -143,6 +150,9 @@ _SIGNATURES = {
     "fow_access_close": (None, [_ACCESS]),
     "fow_denied": (_U32, [_VALIDATOR, _ACCESS, ctypes.POINTER(_U32)]),
     "fow_denied_name": (_U32, [_VALIDATOR, _ACCESS, *_OUT]),
+    "fow_once_open": (_U32, [_ONCE, _SIZE]),
+    "fow_once_take": (_U32, [_ONCE, _VALIDATOR, ctypes.c_int64, ctypes.POINTER(_U32)]),
+    "fow_once_close": (None, [_ONCE]),
     "fow_fault_name": (ctypes.c_char_p, [_U32]),
     "fow_issue": (_U32, [_VALIDATOR, _U32, _U32, _U32, *_IN, *_IN, *_OUT, _REPORT]),
     "fow_credentials": (_U32, [*_IN, ctypes.POINTER(_SIZE), ctypes.POINTER(_SIZE)]),

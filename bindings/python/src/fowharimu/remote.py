@@ -27,6 +27,7 @@ from typing import Any, Callable, Dict, List, NamedTuple, Optional, SupportsInde
 from . import Claims, Closed, FowharimuError, Report, SignatureRefused, TokenRefused, Validator
 from ._access import NO_RULE, Rule
 from ._library import load
+from ._once import once_of
 from ._renewal import Asker, Renewal
 from ._seats import written
 from ._texts import Document, Text, document_of, octets_of
@@ -282,6 +283,8 @@ class RemoteKeys:
     ) -> None:
         self._policy, self._url = _public_policy(policy), _checked(url, allow_http)
         _check_times(refresh_after=refresh_after, cooldown=cooldown, max_age=max_age, timeout=timeout)
+        # (a memory of tokens that count once is one for all key sets that come)
+        options = {**options, "once": once_of(options.get("once"))}
         self._timeout, self._context, self._options = timeout, context, options
         # (whoever is told of a fetch may ask for it)
         self._lock = threading.RLock()

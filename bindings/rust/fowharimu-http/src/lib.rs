@@ -124,7 +124,8 @@ impl Guard {
             Error::Denied { fault, .. } if *fault == "ScopeMissing" => Outcome::ScopeMissing,
             Error::Denied { .. } => Outcome::NotGranted,
             Error::KeysTooOld => Outcome::KeysTooOld,
-            Error::TooLong
+            Error::NotTaken { .. }
+            | Error::TooLong
             | Error::Form { .. }
             | Error::Ceiling { .. }
             | Error::Signature { .. }

@@ -36,6 +36,14 @@ pub const FOW_STEP_FOLLOW: u32 = 2;
 pub const FOW_STEP_ASK_OAUTH: u32 = 3;
 pub const FOW_STEP_TOO_OFTEN: u32 = 4;
 
+pub const FOW_TAKEN_NOTHING: u32 = 0;
+pub const FOW_TAKEN_NEW: u32 = 1;
+pub const FOW_TAKEN_SEEN: u32 = 2;
+pub const FOW_TAKEN_LATE: u32 = 3;
+pub const FOW_TAKEN_FULL: u32 = 4;
+pub const FOW_TAKEN_NO_ID: u32 = 5;
+pub const FOW_TAKEN_NO_END: u32 = 6;
+
 /// A policy, a key set, what was told of signatures, and the last report.
 #[repr(C)]
 #[derive(Debug)]
@@ -48,6 +56,14 @@ pub struct fow_validator {
 #[repr(C)]
 #[derive(Debug)]
 pub struct fow_access {
+    pub at: *mut c_void,
+    pub held: bool,
+}
+
+/// A memory of tokens that count once.
+#[repr(C)]
+#[derive(Debug)]
+pub struct fow_once {
     pub at: *mut c_void,
     pub held: bool,
 }
@@ -356,6 +372,17 @@ extern "C" {
         out_len: usize,
         written: *mut usize,
     ) -> u32;
+
+    pub fn fow_once_open(once: *mut fow_once, tokens: usize) -> u32;
+
+    pub fn fow_once_take(
+        once: *mut fow_once,
+        validator: *mut fow_validator,
+        now: i64,
+        taken: *mut u32,
+    ) -> u32;
+
+    pub fn fow_once_close(once: *mut fow_once);
 
     pub fn fow_fault_name(fault: u32) -> *const c_char;
 

@@ -1,5 +1,6 @@
 //! Why something is refused.
 
+use crate::NotTaken;
 use std::error;
 use std::fmt;
 
@@ -54,6 +55,8 @@ pub enum Error {
     /// The token is accepted, and its claims don't meet the access rule: this scope isn't granted (`ScopeMissing`), or this claim isn't as it
     /// asks (`ClaimMissing`, `ClaimNotAllowed`). A service answers 403 to this, and 401 to a token that isn't accepted.
     Denied { fault: String, name: String },
+    /// The token is accepted, and isn't taken by the memory of tokens that count once. A service answers 401 to this.
+    NotTaken { why: NotTaken },
     /// The token has more octets than the policy's `limit`.
     TooLong,
     /// The octets are no signed token.
@@ -122,6 +125,7 @@ impl fmt::Display for Error {
                 member.iter().try_for_each(|it| write!(f, " {it:?}"))
             }
             Error::Denied { fault, name } => write!(f, "the token is denied: {fault} {name:?}"),
+            Error::NotTaken { why } => write!(f, "the token counts once, and isn't taken: {why:?}"),
             Error::TooLong => write!(f, "the token is refused: TooLong"),
             Error::Form { fault, .. } => write!(f, "the token is refused: {fault}"),
             Error::Ceiling {

@@ -18,6 +18,7 @@ mod error;
 mod fetch;
 mod issuers;
 mod judging;
+mod once;
 mod remote;
 mod remote_keys;
 mod renewal;
@@ -33,11 +34,13 @@ pub use error::{Error, Part};
 pub use fetch::{Answer, Fetch, Get};
 pub use issuers::{Issuers, Judge};
 pub use judging::Judging;
+pub use once::{NotTaken, Once};
 pub use remote::{Fetched, Remote};
 pub use remote_keys::RemoteKeys;
 
 use seat::{Named, Seat, Terms};
 use seats::Seats;
+use std::sync::Arc;
 use std::time::{SystemTime, UNIX_EPOCH};
 
 /// The claims of an accepted token. Those are equal whose payloads are.
@@ -72,6 +75,7 @@ impl Claims {
 pub struct Validator {
     seats: Seats,
     terms: Terms,
+    once: Option<Arc<Once>>,
 }
 
 impl Validator {
@@ -101,6 +105,7 @@ impl Validator {
         Ok(Validator {
             terms,
             seats: Seats::new(documents),
+            once: None,
         })
     }
 
@@ -112,6 +117,16 @@ impl Validator {
     pub fn remembering(self, tokens: usize, octets: usize) -> Validator {
         Validator {
             seats: self.seats.remembering(tokens, octets),
+            ..self
+        }
+    }
+
+    /// Takes each token in this memory from now on that is accepted and meets the access rule: so it is let in once. Whoever calls has to answer the request by
+    /// that one call: the next one for the token is refused.
+    #[must_use]
+    pub fn taking(self, once: Arc<Once>) -> Validator {
+        Validator {
+            once: Some(once),
             ..self
         }
     }
@@ -149,7 +164,7 @@ impl Validator {
     /// The claims of a token that is accepted at the clock's moment.
     ///
     /// # Errors
-    /// Each but `Policy`, `Keys`, `Access` and `Denied`.
+    /// Each but `Policy`, `Keys`, `Access` and `Denied`; `NotTaken` only where tokens count once ([`taking`](Validator::taking)).
     pub fn validate(&self, token: &[u8]) -> Result<Claims, Error> {
         self.validate_at(token, clock())
     }
@@ -184,7 +199,9 @@ impl Validator {
     }
 
     fn claims(&self, token: &[u8], now: i64, access: Option<&Access>) -> Result<Claims, Error> {
-        self.seats.call(|seat| seat.claims(token, now, access))?
+        let once = self.once.as_deref();
+        self.seats
+            .call(|seat| seat.claims(token, now, access, once))?
     }
 }
 

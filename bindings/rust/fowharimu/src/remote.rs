@@ -5,9 +5,10 @@ use crate::renewal::Times;
 use crate::seat::Seat;
 use crate::source::Source;
 use crate::urls::Url;
-use crate::{Error, RemoteKeys, Validator};
+use crate::{Error, Once, RemoteKeys, Validator};
 use std::fmt;
 use std::panic::{catch_unwind, AssertUnwindSafe};
+use std::sync::Arc;
 use std::time::Duration;
 
 /// A policy alone is looked at over this key set.
@@ -32,6 +33,7 @@ pub struct Remote {
     times: Times,
     most_questions: u32,
     remembers: (usize, usize),
+    once: Option<Arc<Once>>,
     on_fetch: Box<dyn Fn(&Fetched<'_>) + Send + Sync>,
 }
 
@@ -44,6 +46,7 @@ impl Remote {
             times: Times::default(),
             most_questions: Validator::MOST_QUESTIONS,
             remembers: (0, 0),
+            once: None,
             on_fetch: Box::new(|_| {}),
         }
     }
@@ -94,6 +97,13 @@ impl Remote {
     #[must_use]
     pub fn remembering(mut self, tokens: usize, octets: usize) -> Remote {
         self.remembers = (tokens, octets);
+        self
+    }
+
+    /// As of [`Validator::taking`]. What was taken stays so under new keys.
+    #[must_use]
+    pub fn taking(mut self, once: Arc<Once>) -> Remote {
+        self.once = Some(once);
         self
     }
 
@@ -174,6 +184,11 @@ impl Feed {
     /// How many tokens of how many octets are remembered.
     pub(crate) fn remembers(&self) -> (usize, usize) {
         self.how.remembers
+    }
+
+    /// Where accepted tokens are taken.
+    pub(crate) fn once(&self) -> Option<&Once> {
+        self.how.once.as_deref()
     }
 
     /// How many octets were fetched, and what they are read as, or why that failed.

@@ -196,7 +196,8 @@ impl RemoteKeys {
     ) -> Result<Claims, Error> {
         let shared = &self.shared;
         shared.find_keys(token)?;
-        let judge = |seat: &mut Seat| (seat.documents(), seat.claims(token, now, access));
+        let once = shared.feed.once();
+        let judge = |seat: &mut Seat| (seat.documents(), seat.claims(token, now, access, once));
         let (keys, said) = shared.seats.call(judge)?;
         if !said.as_ref().err().map_or(false, asks_for_keys) {
             return said;

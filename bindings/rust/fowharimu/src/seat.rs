@@ -2,7 +2,7 @@
 
 use crate::crypto::Crypto;
 use crate::texts::{text_member, written, NAME_ROOM};
-use crate::{Access, Claims, Error, Part};
+use crate::{Access, Claims, Error, Once, Part};
 use fowharimu_sys as sys;
 use std::ffi::CStr;
 use std::ptr;
@@ -181,6 +181,7 @@ impl Seat {
         token: &[u8],
         now: i64,
         access: Option<&Access>,
+        once: Option<&Once>,
     ) -> Result<Claims, Error> {
         let report = self.judge(token, now);
         if report.verdict != sys::FOW_OK {
@@ -197,9 +198,12 @@ impl Seat {
             sys::fow_accepted_payload(held, out, room, len)
         })?;
         // An accepted token has a payload: where there is none, nothing is known.
-        payload
-            .map(|json| Claims { json, remembered })
-            .ok_or(Error::OutOfMemory)
+        let json = payload.ok_or(Error::OutOfMemory)?;
+        // (last, so that no token is taken whose claims aren't handed out)
+        if let Some(once) = once {
+            once.take(&mut self.held, now)?;
+        }
+        Ok(Claims { json, remembered })
     }
 
     fn judge(&mut self, token: &[u8], now: i64) -> sys::fow_report {

@@ -1,0 +1,57 @@
+"""A memory of tokens that count once."""
+
+from __future__ import annotations
+
+import ctypes
+import operator
+import sys
+import threading
+from typing import NoReturn, Optional, SupportsIndex, Union
+
+from . import _library
+from ._faults import NotTaken
+from ._seats import Seat
+
+# The names of the answers of enum fow_taken, from FOW_TAKEN_SEEN on.
+_WHY = {2: "Seen", 3: "Late", 4: "Full", 5: "NoId", 6: "NoEnd"}
+
+
+class Once:
+    """The tokens that were taken, by their issuer and `jti`, at most so many. Validators may share it, whose policies have the same leeway, and threads, under a
+    lock. After fork parent and child each go on with their own. It isn't copied. What it holds is freed with it.
+
+    Raises ValueError for no tokens, AnotherLibrary as Validator does, and MemoryError where memory is refused.
+    """
+
+    def __init__(self, tokens: SupportsIndex) -> None:
+        room = operator.index(tokens)
+        if not 1 <= room <= 2 * sys.maxsize + 1:
+            raise ValueError(f"once has to be from 1 to {2 * sys.maxsize + 1}")
+        self._library = _library.load()
+        self._held = _library.COnce()
+        self._lock = threading.Lock()
+        if self._library.fow_once_open(self._held, room) != _library.OK:
+            raise MemoryError
+
+    def __del__(self) -> None:
+        if hasattr(self, "_held"):
+            self._library.fow_once_close(self._held)
+
+    def __reduce_ex__(self, protocol: SupportsIndex) -> NoReturn:
+        raise TypeError("a Once isn't copied or pickled: what it holds belongs to it alone")
+
+    def take(self, seat: Seat, moment: int) -> None:
+        """Takes the token that a seat has accepted just now, at that moment. Raises NotTaken, and MemoryError where memory is refused."""
+        taken = ctypes.c_uint32()
+        with self._lock:
+            status = self._library.fow_once_take(self._held, seat.held, moment, taken)
+        if status == _library.OK:
+            return
+        if status != _library.REFUSED:
+            raise MemoryError
+        raise NotTaken(_WHY[taken.value])
+
+
+def once_of(once: Union[Once, SupportsIndex, None]) -> Optional[Once]:
+    """A memory that was made, or a new one for so many tokens; None where none is asked for."""
+    return once if once is None or isinstance(once, Once) else Once(once)

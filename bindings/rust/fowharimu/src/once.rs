@@ -1,0 +1,104 @@
+//! A memory of tokens that count once.
+
+use crate::seat::compare;
+use crate::Error;
+use fowharimu_sys as sys;
+use std::num::NonZeroUsize;
+use std::ptr;
+use std::sync::{Mutex, PoisonError};
+
+/// Why an accepted token isn't taken.
+#[derive(Clone, Copy, Debug, PartialEq, Eq)]
+#[non_exhaustive]
+pub enum NotTaken {
+    /// It was taken before.
+    Seen,
+    /// Its `exp` and the leeway have passed by the greatest moment that the memory was told, so nobody can say whether it was taken.
+    Late,
+    /// As many tokens as there is room for are held, and none of them has passed.
+    Full,
+    /// It has no `jti`.
+    NoId,
+    /// It has no `exp`, so it would have to be held for ever.
+    NoEnd,
+}
+
+/// A memory of tokens that count once, by their issuer and `jti`, each until its `exp` and the policy's leeway. A
+/// [`Validator`](crate::Validator::taking) asks it behind its verdict and the access rule; several validators may share it, whose policies
+/// have the same leeway. Threads share it.
+///
+/// A token is let in once a memory: several processes or machines need one store that they share, which says in one step that issuer and `jti`
+/// are new, and holds them from then on.
+#[derive(Debug)]
+pub struct Once {
+    /// A call takes some microseconds of it.
+    memory: Mutex<Memory>,
+}
+
+/// A memory that the library holds.
+#[derive(Debug)]
+struct Memory {
+    held: sys::fow_once,
+}
+
+// SAFETY: what is held is owned by the memory alone, and no function keeps anything for a thread.
+unsafe impl Send for Memory {}
+
+impl Once {
+    /// An empty memory for so many tokens, each of which takes some 130 octets. Room is needed for as many as are accepted within the lifetime
+    /// of one: where it is too small, good tokens are refused.
+    ///
+    /// # Errors
+    /// `OutOfMemory`, and `AnotherLibrary`.
+    pub fn open(tokens: NonZeroUsize) -> Result<Once, Error> {
+        compare()?;
+        let mut memory = Memory {
+            held: sys::fow_once {
+                at: ptr::null_mut(),
+                held: false,
+            },
+        };
+        // SAFETY: it is zeroed, and this call has it to itself.
+        match unsafe { sys::fow_once_open(&mut memory.held, tokens.get()) } {
+            sys::FOW_OK => Ok(Once {
+                memory: Mutex::new(memory),
+            }),
+            _ => Err(Error::OutOfMemory),
+        }
+    }
+
+    /// Takes the token that a validator accepted last, at the moment of that verdict.
+    ///
+    /// # Errors
+    /// `NotTaken`, and `OutOfMemory` where nothing is known.
+    pub(crate) fn take(&self, validator: &mut sys::fow_validator, now: i64) -> Result<(), Error> {
+        // Nothing that is done under the lock leaves the memory half written.
+        let mut memory = self.memory.lock().unwrap_or_else(PoisonError::into_inner);
+        memory.take(validator, now)
+    }
+}
+
+impl Memory {
+    fn take(&mut self, validator: &mut sys::fow_validator, now: i64) -> Result<(), Error> {
+        let mut taken = sys::FOW_TAKEN_NOTHING;
+        // SAFETY: both are those that the other calls had, and this one has them to itself.
+        let status = unsafe { sys::fow_once_take(&mut self.held, validator, now, &mut taken) };
+        let why = match (status, taken) {
+            (sys::FOW_OK, sys::FOW_TAKEN_NEW) => return Ok(()),
+            (sys::FOW_REFUSED, sys::FOW_TAKEN_SEEN) => NotTaken::Seen,
+            (sys::FOW_REFUSED, sys::FOW_TAKEN_LATE) => NotTaken::Late,
+            (sys::FOW_REFUSED, sys::FOW_TAKEN_FULL) => NotTaken::Full,
+            (sys::FOW_REFUSED, sys::FOW_TAKEN_NO_ID) => NotTaken::NoId,
+            (sys::FOW_REFUSED, sys::FOW_TAKEN_NO_END) => NotTaken::NoEnd,
+            _ => return Err(Error::OutOfMemory),
+        };
+        Err(Error::NotTaken { why })
+    }
+}
+
+impl Drop for Memory {
+    fn drop(&mut self) {
+        // SAFETY: it is the one that the other calls had.
+        unsafe { sys::fow_once_close(&mut self.held) }
+    }
+}

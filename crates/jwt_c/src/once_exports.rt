@@ -1,0 +1,47 @@
+//! The functions on memories of tokens that count once that C calls.
+
+ghost use Rattle.jwt_handles.specs.declared.status.TheConstants.{FOW_NOT_OPEN, FOW_OK, FOW_REFUSED, FOW_OUT_OF_MEMORY};
+ghost use Rattle.std.specs.Prelude.{◌≡◌, ◌≢◌, ◌↔◌, IfSome, None};
+ghost use Rattle.jwt_handles.specs.Taking.{HoldsNone, TakesLast};
+
+use jwt_handles::handle::Handle;
+use jwt_handles::once_handle::OnceHandle;
+use jwt_handles::onces;
+use std::alloc::Global;
+
+/// [`onces::once_open`] by its name in C.
+#[unsafe(no_mangle)]
+pub extern "C" fn fow_once_open(once: &mut OnceHandle, alloc: Global, tokens: usize) -> u32
+    ensures opened { result ≡ FOW_OK → HoldsNone tokens once.new.state }
+    ensures refused { (result ≡ FOW_REFUSED) ↔ (tokens ≡ 0) }
+    ensures statuses { result ≢ FOW_OK → result ≢ FOW_REFUSED → result ≡ FOW_OUT_OF_MEMORY }
+    ensures same { result ≢ FOW_OK → once.new.state ≡ once.old.state }
+{
+    onces::once_open(once, alloc, tokens)
+}
+
+/// [`onces::once_take`] by its name in C.
+#[unsafe(no_mangle)]
+pub extern "C" fn fow_once_take(
+    once: &mut OnceHandle,
+    alloc: Global,
+    validator: &mut Handle,
+    now: i64,
+    taken: &mut u32,
+) -> u32
+    ensures same { validator.new.state ≡ validator.old.state }
+    ensures none { validator.old.state ≡ None → (result ≡ FOW_NOT_OPEN) × (once.new.state ≡ once.old.state) }
+    ensures no_memory { once.old.state ≡ None → (result ≡ FOW_NOT_OPEN) × (once.new.state ≡ None) }
+    ensures taken { IfSome validator.old.state (λ d. IfSome once.old.state (λ o.
+        TakesLast d now o result taken.new once.new.state)) }
+{
+    onces::once_take(once, alloc, validator, now, taken)
+}
+
+/// [`onces::once_close`] by its name in C.
+#[unsafe(no_mangle)]
+pub extern "C" fn fow_once_close(once: &mut OnceHandle, alloc: Global)
+    ensures closed { once.new.state ≡ None }
+{
+    onces::once_close(once, alloc);
+}

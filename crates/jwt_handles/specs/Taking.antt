@@ -1,0 +1,42 @@
+-- Memories of tokens that count once, and what they answer of the token that was accepted last.
+use Rattle.std.specs.Prelude.{ℕ, ℤ, ◌≡◌, List, Option, Some, None, Result, Ok, Err}
+use Rattle.serde_json.specs.Data.{Members}
+use Rattle.jwt_policy.specs.Settings.{Settings}
+use Rattle.jwt_once.specs.declared.accepted.Lack.{Lack}
+use Rattle.jwt_once.specs.declared.accepted.Lack.TheVariants.{NoId, NoEnd}
+use Rattle.jwt_once.specs.declared.once.Once.{Once}
+use Rattle.jwt_once.specs.declared.once.Taken.{Taken}
+use Rattle.jwt_once.specs.declared.once.Taken.TheVariants.{New, Seen, Late, Full, OutOfMemory}
+use Rattle.jwt_once.specs.Steps.{until_of}
+use Rattle.jwt_once.specs.Accepted.{IsTakenFor}
+use Rattle.jwt_handles.specs.declared.once_state.OnceState.{OnceState}
+use Rattle.jwt_handles.specs.declared.state.State.{State}
+use Rattle.jwt_handles.specs.declared.status.TheConstants.{FOW_OK, FOW_REFUSED, FOW_OUT_OF_MEMORY, FOW_ABSENT}
+use Rattle.jwt_handles.specs.Documents.{documents}
+use Rattle.jwt_handles.specs.Evidence.{claims_kept}
+
+-- an empty memory for so many tokens
+abbrev pub HoldsNone : ℕ → Option OnceState → Type 0
+HoldsNone tokens None = ⊥
+HoldsNone tokens (Some state) = (state.once.most ≡ tokens) × (state.once.latest ≡ 0) × ((mark : List ℕ) → until_of state.once mark ≡ None)
+
+-- the numbers of an answer: FOW_OK of a token that is new alone, and 0 where memory was refused
+abbrev pub SaysTaken : Result Taken Lack → ℕ → ℕ → Type 0
+SaysTaken (Ok New) status taken = (status ≡ FOW_OK) × (taken ≡ 1)
+SaysTaken (Ok Seen) status taken = (status ≡ FOW_REFUSED) × (taken ≡ 2)
+SaysTaken (Ok Late) status taken = (status ≡ FOW_REFUSED) × (taken ≡ 3)
+SaysTaken (Ok Full) status taken = (status ≡ FOW_REFUSED) × (taken ≡ 4)
+SaysTaken (Err NoId) status taken = (status ≡ FOW_REFUSED) × (taken ≡ 5)
+SaysTaken (Err NoEnd) status taken = (status ≡ FOW_REFUSED) × (taken ≡ 6)
+SaysTaken (Ok OutOfMemory) status taken = (status ≡ FOW_OUT_OF_MEMORY) × (taken ≡ 0)
+
+-- the call for these claims, if there are any, takes the one memory to the other, and its answer has these numbers
+abbrev pub TakesClaims : Settings → Option Members → ℤ → Once → ℕ → ℕ → Once → Type 0
+TakesClaims policy None now old status taken new = (status ≡ FOW_ABSENT) × (taken ≡ 0) × (new ≡ old)
+TakesClaims policy (Some claims) now old status taken new =
+    (answer : Result Taken Lack) × IsTakenFor policy claims now old answer new × SaysTaken answer status taken
+
+-- the same of the token that this validator accepted last, by its policy; the memory is held on
+abbrev pub TakesLast : State → ℤ → OnceState → ℕ → ℕ → Option OnceState → Type 0
+TakesLast validator now old status taken None = ⊥
+TakesLast validator now old status taken (Some new) = TakesClaims (documents validator).policy (claims_kept validator.last) now old.once status taken new.once

@@ -1,0 +1,106 @@
+//! The handle of a memory of tokens that count once: as that of a validator, over a state of its own.
+ghost use Rattle.std.specs.Prelude.{◌≡◌, Option, Some, None, MatchOption};
+ghost use Rattle.jwt_handles.specs.declared.once_state.OnceState.{OnceState};
+ghost use Rattle.jwt_handles.specs.OnceHandles.{once_handle_owns, once_state_coded};
+
+use crate::once_state::OnceState;
+use crate::raw_box::RawBox;
+use std::alloc::Global;
+use std::marker::Model;
+use std::mem::replace;
+use std::ptr::null_mut;
+
+/// A handle.
+#[repr(C)]
+pub struct OnceHandle {
+    at: *mut u8,
+    held: bool,
+    alloc: Global,
+    pub ghost state: { Option OnceState } by { once_state_coded },
+}
+
+impl Model for OnceHandle {
+    ghost also_owns = { λ h. once_handle_owns h.alloc h.held h.at h.state };
+}
+
+impl OnceHandle {
+    /// An empty one.
+    pub fn empty(alloc: Global) -> OnceHandle
+        ensures { result.state ≡ None }
+    {
+        OnceHandle {
+            at: null_mut(),
+            held: false,
+            alloc,
+        }
+    }
+
+    /// One that holds the state.
+    pub fn of_raw_box(state: RawBox<OnceState, Global>) -> OnceHandle
+        ensures { result.state ≡ Some state.value }
+    {
+        let RawBox { at, alloc } = state;
+        OnceHandle {
+            at: at as *mut u8,
+            held: true,
+            alloc,
+        }
+    }
+
+    /// The state, where one is held.
+    pub fn into_raw_box(self) -> Option<RawBox<OnceState, Global>>
+        ensures { MatchOption result (self.state ≡ None) (λ b. self.state ≡ Some b.value) }
+    {
+        let OnceHandle { at, held, alloc } = self;
+        if held {
+            Some(RawBox {
+                at: at as *mut OnceState,
+                alloc,
+            })
+        } else {
+            None
+        }
+    }
+
+    /// One that holds the box.
+    pub fn of(state: Box<OnceState>) -> OnceHandle
+        ensures { result.state ≡ Some state.value }
+    {
+        OnceHandle::of_raw_box(RawBox::of(state))
+    }
+
+    /// The box.
+    pub fn open(self) -> Option<Box<OnceState>>
+        ensures { MatchOption result (self.state ≡ None) (λ b. self.state ≡ Some b.value) }
+    {
+        match self.into_raw_box() {
+            Some(state) => Some(state.into_box()),
+            None => None,
+        }
+    }
+}
+
+/// Takes the state out, where one is held, and leaves none.
+pub fn take_once(once: &mut OnceHandle, alloc: Global) -> Option<Box<OnceState>>
+    ensures held { MatchOption result (once.old.state ≡ None)
+        (λ b. once.old.state ≡ Some b.value) }
+    ensures left { once.new.state ≡ None }
+{
+    replace(once, OnceHandle::empty(alloc)).open()
+}
+
+impl Drop for OnceHandle {
+    fn drop(self) {
+        drop(self.open());
+    }
+}
+
+unsafe impl Send for OnceHandle {}
+
+/// Compiles where the type may be sent to another thread.
+fn needs_send<T: Send>(_value: &T) {}
+
+/// A handle may go to another thread: this is proved only where it may.
+pub fn once_may_go_to_another_thread(handle: &OnceHandle) {
+    needs_send(handle);
+}
