@@ -47,11 +47,6 @@ text_claim : (o : Option Data) (t : List ℕ) → Some t ≡ option_and_then as_
 text_claim None t e = absurd cc
 text_claim (Some d) t e = ap Some (string_of d t (sym e))
 
-pub met : PathsAreSpelled → (alg : Alg) (ms : Members) (e : Expected) (o : Option Data) (t : List ℕ) → o ≡ claim_at e.claim.now ms → Some t ≡ option_and_then as_str o → true ≡ bytes_eq t (expected_text alg e.wanted) → IsMet alg ms e
-met law alg ms e o t is text same =
-    let wanted : t ≡ expected_text alg e.wanted = (bytes_eq-Decides t (expected_text alg e.wanted)).0 (sym same) in
-    claim_is law e.claim.now ms (string (expected_text alg e.wanted)) (sym is ∙ text_claim o t text ∙ ap (λ (u : List ℕ). Some (string u)) wanted)
-
 pub other : PathsAreSpelled → (alg : Alg) (ms : Members) (e : Expected) (o : Option Data) (t : List ℕ) → o ≡ claim_at e.claim.now ms → Some t ≡ option_and_then as_str o → false ≡ bytes_eq t (expected_text alg e.wanted) → IsOther alg ms e
 other law alg ms e o t is text same = (
   string t,
