@@ -63,6 +63,13 @@ export interface Opening {
   remember?: Remember;
   /** How many questions about public keys one token may raise: 64 without it, and never more than 32,768. `max_calls` bounds them. */
   mostQuestions?: number;
+  /**
+   * Each token is let in once: `validate` takes what is accepted and meets the access rule, by issuer and `jti`, until its `exp` and the leeway, and throws
+   * NotTaken for what was taken, has no `jti` or no `exp`, or finds no room. A number is how many tokens are held at most: as many as are accepted within
+   * the lifetime of one. An Once is a memory that validators share. `now` is then the clock's moment: one far in the future closes the memory. `judge` takes
+   * nothing. A member that is undefined throws TypeError, since nothing would be taken.
+   */
+  once?: Once | number;
 }
 
 /** The moment at which a token is judged, the clock's without one, and the access rule that its claims have to meet. */
@@ -140,6 +147,13 @@ export class SignatureRefused extends TokenRefused {
 export class ClaimsRefused extends TokenRefused {
   readonly claim: string | undefined;
 }
+/**
+ * The token is accepted, and counts once. `Seen`: it was taken before; `Late`: its `exp` and the leeway have passed by the greatest moment that was judged at;
+ * `Full`: as many tokens are held as there is room for; `NoId`, `NoEnd`: it has no `jti`, or no `exp`.
+ */
+export class NotTaken extends TokenRefused {
+  readonly fault: 'Seen' | 'Late' | 'Full' | 'NoId' | 'NoEnd';
+}
 
 /**
  * An access rule: which scopes and which values of claims an accepted token has to have (docs/ACCESS.md). Any validator of the same worker may be
@@ -158,6 +172,17 @@ export class Access {
 }
 
 /**
+ * A memory of tokens that count once, by their issuer and `jti`. Validators of the same worker may share it, whose policies have the same leeway. A token is let
+ * in once a memory, so once a worker: several workers, processes or machines need one store that they share. What is never closed is freed with the object.
+ */
+export class Once {
+  /** A memory for so many tokens, from 1 to 4,294,967,295, each of which takes some 130 octets. Throws RangeError, AnotherLibrary, and an Error where memory is refused. */
+  constructor(tokens: number);
+  /** Frees what is held, and forgets what was taken. It may be called twice. Validators over it throw Closed then. */
+  close(): void;
+}
+
+/**
  * A policy and a key set, by which tokens are judged. A call takes microseconds, and blocks: `max_calls` in the policy bounds it. Each worker
  * opens its own. What is never closed is freed with the object.
  */
@@ -169,7 +194,7 @@ export class Validator {
   constructor(policy: Document, keys: Document, how?: Opening);
   /**
    * The claims of a token that is accepted at a moment; without one, at the clock's. Whole numbers past 2^53 lose digits by JSON.parse:
-   * `validateText` has them. With an access rule, only claims that meet it are given. Throws TokenRefused, Denied, Closed, TypeError also for an
+   * `validateText` has them. With an access rule, only claims that meet it are given. Throws TokenRefused, NotTaken among them, Denied, Closed, TypeError also for an
    * object whose `access` isn't an Access and for more arguments, RangeError for a moment that isn't one, and an Error where memory is refused.
    */
   validate(token: Token, how?: Moment | Asking): Claims;

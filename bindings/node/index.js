@@ -7,11 +7,13 @@ const { isPlain, ofKind, own } = require('./options.js');
 const OK = 0, REFUSED = 1, OUT_OF_MEMORY = 3;
 /** FOW_NO_FAULT and FOW_DENIED_SCOPE_MISSING of fowharimu.h. */
 const NO_FAULT = 0, SCOPE_MISSING = 1001;
+/** FOW_TAKEN_NEW, and the names of the other answers of enum fow_taken. */
+const TAKEN_NEW = 1, NOT_TAKEN = { 2: 'Seen', 3: 'Late', 4: 'Full', 5: 'NoId', 6: 'NoEnd' };
 /** FOW_MOST_QUESTIONS of fowharimu.h. */
 const MOST_QUESTIONS = 64;
 const NOTHING_REMEMBERED = { tokens: 0, octets: 0 };
 /** The names of options. */
-const OPENING = ['mostQuestions', 'remember'], REMEMBER = ['tokens', 'octets'], ASKING = ['access', 'now'], ISSUING = ['key', 'alg', 'form', 'typ'];
+const OPENING = ['mostQuestions', 'remember', 'once'], REMEMBER = ['tokens', 'octets'], ASKING = ['access', 'now'], ISSUING = ['key', 'alg', 'form', 'typ'];
 const GREATEST_NUMBER = 2 ** 32 - 1;
 const PARTS = { 1: 'payload', 2: 'protected', 3: 'signature' };
 const STATES = { 1: 'barred', 2: 'no key', 3: 'bad signature', 4: 'verified', 5: 'not reached', 6: 'stopped' };
@@ -41,9 +43,10 @@ class FormRefused extends TokenRefused {}
 class CeilingReached extends TokenRefused {}
 class SignatureRefused extends TokenRefused {}
 class ClaimsRefused extends TokenRefused {}
+class NotTaken extends TokenRefused {}
 const ERRORS = {
   FowharimuError, AnotherLibrary, Closed, TooManyQuestions, PolicyRefused, KeysRefused, IssueRefused, AccessRefused, Denied, TokenRefused,
-  TooLong, FormRefused, CeilingReached, SignatureRefused, ClaimsRefused,
+  TooLong, FormRefused, CeilingReached, SignatureRefused, ClaimsRefused, NotTaken,
 };
 for (const [name, kind] of Object.entries(ERRORS)) named(kind, name);
 
@@ -144,6 +147,46 @@ class Access {
   }
 }
 
+/** What a Validator may do with an Once, and nobody else: take the token that was accepted just now, at that moment. Throws NotTaken, and Closed. */
+let take;
+/** Whether something is an Once. */
+let isOnce;
+
+class Once {
+  #held;
+  #isClosed = false;
+
+  static {
+    isOnce = (it) => typeof it === 'object' && it !== null && #held in it;
+    take = (once, validator, now) => {
+      if (once.#isClosed) throw new Closed('the memory of tokens that count once is closed');
+      const taken = native.taken(once.#held, validator, now);
+      if (taken === TAKEN_NEW) return;
+      const fault = NOT_TAKEN[taken];
+      throw new NotTaken(`the token counts once, and isn't taken: ${fault}`, { fault });
+    };
+  }
+
+  constructor(tokens) {
+    compareLibrary();
+    const room = whole(tokens, 'once');
+    if (room === 0) throw new RangeError('once has to be at least 1');
+    this.#held = native.openOnce(room);
+  }
+
+  close() {
+    this.#isClosed = true;
+    native.closeOnce(this.#held);
+  }
+}
+
+/** The memory that options name: one that was made, or a new one for so many tokens; undefined where none is asked for, but not where it is named in vain. */
+function onceOf(members) {
+  if (!('once' in members) || isOnce(members.once)) return members.once;
+  if (typeof members.once !== 'number') throw new TypeError('once has to be an Once, or a number of tokens');
+  return new Once(members.once);
+}
+
 /** Refuses more than a token and one word beside it: an access rule behind a moment would go unheard. */
 function takeNoMore(others) {
   if (others.length > 0) throw new TypeError('beside the token one argument is taken: a moment, or for claims { access, now }');
@@ -152,23 +195,25 @@ function takeNoMore(others) {
 /** The moment and the access rule that a token is asked for. An object always has a rule, so that one isn't left out by a misspelled name. */
 function asked(how, others) {
   takeNoMore(others);
-  if (typeof how !== 'object' || how === null) return { now: how };
+  if (typeof how !== 'object' || how === null) return { now: moment(how) };
   const { access, now } = own(how, ASKING, 'a call');
-  return { now, rule: ruleOf(access) };
+  return { now: moment(now), rule: ruleOf(access) };
 }
 
 class Validator {
   #held;
   #isClosed = false;
+  #once;
   #terms;
   #report = new Float64Array(8);
 
   constructor(policy, keys, options = {}) {
     compareLibrary();
-    const { mostQuestions = MOST_QUESTIONS, remember = NOTHING_REMEMBERED } = own(options, OPENING, 'a validator');
+    const members = own(options, OPENING, 'a validator'), { mostQuestions = MOST_QUESTIONS, remember = NOTHING_REMEMBERED } = members;
     ofKind('number', { mostQuestions }, 'mostQuestions');
     const { tokens, octets: longest } = own(remember, REMEMBER, 'remember');
     const room = [whole(tokens, 'remember.tokens'), whole(longest, 'remember.octets')];
+    this.#once = onceOf(members);
     const text = octets(policy), held = native.open(text, octets(keys));
     if (typeof held === 'number') throw documentRefused(held, text);
     const most = native.mostQuestions(held);
@@ -196,18 +241,16 @@ class Validator {
   }
 
   validate(token, how, ...others) {
-    return JSON.parse(this.validateText(token, how, ...others));
+    return this.#accepted(token, asked(how, others), JSON.parse);
   }
 
   validateText(token, how, ...others) {
-    const { now, rule } = asked(how, others), refusal = this.#judge(token, now) ?? (rule && this.#denial(rule));
-    if (refusal) throw refusal;
-    return native.payload(this.#held);
+    return this.#accepted(token, asked(how, others), (text) => text);
   }
 
   judge(token, now, ...others) {
     takeNoMore(others);
-    const refusal = this.#judge(token, now);
+    const refusal = this.#judge(token, moment(now));
     const [, , , signature, key, , work, count] = this.#report;
     const remembered = native.remembered(this.#held);
     return { accepted: refusal === null, refusal, signature, key, work, states: this.#states(), tries: this.#tries(count), remembered };
@@ -246,9 +289,18 @@ class Validator {
     return this.#held;
   }
 
+  /** The payload of a token that is accepted and meets the rule, as it is to be read. It is taken last, so that nothing which fails has used it up. */
+  #accepted(token, { now, rule }, reading) {
+    const refusal = this.#judge(token, now) ?? (rule && this.#denial(rule));
+    if (refusal) throw refusal;
+    const claims = reading(native.payload(this.#held));
+    if (this.#once !== undefined) take(this.#once, this.#held, now);
+    return claims;
+  }
+
   /** Why a token isn't accepted, and null where it is. */
   #judge(token, now) {
-    const verdict = native.judge(this.#open(), token, moment(now), this.#report);
+    const verdict = native.judge(this.#open(), token, now, this.#report);
     return verdict === OK ? null : this.#refusal(verdict);
   }
 
@@ -295,15 +347,16 @@ class Validator {
     });
   }
 }
-if (Symbol.dispose) for (const it of [Validator, Access]) it.prototype[Symbol.dispose] = it.prototype.close;
+if (Symbol.dispose) for (const it of [Validator, Access, Once]) it.prototype[Symbol.dispose] = it.prototype.close;
 
 /** The text of a member of a JSON object, as the library reads it; undefined where there is none. */
 const textMember = (document, name) => native.textMember(document, name);
 
 // (each by its name: so that `import { Validator } from 'fowharimu'` finds them)
 module.exports = {
-  Validator, Access, FowharimuError, AnotherLibrary, Closed, TooManyQuestions, PolicyRefused, KeysRefused, IssueRefused, AccessRefused,
-  Denied, TokenRefused, TooLong, FormRefused, CeilingReached, SignatureRefused, ClaimsRefused, textMember,
+  Validator, Access, Once, FowharimuError, AnotherLibrary, Closed, TooManyQuestions, PolicyRefused, KeysRefused, IssueRefused, AccessRefused,
+  Denied, TokenRefused, TooLong, FormRefused, CeilingReached, SignatureRefused, ClaimsRefused, NotTaken, textMember,
 };
-// (for renewal.js and requests.js alone)
+// (for renewal.js, requests.js and remote.js alone)
 Object.defineProperty(module.exports, 'native', { value: native });
+Object.defineProperty(module.exports, 'onceOf', { value: onceOf });

@@ -6,7 +6,7 @@ const http = require('node:http');
 const https = require('node:https');
 const tls = require('node:tls');
 const { isUint8Array } = require('node:util').types;
-const { Validator, Closed, FowharimuError, SignatureRefused, TokenRefused } = require('./index.js');
+const { Validator, Closed, FowharimuError, SignatureRefused, TokenRefused, onceOf } = require('./index.js');
 const { ofKind, own } = require('./options.js');
 const { ASKER, Renewal } = require('./renewal.js');
 const { ASKED, STEP, keysUrl, metadataUrl, nextStep, redirected, urlOf } = require('./urls.js');
@@ -24,7 +24,7 @@ const SECURE = { minVersion: 'TLSv1.2', maxVersion: 'TLSv1.3', ciphers: constant
 /** The times in milliseconds, where none are given. */
 const TIMES = { refreshAfter: 600_000, cooldown: 30_000, maxAge: 3_600_000, timeout: 5_000 };
 /** The names of options, those of a validator among them. */
-const REMOTE = [...Object.keys(TIMES), 'allowHttp', 'ca', 'onFetch', 'mostQuestions', 'remember'];
+const REMOTE = [...Object.keys(TIMES), 'allowHttp', 'ca', 'onFetch', 'mostQuestions', 'remember', 'once'];
 /** The longest time that a timer takes. */
 const LONGEST = 2 ** 31 - 1;
 
@@ -53,6 +53,8 @@ function chosen(options) {
     if (!(typeof how[name] === 'number' && how[name] >= 0)) throw new RangeError(`${name} has to be a number of milliseconds from 0`);
   }
   if (how.timeout > LONGEST) throw new RangeError(`timeout has to be at most ${LONGEST} milliseconds`);
+  // (a memory of tokens that count once is one for all key sets that come)
+  if ('once' in how) how.once = onceOf(how);
   return how;
 }
 
@@ -63,8 +65,9 @@ function kept(policy) {
 }
 
 /** The options that are those of a validator. */
-function validating({ mostQuestions, remember }) {
-  return { mostQuestions, remember };
+function validating(how) {
+  const { mostQuestions, remember } = how;
+  return Object.hasOwn(how, 'once') ? { mostQuestions, remember, once: how.once } : { mostQuestions, remember };
 }
 
 /** The authorities that are trusted, and how: made once, since it holds all of them. */

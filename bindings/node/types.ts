@@ -1,5 +1,5 @@
 // What a caller in TypeScript writes; it is compiled, and not run.
-import { Access, AccessRefused, AnotherLibrary, ClaimsRefused, Denied, FormRefused, KeysRefused, PolicyRefused, Report, TokenRefused, Validator, textMember } from '.';
+import { Access, AccessRefused, AnotherLibrary, ClaimsRefused, Denied, FormRefused, KeysRefused, NotTaken, Once, PolicyRefused, Report, TokenRefused, Validator, textMember } from '.';
 import { Issuers } from './issuers';
 import { RemoteKeys } from './remote';
 
@@ -27,7 +27,13 @@ const named: string | null | undefined = validator.unverifiedIssuer('a.b.c');
 const issuers: Issuers = new Issuers(new Map([['a', validator]]));
 void issuers.validate('a.b.c', { access }).then((it: unknown) => console.log(it, issuer, named, validator.limit + 1, !validator.isPublic));
 void RemoteKeys.open({ algs: ['RS256'] }, 'https://issuer.example/keys').then((keys) => new Issuers({ a: keys, b: validator }).judge('a.b.c', 7));
+const once: Once = new Once(1000);
+for (const it of [once, 1000]) new Validator({ algs: ['HS256'] }, '{"keys":[]}', { once: it }).close();
+void RemoteKeys.open({ algs: ['RS256'] }, 'https://issuer.example/keys', { once });
+if (denied instanceof NotTaken && denied.fault === 'Seen') once.close();
 validator.close();
+// @ts-expect-error: no number of tokens
+new Once('1000');
 // @ts-expect-error: neither a validator nor keys by URL
 new Issuers({ a: 7 });
 // @ts-expect-error: a token is a text or octets

@@ -59,6 +59,14 @@ static void finalize_rule(napi_env env, void *at, void *hint)
     free(it);
 }
 
+static void finalize_once(napi_env env, void *at, void *hint)
+{
+    (void)env;
+    (void)hint;
+    fow_once_close(at);
+    free(at);
+}
+
 static napi_value fail(napi_env env, const char *code, const char *what)
 {
     napi_throw_error(env, code, what);
@@ -212,6 +220,14 @@ static rule *rule_of(napi_env env, napi_value value)
     void *at = NULL;
     if (napi_get_value_external(env, value, &at) != napi_ok)
         mistake(env, "an access rule is wanted");
+    return at;
+}
+
+static fow_once *once_of(napi_env env, napi_value value)
+{
+    void *at = NULL;
+    if (napi_get_value_external(env, value, &at) != napi_ok)
+        mistake(env, "a memory of tokens is wanted");
     return at;
 }
 
@@ -670,6 +686,59 @@ static napi_value close_access(napi_env env, napi_callback_info info)
     return NULL;
 }
 
+/* openOnce(tokens): a memory of so many tokens that count once. index.js has looked at the number. */
+static napi_value open_once(napi_env env, napi_callback_info info)
+{
+    napi_value given[1], result = NULL;
+    uint32_t tokens = 0;
+    size_t count = 1;
+    napi_get_cb_info(env, info, &count, given, NULL, NULL);
+    if (count < 1 || napi_get_value_uint32(env, given[0], &tokens) != napi_ok)
+        return mistake(env, "a number is wanted");
+    fow_once *it = calloc(1, sizeof *it);
+    if (it == NULL)
+        return lack_memory(env);
+    if (fow_once_open(it, tokens) == FOW_OK && napi_create_external(env, it, finalize_once, NULL, &result) == napi_ok)
+        return result;
+    fow_once_close(it);
+    free(it);
+    return lack_memory(env);
+}
+
+/* taken(once, validator, now): what became of the token that was accepted last, at the moment of that verdict, by its number of enum fow_taken. Everything
+ * else is thrown. */
+static napi_value taken(napi_env env, napi_callback_info info)
+{
+    napi_value given[3];
+    uint32_t said = FOW_TAKEN_NOTHING;
+    int64_t now = 0;
+    size_t count = 3;
+    fow_once *once;
+    held *it;
+    napi_get_cb_info(env, info, &count, given, NULL, NULL);
+    if (count < 3)
+        return mistake(env, "an argument is missing");
+    if ((once = once_of(env, given[0])) == NULL || (it = held_of(env, given[1])) == NULL)
+        return NULL;
+    if (!read_moment(env, given[2], &now))
+        return mistake(env, "a moment is wanted");
+    uint32_t status = fow_once_take(once, &it->validator, now, &said);
+    if (status == FOW_OK || status == FOW_REFUSED)
+        return number(env, said);
+    return status == FOW_OUT_OF_MEMORY ? lack_memory(env) : fail(env, NULL, "no token is accepted, or no memory of tokens is open");
+}
+
+static napi_value close_once(napi_env env, napi_callback_info info)
+{
+    napi_value given[1];
+    size_t count = 1;
+    fow_once *it;
+    napi_get_cb_info(env, info, &count, given, NULL, NULL);
+    if (count == 1 && (it = once_of(env, given[0])) != NULL)
+        fow_once_close(it);
+    return NULL;
+}
+
 static napi_value fault_name(napi_env env, napi_callback_info info)
 {
     napi_value given[1], result = NULL;
@@ -717,6 +786,7 @@ NAPI_MODULE_INIT()
         { "faultName", fault_name }, { "close", close_validator }, { "openAccess", open_access }, { "refusedInAccess", refused_in_access },
         { "remember", remember }, { "remembered", remembered }, { "scope", scope }, { "denied", denied }, { "deniedName", denied_name }, { "closeAccess", close_access },
         { "named", named }, { "soleIssuer", sole_issuer }, { "tokenLimit", token_limit }, { "isPublic", is_public }, { "textMember", text_member },
+        { "openOnce", open_once }, { "taken", taken }, { "closeOnce", close_once },
     };
     for (size_t i = 0; i < sizeof all / sizeof *all; i++)
         put(env, exports, &all[i]);

@@ -604,6 +604,116 @@ function testIssuing() {
   assert.strictEqual(validator.unverifiedHeader('a.b'), undefined);
 }
 
+/** A validator that takes tokens, which it issues too. */
+const takingIn = (once) => new fow.Validator({ algs: ['HS256'], leeway: 60 }, read(HMAC, 'keys'), { once });
+
+/** An accepted token that isn't taken, for this reason. */
+function notTaken(validator, token, now, fault) {
+  const error = { name: 'NotTaken', fault, message: `the token counts once, and isn't taken: ${fault}` };
+  for (const call of ['validate', 'validateText']) assert.throws(() => validator[call](token, now), error);
+  assert.throws(() => validator.validate(token, now), fow.TokenRefused);
+}
+
+function testOnce() {
+  const validator = takingIn(10), token = validator.issue({ iss: 'i', jti: 'a', exp: 1000 });
+  // (what judges, is denied, or is refused, takes nothing)
+  assert.ok(validator.judge(token, 900).accepted);
+  assert.throws(() => validator.validate(token, { access: new fow.Access({ scopes: ['read'] }), now: 900 }), fow.Denied);
+  assert.throws(() => validator.validate(token, 1060), fow.ClaimsRefused);
+  assert.strictEqual(validator.validate(token, 900).jti, 'a');
+  notTaken(validator, token, 900, 'Seen');
+  notTaken(validator, token, 900n, 'Seen');
+  assert.throws(() => validator.validate(token, { access: new fow.Access({}), now: 900 }), fow.NotTaken);
+  // (another token with the same issuer and jti, and another issuer)
+  notTaken(validator, validator.issue({ iss: 'i', jti: 'a', exp: 1001 }), 1060, 'Seen');
+  assert.strictEqual(JSON.parse(validator.validateText(validator.issue({ jti: 'a', exp: 1000 }), 900)).jti, 'a');
+  const plain = validatorOf(HMAC);
+  for (let n = 0; n < 2; n++) assert.strictEqual(plain.validate(tokenOf(HMAC), NOW).iss, 'joe');
+}
+
+function testWhyNotTaken() {
+  const validator = takingIn(new fow.Once(1)), issue = (claims) => validator.issue(claims);
+  notTaken(validator, issue({ iss: 'i', exp: 1000 }), 900, 'NoId');
+  notTaken(validator, issue({ iss: 'i', jti: 'a' }), 900, 'NoEnd');
+  validator.validate(issue({ jti: 'a', exp: 1000 }), 900);
+  notTaken(validator, issue({ jti: 'b', exp: 2000 }), 900, 'Full');
+  validator.validate(issue({ jti: 'b', exp: 2000 }), 1061);
+  notTaken(validator, issue({ jti: 'a', exp: 1000 }), 900, 'Late');
+}
+
+/** Validators share a memory, and what is none is refused: one that is undefined would take nothing. */
+function testMemories() {
+  const once = new fow.Once(2 ** 32 - 1), [first, second] = [takingIn(once), takingIn(once)], token = first.issue({ jti: 'a', exp: 1000 });
+  first.validate(token, 900);
+  notTaken(second, token, 900, 'Seen');
+  for (const it of [undefined, null, true, '10', 10n, {}, fow.Once, Object.create(fow.Once.prototype), structuredClone(once)]) assert.throws(() => takingIn(it), TypeError);
+  for (const it of [0, -1, 0.5, NaN, 2 ** 32]) {
+    assert.throws(() => takingIn(it), RangeError);
+    assert.throws(() => new fow.Once(it), RangeError);
+  }
+  assert.throws(() => new fow.Once(), RangeError);
+  for (let n = 0; n < 2; n++) once.close();
+  for (const it of [first, second]) assert.throws(() => it.validate(token, 900), fow.Closed);
+  assert.ok(first.judge(token, 900).accepted);
+}
+
+/** What a careless merge has left in Object.prototype decides nothing. (It stays there for a moment: Node has an option of that name.) */
+async function testPlantedOnce() {
+  const { RemoteKeys } = require('../remote.js');
+  let tried;
+  Object.prototype.once = 'planted';
+  try {
+    assert.strictEqual(validatorOf(HMAC).validate(tokenOf(HMAC), NOW).iss, 'joe');
+    tried = RemoteKeys.open({ algs: ['RS256'] }, 'ftp://issuer.example/keys');
+    tried.catch(() => {});
+  } finally {
+    delete Object.prototype.once;
+  }
+  await assert.rejects(tried, /the URL of a key set/);
+}
+
+/** What was taken stays so under new keys. */
+async function testOnceByUrl() {
+  const { RemoteKeys } = require('../remote.js'), folder = path.join(TOP, 'examples/profiles/client-assertion');
+  const token = fs.readFileSync(path.join(folder, 'tokens/good.jwt')), policy = fs.readFileSync(path.join(folder, 'policy.json'));
+  const server = http.createServer((_, response) => response.end(fs.readFileSync(path.join(folder, 'keys.json')))).listen(0, '127.0.0.1');
+  await once(server, 'listening');
+  const url = `http://127.0.0.1:${server.address().port}/keys`;
+  try {
+    const keys = await RemoteKeys.open(policy, url, { allowHttp: true, once: 10 });
+    await keys.validate(token, NOW);
+    assert.ok(await keys.refresh());
+    await assert.rejects(keys.validate(token, NOW), { name: 'NotTaken', fault: 'Seen' });
+    keys.close();
+    await assert.rejects(RemoteKeys.open(policy, url, { allowHttp: true, once: undefined }), TypeError);
+  } finally {
+    server.close();
+  }
+}
+
+/** A guard answers a token that isn't taken as one that isn't accepted. */
+function testGuardOnce() {
+  const { guard } = require('../guard.js'), validator = takingIn(10), said = [];
+  const token = validator.issue({ jti: 'a', exp: Math.floor(Date.now() / 1000) + 600 });
+  for (let n = 0; n < 2; n++) {
+    const headers = {}, response = { setHeader: (name, value) => { headers[name] = value; }, end() { said.push([this.statusCode, headers['WWW-Authenticate']]); } };
+    guard(validator)({ rawHeaders: ['Authorization', `Bearer ${token}`], headers: {} }, response, () => said.push('let in'));
+  }
+  assert.deepStrictEqual([said.length, said[0], said[1][0]], [2, 'let in', 401]);
+  assert.match(said[1][1], /error="invalid_token"/);
+}
+
+async function testFreeingMemories() {
+  const before = process.memoryUsage().rss;
+  for (let n = 0; n < 20000; n++) {
+    const validator = n % 100 === 0 && takingIn(10);
+    if (validator) validator.validate(validator.issue({ jti: 'a', exp: 1000 }), 900);
+    new fow.Once(10);
+    if (n % 100 === 0) await new Promise((done) => setImmediate(done));
+  }
+  assert.ok(process.memoryUsage().rss < before + 300e6, `${process.memoryUsage().rss}`);
+}
+
 /** Octets that another thread may change are copied before they are read. */
 function testSharedBuffers() {
   const shared = new Uint8Array(new SharedArrayBuffer(read(HMAC, 'jwt').length));
@@ -640,7 +750,7 @@ async function testWorkers() {
 
 async function testImport() {
   const { Validator, TokenRefused, ...others } = await import('../index.js');
-  for (const it of ['Access', 'AccessRefused', 'Denied']) assert.ok(others[it] && others[it] === fow[it], it);
+  for (const it of ['Access', 'AccessRefused', 'Denied', 'NotTaken', 'Once']) assert.ok(others[it] && others[it] === fow[it], it);
   assert.strictEqual(Validator, fow.Validator);
   assert.strictEqual(TokenRefused, fow.TokenRefused);
 }
@@ -654,7 +764,7 @@ function testTypes(t) {
 /** FOWHARIMU_ANOTHER is the number of the interface that the library has which FOWHARIMU_NODE was linked with, where it isn't this package's. */
 function testAnotherLibrary() {
   const loaded = Number(process.env.FOWHARIMU_ANOTHER);
-  for (const call of [() => validatorOf(HMAC), () => new fow.Access({})]) {
+  for (const call of [() => validatorOf(HMAC), () => new fow.Access({}), () => new fow.Once(1)]) {
     assert.throws(call, { name: 'AnotherLibrary', loaded, madeFor: loaded - 1, version: 'another' });
   }
 }
@@ -680,6 +790,13 @@ if (!isMainThread) {
   test('what is no document', testDocumentsByMistake);
   test('no access rule by mistake', testMistakenRules);
   test('the access rules of the documents', testRulesOfTheDocuments);
+  test('tokens that count once', testOnce);
+  test('why a token is not taken', testWhyNotTaken);
+  test('memories of tokens that count once', testMemories);
+  test('a memory that a prototype names', testPlantedOnce);
+  test('tokens that count once, by URL', testOnceByUrl);
+  test('a guard over tokens that count once', testGuardOnce);
+  test('memories that are not closed are freed', testFreeingMemories);
   test('too many questions', testQuestions);
   test('mistakes are told', testMistakes);
   test('a closed validator refuses', testClosing);
