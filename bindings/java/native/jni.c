@@ -394,6 +394,40 @@ static jbyteArray JNICALL denied_name(JNIEnv *env, jclass class, jlong it, jlong
     return array_of(env, status, room, len);
 }
 
+static fow_once *once_at(jlong once)
+{
+    return (fow_once *)(intptr_t)once;
+}
+
+static jlong JNICALL open_once(JNIEnv *env, jclass class, jint tokens)
+{
+    (void)env;
+    (void)class;
+    fow_once *once = calloc(1, sizeof *once);
+    if (once != NULL && fow_once_open(once, (size_t)tokens) == FOW_OK)
+        return (jlong)(intptr_t)once;
+    free(once);
+    return 0;
+}
+
+static jint JNICALL take_once(JNIEnv *env, jclass class, jlong once, jlong it, jlong now, jintArray out)
+{
+    (void)class;
+    uint32_t taken = FOW_TAKEN_NOTHING;
+    uint32_t status = fow_once_take(once_at(once), &at(it)->validator, now, &taken);
+    jint said = (jint)taken;
+    (*env)->SetIntArrayRegion(env, out, 0, 1, &said);
+    return (jint)status;
+}
+
+static void JNICALL close_once(JNIEnv *env, jclass class, jlong once)
+{
+    (void)env;
+    (void)class;
+    fow_once_close(once_at(once));
+    free(once_at(once));
+}
+
 static jstring JNICALL fault_name(JNIEnv *env, jclass class, jint fault)
 {
     (void)class;
@@ -426,6 +460,9 @@ JNIEXPORT jint JNICALL JNI_OnLoad(JavaVM *vm, void *reserved)
         ROW("accessScope", "(JI)[B", access_scope),
         ROW("denied", "(JJ[J)I", denied),
         ROW("deniedName", "(JJ)[B", denied_name),
+        ROW("openOnce", "(I)J", open_once),
+        ROW("takeOnce", "(JJJ[I)I", take_once),
+        ROW("closeOnce", "(J)V", close_once),
         ROW("faultName", "(I)Ljava/lang/String;", fault_name),
         ROW("named", "(J[B[I)[B", named),
         ROW("soleIssuer", "(J)[B", sole_issuer),

@@ -20,6 +20,7 @@ import java.util.concurrent.Callable;
 import java.util.concurrent.ExecutorService;
 import java.util.concurrent.Executors;
 import java.util.concurrent.Future;
+import java.util.concurrent.atomic.AtomicInteger;
 import java.util.concurrent.atomic.AtomicReference;
 import java.util.stream.Collectors;
 import java.util.stream.Stream;
@@ -31,6 +32,7 @@ import org.example.fowharimu.Fetching;
 import org.example.fowharimu.Issuers;
 import org.example.fowharimu.Issuing;
 import org.example.fowharimu.Judging;
+import org.example.fowharimu.Once;
 import org.example.fowharimu.Refused;
 import org.example.fowharimu.Remember;
 import org.example.fowharimu.RemoteKeys;
@@ -78,11 +80,96 @@ final class Tests {
             this::questions, this::mistakes, this::closing, this::issuing, this::freeing, this::threads, this::closingMeanwhile, this::ruleMet, this::denials,
             this::denialIsNoRefusal, this::rulesRefused, this::rulesOfTheDocuments, this::ruleMistakes, this::ruleClosing, this::ruleFreeing,
             this::ruleThreads, this::ruleClosingMeanwhile, this::terms, this::issuers, this::urls, this::times,
-            this::longestTimes, this::clients
+            this::longestTimes, this::clients, this::once, this::whyNotTaken, this::memories, this::onceByThreads
         }) {
             it.run();
             passed++;
         }
+    }
+
+    /** A validator that takes tokens in a memory, which it issues too. */
+    private Validator taking(Once once) throws Exception {
+        return new Validator(octets("{\"algs\":[\"HS256\"],\"leeway\":60}"), read(hmac, "keys"), once);
+    }
+
+    private static byte[] issued(Validator it, String claims) throws Exception {
+        return octets(it.issue(claims, new Issuing()));
+    }
+
+    /** An accepted token that isn't taken, for this reason. */
+    private void notTaken(Validator it, byte[] token, long now, String fault) throws Exception {
+        Refused refusal = refused(() -> it.validate(token, now));
+        equal(List.of(refusal.kind(), refusal.fault(), refusal.getMessage()), List.of(Refused.Kind.NOT_TAKEN, fault, "the token counts once, and isn't taken: " + fault));
+    }
+
+    /** A token is let in once; what judges, is denied or is refused takes nothing. */
+    private void once() throws Exception {
+        try (Once once = new Once(10); Validator it = taking(once); Access denies = new Access("{\"scopes\":[\"read\"]}"); Access grants = new Access("{}")) {
+            byte[] token = issued(it, "{\"iss\":\"i\",\"jti\":\"a\",\"exp\":1000}");
+            check(it.judge(token, 900).accepted(), "it isn't accepted");
+            thrown(Denied.class, () -> it.validate(token, 900, denies));
+            equal(refused(() -> it.validate(token, 1060)).kind(), Refused.Kind.CLAIMS);
+            check(it.validate(token, 900, grants).contains("\"a\""), "other claims");
+            notTaken(it, token, 900, "Seen");
+            equal(refused(() -> it.validate(token, 900, grants)).kind(), Refused.Kind.NOT_TAKEN);
+            notTaken(it, issued(it, "{\"iss\":\"i\",\"jti\":\"a\",\"exp\":1001}"), 1060, "Seen");
+            it.validate(issued(it, "{\"jti\":\"a\",\"exp\":1000}"), 900);
+        }
+    }
+
+    private void whyNotTaken() throws Exception {
+        try (Once once = new Once(1); Validator it = taking(once)) {
+            notTaken(it, issued(it, "{\"iss\":\"i\",\"exp\":1000}"), 900, "NoId");
+            notTaken(it, issued(it, "{\"iss\":\"i\",\"jti\":\"a\"}"), 900, "NoEnd");
+            it.validate(issued(it, "{\"jti\":\"a\",\"exp\":1000}"), 900);
+            notTaken(it, issued(it, "{\"jti\":\"b\",\"exp\":2000}"), 900, "Full");
+            it.validate(issued(it, "{\"jti\":\"b\",\"exp\":2000}"), 1061);
+            notTaken(it, issued(it, "{\"jti\":\"a\",\"exp\":1000}"), 900, "Late");
+        }
+    }
+
+    /** Validators share a memory, and none is asked that isn't there. */
+    private void memories() throws Exception {
+        for (int tokens : new int[] {0, -1, Integer.MIN_VALUE}) {
+            thrown(IllegalArgumentException.class, () -> new Once(tokens));
+        }
+        thrown(NullPointerException.class, () -> taking(null));
+        Once once = new Once(Integer.MAX_VALUE);
+        try (Validator first = taking(once); Validator second = taking(once)) {
+            byte[] token = issued(first, "{\"jti\":\"a\",\"exp\":1000}");
+            first.validate(token, 900);
+            notTaken(second, token, 900, "Seen");
+            once.close();
+            once.close();
+            thrown(IllegalStateException.class, () -> first.validate(token, 900));
+            check(first.judge(token, 900).accepted(), "it isn't accepted");
+        }
+    }
+
+    /** Of many threads one is let in. */
+    private void onceByThreads() throws Exception {
+        AtomicInteger letIn = new AtomicInteger();
+        try (Once once = new Once(10); Validator it = taking(once)) {
+            byte[] token = issued(it, "{\"jti\":\"a\",\"exp\":1000}");
+            List<Thread> threads = new ArrayList<>();
+            for (int n = 0; n < 8; n++) {
+                threads.add(new Thread(() -> {
+                    for (int call = 0; call < 50; call++) {
+                        try {
+                            it.validate(token, 900);
+                            letIn.incrementAndGet();
+                        } catch (Refused refusal) {
+                            // (it isn't taken)
+                        }
+                    }
+                }));
+            }
+            threads.forEach(Thread::start);
+            for (Thread thread : threads) {
+                thread.join();
+            }
+        }
+        equal(letIn.get(), 1);
     }
 
     private static final String SECRET = "{\"keys\":[{\"kty\":\"oct\",\"k\":\"AAAAAAAAAAAAAAAAAAAAAAAAAAAAAAAAAAAAAAAAAAA\"}]}";

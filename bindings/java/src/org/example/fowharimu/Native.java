@@ -5,7 +5,8 @@ import java.io.InputStream;
 import java.nio.file.Files;
 import java.nio.file.Path;
 
-/** The functions of fowharimu.h: those of jni.c. An address is that of a validator, or of an access rule, of which one call at a time is made. */
+/** The functions of fowharimu.h: those of jni.c. An address is that of a validator, of an access rule, or of a memory of tokens that count once, of each of which one
+ * call at a time is made. */
 final class Native {
     static final int OK = 0;
     static final int REFUSED = 1;
@@ -139,6 +140,14 @@ final class Native {
 
     /** The scope or the claim of that denial; null where there is none. It throws OutOfMemoryError. */
     static native byte[] deniedName(long it, long access);
+
+    /** The address of a memory for so many tokens that count once; 0 where memory is refused. */
+    static native long openOnce(int tokens);
+
+    /** Takes the token that was accepted last, at the moment of that verdict. Gives the status, and writes what became of it, a number of enum fow_taken. */
+    static native int takeOnce(long once, long validator, long now, int[] taken);
+
+    static native void closeOnce(long once);
 
     static native String faultName(int fault);
 

@@ -27,13 +27,20 @@ public final class Refused extends Exception {
         /** An access rule; {@link #about} is the member or the claim that the fault speaks of. */
         ACCESS,
         /** A token, since the keys are too old, and newer ones can't be fetched: nothing is said of it. A service answers 503 to this. */
-        KEYS_TOO_OLD
+        KEYS_TOO_OLD,
+        /**
+         * An accepted token that counts once ({@link Once}), and isn't taken. {@code Seen}: it was taken before; {@code Late}: its {@code exp} and the leeway
+         * have passed by the greatest moment that was judged at; {@code Full}: as many tokens are held as there is room for; {@code NoId}, {@code NoEnd}: it
+         * has no {@code jti}, or no {@code exp}.
+         */
+        NOT_TAKEN
     }
 
     private static final long serialVersionUID = 1;
     private static final String[] WHAT = {
-        "the policy is", "the key set is", "the policy is", "the token is", "the token is", "the token is", "the token is", "the token is",
-        "the claims are", "the access rule is", "the token is"
+        "the policy is refused", "the key set is refused", "the policy is refused", "the token is refused", "the token is refused",
+        "the token is refused", "the token is refused", "the token is refused", "the claims are refused", "the access rule is refused",
+        "the token is refused", "the token counts once, and isn't taken"
     };
     /** What is refused. */
     private final Kind kind;
@@ -48,7 +55,7 @@ public final class Refused extends Exception {
 
     Refused(Kind kind, String fault, String about, int signature, int key) {
         // (a refusal is no mistake of a program, and strangers cause it: it has no trace)
-        super(WHAT[kind.ordinal()] + " refused: " + fault + (about == null ? "" : ", " + about), null, false, false);
+        super(WHAT[kind.ordinal()] + ": " + fault + (about == null ? "" : ", " + about), null, false, false);
         this.kind = kind;
         this.fault = fault;
         this.about = about;
@@ -69,7 +76,7 @@ public final class Refused extends Exception {
      * Why it is refused.
      *
      * @return the name that the program {@code jwt} prints, such as {@code Expired}; of {@link Kind#QUESTIONS} {@code TooManyQuestions}, of
-     *     {@link Kind#KEYS_TOO_OLD} {@code KeysTooOld}
+     *     {@link Kind#KEYS_TOO_OLD} {@code KeysTooOld}, and of {@link Kind#NOT_TAKEN} those that stand there
      */
     public String fault() {
         return fault;

@@ -28,6 +28,8 @@ public final class RemoteKeys implements Judging {
     private final Fetching how;
     private final int mostQuestions;
     private final Remember remember;
+    /** One memory of tokens that count once for all key sets that come. */
+    private final Optional<Once> once;
     private final HttpClient client;
     private volatile Validator validator;
     /** What a token is judged by until it has to ask again: so no lock is taken for each. Null where it has to. */
@@ -79,11 +81,49 @@ public final class RemoteKeys implements Judging {
      * @throws IllegalArgumentException as of {@link #RemoteKeys(byte[], String)}
      */
     public RemoteKeys(byte[] policy, String url, Fetching how, int mostQuestions, Remember remember) throws Refused, KeysUnavailable {
+        this(policy, url, how, mostQuestions, remember, Optional.empty());
+    }
+
+    /**
+     * Fetches a key set, and lets each token in once. What was taken stays so under new keys.
+     *
+     * @param policy a JSON text, as the program {@code jwt} takes it
+     * @param url where the key set stands
+     * @param how how it is fetched
+     * @param once where tokens are taken
+     * @throws Refused where the policy is refused
+     * @throws KeysUnavailable where the keys can't be fetched
+     * @throws IllegalArgumentException as of {@link #RemoteKeys(byte[], String)}
+     */
+    public RemoteKeys(byte[] policy, String url, Fetching how, Once once) throws Refused, KeysUnavailable {
+        this(policy, url, how, Validator.MOST_QUESTIONS, new Remember(), once);
+    }
+
+    /**
+     * Fetches a key set, remembers accepted tokens, and lets each token in once. New keys begin a new memory of accepted tokens; what was taken stays so.
+     *
+     * @param policy a JSON text, as the program {@code jwt} takes it
+     * @param url where the key set stands
+     * @param how how it is fetched
+     * @param mostQuestions how many questions about public keys one token may raise, up to 32,768
+     * @param remember how many tokens of how many octets are remembered
+     * @param once where tokens are taken
+     * @throws Refused where the policy is refused
+     * @throws KeysUnavailable where the keys can't be fetched
+     * @throws IllegalArgumentException as of {@link #RemoteKeys(byte[], String)}
+     */
+    public RemoteKeys(byte[] policy, String url, Fetching how, int mostQuestions, Remember remember, Once once) throws Refused, KeysUnavailable {
+        this(policy, url, how, mostQuestions, remember, Optional.of(Objects.requireNonNull(once, "once")));
+    }
+
+    private RemoteKeys(byte[] policy, String url, Fetching how, int mostQuestions, Remember remember, Optional<Once> once)
+            throws Refused, KeysUnavailable {
         this.policy = publicPolicy(policy, null);
         this.address = Urls.checked(url, how.allowsHttp());
         this.how = how;
         this.mostQuestions = mostQuestions;
         this.remember = Objects.requireNonNull(remember, "remember");
+        this.once = once;
         this.client = Fetch.client(how);
         this.renewal = new Renewal(how);
         if (!refresh()) {
@@ -104,6 +144,26 @@ public final class RemoteKeys implements Judging {
      * @throws IllegalArgumentException for an issuer from which nothing is fetched, and for a policy with an HMAC algorithm or other issuers
      */
     public static RemoteKeys discover(byte[] policy, String issuer, Fetching how) throws Refused, KeysUnavailable {
+        return discover(policy, issuer, how, Optional.empty());
+    }
+
+    /**
+     * Fetches the keys of an issuer, as {@link #discover(byte[], String, Fetching)} does, and lets each token in once.
+     *
+     * @param policy a JSON text, as the program {@code jwt} takes it
+     * @param issuer the issuer
+     * @param how how it is fetched
+     * @param once where tokens are taken
+     * @return the keys
+     * @throws Refused where the policy is refused
+     * @throws KeysUnavailable where the metadata or the keys can't be fetched, or are of another issuer
+     * @throws IllegalArgumentException for an issuer from which nothing is fetched, and for a policy with an HMAC algorithm or other issuers
+     */
+    public static RemoteKeys discover(byte[] policy, String issuer, Fetching how, Once once) throws Refused, KeysUnavailable {
+        return discover(policy, issuer, how, Optional.of(Objects.requireNonNull(once, "once")));
+    }
+
+    private static RemoteKeys discover(byte[] policy, String issuer, Fetching how, Optional<Once> once) throws Refused, KeysUnavailable {
         publicPolicy(policy, issuer);
         Urls.checked(issuer, how.allowsHttp());
         URI metadata = Urls.metadata(Urls.Asked.OPENID, issuer);
@@ -113,7 +173,7 @@ public final class RemoteKeys implements Judging {
         } catch (IOException | IllegalArgumentException e) {
             throw new KeysUnavailable(e);
         }
-        return new RemoteKeys(policy, url, how);
+        return new RemoteKeys(policy, url, how, Validator.MOST_QUESTIONS, new Remember(), once);
     }
 
     /** As {@link Validator#validate(byte[], long)}. The refusal may be of the kind {@link Refused.Kind#KEYS_TOO_OLD} too. */
@@ -367,7 +427,7 @@ public final class RemoteKeys implements Judging {
 
     /** The policy over keys that were fetched, among which there may be no secret (RFC 8725, section 2.1). */
     private Validator open(byte[] keys) throws Refused, IOException {
-        Validator it = new Validator(policy, keys, mostQuestions, remember);
+        Validator it = new Validator(policy, keys, mostQuestions, remember, once);
         if (!it.isPublic()) {
             it.close();
             throw new IOException("it has a key of kty oct in it, which everyone may read");

@@ -34,6 +34,8 @@ public final class Validator implements Judging {
 
     private final Seats seats;
     private final Cleaner.Cleanable cleanable;
+    /** Where tokens are taken that count once; null where none are. */
+    private final Once once;
     private final String issuer;
     private final int limit;
     private final boolean isPublic;
@@ -74,7 +76,41 @@ public final class Validator implements Judging {
      * @throws UnsatisfiedLinkError where there is no library for this machine, or one of another interface
      */
     public Validator(byte[] policy, byte[] keys, int mostQuestions, Remember remember) throws Refused {
+        this(policy, keys, mostQuestions, remember, Optional.empty());
+    }
+
+    /**
+     * Reads a policy and a key set, and lets each token in once.
+     *
+     * @param policy a JSON text, as the program {@code jwt} takes it
+     * @param keys a JSON Web Key Set (RFC 7517, section 5)
+     * @param once where tokens are taken
+     * @throws Refused where one is refused
+     * @throws UnsatisfiedLinkError where there is no library for this machine, or one of another interface
+     */
+    public Validator(byte[] policy, byte[] keys, Once once) throws Refused {
+        this(policy, keys, MOST_QUESTIONS, new Remember(), once);
+    }
+
+    /**
+     * Reads a policy and a key set, remembers accepted tokens, and lets each token in once.
+     *
+     * @param policy a JSON text, as the program {@code jwt} takes it
+     * @param keys a JSON Web Key Set (RFC 7517, section 5)
+     * @param mostQuestions how many questions about public keys one token may raise, up to 32,768; {@code max_calls} in the policy bounds them
+     * @param remember how many tokens of how many octets are remembered
+     * @param once where tokens are taken
+     * @throws Refused where one is refused
+     * @throws UnsatisfiedLinkError where there is no library for this machine, or one of another interface
+     */
+    public Validator(byte[] policy, byte[] keys, int mostQuestions, Remember remember, Once once) throws Refused {
+        this(policy, keys, mostQuestions, remember, Optional.of(Objects.requireNonNull(once, "once")));
+    }
+
+    /** As the others, with a memory of tokens that count once, where there is one. */
+    Validator(byte[] policy, byte[] keys, int mostQuestions, Remember remember, Optional<Once> once) throws Refused {
         Objects.requireNonNull(remember, "remember");
+        this.once = once.orElse(null);
         Native.check();
         // (arrays that another thread changes meanwhile are copied in C before they are read)
         int[] fault = new int[1];
@@ -136,7 +172,7 @@ public final class Validator implements Judging {
         Seats.Seat seat = seats.take();
         try {
             accept(seat, token, now);
-            return payload(seat);
+            return taken(seat, now);
         } finally {
             give(seat);
         }
@@ -188,7 +224,7 @@ public final class Validator implements Judging {
         try {
             accept(seat, token, now);
             access.hold(seat);
-            return payload(seat);
+            return taken(seat, now);
         } finally {
             give(seat);
         }
@@ -386,6 +422,15 @@ public final class Validator implements Judging {
     private static String claim(Seats.Seat seat) {
         int claim = (int) seat.report[Native.CLAIM];
         return claim < CLAIMS.length ? CLAIMS[claim] : Text.of(Native.refusedClaim(seat.at));
+    }
+
+    /** The payload of the token that was accepted just now. The token is taken last, so that nothing which fails has used it up. */
+    private String taken(Seats.Seat seat, long now) throws Refused {
+        String claims = payload(seat);
+        if (once != null) {
+            once.take(seat, now);
+        }
+        return claims;
     }
 
     private static String payload(Seats.Seat seat) {
