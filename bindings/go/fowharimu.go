@@ -25,6 +25,7 @@ type Validator struct {
 	mutex     sync.Mutex // guards what follows
 	documents held       // the policy and the key set, which every seat holds too
 	remember  memory     // what each seat remembers
+	once      *Once      // where tokens are taken that count once; nil where none are
 	terms     terms      // what is told of the documents
 	seats     []*seat    // each that was opened, until Close: at most as many as calls were under way at once
 	closed    bool
@@ -44,6 +45,8 @@ type Option func(*options)
 type options struct {
 	questions int
 	remember  memory
+	once      *Once
+	takes     bool // tokens count once
 }
 
 // memory is how many tokens of how many octets each seat remembers.
@@ -64,8 +67,8 @@ func Remember(tokens, octets uint) Option {
 	return func(o *options) { o.remember = memory{tokens, octets} }
 }
 
-// Open reads a policy and a key set. The error is a *PolicyError, a *KeysError, a *QuestionsError, ErrOutOfMemory, or a *LibraryError where
-// another library was loaded than this package was compiled for.
+// Open reads a policy and a key set. The error is a *PolicyError, a *KeysError, a *QuestionsError, ErrOutOfMemory, ErrOnce where Taking is handed nil, or
+// a *LibraryError where another library was loaded than this package was compiled for.
 func Open(policy, keys []byte, how ...Option) (*Validator, error) {
 	if err := compare(); err != nil {
 		return nil, err
@@ -74,7 +77,10 @@ func Open(policy, keys []byte, how ...Option) (*Validator, error) {
 	for _, choose := range how {
 		choose(&chosen)
 	}
-	v := &Validator{remember: chosen.remember}
+	if chosen.takes && chosen.once == nil {
+		return nil, ErrOnce
+	}
+	v := &Validator{remember: chosen.remember, once: chosen.once}
 	if err := v.documents.openWithin(policy, keys, chosen.questions); err != nil {
 		v.documents.close()
 		return nil, err
@@ -144,6 +150,12 @@ func (v *Validator) validate(token string, now time.Time, check func(*seat) erro
 	}
 	if status != statusOK {
 		return Claims{}, ErrOutOfMemory
+	}
+	// (last, so that nothing which fails has used the token up)
+	if v.once != nil {
+		if err := v.once.take(s, now); err != nil {
+			return Claims{}, err
+		}
 	}
 	return Claims{payload}, nil
 }

@@ -18,7 +18,13 @@ const rsa = "../../tests/tokens/RS256"
 
 // keysAt serves the keys of RS256, and gives their URL.
 func keysAt(t *testing.T) string {
-	keys := octets(t, rsa+".keys")
+	t.Helper()
+	return serving(t, octets(t, rsa+".keys"))
+}
+
+// serving serves a key set, and gives its URL.
+func serving(t *testing.T, keys []byte) string {
+	t.Helper()
 	server := httptest.NewServer(http.HandlerFunc(func(w http.ResponseWriter, _ *http.Request) { w.Write(keys) }))
 	t.Cleanup(server.Close)
 	return server.URL + "/keys"

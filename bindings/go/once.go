@@ -1,0 +1,117 @@
+package fowharimu
+
+/*
+#include <stdlib.h>
+#include <fowharimu.h>
+
+static void once_free(fow_once *it)
+{
+	fow_once_close(it);
+	free(it);
+}
+*/
+import "C"
+
+import (
+	"errors"
+	"runtime"
+	"sync"
+	"time"
+)
+
+// ErrOnce says that a memory of tokens that count once was asked for no tokens, or was never opened.
+var ErrOnce = errors.New("fowharimu: no memory of tokens that count once: it is for no tokens, or was never opened")
+
+// Once is a memory of tokens that count once, by their issuer and jti, each until its exp and the policy's leeway. A validator asks it behind its
+// verdict and the access rule (Taking). Validators may share it, whose policies have the same leeway, and goroutines, under a mutex. Close frees what it
+// holds, and so does the garbage collector.
+//
+// A token is let in once a memory: several processes or machines need one store that they share, which says in one step that issuer and jti are new,
+// and holds them from then on.
+type Once struct {
+	mutex sync.Mutex
+	at    *C.fow_once // in C's memory; nil where it was never opened, or is closed
+}
+
+// NotTakenError is the Refusal of a token that is accepted, counts once, and isn't taken. Fault says why: Seen, it was taken before; Late, its exp and
+// the leeway have passed by the greatest moment that was judged at; Full, as many tokens are held as there is room for; NoId or NoEnd, it has no
+// jti, or no exp.
+type NotTakenError struct {
+	Fault string
+}
+
+func (e *NotTakenError) Error() string {
+	return "fowharimu: the token counts once, and isn't taken: " + e.Fault
+}
+
+// FaultName is the fault.
+func (e *NotTakenError) FaultName() string { return e.Fault }
+
+// whyNotTaken has the names of the answers of enum fow_taken.
+var whyNotTaken = map[C.uint32_t]string{
+	C.FOW_TAKEN_SEEN:   "Seen",
+	C.FOW_TAKEN_LATE:   "Late",
+	C.FOW_TAKEN_FULL:   "Full",
+	C.FOW_TAKEN_NO_ID:  "NoId",
+	C.FOW_TAKEN_NO_END: "NoEnd",
+}
+
+// OpenOnce makes an empty memory for so many tokens, each of which takes some 130 octets. Room is needed for as many as are accepted within the lifetime
+// of one: where it is too small, good tokens are refused. The error is ErrOnce for no tokens, ErrOutOfMemory, or a *LibraryError where another
+// library was loaded than this package was compiled for.
+func OpenOnce(tokens uint) (*Once, error) {
+	if err := compare(); err != nil {
+		return nil, err
+	}
+	if tokens == 0 {
+		return nil, ErrOnce
+	}
+	at := (*C.fow_once)(C.calloc(1, C.sizeof_fow_once))
+	if at == nil {
+		return nil, ErrOutOfMemory
+	}
+	if C.fow_once_open(at, C.size_t(tokens)) != statusOK {
+		C.once_free(at)
+		return nil, ErrOutOfMemory
+	}
+	o := &Once{at: at}
+	runtime.SetFinalizer(o, (*Once).Close)
+	return o, nil
+}
+
+// Taking has the validator take in this memory each token that is accepted and meets the access rule: so it is let in once, and each call after that is
+// refused with a *NotTakenError, and so is a token without jti or exp, or one that there is no room for. Whoever calls answers a request by one call of
+// Validate, or of its kin; Judge takes nothing. The moment is then the clock's: one far in the future closes the memory. Of keys by URL it stays under
+// new keys.
+func Taking(once *Once) Option {
+	return func(o *options) { o.once, o.takes = once, true }
+}
+
+// take takes the token that a seat has accepted just now, at that moment. The error is a *NotTakenError, ErrOutOfMemory, or ErrClosed.
+func (o *Once) take(s *seat, now time.Time) error {
+	o.mutex.Lock()
+	defer o.mutex.Unlock()
+	if o.at == nil {
+		return ErrClosed
+	}
+	var taken C.uint32_t
+	status := C.fow_once_take(o.at, &s.held.at.validator, C.int64_t(now.Unix()), &taken)
+	if status == statusOK && taken == C.FOW_TAKEN_NEW {
+		return nil
+	}
+	if why, found := whyNotTaken[taken]; found && status == statusRefused {
+		return &NotTakenError{why}
+	}
+	return ErrOutOfMemory
+}
+
+// Close frees what is held: what was taken is forgotten, and a validator that takes tokens in it gives ErrClosed. It may be called twice. The error is nil.
+func (o *Once) Close() error {
+	o.mutex.Lock()
+	defer o.mutex.Unlock()
+	if o.at != nil {
+		C.once_free(o.at)
+		o.at = nil
+	}
+	return nil
+}
