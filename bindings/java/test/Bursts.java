@@ -18,6 +18,7 @@ final class Bursts {
     private static final long PAUSE = 20_000_000;
     private static final int CALLS = 16;
     private static final int WARMING = 60_000;
+    private static final long LONGEST_WARMING = 3_000_000_000L;
 
     private Bursts() {}
 
@@ -33,7 +34,8 @@ final class Bursts {
      * @param burst how long a burst is, in nanoseconds, as {@code length} is of all
      */
     static void print(int threads, long length, long burst, Call call) throws Exception {
-        for (int n = 0; n < WARMING; n++) {
+        long warm = clock() + LONGEST_WARMING;
+        for (int n = 0; n < WARMING && clock() < warm; n++) {
             call.make();
         }
         long end = clock() + length;
