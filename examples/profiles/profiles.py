@@ -17,6 +17,8 @@ DOCUMENT = TOP / "docs/PROFILES.md"
 # The moment of all tokens, that of the cases of tests/cases, in seconds since 1970-01-01T00:00:00Z.
 NOW = 1300819379
 APPLICATION = "the application: "
+# Behind an acceptance, and shown to it twice.
+MEMORY = "a memory of tokens that count once: "
 
 sys.path.insert(0, str(TOP / "tests/cases"))
 

@@ -137,6 +137,19 @@ class Taking(unittest.TestCase):
         self.assertEqual((caught.exception.fault, str(caught.exception)), (fault, f"the token counts once, and isn't taken: {fault}"))
         self.assertIsInstance(caught.exception, TokenRefused)
 
+    def test_tokens_of_profiles_are_let_in_once(self) -> None:
+        rows = [(it.parent, *line.split("\t")[2:]) for it in TOP.glob("examples/profiles/*/steps.tsv") for line in it.read_text().splitlines()]
+        once = [(folder, token, said) for folder, by, token, said in rows if by.startswith("a memory of tokens that count once")]
+        self.assertEqual(len(once), 4)
+        for folder, token, said in once:
+            octets, rule = (folder / f"tokens/{token}.jwt").read_bytes(), folder / "access.json"
+            access = Access(rule.read_bytes()) if rule.exists() else NO_RULE
+            with self.subTest(folder.name), Validator((folder / "policy.json").read_bytes(), (folder / "keys.json").read_bytes(), once=8) as validator:
+                validator.validate(octets, NOW, access)
+                with self.assertRaises(NotTaken) as caught:
+                    validator.validate(octets, NOW, access)
+                self.assertEqual(f"not taken {caught.exception.fault}", said)
+
     def test_a_token_is_let_in_once(self) -> None:
         with self.taking() as validator:
             token = validator.issue({"iss": "i", "jti": "a", "exp": 1000})
