@@ -1,13 +1,14 @@
 -- One expectation alone: it is met, or the first that isn't.
-use Rattle.std.proofs.Common.{◌≡◌, ℕ, ◌<◌, List, [], ◌∷◌, length, Some, refl, subst, sym, slice_get, arith}
+use Rattle.std.proofs.Common.{◌≡◌, ◌≢◌, ℕ, ◌<◌, List, inl, [], ◌∷◌, length, Some, refl, subst, sym, slice_get, arith}
 use Rattle.std.specs.List.{Contains}
 use Rattle.std.proofs.lemmas.Option.{slice_get_within, get_or_from_slice_get}
 use Rattle.serde_json.specs.Data.{Members}
 use Rattle.jwt_mac.specs.declared.algorithm.Alg.{Alg}
-use Rattle.jwt_expected.specs.Expected.{AreMet, IsMet}
+use Rattle.jwt_expected.specs.Expected.{AreMet, IsMet, expected_text}
 use Rattle.jwt_expected.specs.Unmet.{IsAbsent, IsOther, IsReached, IsFirstUnmet}
 use Rattle.jwt_expected.specs.declared.expected.Expected.{Expected}
 use Rattle.jwt_expected.specs.declared.expected.Unmet.TheVariants.{Absent, Other}
+use Rattle.jwt_handles.specs.Expecting.{SaysText}
 
 at_front : (e x : Expected) (place : ℕ) → place ≡ 0 → slice_get (e ∷ []) place ≡ Some x → x ≡ e
 at_front e x place front is = let first : slice_get (e ∷ []) 0 ≡ Some x = subst (λ p. slice_get (e ∷ []) p ≡ Some x) front is in cc
@@ -20,6 +21,10 @@ met alg ms e all = all e (0, slice_get_within (e ∷ []) 0 e refl, get_or_from_s
 
 pub absent : (alg : Alg) (ms : Members) (e : Expected) (place : ℕ) → IsFirstUnmet alg ms (e ∷ []) (Absent place) → IsAbsent ms e
 absent alg ms e place h = subst (λ x. IsAbsent ms x) (only e h.0 place (let r = h.1 in r.is)) h.2
+
+-- what is said of an absent claim
+pub absent_said : (alg : Alg) (ms : Members) (e : Expected) (place : ℕ) → IsFirstUnmet alg ms (e ∷ []) (Absent place) → SaysText (Some ms) e.claim.now (expected_text alg e.wanted) 9 1
+absent_said alg ms e place h = ((λ (ok : 9 ≡ 0). absurd (let no : 9 ≡ 0 = ok in cc)), (λ (bad : 9 ≢ 0). (refl, inl (refl, absent alg ms e place h))))
 
 pub other : (alg : Alg) (ms : Members) (e : Expected) (place : ℕ) → IsFirstUnmet alg ms (e ∷ []) (Other place) → IsOther alg ms e
 other alg ms e place h = subst (λ x. IsOther alg ms x) (only e h.0 place (let r = h.1 in r.is)) h.2
