@@ -7,6 +7,7 @@ use Rattle.jwt_mac.specs.declared.algorithm.Alg.{Alg}
 use Rattle.jwt_expected.specs.Expected.{AreMet, IsMet, expected_text}
 use Rattle.jwt_expected.specs.Unmet.{IsAbsent, IsOther, IsReached, IsFirstUnmet}
 use Rattle.jwt_expected.specs.declared.expected.Expected.{Expected}
+use Rattle.jwt_expected.specs.declared.expected.Unmet.{Unmet}
 use Rattle.jwt_expected.specs.declared.expected.Unmet.TheVariants.{Absent, Other}
 use Rattle.jwt_handles.specs.Expecting.{SaysText}
 
@@ -25,6 +26,9 @@ absent alg ms e place h = subst (λ x. IsAbsent ms x) (only e h.0 place (let r =
 -- what is said of an absent claim
 pub absent_said : (alg : Alg) (ms : Members) (e : Expected) (place : ℕ) → IsFirstUnmet alg ms (e ∷ []) (Absent place) → SaysText (Some ms) e.claim.now (expected_text alg e.wanted) 9 1
 absent_said alg ms e place h = ((λ (ok : 9 ≡ 0). absurd (let no : 9 ≡ 0 = ok in cc)), (λ (bad : 9 ≢ 0). (refl, inl (refl, absent alg ms e place h))))
+
+pub absent_as : (alg : Alg) (ms : Members) (e : Expected) (u : Unmet) (place : ℕ) → u ≡ Absent place → IsFirstUnmet alg ms (e ∷ []) u → SaysText (Some ms) e.claim.now (expected_text alg e.wanted) 9 1
+absent_as alg ms e u place is h = absent_said alg ms e place (subst (λ (v : Unmet). IsFirstUnmet alg ms (e ∷ []) v) is h)
 
 pub other : (alg : Alg) (ms : Members) (e : Expected) (place : ℕ) → IsFirstUnmet alg ms (e ∷ []) (Other place) → IsOther alg ms e
 other alg ms e place h = subst (λ x. IsOther alg ms x) (only e h.0 place (let r = h.1 in r.is)) h.2

@@ -24,7 +24,7 @@ use std::alloc::{AllocError, Global};
 use std::str::from_utf8;
 
 /// Holds one expectation against claims, where there are any: the status, and 1 for a claim that is absent, 2 for one that is another.
-#[tactic(auto, using(crate::proofs::Standings::met, crate::proofs::Standings::absent_said, crate::proofs::Standings::other))]
+#[tactic(auto, using(crate::proofs::Standings::met, crate::proofs::Standings::other))]
 fn hold(expected: Expected<'_>, claims: Option<&Claims>, alg: Alg) -> (u32, u32)
     ensures says { SaysText (option_map (λ c. c.now) claims.entry) expected.entry.claim.now
         (expected_text alg expected.entry.wanted) result.0 result.1 }
