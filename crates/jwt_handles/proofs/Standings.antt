@@ -1,6 +1,5 @@
 -- One expectation alone: it is met, or the first that isn't.
-use Rattle.std.proofs.Common.{◌≡◌, ◌≢◌, ℕ, ◌<◌, List, inl, [], ◌∷◌, length, Some, refl, subst, sym, slice_get, arith}
-use Rattle.std.specs.List.{Contains}
+use Rattle.std.proofs.Common.{◌≡◌, ◌≢◌, ℕ, ◌<◌, inl, [], ◌∷◌, Some, refl, subst, slice_get, arith}
 use Rattle.std.proofs.lemmas.Option.{slice_get_within, get_or_from_slice_get}
 use Rattle.serde_json.specs.Data.{Members}
 use Rattle.jwt_mac.specs.declared.algorithm.Alg.{Alg}
