@@ -85,7 +85,8 @@ enum fow_status {
     FOW_TOO_SHORT = 5,     /* what is to be written has more octets than there is room for */
     FOW_ABSENT = 6,        /* there is no such thing */
     FOW_DENIED = 7,        /* of fow_denied alone: the accepted token may not do this */
-    FOW_UNNAMED = 8        /* of fow_unverified_issuer alone: the token names no issuer */
+    FOW_UNNAMED = 8,       /* of fow_unverified_issuer alone: the token names no issuer */
+    FOW_NOT_EXPECTED = 9   /* of fow_expect_text and fow_expect_half_hash alone: the accepted token hasn't what is expected of it */
 };
 
 /* Why something is refused: one number for each name that the program `jwt` prints. fow_fault_name gives the name. */
@@ -549,6 +550,31 @@ uint32_t fow_denied(fow_validator *validator, fow_access *access, uint32_t *deni
  * Proved: FOW_OK: `out` begins with it, and it has *written octets. FOW_ABSENT: the claims meet the rule, or the last verdict was no
  * acceptance. FOW_NOT_OPEN: as of fow_denied. Both hold what they held. */
 uint32_t fow_denied_name(fow_validator *validator, fow_access *access, uint8_t *out, size_t out_len, size_t *written);
+
+/* Why a claim isn't what is expected of it. */
+enum fow_unmet {
+    FOW_UNMET_NOTHING = 0, /* the status says what else */
+    FOW_UNMET_ABSENT = 1,  /* the claim is absent, or an object that it would stand in is */
+    FOW_UNMET_OTHER = 2    /* the claim is there, and is another text, or no text */
+};
+
+/* Holds what one call knows against a claim of the token that was accepted last: the `nonce` of a login, the subject or the session of a user. The claim is
+ * named as in an access rule: by its name, or by a JSON Pointer, which begins with `/` (RFC 6901). A list that holds the text isn't the text. It takes no
+ * memory. Ask one expectation after another, and let through nothing but FOW_OK.
+ *
+ * Proved: FOW_OK: the claim is that very text, octet by octet. FOW_NOT_EXPECTED: it isn't, and *unmet says whether it is absent. FOW_REFUSED: the name or the
+ * text isn't in UTF-8. FOW_ABSENT: the last verdict was no acceptance. FOW_NOT_OPEN: nothing is held. The validator holds what it held. */
+uint32_t fow_expect_text(fow_validator *validator, const uint8_t *claim, size_t claim_len, const uint8_t *text, size_t text_len, uint32_t *unmet);
+
+/* Holds the half of a hash against a claim of the token that was accepted last: with `at_hash` the octets are the access token, with `c_hash` the code
+ * (OpenID Connect Core 1.0, sections 3.1.3.6 and 3.3.2.11). `token` is that token once more, and `signature` the number of the signature that verified, as its
+ * report has it: its algorithm says the hash, which is SHA-512 for EdDSA. The token is read again.
+ *
+ * Proved: FOW_OK: the claim is base64url of the left half of the octets' hash by that algorithm. FOW_NOT_EXPECTED: it isn't, and *unmet says whether it is
+ * absent. FOW_REFUSED: the name isn't in UTF-8. FOW_ABSENT: the last verdict was no acceptance, or this token has another payload than the one that was
+ * accepted, or that signature didn't verify. FOW_NOT_OPEN: nothing is held. The validator holds what it held. */
+uint32_t fow_expect_half_hash(fow_validator *validator, const uint8_t *token, size_t token_len, uint32_t signature, const uint8_t *claim, size_t claim_len,
+    const uint8_t *octets, size_t octets_len, uint32_t *unmet);
 
 /* A memory of tokens that count once, by their issuer and `jti` (RFC 7519, section 4.1.7): what keeps a token that was caught from being shown again, as
  * DPoP proofs, client assertions (RFC 7523) and logout tokens ask for. It is asked behind the verdict, with each token that was accepted and that no access

@@ -206,6 +206,18 @@ static uint32_t name_denied(void)
     return fow_denied_name(&validator, &access, out, sizeof out, &written);
 }
 
+static uint32_t expect_text(void)
+{
+    uint32_t unmet;
+    return fow_expect_text(&validator, (const uint8_t *)"/iss", 4, (const uint8_t *)"joe", 3, &unmet);
+}
+
+static uint32_t expect_half_hash(void)
+{
+    uint32_t unmet;
+    return fow_expect_half_hash(&validator, token.at, token.len, 0, (const uint8_t *)"iss", 3, out, 100, &unmet);
+}
+
 /* A memory of tokens that count once, which is opened anew where it is open, and a token with `jti` and `exp`. */
 static fow_once once = FOW_ONCE_INIT;
 
@@ -330,7 +342,9 @@ int main(int argc, char **argv)
     long asked = asked_for;
     refuse_each("fow_denied", hold_access, FOW_DENIED);
     refuse_each("fow_denied_name", name_denied, FOW_OK);
+    refuse_each("fow_expect_text", expect_text, FOW_OK);
     CHECK(asked_for == asked);
+    refuse_each("fow_expect_half_hash", expect_half_hash, FOW_NOT_EXPECTED);
     fow_access_close(&access);
 
     /* (where memory is refused, the token isn't taken, and is new the next time) */

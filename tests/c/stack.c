@@ -91,6 +91,8 @@ static void *judge_text(void *unused)
     fow_unverified_header(&hmac, at(text), text_len, 0, out, sizeof out, &written);
     fow_unverified_issuer(&hmac, at(text), text_len, out, sizeof out, &written);
     fow_claim(&hmac, at("x"), 1, out, sizeof out, &written);
+    fow_expect_text(&hmac, at("x"), 1, at("x"), 1, &denial);
+    fow_expect_half_hash(&hmac, at(text), text_len, 0, at("x"), 1, at("x"), 1, &denial);
     fow_number(&hmac, at("x"), 1, &number);
     fow_ask(&hmac, at(text), text_len, 0, 0, out, sizeof out, &asked);
     fow_answer(&hmac, at(text), text_len, 0, 0, true);

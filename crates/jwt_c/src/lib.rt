@@ -5,6 +5,7 @@
 #![tactic(auto)]
 
 pub mod answer_exports;
+pub mod expect_exports;
 pub mod exports;
 pub mod issuer_exports;
 pub mod once_exports;

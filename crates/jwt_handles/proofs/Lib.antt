@@ -1,3 +1,5 @@
+-- ---- For expecting.rt
+pub mod Standings
 -- ---- For handle.rt
 pub mod Handles
 -- ---- For judging.rt

@@ -22,6 +22,8 @@ pub mod Written
 pub mod Access
 -- questions, as they are written for the caller, and their answers
 pub mod Asking
+-- what one call knows of the claims of the last acceptance
+pub mod Expecting
 -- the ownership of a validator's handle
 pub mod Handles
 -- public documents, and the issuer that a token names

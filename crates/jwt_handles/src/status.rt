@@ -18,6 +18,8 @@ pub const FOW_ABSENT: u32 = 6;
 pub const FOW_DENIED: u32 = 7;
 /// The token names no issuer.
 pub const FOW_UNNAMED: u32 = 8;
+/// The accepted token hasn't what is expected of it.
+pub const FOW_NOT_EXPECTED: u32 = 9;
 
 /// Why a document isn't held.
 #[derive(Clone, Copy, Debug, PartialEq, Eq)]
