@@ -17,8 +17,9 @@ DOCUMENT = TOP / "docs/PROFILES.md"
 # The moment of all tokens, that of the cases of tests/cases, in seconds since 1970-01-01T00:00:00Z.
 NOW = 1300819379
 APPLICATION = "the application: "
-# Behind an acceptance, and shown to it twice.
+# What the library does behind a verdict: with a token that comes twice, and by what the call knows.
 MEMORY = "a memory of tokens that count once: "
+EXPECTED = "what the call expects: "
 
 sys.path.insert(0, str(TOP / "tests/cases"))
 

@@ -5,6 +5,7 @@ import base64
 import contextlib
 import copy
 import gc
+import hashlib
 import hmac
 import json
 import math
@@ -26,10 +27,12 @@ from fowharimu import (
     ClaimsRefused,
     Closed,
     Denied,
+    Expected,
     FormRefused,
     FowharimuError,
     IssueRefused,
     KeysRefused,
+    NotExpected,
     NotTaken,
     Once,
     PolicyRefused,
@@ -136,6 +139,78 @@ class Taking(unittest.TestCase):
             validator.validate(token, now)
         self.assertEqual((caught.exception.fault, str(caught.exception)), (fault, f"the token counts once, and isn't taken: {fault}"))
         self.assertIsInstance(caught.exception, TokenRefused)
+
+    def assert_not_expected(self, token: str, expected: Expected, fault: str, claim: str) -> None:
+        with self.assertRaises(NotExpected) as caught:
+            self.one.validate(token, NOW, expected=expected)
+        self.assertEqual((caught.exception.fault, caught.exception.claim), (fault, claim))
+        self.assertIn(claim, str(caught.exception))
+
+    def test_a_token_is_the_one_that_was_expected(self) -> None:
+        claims = {"nonce": "n-1", "sub": "ann", "at": {"a/b": "x"}, "list": ["n-1"], "exp": NOW + 9}
+        token = self.one.issue(claims)
+        met = Expected({"nonce": "n-1", "/at/a~1b": b"x"})
+        self.assertEqual(self.one.validate(token, NOW, expected=met), claims)
+        for expected, fault, claim in (
+            (Expected({"nonce": "n-2"}), "Other", "nonce"),
+            (Expected({"nonce": "n-"}), "Other", "nonce"),
+            (Expected({"nonce": "n-1 "}), "Other", "nonce"),
+            (Expected({"nonce": ""}), "Other", "nonce"),
+            (Expected({"nonce": "\ud800"}), "Other", "nonce"),
+            (Expected({"list": "n-1"}), "Other", "list"),
+            (Expected({"sid": "n-1"}), "Absent", "sid"),
+            (Expected({"/at/c": "x"}), "Absent", "/at/c"),
+            (Expected({"sub": "ann", "sid": "s", "nonce": "n-2"}), "Absent", "sid"),
+            (Expected({"nonce": "n-2"}, hashes={"at_hash": "t"}), "Other", "nonce"),
+            (Expected({"nonce": "n-1"}, hashes={"at_hash": "t"}), "Absent", "at_hash"),
+        ):
+            with self.subTest(claim=claim, fault=fault):
+                self.assert_not_expected(token, expected, fault, claim)
+
+    def test_a_claim_has_the_half_of_a_hash(self) -> None:
+        for alg, name in (("HS256", "sha256"), ("HS384", "sha384"), ("HS512", "sha512")):
+            digest = hashlib.new(name, b"an access token").digest()
+            half = base64.urlsafe_b64encode(digest[: len(digest) // 2]).rstrip(b"=").decode()
+            policy = {"algs": [alg]}
+            keys = {"keys": [{"kty": "oct", "k": base64.urlsafe_b64encode(bytes(64)).rstrip(b"=").decode()}]}
+            with self.subTest(alg), Validator(policy, keys, remember=(2, 4096)) as validator:
+                token = validator.issue({"at_hash": half, "exp": NOW + 9}, alg=alg)
+                # (the second time it is remembered)
+                for _ in range(2):
+                    validator.validate(token, NOW, expected=Expected(hashes={"at_hash": "an access token"}))
+                with self.assertRaises(NotExpected):
+                    validator.validate(token, NOW, expected=Expected(hashes={"at_hash": "another access token"}))
+                with self.assertRaises(NotExpected):
+                    validator.validate(token, NOW, expected=Expected({"at_hash": half[:-1]}))
+
+    def test_what_is_expected_is_asked_before_a_token_is_taken(self) -> None:
+        with Validator(HMAC.with_suffix(".policy").read_bytes(), HMAC.with_suffix(".keys").read_bytes(), once=2) as validator:
+            token = validator.issue({"iss": "joe", "jti": "1", "nonce": "n", "exp": NOW + 9})
+            with self.assertRaises(NotExpected):
+                validator.validate(token, NOW, expected=Expected({"nonce": "m"}))
+            validator.validate(token, NOW, expected=Expected({"nonce": "n"}))
+            with self.assertRaises(NotTaken):
+                validator.validate(token, NOW, expected=Expected({"nonce": "n"}))
+
+    def test_what_is_expected_is_never_nothing_by_mistake(self) -> None:
+        none: Any = None
+        for make in (lambda: Expected({"nonce": none}), lambda: Expected(hashes={"at_hash": none}), lambda: Expected({none: "n"})):
+            self.assertRaises(TypeError, make)
+        for expected in (none, {"nonce": "n"}):
+            with self.assertRaises(TypeError):
+                self.one.validate("x", NOW, expected=expected)
+
+    def test_tokens_of_profiles_are_not_what_was_expected(self) -> None:
+        rows = [(it.parent, *line.split("\t")[2:]) for it in TOP.glob("examples/profiles/*/steps.tsv") for line in it.read_text().splitlines()]
+        behind = [(folder, token, said) for folder, by, token, said in rows if by.startswith("what the call expects")]
+        self.assertEqual(len(behind), 3)
+        for folder, token, said in behind:
+            nonce = json.loads((folder / "tokens.json").read_text())["claims"]["nonce"]
+            expected = Expected({"nonce": nonce}, hashes={"at_hash": "another access token"} if "access-token" in token else {})
+            with self.subTest(folder.name), Validator((folder / "policy.json").read_bytes(), (folder / "keys.json").read_bytes()) as validator:
+                with self.assertRaises(NotExpected) as caught:
+                    validator.validate((folder / f"tokens/{token}.jwt").read_bytes(), NOW, expected=expected)
+                self.assertEqual(f'not expected {caught.exception.fault} claim="{caught.exception.claim}"', said)
 
     def test_tokens_of_profiles_are_let_in_once(self) -> None:
         rows = [(it.parent, *line.split("\t")[2:]) for it in TOP.glob("examples/profiles/*/steps.tsv") for line in it.read_text().splitlines()]

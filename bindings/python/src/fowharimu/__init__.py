@@ -21,8 +21,9 @@ from dataclasses import dataclass
 from types import TracebackType
 from typing import Any, Dict, List, NoReturn, Optional, SupportsIndex, Tuple, Type, Union
 
-from . import _library
+from . import _expected, _library
 from ._access import NO_RULE, Access, Rule, checked
+from ._expected import NOTHING, Expected
 from ._faults import (
     AccessRefused,
     AnotherLibrary,
@@ -34,6 +35,7 @@ from ._faults import (
     FowharimuError,
     IssueRefused,
     KeysRefused,
+    NotExpected,
     NotTaken,
     PolicyRefused,
     SignatureRefused,
@@ -56,10 +58,12 @@ __all__ = [
     "ClaimsRefused",
     "Closed",
     "Denied",
+    "Expected",
     "FormRefused",
     "FowharimuError",
     "IssueRefused",
     "KeysRefused",
+    "NotExpected",
     "NotTaken",
     "Once",
     "PolicyRefused",
@@ -200,24 +204,30 @@ class Validator:
         # (a signature by a public key, and a try of many secrets, take long enough for another thread to go on)
         self._seats = Seats(documents, (tokens, octets), SHORT if questions == 0 and len(key_octets) <= SHORT else -1)
 
-    def validate(self, token: Text, now: Optional[SupportsIndex] = None, access: Rule = NO_RULE) -> Claims:
+    def validate(
+        self, token: Text, now: Optional[SupportsIndex] = None, access: Rule = NO_RULE, *, expected: Expected = NOTHING
+    ) -> Claims:
         """The claims of a token that is accepted at a moment, in seconds since 1970-01-01T00:00:00Z; without one, at the clock's. With an
-        access rule, only where they meet it.
+        access rule, only where they meet it; with what is expected, only where they are that.
 
-        Raises TokenRefused, Denied where the rule isn't met, Closed, MemoryError where memory is refused, TypeError for a token that is neither
-        str nor bytes-like and for an access rule that is none, such as None, and ValueError for a moment that 64 bits don't have.
+        Raises TokenRefused, Denied where the rule isn't met, and then NotExpected, Closed, MemoryError where memory is refused, TypeError for a token that
+        is neither str nor bytes-like and for an access rule or an expectation that is none, such as None, and ValueError for a moment that 64 bits don't have.
         """
         octets, moment = octets_of(token, "a token"), _moment(now)
-        return _object(self._seats.call(self._payload, octets, moment, checked(access)), "Claims")
+        known = _expected.checked(expected)
+        return _object(self._seats.call(self._payload, octets, moment, checked(access), known), "Claims")
 
-    def _payload(self, seat: Seat, octets: bytes, moment: int, access: Rule) -> str:
-        """The payload of a token that is accepted, and whose claims meet the access rule. Raises TokenRefused, Denied and MemoryError."""
+    def _payload(self, seat: Seat, octets: bytes, moment: int, access: Rule, expected: Expected) -> str:
+        """The payload of a token that is accepted, and whose claims meet the access rule and are what is expected. Raises TokenRefused, Denied and
+        MemoryError."""
         payload = seat.accepted(octets, moment)
         if payload is None:
             raise self._refusal(seat, seat.report)
         denial = None if access is NO_RULE else access.denial(seat)
         if denial is not None:
             raise denial
+        if expected is not NOTHING:
+            expected.hold(seat, octets)
         if self._once is not None:
             self._once.take(seat, moment)
         return payload

@@ -132,6 +132,18 @@ class NotTaken(TokenRefused):
         return f"the token counts once, and isn't taken: {self.fault}"
 
 
+class NotExpected(TokenRefused):
+    """The token is accepted, and isn't the one that was expected. `claim` is the first that isn't as it has to be: `fault` is `Absent`, or `Other`, where it is
+    there and is another text or no text."""
+
+    def __init__(self, fault: str, claim: str) -> None:
+        super().__init__(fault, claim)
+        self.claim = claim
+
+    def __str__(self) -> str:
+        return f"the token isn't what was expected: {self.fault}: {self.claim!r}"
+
+
 class TooLong(TokenRefused):
     """The token has more octets than the policy's `limit`."""
 

@@ -150,6 +150,8 @@ _SIGNATURES = {
     "fow_access_close": (None, [_ACCESS]),
     "fow_denied": (_U32, [_VALIDATOR, _ACCESS, ctypes.POINTER(_U32)]),
     "fow_denied_name": (_U32, [_VALIDATOR, _ACCESS, *_OUT]),
+    "fow_expect_text": (_U32, [_VALIDATOR, *_IN, *_IN, ctypes.POINTER(_U32)]),
+    "fow_expect_half_hash": (_U32, [_VALIDATOR, *_IN, _U32, *_IN, *_IN, ctypes.POINTER(_U32)]),
     "fow_once_open": (_U32, [_ONCE, _SIZE]),
     "fow_once_take": (_U32, [_ONCE, _VALIDATOR, ctypes.c_int64, ctypes.POINTER(_U32)]),
     "fow_once_close": (None, [_ONCE]),

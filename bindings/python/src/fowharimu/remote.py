@@ -27,6 +27,7 @@ from typing import Any, Callable, Dict, List, NamedTuple, Optional, SupportsInde
 from . import Claims, Closed, FowharimuError, Report, SignatureRefused, TokenRefused, Validator
 from ._access import NO_RULE, Rule
 from ._library import load
+from ._expected import NOTHING, Expected
 from ._once import once_of
 from ._renewal import Asker, Renewal
 from ._seats import written
@@ -323,17 +324,19 @@ class RemoteKeys:
             raise KeysUnavailable(str(error)) from error
         return cls(policy, url, **how)
 
-    def validate(self, token: Text, now: Optional[SupportsIndex] = None, access: Rule = NO_RULE) -> Claims:
+    def validate(
+        self, token: Text, now: Optional[SupportsIndex] = None, access: Rule = NO_RULE, *, expected: Expected = NOTHING
+    ) -> Claims:
         """As Validator.validate. Raises KeysTooOld too, where the keys are too old and none can be fetched."""
         octets = octets_of(token, "a token")
         used = self._current(octets)
         try:
-            return used.validator.validate(octets, now, access)
+            return used.validator.validate(octets, now, access, expected=expected)
         except SignatureRefused as refusal:
             newer = self._newer(used, refusal, octets)
             if newer is None:
                 raise
-        return newer.validate(octets, now, access)
+        return newer.validate(octets, now, access, expected=expected)
 
     def _validate_at_once(self, token: Text, access: Rule) -> Union[Claims, Waiting]:
         """As validate, but for waiting: that is who asks to do."""
