@@ -126,19 +126,12 @@ class Remembering(unittest.TestCase):
             Validator({"algs": ["HS256"]}, {"keys": []}, remember=strange)
 
 
-class Taking(unittest.TestCase):
-    """Tokens that count once."""
+class Expecting(unittest.TestCase):
+    """What one call expects of the claims of an accepted token."""
 
-    def taking(self, once: Union[Once, int] = 10) -> Validator:
-        """A validator that takes so many tokens, which it issues too."""
-        return Validator({"algs": ["HS256"], "leeway": 60}, HMAC.with_suffix(".keys").read_bytes(), once=once)
-
-    def refused(self, validator: Validator, token: str, now: int, fault: str) -> None:
-        """That an accepted token isn't taken, for this reason."""
-        with self.assertRaises(NotTaken) as caught:
-            validator.validate(token, now)
-        self.assertEqual((caught.exception.fault, str(caught.exception)), (fault, f"the token counts once, and isn't taken: {fault}"))
-        self.assertIsInstance(caught.exception, TokenRefused)
+    def setUp(self) -> None:
+        self.one = validator_of(HMAC)
+        self.addCleanup(self.one.close)
 
     def assert_not_expected(self, token: str, expected: Expected, fault: str, claim: str) -> None:
         with self.assertRaises(NotExpected) as caught:
@@ -184,7 +177,8 @@ class Taking(unittest.TestCase):
                     validator.validate(token, NOW, expected=Expected({"at_hash": half[:-1]}))
 
     def test_what_is_expected_is_asked_before_a_token_is_taken(self) -> None:
-        with Validator(HMAC.with_suffix(".policy").read_bytes(), HMAC.with_suffix(".keys").read_bytes(), once=2) as validator:
+        documents = (HMAC.with_suffix(".policy").read_bytes(), HMAC.with_suffix(".keys").read_bytes())
+        with Validator(*documents, once=2) as validator:
             token = validator.issue({"iss": "joe", "jti": "1", "nonce": "n", "exp": NOW + 9})
             with self.assertRaises(NotExpected):
                 validator.validate(token, NOW, expected=Expected({"nonce": "m"}))
@@ -211,6 +205,21 @@ class Taking(unittest.TestCase):
                 with self.assertRaises(NotExpected) as caught:
                     validator.validate((folder / f"tokens/{token}.jwt").read_bytes(), NOW, expected=expected)
                 self.assertEqual(f'not expected {caught.exception.fault} claim="{caught.exception.claim}"', said)
+
+
+class Taking(unittest.TestCase):
+    """Tokens that count once."""
+
+    def taking(self, once: Union[Once, int] = 10) -> Validator:
+        """A validator that takes so many tokens, which it issues too."""
+        return Validator({"algs": ["HS256"], "leeway": 60}, HMAC.with_suffix(".keys").read_bytes(), once=once)
+
+    def refused(self, validator: Validator, token: str, now: int, fault: str) -> None:
+        """That an accepted token isn't taken, for this reason."""
+        with self.assertRaises(NotTaken) as caught:
+            validator.validate(token, now)
+        self.assertEqual((caught.exception.fault, str(caught.exception)), (fault, f"the token counts once, and isn't taken: {fault}"))
+        self.assertIsInstance(caught.exception, TokenRefused)
 
     def test_tokens_of_profiles_are_let_in_once(self) -> None:
         rows = [(it.parent, *line.split("\t")[2:]) for it in TOP.glob("examples/profiles/*/steps.tsv") for line in it.read_text().splitlines()]
