@@ -174,13 +174,20 @@ enum fow_fault {
     FOW_ACCESS_MEMBER = 903,      /* a member is unknown, or of another kind */
     FOW_ACCESS_RANGE = 904,       /* a scope is no scope token, or the name of the claim that carries scopes no JSON Pointer (RFC 6901) */
     FOW_ACCESS_CLAIM = 905,       /* what is asked of this claim is of another kind */
-    FOW_ACCESS_CLAIM_RANGE = 906, /* what is asked of this claim is the empty list, or its name begins with `/` and is no JSON Pointer */
+    FOW_ACCESS_CLAIM_RANGE = 906, /* what is asked of this claim is the empty list or no number from 0 to 2^32 - 1, or its name begins with `/` and is no JSON Pointer */
     FOW_ACCESS_TOO_LONG = 907,    /* more than 65,536 octets */
 
     /* why an accepted token is denied; fow_denied_name names the scope or the claim */
     FOW_DENIED_SCOPE_MISSING = 1001,     /* this scope isn't granted */
     FOW_DENIED_CLAIM_MISSING = 1002,     /* this claim is absent */
-    FOW_DENIED_CLAIM_NOT_ALLOWED = 1003  /* this claim has no value that is allowed */
+    FOW_DENIED_CLAIM_NOT_ALLOWED = 1003, /* this claim has no value that is allowed */
+    FOW_DENIED_CLAIM_PRESENT = 1004,     /* this claim is there, and isn't to be */
+    FOW_DENIED_CLAIM_HAS_OTHER = 1005,   /* this claim has a value that isn't allowed */
+    FOW_DENIED_CLAIM_NOT_OBJECT = 1006,  /* this claim is no object */
+    FOW_DENIED_CLAIM_NOT_DATE = 1007,    /* this claim is no date: no whole number */
+    FOW_DENIED_CLAIM_LATER = 1008,       /* this claim is a date later than the moment and the leeway */
+    FOW_DENIED_CLAIM_TOO_OLD = 1009,     /* this claim is a date that is too long ago */
+    FOW_DENIED_CLAIM_NOT_ASCII = 1010    /* this claim is no text of ASCII, or has too many octets */
 };
 
 /* The part of a token that FOW_FORM_BASE64 names. */
@@ -537,12 +544,13 @@ uint32_t fow_access_scope(fow_access *access, uint32_t number, uint8_t *out, siz
 /* Frees what is held. It may be called twice, and before anything was opened. Proved: nothing is held. */
 void fow_access_close(fow_access *access);
 
-/* Holds a rule against the claims of the token that was accepted last. It takes no memory. A service answers 403 to FOW_DENIED, and 401 to a
- * token that isn't accepted (RFC 6750, section 3.1). It may be asked of as many rules as there are, until the next token is judged.
+/* Holds a rule against the claims of the token that was accepted last, at the moment of that verdict, with the policy's leeway. It takes no
+ * memory. A service answers 403 to FOW_DENIED, and 401 to a token that isn't accepted (RFC 6750, section 3.1). It may be asked of as many rules
+ * as there are, until the next token is judged.
  *
  * Proved: FOW_OK: the claims meet the rule. FOW_DENIED: they don't, and *denial says which demand is the first that they don't meet: scopes in
- * the order of the rule, then claims in ascending octet order of their names. FOW_ABSENT: the last verdict was no acceptance. FOW_NOT_OPEN: the
- * validator or the rule holds nothing. Both hold what they held. */
+ * the order of the rule, then claims in ascending octet order of their names, then what `absent`, `only`, `objects`, `ages` and `ascii` ask.
+ * FOW_ABSENT: the last verdict was no acceptance. FOW_NOT_OPEN: the validator or the rule holds nothing. Both hold what they held. */
 uint32_t fow_denied(fow_validator *validator, fow_access *access, uint32_t *denial);
 
 /* Writes the scope that isn't granted, or the name of the claim that isn't as the rule asks, in UTF-8, for the first demand that isn't met.
@@ -620,6 +628,18 @@ uint32_t fow_once_open(fow_once *once, size_t tokens);
  * token is taken twice: between two that are new for one issuer and `jti` the first one's `exp` and leeway have passed, and the same claims are never new
  * twice. What counts in the memory stays. The validator holds what it held. */
 uint32_t fow_once_take(fow_once *once, fow_validator *validator, int64_t now, uint32_t *taken);
+
+/* How many octets the mark has by which a token that counts once is held. */
+#define FOW_MARK_LEN 32
+
+/* Tells how the token that was accepted last is held, for a store that several processes share, and takes nothing: `mark` begins with the digest of its issuer
+ * and `jti`, of FOW_MARK_LEN octets, and *until is the last moment at which it counts, `exp` and the policy's leeway. The store says in one step that the mark is
+ * new, and holds it until then.
+ *
+ * Proved: FOW_OK: they are those by which fow_once_take holds it. FOW_REFUSED: it can't be held, and *lacks says why: FOW_TAKEN_NO_ID or FOW_TAKEN_NO_END.
+ * FOW_TOO_SHORT: mark_len is less than FOW_MARK_LEN. FOW_ABSENT: the last verdict was no acceptance. FOW_NOT_OPEN: nothing is held. The validator holds what it
+ * held, and *mark and *until aren't written unless the answer is FOW_OK. */
+uint32_t fow_once_entry(fow_validator *validator, uint8_t *mark, size_t mark_len, uint64_t *until, uint32_t *lacks);
 
 /* Frees what is held. It may be called twice, and before anything was opened. What was taken is forgotten: a token may come again in the memory that is opened
  * next. Proved: nothing is held. */

@@ -141,6 +141,20 @@ const char *fow_fault_name(uint32_t fault)
         return "ClaimMissing";
     case FOW_DENIED_CLAIM_NOT_ALLOWED:
         return "ClaimNotAllowed";
+    case FOW_DENIED_CLAIM_PRESENT:
+        return "ClaimPresent";
+    case FOW_DENIED_CLAIM_HAS_OTHER:
+        return "ClaimHasOther";
+    case FOW_DENIED_CLAIM_NOT_OBJECT:
+        return "ClaimNotObject";
+    case FOW_DENIED_CLAIM_NOT_DATE:
+        return "ClaimNotDate";
+    case FOW_DENIED_CLAIM_LATER:
+        return "ClaimLater";
+    case FOW_DENIED_CLAIM_TOO_OLD:
+        return "ClaimTooOld";
+    case FOW_DENIED_CLAIM_NOT_ASCII:
+        return "ClaimNotAscii";
     default:
         return "";
     }

@@ -41,7 +41,7 @@ func (e *AccessError) Error() string {
 // DeniedError says that the token is accepted, and that its claims don't meet the access rule. It is no Refusal: a service answers 403 to it,
 // and 401 to a Refusal.
 type DeniedError struct {
-	Fault  string   // ScopeMissing, ClaimMissing or ClaimNotAllowed
+	Fault  string   // ScopeMissing, ClaimMissing, ClaimNotAllowed or another of docs/ACCESS.md
 	Scope  string   // of ScopeMissing the scope that isn't granted
 	Claim  string   // of the others the name of the claim
 	Scopes []string // all that the rule asks for: with spaces between them, the scope of a challenge that says insufficient_scope (RFC 6750, section 3.1)

@@ -56,7 +56,8 @@ func (e *KeysError) Error() string {
 }
 
 // Refusal is the error of a token that isn't accepted: a *TooLongError, *FormError, *CeilingError, *SignatureError, *ClaimsError or
-// *UndecidedError; a *NotTakenError where it counts once, and a *TooOldError of keys by URL. errors.As finds it. Another error says nothing of the token.
+// *UndecidedError; a *NotExpectedError where the call expects something else, a *NotTakenError where it counts once, and a *TooOldError of keys by URL.
+// errors.As finds it. Another error says nothing of the token.
 type Refusal interface {
 	error
 	// FaultName is the name that the program jwt prints, such as Expired.

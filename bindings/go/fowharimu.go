@@ -116,7 +116,7 @@ func (v *Validator) Validate(token string) (Claims, error) {
 
 // ValidateAt is Validate at another moment, of which a fraction of a second is left out.
 func (v *Validator) ValidateAt(token string, now time.Time) (Claims, error) {
-	return v.validate(token, now, func(*seat) error { return nil })
+	return v.validate(token, now, func(*seat, int) error { return nil })
 }
 
 // ValidateFor is Validate where the claims have to meet an access rule too. The error is a *DeniedError where they don't, a Refusal,
@@ -127,11 +127,19 @@ func (v *Validator) ValidateFor(token string, access *Access) (Claims, error) {
 
 // ValidateForAt is ValidateFor at another moment, of which a fraction of a second is left out.
 func (v *Validator) ValidateForAt(token string, now time.Time, access *Access) (Claims, error) {
-	return v.validate(token, now, access.check)
+	return v.validate(token, now, func(s *seat, _ int) error { return access.check(s) })
 }
 
-// validate gives the claims of a token that is accepted, where nothing speaks against it then.
-func (v *Validator) validate(token string, now time.Time, check func(*seat) error) (Claims, error) {
+// ValidateWith is Validate with what the call asks beside: an access rule (For), what it expects of claims (ExpectText, ExpectHalfHash), another moment (At).
+// They are held in that order, expectations in the order in which they stand, and before a token is taken that counts once. The error is a *DeniedError
+// or a *NotExpectedError for the first that isn't met, ErrExpectation, a Refusal, ErrOutOfMemory or ErrClosed.
+func (v *Validator) ValidateWith(token string, how ...Asked) (Claims, error) {
+	asked := callOf(how)
+	return v.validate(token, asked.now, func(s *seat, signature int) error { return asked.check(s, token, signature) })
+}
+
+// validate gives the claims of a token that is accepted, where nothing speaks against it then. The check has the number of the signature that was verified.
+func (v *Validator) validate(token string, now time.Time, check func(s *seat, signature int) error) (Claims, error) {
 	s, err := v.take()
 	if err != nil {
 		return Claims{}, err
@@ -145,7 +153,7 @@ func (v *Validator) validate(token string, now time.Time, check func(*seat) erro
 	if refusal != nil {
 		return Claims{}, refusal
 	}
-	if err := check(s); err != nil {
+	if err := check(s, said.signature); err != nil {
 		return Claims{}, err
 	}
 	if status != statusOK {

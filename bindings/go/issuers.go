@@ -12,6 +12,7 @@ var ErrIssuers = errors.New("fowharimu: the policy of each issuer has to name it
 type Judging interface {
 	ValidateAt(token string, now time.Time) (Claims, error)
 	ValidateForAt(token string, now time.Time, access *Access) (Claims, error)
+	ValidateWith(token string, how ...Asked) (Claims, error)
 	JudgeAt(token string, now time.Time) (Report, error)
 	Issuer() (string, bool)
 	Limit() int
@@ -71,6 +72,15 @@ func (i *Issuers) ValidateForAt(token string, now time.Time, access *Access) (Cl
 		return Claims{}, err
 	}
 	return chosen.ValidateForAt(token, now, access)
+}
+
+// ValidateWith is Validator.ValidateWith, by what stands under the issuer that the token names.
+func (i *Issuers) ValidateWith(token string, how ...Asked) (Claims, error) {
+	chosen, err := i.chosen(token)
+	if err != nil {
+		return Claims{}, err
+	}
+	return chosen.ValidateWith(token, how...)
 }
 
 // Judge is Validator.Judge.

@@ -191,6 +191,15 @@ func (r *RemoteKeys) ValidateForAt(token string, now time.Time, access *Access) 
 	return claims, err
 }
 
+// ValidateWith is Validator.ValidateWith. The error may be a *TooOldError too.
+func (r *RemoteKeys) ValidateWith(token string, how ...Asked) (claims Claims, err error) {
+	err = r.by(token, func(v *Validator) (err error) {
+		claims, err = v.ValidateWith(token, how...)
+		return err
+	})
+	return claims, err
+}
+
 // Judge is Validator.Judge.
 func (r *RemoteKeys) Judge(token string) (Report, error) { return r.JudgeAt(token, time.Now()) }
 

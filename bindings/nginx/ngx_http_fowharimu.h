@@ -26,6 +26,9 @@
 /* how long a token of "jwt_issue" lives, in seconds, where nothing is said */
 #define NGX_HTTP_FOWHARIMU_LIFETIME    60
 
+/* the octets of a mark by which a token that counts once is held */
+#define NGX_HTTP_FOWHARIMU_MARK        32
+
 /* the most octets that a challenge has beside what it quotes */
 #define NGX_HTTP_FOWHARIMU_BESIDE_QUOTED  64
 
@@ -122,6 +125,21 @@ typedef struct {
 } ngx_http_fowharimu_rule_t;
 
 
+/* how a token that counts once is held */
+typedef struct {
+    uint64_t                         until;
+    u_char                           mark[NGX_HTTP_FOWHARIMU_MARK];
+} ngx_http_fowharimu_entry_t;
+
+
+/* a line "jwt_expect" */
+typedef struct {
+    ngx_str_t                        name;      /* of a claim */
+    ngx_str_t                        claim;     /* or a JSON Pointer to it */
+    ngx_http_complex_value_t         value;
+} ngx_http_fowharimu_expectation_t;
+
+
 /* a line "jwt_header" */
 typedef struct {
     ngx_str_t                        name;
@@ -172,6 +190,8 @@ typedef struct {
     ngx_array_t                     *issued;    /* ngx_str_t: its claims */
     ngx_http_fowharimu_rule_t       *rule;      /* of "jwt_access" */
     ngx_array_t                     *demands;   /* such rules, by pointers */
+    ngx_array_t                     *expected;  /* of "jwt_expect" */
+    ngx_shm_zone_t                  *once;      /* of "jwt_once" */
     ngx_int_t                        tokens;    /* that are remembered */
     size_t                           octets;    /* of the longest of them */
     ngx_uint_t                       most;      /* questions of one token */
@@ -195,6 +215,7 @@ typedef struct {
     uint64_t                         tries;     /* that were paid */
     uint64_t                         work;
     uint64_t                         remembered;
+    ngx_http_fowharimu_entry_t       entry;     /* with "jwt_once" */
     u_char                           digits[3][NGX_INT64_LEN];
     ngx_str_t                       *claims;    /* in the order of the names */
     unsigned                         passed:1;  /* the access phase, by it */
@@ -208,6 +229,8 @@ typedef struct {
     ngx_list_t                       headers;   /* as they were sent */
     ngx_str_t                        args;
     ngx_str_t                        stripped;  /* the same without the token */
+    ngx_shm_zone_t                  *zone;      /* in which it has taken .entry */
+    ngx_http_fowharimu_entry_t       entry;     /* (of a main request) */
     unsigned                         under_way:1;
     unsigned                         changed:1; /* others go on than .headers */
     unsigned                         cut:1;     /* .stripped go on */
@@ -239,6 +262,16 @@ ngx_int_t ngx_http_fowharimu_without(ngx_http_request_t *r, ngx_str_t *list,
     u_char separator, ngx_str_t *name, ngx_str_t *rest);
 ngx_list_t *ngx_http_fowharimu_sent_headers(ngx_http_request_t *r);
 ngx_str_t *ngx_http_fowharimu_sent_args(ngx_http_request_t *r);
+char *ngx_http_fowharimu_set_expected(ngx_conf_t *cf, ngx_command_t *cmd,
+    void *conf);
+ngx_int_t ngx_http_fowharimu_is_expected(ngx_http_request_t *r,
+    ngx_http_fowharimu_loc_conf_t *lcf, ngx_http_fowharimu_judged_t *judged);
+char *ngx_http_fowharimu_set_once(ngx_conf_t *cf, ngx_command_t *cmd,
+    void *conf);
+const char *ngx_http_fowharimu_entry(ngx_http_fowharimu_validator_t *validator,
+    ngx_http_fowharimu_entry_t *entry);
+const char *ngx_http_fowharimu_take(ngx_http_request_t *r,
+    ngx_shm_zone_t *zone, ngx_http_fowharimu_judged_t *judged);
 char *ngx_http_fowharimu_set_token(ngx_conf_t *cf, ngx_command_t *cmd,
     void *conf);
 ngx_int_t ngx_http_fowharimu_change_handler(ngx_http_request_t *r);

@@ -105,6 +105,20 @@ static ngx_command_t  ngx_http_fowharimu_commands[] = {
       0,
       NULL },
 
+    { ngx_string("jwt_expect"),
+      NGX_HTTP_FOWHARIMU_CONF|NGX_CONF_TAKE2,
+      ngx_http_fowharimu_set_expected,
+      NGX_HTTP_LOC_CONF_OFFSET,
+      0,
+      NULL },
+
+    { ngx_string("jwt_once"),
+      NGX_HTTP_FOWHARIMU_CONF|NGX_CONF_TAKE1,
+      ngx_http_fowharimu_set_once,
+      NGX_HTTP_LOC_CONF_OFFSET,
+      0,
+      NULL },
+
     { ngx_string("jwt_remember"),
       NGX_HTTP_FOWHARIMU_CONF|NGX_CONF_TAKE12,
       ngx_http_fowharimu_remember,
@@ -366,6 +380,8 @@ ngx_http_fowharimu_create_loc_conf(ngx_conf_t *cf)
     lcf->issued = NGX_CONF_UNSET_PTR;
     lcf->rule = NGX_CONF_UNSET_PTR;
     lcf->demands = NGX_CONF_UNSET_PTR;
+    lcf->expected = NGX_CONF_UNSET_PTR;
+    lcf->once = NGX_CONF_UNSET_PTR;
     lcf->tokens = NGX_CONF_UNSET;
     lcf->octets = NGX_CONF_UNSET_SIZE;
     lcf->most = NGX_CONF_UNSET_UINT;
@@ -419,6 +435,8 @@ ngx_http_fowharimu_merge_loc_conf(ngx_conf_t *cf, void *parent, void *child)
     ngx_conf_merge_ptr_value(conf->token, prev->token, NULL);
     ngx_conf_merge_ptr_value(conf->rule, prev->rule, NULL);
     ngx_conf_merge_ptr_value(conf->demands, prev->demands, NULL);
+    ngx_conf_merge_ptr_value(conf->expected, prev->expected, NULL);
+    ngx_conf_merge_ptr_value(conf->once, prev->once, NULL);
 
     if (ngx_http_fowharimu_merge_changes(cf, prev, conf) != NGX_CONF_OK
         || ngx_http_fowharimu_note_methods(cf, prev, conf) != NGX_OK)
@@ -619,6 +637,8 @@ ngx_http_fowharimu_note_methods(ngx_conf_t *cf,
     if (clcf->lmt_excpt
         && (conf->enable != prev->enable || conf->rule != prev->rule
             || conf->demands != prev->demands
+            || conf->expected != prev->expected
+            || conf->once != prev->once
             || conf->grounds.validator != prev->grounds.validator
             || conf->issuers != prev->issuers))
     {

@@ -24,6 +24,8 @@ static ngx_int_t ngx_http_fowharimu_accepted(ngx_http_request_t *r,
     ngx_http_fowharimu_loc_conf_t *lcf, ngx_http_fowharimu_judged_t *judged);
 static ngx_int_t ngx_http_fowharimu_meets_rules(ngx_http_request_t *r,
     ngx_http_fowharimu_loc_conf_t *lcf, ngx_http_fowharimu_judged_t *judged);
+static ngx_int_t ngx_http_fowharimu_taken(ngx_http_request_t *r,
+    ngx_http_fowharimu_loc_conf_t *lcf, ngx_http_fowharimu_judged_t *judged);
 static ngx_int_t ngx_http_fowharimu_permit(ngx_http_request_t *r,
     ngx_http_fowharimu_judged_t *judged, ngx_http_fowharimu_rule_t *rule);
 static void ngx_http_fowharimu_log_denial(ngx_http_request_t *r,
@@ -72,7 +74,17 @@ ngx_http_fowharimu_access_handler(ngx_http_request_t *r)
         return NGX_HTTP_INTERNAL_SERVER_ERROR;
     }
 
+    /* (what a variable had judged before: values of "jwt_expect" may differ) */
+
+    if (lcf->expected) {
+        ctx->last.conf = NULL;
+    }
+
     ngx_http_fowharimu_judge(r, lcf, ctx);
+
+    if (ctx->last.status == NGX_OK && lcf->once) {
+        ctx->last.status = ngx_http_fowharimu_taken(r, lcf, &ctx->last);
+    }
 
     if (ctx->last.status != NGX_OK) {
         return ngx_http_fowharimu_refuse(r, &ctx->last);
@@ -245,7 +257,11 @@ ngx_http_fowharimu_judge(ngx_http_request_t *r,
 
     ngx_http_fowharimu_forget_variables(r);
 
+    /* (and so may the values of "jwt_expect") */
+
+    ctx->under_way = 1;
     judged->status = ngx_http_fowharimu_verdict(r, lcf, judged);
+    ctx->under_way = 0;
 }
 
 
@@ -275,6 +291,8 @@ ngx_http_fowharimu_is_same_conf(ngx_http_fowharimu_loc_conf_t *one,
                && one->token == other->token
                && one->rule == other->rule
                && one->demands == other->demands
+               && one->expected == other->expected
+               && one->once == other->once
                && one->issue == other->issue
                && one->issued == other->issued);
 }
@@ -458,6 +476,22 @@ ngx_http_fowharimu_accepted(ngx_http_request_t *r,
         return rc;
     }
 
+    rc = ngx_http_fowharimu_is_expected(r, lcf, judged);
+
+    if (rc != NGX_OK) {
+        return rc == NGX_DECLINED
+               ? ngx_http_fowharimu_refuse_token(r, judged, "NotExpected")
+               : ngx_http_fowharimu_fail(r, judged, "OutOfMemory");
+    }
+
+    fault = lcf->once
+            ? ngx_http_fowharimu_entry(judged->validator, &judged->entry)
+            : NULL;
+
+    if (fault) {
+        return ngx_http_fowharimu_refuse_token(r, judged, fault);
+    }
+
     fault = lcf->issue ? ngx_http_fowharimu_issue(r, lcf, judged) : NULL;
 
     if (fault) {
@@ -490,6 +524,33 @@ ngx_http_fowharimu_accepted(ngx_http_request_t *r,
     ngx_str_set(&judged->verdict, "accepted");
 
     return NGX_OK;
+}
+
+
+/* of a token that is accepted, in the access phase: it is taken last */
+
+static ngx_int_t
+ngx_http_fowharimu_taken(ngx_http_request_t *r,
+    ngx_http_fowharimu_loc_conf_t *lcf, ngx_http_fowharimu_judged_t *judged)
+{
+    const char  *fault;
+
+    fault = ngx_http_fowharimu_take(r, lcf->once, judged);
+
+    if (fault == NULL) {
+        return NGX_OK;
+    }
+
+    /* (what was made of the token's variables is no longer so) */
+
+    ngx_http_fowharimu_forget_variables(r);
+    judged->claims = NULL;
+    ngx_str_null(&judged->payload);
+    ngx_str_null(&judged->issued);
+
+    return ngx_strcmp(fault, "OutOfMemory") == 0
+           ? ngx_http_fowharimu_fail(r, judged, fault)
+           : ngx_http_fowharimu_refuse_token(r, judged, fault);
 }
 
 

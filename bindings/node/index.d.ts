@@ -72,11 +72,24 @@ export interface Opening {
   once?: Once | number;
 }
 
-/** The moment at which a token is judged, the clock's without one, and the access rule that its claims have to meet. */
-export interface Asking {
-  access: Access;
+/** Texts, or octets, under the names of claims. A name that begins with `/` is a JSON Pointer (RFC 6901), as in an access rule. */
+export type ByClaim = { readonly [claim: string]: string | Uint8Array };
+/** What a call may ask of a token. The rule is held first, then `expected` and `hashes`, each in its order. */
+interface Asked {
+  /** The moment at which the token is judged: the clock's without it. */
   now?: Moment;
+  /** The access rule that its claims have to meet. */
+  access?: Access;
+  /** What claims have to be, octet by octet, as the `nonce` that was sent with a login. A list that holds the text isn't the text. */
+  expected?: ByClaim;
+  /**
+   * That of which claims have to be the half of the hash, by the algorithm of the signature that was verified: `at_hash` of the access token beside an ID
+   * token, `c_hash` of the code (OpenID Connect Core 1.0, sections 3.1.3.8 and 3.3.2.11).
+   */
+  hashes?: ByClaim;
 }
+/** What a call asks of a token: at least a rule or an expectation, and what is named is there. Else it throws TypeError, so that none is left out by mistake. */
+export type Asking = Asked & (Required<Pick<Asked, 'access'>> | Required<Pick<Asked, 'expected'>> | Required<Pick<Asked, 'hashes'>>);
 
 /** What this package throws of its own. */
 export class FowharimuError extends Error {}
@@ -118,7 +131,17 @@ export class AccessRefused extends FowharimuError {
  * that says insufficient_scope (RFC 6750, section 3.1).
  */
 export class Denied extends FowharimuError {
-  readonly fault: 'ScopeMissing' | 'ClaimMissing' | 'ClaimNotAllowed';
+  readonly fault:
+    | 'ScopeMissing'
+    | 'ClaimMissing'
+    | 'ClaimNotAllowed'
+    | 'ClaimPresent'
+    | 'ClaimHasOther'
+    | 'ClaimNotObject'
+    | 'ClaimNotDate'
+    | 'ClaimLater'
+    | 'ClaimTooOld'
+    | 'ClaimNotAscii';
   readonly scope: string | undefined;
   readonly claim: string | undefined;
   readonly scopes: readonly string[];
@@ -146,6 +169,11 @@ export class SignatureRefused extends TokenRefused {
 /** The claims are refused; `claim` is the name of the claim that the fault speaks of. */
 export class ClaimsRefused extends TokenRefused {
   readonly claim: string | undefined;
+}
+/** The token is accepted, and isn't the one that was expected: `claim` is the first that isn't as it has to be. It is absent, or `Other`: another text, or no text. */
+export class NotExpected extends TokenRefused {
+  readonly fault: 'Absent' | 'Other';
+  readonly claim: string;
 }
 /**
  * The token is accepted, and counts once. `Seen`: it was taken before; `Late`: its `exp` and the leeway have passed by the greatest moment that was judged at;
@@ -194,8 +222,9 @@ export class Validator {
   constructor(policy: Document, keys: Document, how?: Opening);
   /**
    * The claims of a token that is accepted at a moment; without one, at the clock's. Whole numbers past 2^53 lose digits by JSON.parse:
-   * `validateText` has them. With an access rule, only claims that meet it are given. Throws TokenRefused, NotTaken among them, Denied, Closed, TypeError also for an
-   * object whose `access` isn't an Access and for more arguments, RangeError for a moment that isn't one, and an Error where memory is refused.
+   * `validateText` has them. With an access rule, only claims that meet it are given, and with
+   * expectations those that are as expected. Throws TokenRefused, NotExpected and NotTaken among them, Denied, Closed, TypeError also for an object that asks
+   * for neither, or names what isn't there, and for more arguments, RangeError for a moment that isn't one, and an Error where memory is refused.
    */
   validate(token: Token, how?: Moment | Asking): Claims;
   /** The same claims as the JSON text that the token has. */

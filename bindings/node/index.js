@@ -9,11 +9,14 @@ const OK = 0, REFUSED = 1, OUT_OF_MEMORY = 3;
 const NO_FAULT = 0, SCOPE_MISSING = 1001;
 /** FOW_TAKEN_NEW, and the names of the other answers of enum fow_taken. */
 const TAKEN_NEW = 1, NOT_TAKEN = { 2: 'Seen', 3: 'Late', 4: 'Full', 5: 'NoId', 6: 'NoEnd' };
+/** The names of enum fow_unmet, from FOW_UNMET_ABSENT on. */
+const UNMET = { 1: 'Absent', 2: 'Other' };
 /** FOW_MOST_QUESTIONS of fowharimu.h. */
 const MOST_QUESTIONS = 64;
 const NOTHING_REMEMBERED = { tokens: 0, octets: 0 };
 /** The names of options. */
-const OPENING = ['mostQuestions', 'remember', 'once'], REMEMBER = ['tokens', 'octets'], ASKING = ['access', 'now'], ISSUING = ['key', 'alg', 'form', 'typ'];
+const OPENING = ['mostQuestions', 'remember', 'once'], REMEMBER = ['tokens', 'octets'], ISSUING = ['key', 'alg', 'form', 'typ'];
+const ASKING = ['access', 'expected', 'hashes', 'now'];
 const GREATEST_NUMBER = 2 ** 32 - 1;
 const PARTS = { 1: 'payload', 2: 'protected', 3: 'signature' };
 const STATES = { 1: 'barred', 2: 'no key', 3: 'bad signature', 4: 'verified', 5: 'not reached', 6: 'stopped' };
@@ -43,10 +46,11 @@ class FormRefused extends TokenRefused {}
 class CeilingReached extends TokenRefused {}
 class SignatureRefused extends TokenRefused {}
 class ClaimsRefused extends TokenRefused {}
+class NotExpected extends TokenRefused {}
 class NotTaken extends TokenRefused {}
 const ERRORS = {
   FowharimuError, AnotherLibrary, Closed, TooManyQuestions, PolicyRefused, KeysRefused, IssueRefused, AccessRefused, Denied, TokenRefused,
-  TooLong, FormRefused, CeilingReached, SignatureRefused, ClaimsRefused, NotTaken,
+  TooLong, FormRefused, CeilingReached, SignatureRefused, ClaimsRefused, NotExpected, NotTaken,
 };
 for (const [name, kind] of Object.entries(ERRORS)) named(kind, name);
 
@@ -189,15 +193,32 @@ function onceOf(members) {
 
 /** Refuses more than a token and one word beside it: an access rule behind a moment would go unheard. */
 function takeNoMore(others) {
-  if (others.length > 0) throw new TypeError('beside the token one argument is taken: a moment, or for claims { access, now }');
+  if (others.length > 0) throw new TypeError('beside the token one argument is taken: a moment, or for claims { access, expected, hashes, now }');
 }
 
-/** The moment and the access rule that a token is asked for. An object always has a rule, so that one isn't left out by a misspelled name. */
+/** What is expected of claims, in the object's order: of each its name, the octets, and the call of addon.c that holds them against it. */
+function expectations(texts, what, hold) {
+  if (typeof texts !== 'object' || texts === null || Array.isArray(texts) || !isPlain(texts)) throw new TypeError(`${what} is a plain object, by claims`);
+  return Reflect.ownKeys(texts).map((claim) => {
+    const given = texts[claim];
+    if (typeof claim === 'string' && (typeof given === 'string' || isBinary(given))) return { claim, given, hold };
+    throw new TypeError(`${what} has texts or Uint8Arrays under the names of claims, and something else at ${String(claim)}`);
+  });
+}
+
+/**
+ * What a token is asked for: the moment, the access rule, and what is expected of its claims. An object always has a rule or an expectation, and what it names
+ * is there: so neither is left out by mistake.
+ */
 function asked(how, others) {
   takeNoMore(others);
   if (typeof how !== 'object' || how === null) return { now: moment(how) };
-  const { access, now } = own(how, ASKING, 'a call');
-  return { now: moment(now), rule: ruleOf(access) };
+  const members = own(how, ASKING, 'a call'), asks = { now: moment(members.now) };
+  if (!('expected' in members || 'hashes' in members)) return { ...asks, rule: ruleOf(members.access) };
+  if ('access' in members) asks.rule = ruleOf(members.access);
+  const texts = 'expected' in members ? expectations(members.expected, 'expected', native.expectText) : [];
+  const hashes = 'hashes' in members ? expectations(members.hashes, 'hashes', native.expectHalfHash) : [];
+  return { ...asks, expected: [...texts, ...hashes] };
 }
 
 class Validator {
@@ -289,9 +310,9 @@ class Validator {
     return this.#held;
   }
 
-  /** The payload of a token that is accepted and meets the rule, as it is to be read. It is taken last, so that nothing which fails has used it up. */
-  #accepted(token, { now, rule }, reading) {
-    const refusal = this.#judge(token, now) ?? (rule && this.#denial(rule));
+  /** The payload of a token that is accepted and is as it is asked for, as it is to be read. It is taken last, so that nothing which fails has used it up. */
+  #accepted(token, { now, rule, expected }, reading) {
+    const refusal = this.#judge(token, now) ?? (rule && this.#denial(rule)) ?? (expected && this.#unexpected(expected));
     if (refusal) throw refusal;
     const claims = reading(native.payload(this.#held));
     if (this.#once !== undefined) take(this.#once, this.#held, now);
@@ -311,6 +332,16 @@ class Validator {
     const fault = native.faultName(number), name = native.deniedName(this.#held, held), isScope = number === SCOPE_MISSING;
     const members = { fault, scope: isScope ? name : undefined, claim: isScope ? undefined : name, scopes };
     return new Denied(`the token is denied: ${told(fault, meanings.denied[fault], name)}`, members);
+  }
+
+  /** What the token that was accepted just now isn't, of that which is expected; null where it is all of it. */
+  #unexpected(expected) {
+    const [, , , signature] = this.#report;
+    for (const { claim, given, hold } of expected) {
+      const fault = UNMET[hold(this.#held, claim, given, signature)];
+      if (fault !== undefined) return new NotExpected(`the token isn't what was expected: ${fault}: ${JSON.stringify(claim)}`, { fault, claim });
+    }
+    return null;
   }
 
   #refusal(verdict) {
@@ -355,7 +386,7 @@ const textMember = (document, name) => native.textMember(document, name);
 // (each by its name: so that `import { Validator } from 'fowharimu'` finds them)
 module.exports = {
   Validator, Access, Once, FowharimuError, AnotherLibrary, Closed, TooManyQuestions, PolicyRefused, KeysRefused, IssueRefused, AccessRefused,
-  Denied, TokenRefused, TooLong, FormRefused, CeilingReached, SignatureRefused, ClaimsRefused, NotTaken, textMember,
+  Denied, TokenRefused, TooLong, FormRefused, CeilingReached, SignatureRefused, ClaimsRefused, NotExpected, NotTaken, textMember,
 };
 // (for renewal.js, requests.js and remote.js alone)
 Object.defineProperty(module.exports, 'native', { value: native });

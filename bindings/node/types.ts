@@ -1,5 +1,5 @@
 // What a caller in TypeScript writes; it is compiled, and not run.
-import { Access, AccessRefused, AnotherLibrary, ClaimsRefused, Denied, FormRefused, KeysRefused, NotTaken, Once, PolicyRefused, Report, TokenRefused, Validator, textMember } from '.';
+import { Access, AccessRefused, AnotherLibrary, ClaimsRefused, Denied, FormRefused, KeysRefused, NotExpected, NotTaken, Once, PolicyRefused, Report, TokenRefused, Validator, textMember } from '.';
 import { Issuers } from './issuers';
 import { RemoteKeys } from './remote';
 
@@ -31,7 +31,12 @@ const once: Once = new Once(1000);
 for (const it of [once, 1000]) new Validator({ algs: ['HS256'] }, '{"keys":[]}', { once: it }).close();
 void RemoteKeys.open({ algs: ['RS256'] }, 'https://issuer.example/keys', { once });
 if (denied instanceof NotTaken && denied.fault === 'Seen') once.close();
+const login: unknown = validator.validate('a.b.c', { expected: { nonce: 'n' }, hashes: { at_hash: new Uint8Array(3) } }).nonce;
+void issuers.validate('a.b.c', { access, expected: { '/a/b': 'c' }, now: 7 }).then((it: unknown) => console.log(it, login));
+if (denied instanceof NotExpected && denied.fault === 'Absent') console.log(denied.claim.length);
 validator.close();
+// @ts-expect-error: what is expected is a text
+validator.validate('a.b.c', { expected: { nonce: undefined } });
 // @ts-expect-error: no number of tokens
 new Once('1000');
 // @ts-expect-error: neither a validator nor keys by URL

@@ -101,6 +101,13 @@ static void check_denied(fow_access *access)
         { "{\"claims\":{\"/http:~1~1example.com~1is_root\":[true]}}", FOW_NO_FAULT, NULL },
         { "{\"claims\":{\"sub\":[\"ann\"],\"iss\":[\"joe\"]}}", FOW_DENIED_CLAIM_MISSING, "sub" },
         { "{\"claims\":{\"exp\":[\"1300819380\"]}}", FOW_DENIED_CLAIM_NOT_ALLOWED, "exp" },
+        { "{\"absent\":[\"sub\",\"iss\"]}", FOW_DENIED_CLAIM_PRESENT, "iss" },
+        { "{\"only\":{\"iss\":[\"ann\"]},\"absent\":[\"sub\"]}", FOW_DENIED_CLAIM_HAS_OTHER, "iss" },
+        { "{\"objects\":[\"iss\"]}", FOW_DENIED_CLAIM_NOT_OBJECT, "iss" },
+        { "{\"ages\":{\"iss\":1}}", FOW_DENIED_CLAIM_NOT_DATE, "iss" },
+        { "{\"ages\":{\"exp\":1}}", FOW_DENIED_CLAIM_LATER, "exp" },
+        { "{\"ascii\":{\"iss\":2}}", FOW_DENIED_CLAIM_NOT_ASCII, "iss" },
+        { "{\"ascii\":{\"iss\":3},\"only\":{\"iss\":[\"ann\",\"joe\"]}}", FOW_NO_FAULT, NULL },
         { "{\"scopes\":[\"write\",\"read\"],\"claims\":{\"iss\":[\"ann\"]}}", FOW_DENIED_SCOPE_MISSING, "write" },
         { "{\"scopes\":[\"joe\"],\"scope_claim\":\"iss\"}", FOW_NO_FAULT, NULL },
     };
@@ -183,7 +190,8 @@ int main(int argc, char **argv)
     check_denied(&access);
     check_scopes(&access);
     check_long(&access);
-    CHECK(strcmp(fow_fault_name(FOW_DENIED_CLAIM_NOT_ALLOWED), "ClaimNotAllowed") == 0 && strcmp(fow_fault_name(1004), "") == 0);
+    CHECK(strcmp(fow_fault_name(FOW_DENIED_CLAIM_NOT_ALLOWED), "ClaimNotAllowed") == 0);
+    CHECK(strcmp(fow_fault_name(FOW_DENIED_CLAIM_NOT_ASCII), "ClaimNotAscii") == 0 && strcmp(fow_fault_name(1011), "") == 0);
     fow_close(&validator);
     return 0;
 }

@@ -32,6 +32,32 @@ static uint32_t take(fow_once *once, const char *claims, int64_t now)
     return taken;
 }
 
+/* How the token that was accepted last is held: by one mark for its issuer and `jti`, until `exp` and the leeway. */
+static void check_entries(void)
+{
+    uint8_t mark[FOW_MARK_LEN + 1] = { 0 }, other[FOW_MARK_LEN] = { 0 };
+    uint64_t until = 7;
+    uint32_t lacks = 77;
+    fow_validator none = FOW_VALIDATOR_INIT;
+    CHECK(fow_once_entry(&none, mark, sizeof mark, &until, &lacks) == FOW_NOT_OPEN && until == 7);
+    CHECK(judge(&validator, "{\"jti\":\"a\",\"exp\":1000}", 2000) == FOW_REFUSED);
+    CHECK(fow_once_entry(&validator, mark, sizeof mark, &until, &lacks) == FOW_ABSENT && lacks == FOW_TAKEN_NOTHING);
+    CHECK(judge(&validator, "{\"iss\":\"i\",\"exp\":1000}", 900) == FOW_OK);
+    CHECK(fow_once_entry(&validator, mark, sizeof mark, &until, &lacks) == FOW_REFUSED && lacks == FOW_TAKEN_NO_ID);
+    CHECK(judge(&validator, "{\"iss\":\"i\",\"jti\":\"a\"}", 900) == FOW_OK);
+    CHECK(fow_once_entry(&validator, mark, sizeof mark, &until, &lacks) == FOW_REFUSED && lacks == FOW_TAKEN_NO_END);
+    CHECK(judge(&validator, "{\"iss\":\"i\",\"jti\":\"a\",\"exp\":1000}", 900) == FOW_OK);
+    CHECK(fow_once_entry(&validator, mark, FOW_MARK_LEN - 1, &until, &lacks) == FOW_TOO_SHORT && until == 7 && mark[0] == 0);
+    CHECK(fow_once_entry(&validator, mark, sizeof mark, &until, &lacks) == FOW_OK && lacks == FOW_TAKEN_NOTHING);
+    CHECK(until == 1000 + LEEWAY && mark[FOW_MARK_LEN] == 0);
+    CHECK(judge(&validator, "{\"sub\":\"s\",\"iss\":\"i\",\"jti\":\"a\",\"exp\":1001}", 900) == FOW_OK);
+    CHECK(fow_once_entry(&validator, other, sizeof other, &until, &lacks) == FOW_OK && until == 1001 + LEEWAY);
+    CHECK(memcmp(mark, other, FOW_MARK_LEN) == 0);
+    CHECK(judge(&validator, "{\"iss\":\"ia\",\"jti\":\"\",\"exp\":-100}", -200) == FOW_OK);
+    CHECK(fow_once_entry(&validator, other, sizeof other, &until, &lacks) == FOW_OK && until == 0);
+    CHECK(memcmp(mark, other, FOW_MARK_LEN) != 0);
+}
+
 /* A memory and a validator that hold nothing, and a validator that has accepted nothing. */
 static void check_none(fow_once *once)
 {
@@ -121,6 +147,7 @@ int main(int argc, char **argv)
     read_named(&token, argv[1], "jwt");
     CHECK(fow_open(&validator, (const uint8_t *)policy, sizeof policy - 1, keys.at, keys.len, &fault) == FOW_OK);
     check_none(&once);
+    check_entries();
     check_once(&once);
     check_beside(&once);
     check_many(&once);

@@ -664,6 +664,36 @@ RULES: dict[str, object] = {
     "tilde-name": {"claims": {"a~b": ["t"], "/a~0b": ["t"], "a/b": ["s"], "/a~1b": ["s"]}},
     "deep": {"claims": {"/a/b/c": ["z"]}},
 }
+# What else a rule asks, and claims for it. The moment is 1300819379, and the policy's leeway 60 seconds.
+FURTHER: dict[str, tuple[dict, dict]] = {
+    "absent": ({"absent": ["nonce"]}, {"sub": "ann"}),
+    "absent-and-there": ({"absent": ["nonce"]}, {"nonce": "n"}),
+    "absent-and-null": ({"absent": ["nonce"]}, {"nonce": None}),
+    "absent-pointer": ({"absent": ["/a/b"]}, {"a": {"b": 1}}),
+    "only-text": ({"only": {"aud": ["other", "x"]}}, {"aud": "other"}),
+    "only-list": ({"only": {"aud": ["other", "x"]}}, {"aud": ["x", "other", "x"]}),
+    "only-empty-list": ({"only": {"role": ["x"]}}, {"role": []}),
+    "only-first-other": ({"only": {"aud": ["other"]}}, {"aud": ["x", "other"]}),
+    "only-last-other": ({"only": {"aud": ["other"]}}, {"aud": ["other", "x"]}),
+    "only-list-in-a-list": ({"only": {"role": ["x"]}}, {"role": [["x"]]}),
+    "only-missing": ({"only": {"role": ["x"]}}, {"sub": "ann"}),
+    "object": ({"objects": ["events", "/events/a~1b"]}, {"events": {"a/b": {}}}),
+    "object-list": ({"objects": ["/events/a~1b"]}, {"events": {"a/b": [{}]}}),
+    "object-missing": ({"objects": ["/events/a~1b"]}, {"events": {"a": {}}}),
+    "age-now": ({"ages": {"auth_time": 300}}, {"auth_time": 1300819379}),
+    "age-latest": ({"ages": {"auth_time": 300}}, {"auth_time": 1300819439}),
+    "age-later": ({"ages": {"auth_time": 300}}, {"auth_time": 1300819440}),
+    "age-oldest": ({"ages": {"auth_time": 300}}, {"auth_time": 1300819019}),
+    "age-older": ({"ages": {"auth_time": 300}}, {"auth_time": 1300819018}),
+    "age-fraction": ({"ages": {"auth_time": 300}}, {"auth_time": 1300819379.5}),
+    "age-text": ({"ages": {"auth_time": 300}}, {"auth_time": "1300819379"}),
+    "age-missing": ({"ages": {"auth_time": 300}}, {"sub": "ann"}),
+    "ascii": ({"ascii": {"sub": 3}}, {"sub": "ann"}),
+    "ascii-longer": ({"ascii": {"sub": 3}}, {"sub": "anna"}),
+    "ascii-beyond": ({"ascii": {"sub": 3}}, {"sub": "\u00e9"}),
+    "ascii-number": ({"ascii": {"level": 3}}, {"level": 7}),
+    "in-order": ({"ascii": {"a": 1}, "ages": {"b": 1}, "objects": ["c"], "only": {"d": ["x"]}, "absent": ["e"]}, {"e": 1}),
+}
 # Rules that are refused, as they are written.
 NO_RULES: dict[str, bytes] = {
     "empty": b"",
@@ -692,6 +722,22 @@ NO_RULES: dict[str, bytes] = {
     "claim-pointer": b'{"claims":{"/~2":["x"]}}',
     "claim-pointer-end": b'{"claims":{"/a/~":[]}}',
     "first-claim": b'{"claims":{"b":[],"a":7}}',
+    "absent-text": b'{"absent":"nonce"}',
+    "absent-number": b'{"absent":["nonce",7]}',
+    "absent-pointer": b'{"absent":["nonce","/~2"]}',
+    "only-list": b'{"only":["aud"]}',
+    "only-text": b'{"only":{"aud":"a"}}',
+    "only-empty-list": b'{"only":{"aud":[]}}',
+    "objects-object": b'{"objects":{"events":{}}}',
+    "objects-pointer": b'{"objects":["/events/~"]}',
+    "ages-number": b'{"ages":3600}',
+    "ages-text": b'{"ages":{"auth_time":"3600"}}',
+    "ages-fraction": b'{"ages":{"auth_time":3600.0}}',
+    "ages-negative": b'{"ages":{"auth_time":-1}}',
+    "ages-beyond-32-bits": b'{"ages":{"auth_time":4294967296}}',
+    "ascii-list": b'{"ascii":["sub"]}',
+    "ascii-true": b'{"ascii":{"sub":true}}',
+    "ascii-negative": b'{"ascii":{"sub":-255}}',
     "too-long": b"{}" + b" " * 65535,
 }
 
@@ -704,6 +750,9 @@ def access() -> Iterator[Case]:
         audience = {"audiences": ["other"]} if "aud" in more else {}
         for name, rule in RULES.items():
             yield Denying(f"access/{what}/{name}", policy_of("HS256", **audience), keys, NOW, written(rule), token(more))
+    for name, (rule, more) in FURTHER.items():
+        audience = {"audiences": ["other"]} if "aud" in more else {}
+        yield Denying(f"access/further/{name}", policy_of("HS256", leeway=60, **audience), keys, NOW, written(rule), token(more))
     for name, rule in NO_RULES.items():
         yield Denying(f"access/refused-rule/{name}", policy, keys, NOW, rule, token(GRANTS["scopes"]))
     for name, moment, spoil in (("expired", NOW + 1, 0), ("bad-signature", NOW, 1)):

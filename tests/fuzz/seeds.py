@@ -59,6 +59,9 @@ RULES = (
     b'{"claims":{"a":[1.5]}}',
     b'{"claims":{"/~":[1]}}',
     b'{"scope":[]}',
+    b'{"absent":["nonce","/a/b"],"only":{"aud":["x",1,true]},"objects":["events","/e/~1"],"ages":{"auth_time":300},"ascii":{"sub":255}}',
+    b'{"ages":{"a":-1}}',
+    b'{"ascii":{"/~":1}}',
 )
 KEY_SETS = (
     b'{"keys":[{"kty":"oct","k":"%s","kid":"a","alg":"HS256","use":"sig","key_ops":["sign","verify"]},{"kty":"oct","k":"QQ"},{"kty":"oct"},7,'

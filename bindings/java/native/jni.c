@@ -410,6 +410,46 @@ static jlong JNICALL open_once(JNIEnv *env, jclass class, jint tokens)
     return 0;
 }
 
+/* How an expectation is held against a claim, with the token and the number of its signature that verified. */
+typedef uint32_t holding(held *it, jint signature, octets claim, octets text, uint32_t *unmet);
+
+static uint32_t hold_text(held *it, jint signature, octets claim, octets text, uint32_t *unmet)
+{
+    (void)signature;
+    return fow_expect_text(&it->validator, claim.at, claim.len, text.at, text.len, unmet);
+}
+
+static uint32_t hold_half_hash(held *it, jint signature, octets claim, octets text, uint32_t *unmet)
+{
+    return fow_expect_half_hash(&it->validator, it->token, it->len, (uint32_t)signature, claim.at, claim.len, text.at, text.len, unmet);
+}
+
+/* Holds an expectation, writes what isn't met, and gives the status. */
+static jint expect(JNIEnv *env, held *it, holding *hold, jint signature, jbyteArray claim, jbyteArray text, jintArray out)
+{
+    uint32_t unmet = FOW_UNMET_NOTHING, status = FOW_OUT_OF_MEMORY;
+    octets name = copied(env, claim), wanted = copied(env, text);
+    if (name.at != NULL && wanted.at != NULL)
+        status = hold(it, signature, name, wanted, &unmet);
+    free(name.at);
+    free(wanted.at);
+    jint said = (jint)unmet;
+    (*env)->SetIntArrayRegion(env, out, 0, 1, &said);
+    return (jint)status;
+}
+
+static jint JNICALL expect_text(JNIEnv *env, jclass class, jlong it, jbyteArray claim, jbyteArray text, jintArray out)
+{
+    (void)class;
+    return expect(env, at(it), hold_text, 0, claim, text, out);
+}
+
+static jint JNICALL expect_half_hash(JNIEnv *env, jclass class, jlong it, jint signature, jbyteArray claim, jbyteArray text, jintArray out)
+{
+    (void)class;
+    return expect(env, at(it), hold_half_hash, signature, claim, text, out);
+}
+
 static jint JNICALL take_once(JNIEnv *env, jclass class, jlong once, jlong it, jlong now, jintArray out)
 {
     (void)class;
@@ -460,6 +500,8 @@ JNIEXPORT jint JNICALL JNI_OnLoad(JavaVM *vm, void *reserved)
         ROW("accessScope", "(JI)[B", access_scope),
         ROW("denied", "(JJ[J)I", denied),
         ROW("deniedName", "(JJ)[B", denied_name),
+        ROW("expectText", "(J[B[B[I)I", expect_text),
+        ROW("expectHalfHash", "(JI[B[B[I)I", expect_half_hash),
         ROW("openOnce", "(I)J", open_once),
         ROW("takeOnce", "(JJJ[I)I", take_once),
         ROW("closeOnce", "(J)V", close_once),

@@ -27,6 +27,7 @@ import java.util.stream.Stream;
 
 import com.sun.net.httpserver.HttpServer;
 import org.example.fowharimu.Access;
+import org.example.fowharimu.Asking;
 import org.example.fowharimu.Denied;
 import org.example.fowharimu.Fetching;
 import org.example.fowharimu.Issuers;
@@ -80,10 +81,88 @@ final class Tests {
             this::questions, this::mistakes, this::closing, this::issuing, this::freeing, this::threads, this::closingMeanwhile, this::ruleMet, this::denials,
             this::denialIsNoRefusal, this::rulesRefused, this::rulesOfTheDocuments, this::ruleMistakes, this::ruleClosing, this::ruleFreeing,
             this::ruleThreads, this::ruleClosingMeanwhile, this::terms, this::issuers, this::urls, this::times,
-            this::longestTimes, this::clients, this::once, this::whyNotTaken, this::memories, this::onceByThreads
+            this::longestTimes, this::clients, this::once, this::whyNotTaken, this::memories, this::onceByThreads,
+            this::expected, this::halfHashes, this::expectedByMistake, this::expectedOfIssuers
         }) {
             it.run();
             passed++;
+        }
+    }
+
+    /** The access token of OpenID Connect Core 1.0, appendix A.4, whose {@code at_hash} a token of the profile has, and the {@code nonce} of all. */
+    private static final String ACCESS_TOKEN = "jHkWEdUXMU1BwAsC4vtUsZwnNvTIxEl0z9K3vx5KF0Y";
+    private static final String NONCE = "n-0S6_WzA2Mj";
+
+    /** A file of the profile of ID tokens. */
+    private byte[] ofLogins(String name) throws Exception {
+        return Files.readAllBytes(top.resolve("examples/profiles/id-token").resolve(name));
+    }
+
+    private Validator logins(Remember remember) throws Exception {
+        return new Validator(ofLogins("policy.json"), ofLogins("keys.json"), Validator.MOST_QUESTIONS, remember);
+    }
+
+    /** An accepted token that isn't the one that was expected, for this reason. */
+    private void notExpected(Judging it, byte[] token, Asking asking, String fault, String claim) throws Exception {
+        Refused refusal = refused(() -> it.validate(token, asking.at(NOW)));
+        String said = "the token isn't what was expected: " + fault + ", " + claim;
+        equal(List.of(refusal.kind(), refusal.fault(), refusal.about().get(), refusal.getMessage()), List.of(Refused.Kind.NOT_EXPECTED, fault, claim, said));
+    }
+
+    private void expected() throws Exception {
+        byte[] token = ofLogins("tokens/good.jwt");
+        Asking login = new Asking().text("nonce", NONCE);
+        try (Validator it = logins(new Remember()); Access denies = new Access("{\"scopes\":[\"read\"]}")) {
+            check(it.validate(new String(token, StandardCharsets.UTF_8), login.text("/nonce", NONCE).at(NOW)).contains(NONCE), "other claims");
+            check(it.validate(token, new Asking().at(NOW)).contains(NONCE), "other claims");
+            for (String other : List.of("", "n-", NONCE + " ", NONCE.substring(1))) {
+                notExpected(it, token, new Asking().text("nonce", other), "Other", "nonce");
+            }
+            notExpected(it, token, new Asking().text("exp", "1300819979"), "Other", "exp");
+            notExpected(it, token, login.text("sid", "s").text("iss", ""), "Absent", "sid");
+            notExpected(it, token, login.text("/nonce/a", "s"), "Absent", "/nonce/a");
+            notExpected(it, ofLogins("tokens/other-nonce.jwt"), login, "Other", "nonce");
+            // (behind the verdict, and behind the rule)
+            equal(refused(() -> it.validate(token, new Asking().text("nonce", ""))).kind(), Refused.Kind.CLAIMS);
+            thrown(Denied.class, () -> it.validate(token, new Asking().text("nonce", "").access(denies).at(NOW)));
+        }
+    }
+
+    private void halfHashes() throws Exception {
+        byte[] token = ofLogins("tokens/other-access-token.jwt");
+        try (Validator it = logins(new Remember(2, 4096))) {
+            for (int n = 0; n < 2; n++) {
+                it.validate(token, new Asking().halfHash("at_hash", ACCESS_TOKEN).at(NOW));
+            }
+            check(it.judge(token, NOW.getEpochSecond()).remembered(), "it isn't remembered");
+            notExpected(it, token, new Asking().halfHash("at_hash", "another access token"), "Other", "at_hash");
+            notExpected(it, token, new Asking().halfHash("c_hash", ACCESS_TOKEN), "Absent", "c_hash");
+        }
+    }
+
+    /** What is expected is there; and a token that isn't the one that was expected isn't taken. */
+    private void expectedByMistake() throws Exception {
+        for (Callable<?> it : List.<Callable<?>>of(
+                () -> new Asking().text("nonce", null), () -> new Asking().text(null, NONCE), () -> new Asking().halfHash("at_hash", null),
+                () -> new Asking().access(null), () -> new Asking().at(null))) {
+            thrown(NullPointerException.class, it);
+        }
+        byte[] token = ofLogins("tokens/good.jwt");
+        try (Once once = new Once(10); Validator it = new Validator(ofLogins("policy.json"), ofLogins("keys.json"), once)) {
+            thrown(IllegalArgumentException.class, () -> it.validate(token, new Asking().text("nonce", "\ud800").at(NOW)));
+            thrown(IllegalArgumentException.class, () -> it.validate(token, new Asking().text("\ud800", NONCE).at(NOW)));
+            thrown(NullPointerException.class, () -> it.validate(token, (Asking) null));
+            notExpected(it, token, new Asking().text("nonce", "n"), "Other", "nonce");
+            // (it has no jti, and so is asked for last)
+            Refused refusal = refused(() -> it.validate(token, new Asking().text("nonce", NONCE).at(NOW)));
+            equal(List.of(refusal.kind(), refusal.fault()), List.of(Refused.Kind.NOT_TAKEN, "NoId"));
+        }
+    }
+
+    private void expectedOfIssuers() throws Exception {
+        try (Issuers it = new Issuers(Map.of("https://server.example.com", logins(new Remember())))) {
+            check(it.validate(ofLogins("tokens/good.jwt"), new Asking().text("nonce", NONCE).at(NOW)).contains(NONCE), "other claims");
+            notExpected(it, ofLogins("tokens/good.jwt"), new Asking().text("nonce", "n"), "Other", "nonce");
         }
     }
 

@@ -661,6 +661,60 @@ static napi_value denied(napi_env env, napi_callback_info info)
     return status == FOW_DENIED ? number(env, denial) : fail(env, NULL, "no token is accepted, or no access rule is open");
 }
 
+/* What came of an expectation: 0 where it is met, and else its number of enum fow_unmet. Everything else is thrown. */
+static napi_value said_of(napi_env env, uint32_t status, uint32_t unmet)
+{
+    if (status == FOW_OK)
+        return number(env, FOW_UNMET_NOTHING);
+    if (status == FOW_NOT_EXPECTED)
+        return number(env, unmet);
+    if (status == FOW_REFUSED)
+        return mistake(env, "what is expected, and the claim's name, have to be texts without lone surrogates");
+    return status == FOW_OUT_OF_MEMORY ? lack_memory(env) : fail(env, NULL, "no token is accepted");
+}
+
+/* The validator of a call expect..(validator, claim, text, signature), and the octets of the claim's name and of the text, which are to be freed; NULL where
+ * they aren't there, and then that is thrown. */
+static held *expectation(napi_env env, napi_callback_info info, octets *claim, octets *text, uint32_t *signature)
+{
+    napi_value given[4];
+    held *it = arguments(env, info, 4, given);
+    if (it == NULL || napi_get_value_uint32(env, given[3], signature) != napi_ok || !read_octets(env, given[1], claim))
+        return NULL;
+    if (read_octets(env, given[2], text))
+        return it;
+    free(claim->at);
+    return NULL;
+}
+
+/* expectText(validator, claim, text, signature): holds a text against a claim of the token that was judged last; see said_of. */
+static napi_value expect_text(napi_env env, napi_callback_info info)
+{
+    octets claim, text;
+    uint32_t signature = 0, unmet = FOW_UNMET_OTHER;
+    held *it = expectation(env, info, &claim, &text, &signature);
+    if (it == NULL)
+        return NULL;
+    uint32_t status = fow_expect_text(&it->validator, claim.at, claim.len, text.at, text.len, &unmet);
+    free(claim.at);
+    free(text.at);
+    return said_of(env, status, unmet);
+}
+
+/* expectHalfHash(validator, claim, text, signature): holds the half of a text's hash against it, by the algorithm of that signature; see said_of. */
+static napi_value expect_half_hash(napi_env env, napi_callback_info info)
+{
+    octets claim, text;
+    uint32_t signature = 0, unmet = FOW_UNMET_OTHER;
+    held *it = expectation(env, info, &claim, &text, &signature);
+    if (it == NULL)
+        return NULL;
+    uint32_t status = fow_expect_half_hash(&it->validator, it->token, it->len, signature, claim.at, claim.len, text.at, text.len, &unmet);
+    free(claim.at);
+    free(text.at);
+    return said_of(env, status, unmet);
+}
+
 /* deniedName(validator, access): the scope or the claim of a denial. It stands in a rule, which has at most 65,536 octets. */
 static napi_value denied_name(napi_env env, napi_callback_info info)
 {
@@ -785,6 +839,7 @@ NAPI_MODULE_INIT()
         { "issue", issue }, { "state", state }, { "tried", tried }, { "refusedClaim", refused_claim }, { "refusedMember", refused_member },
         { "faultName", fault_name }, { "close", close_validator }, { "openAccess", open_access }, { "refusedInAccess", refused_in_access },
         { "remember", remember }, { "remembered", remembered }, { "scope", scope }, { "denied", denied }, { "deniedName", denied_name }, { "closeAccess", close_access },
+        { "expectText", expect_text }, { "expectHalfHash", expect_half_hash },
         { "named", named }, { "soleIssuer", sole_issuer }, { "tokenLimit", token_limit }, { "isPublic", is_public }, { "textMember", text_member },
         { "openOnce", open_once }, { "taken", taken }, { "closeOnce", close_once },
     };

@@ -1,6 +1,7 @@
 'use strict';
 const assert = require('node:assert');
 const { spawn, spawnSync } = require('node:child_process');
+const crypto = require('node:crypto');
 const { once } = require('node:events');
 const fs = require('node:fs');
 const http = require('node:http');
@@ -703,6 +704,72 @@ function testGuardOnce() {
   assert.match(said[1][1], /error="invalid_token"/);
 }
 
+/** The profile of ID tokens, and the access token of OpenID Connect Core 1.0, appendix A.4, whose `at_hash` one of its tokens has. */
+const LOGIN = path.join(TOP, 'examples/profiles/id-token'), ACCESS_TOKEN = 'jHkWEdUXMU1BwAsC4vtUsZwnNvTIxEl0z9K3vx5KF0Y';
+const loginToken = (name) => fs.readFileSync(path.join(LOGIN, `tokens/${name}.jwt`), 'utf8');
+const loginOf = (how) => new fow.Validator(fs.readFileSync(path.join(LOGIN, 'policy.json')), fs.readFileSync(path.join(LOGIN, 'keys.json')), how);
+
+/** An accepted token that isn't the one that was expected, for this reason. */
+function notExpected(validator, token, how, fault, claim) {
+  const error = { name: 'NotExpected', fault, claim, message: `the token isn't what was expected: ${fault}: ${JSON.stringify(claim)}` };
+  for (const call of ['validate', 'validateText']) assert.throws(() => validator[call](token, { now: NOW, ...how }), error);
+  assert.throws(() => validator.validate(token, { now: NOW, ...how }), fow.TokenRefused);
+}
+
+function testExpected() {
+  const validator = loginOf(), token = loginToken('good'), nonce = 'n-0S6_WzA2Mj';
+  for (const expected of [{ nonce }, { nonce: new TextEncoder().encode(nonce), '/nonce': nonce }, {}]) {
+    assert.strictEqual(validator.validate(token, { expected, now: NOW }).nonce, nonce);
+  }
+  for (const other of ['', 'n-', `${nonce} `, nonce.slice(1), new Uint8Array(0)]) notExpected(validator, token, { expected: { nonce: other } }, 'Other', 'nonce');
+  notExpected(validator, token, { expected: { exp: '1300819979' } }, 'Other', 'exp');
+  notExpected(validator, token, { expected: { nonce, sid: 's', iss: '' } }, 'Absent', 'sid');
+  notExpected(validator, token, { expected: { '/nonce/a': 's' } }, 'Absent', '/nonce/a');
+  notExpected(validator, token, { hashes: { at_hash: 't' }, expected: { nonce: '' } }, 'Other', 'nonce');
+  notExpected(validator, loginToken('other-nonce'), { expected: { nonce } }, 'Other', 'nonce');
+  // (behind the verdict, and behind the rule)
+  assert.throws(() => validator.validate(token, { expected: { nonce: '' } }), { name: 'ClaimsRefused' });
+  assert.throws(() => validator.validate(token, { expected: { nonce: '' }, access: new fow.Access({ scopes: ['read'] }), now: NOW }), { name: 'Denied' });
+}
+
+function testHalfHashes() {
+  const token = loginToken('other-access-token'), validator = loginOf({ remember: { tokens: 2, octets: 4096 } });
+  for (const at_hash of [ACCESS_TOKEN, new TextEncoder().encode(ACCESS_TOKEN)]) validator.validate(token, { hashes: { at_hash }, now: NOW });
+  assert.ok(validator.judge(token, NOW).remembered);
+  notExpected(validator, token, { hashes: { at_hash: 'another access token' } }, 'Other', 'at_hash');
+  notExpected(validator, token, { hashes: { c_hash: ACCESS_TOKEN } }, 'Absent', 'c_hash');
+  for (const [alg, name] of [['HS256', 'sha256'], ['HS384', 'sha384'], ['HS512', 'sha512']]) {
+    const one = new fow.Validator({ algs: [alg] }, { keys: [{ kty: 'oct', k: Buffer.alloc(64).toString('base64url') }] });
+    const digest = crypto.createHash(name).update('t').digest(), at_hash = digest.subarray(0, digest.length / 2).toString('base64url');
+    const issued = one.issue({ at_hash }, { alg });
+    one.validate(issued, { hashes: { at_hash: 't' } });
+    notExpected(one, issued, { hashes: { at_hash: 'u' } }, 'Other', 'at_hash');
+  }
+}
+
+/** What is expected is never nothing by mistake, and what isn't expected isn't taken. */
+function testExpectedByMistake() {
+  const validator = loginOf({ once: 10 }), token = loginToken('good'), texts = [undefined, null, 'n', ['n'], 7, new Map([['nonce', 'n']])];
+  for (const name of ['expected', 'hashes']) {
+    for (const it of texts) assert.throws(() => validator.validate(token, { [name]: it, now: NOW }), TypeError);
+    for (const it of [undefined, null, 7, ['n'], {}, new Uint16Array(1)]) assert.throws(() => validator.validate(token, { [name]: { nonce: it }, now: NOW }), TypeError);
+    assert.throws(() => validator.validate(token, { [name]: { [Symbol('nonce')]: 'n' }, now: NOW }), TypeError);
+    assert.throws(() => validator.validate(token, { [name]: { '\ud800': 'n' }, now: NOW }), TypeError);
+  }
+  assert.throws(() => validator.validate(token, { expected: { nonce: '\ud800' }, now: NOW }), TypeError);
+  assert.throws(() => validator.validate(token, { expectd: { nonce: 'n' }, now: NOW }), TypeError);
+  assert.throws(() => validator.validate(token, { expected: { nonce: 'n' }, access: undefined, now: NOW }), TypeError);
+  notExpected(validator, token, { expected: { nonce: 'n' } }, 'Other', 'nonce');
+  // (it has no jti, and so is asked for last)
+  notTaken(validator, token, NOW, 'NoId');
+  Object.prototype.nonce = 'planted';
+  try {
+    assert.throws(() => validator.validate(token, { expected: {}, now: NOW }), fow.NotTaken);
+  } finally {
+    delete Object.prototype.nonce;
+  }
+}
+
 async function testFreeingMemories() {
   const before = process.memoryUsage().rss;
   for (let n = 0; n < 20000; n++) {
@@ -750,7 +817,7 @@ async function testWorkers() {
 
 async function testImport() {
   const { Validator, TokenRefused, ...others } = await import('../index.js');
-  for (const it of ['Access', 'AccessRefused', 'Denied', 'NotTaken', 'Once']) assert.ok(others[it] && others[it] === fow[it], it);
+  for (const it of ['Access', 'AccessRefused', 'Denied', 'NotExpected', 'NotTaken', 'Once']) assert.ok(others[it] && others[it] === fow[it], it);
   assert.strictEqual(Validator, fow.Validator);
   assert.strictEqual(TokenRefused, fow.TokenRefused);
 }
@@ -796,6 +863,9 @@ if (!isMainThread) {
   test('a memory that a prototype names', testPlantedOnce);
   test('tokens that count once, by URL', testOnceByUrl);
   test('a guard over tokens that count once', testGuardOnce);
+  test('what a call expects', testExpected);
+  test('half hashes that a call expects', testHalfHashes);
+  test('nothing is expected by mistake', testExpectedByMistake);
   test('memories that are not closed are freed', testFreeingMemories);
   test('too many questions', testQuestions);
   test('mistakes are told', testMistakes);

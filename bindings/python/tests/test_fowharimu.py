@@ -17,7 +17,7 @@ import sys
 import threading
 import time
 import unittest
-from typing import Any, Callable, Iterator, List, Union
+from typing import Any, Callable, Dict, Iterator, List, Union
 
 from fowharimu import (
     Access,
@@ -35,6 +35,7 @@ from fowharimu import (
     NotExpected,
     NotTaken,
     Once,
+    OnceStore,
     PolicyRefused,
     SignatureRefused,
     TokenRefused,
@@ -210,7 +211,7 @@ class Expecting(unittest.TestCase):
 class Taking(unittest.TestCase):
     """Tokens that count once."""
 
-    def taking(self, once: Union[Once, int] = 10) -> Validator:
+    def taking(self, once: Union[Once, OnceStore, int] = 10) -> Validator:
         """A validator that takes so many tokens, which it issues too."""
         return Validator({"algs": ["HS256"], "leeway": 60}, HMAC.with_suffix(".keys").read_bytes(), once=once)
 
@@ -233,6 +234,33 @@ class Taking(unittest.TestCase):
                 with self.assertRaises(NotTaken) as caught:
                     validator.validate(octets, NOW, access)
                 self.assertEqual(f"not taken {caught.exception.fault}", said)
+
+    def test_a_store_of_the_applications_own(self) -> None:
+        class Store:
+            def __init__(self) -> None:
+                self.held: Dict[bytes, int] = {}
+
+            def take(self, mark: bytes, until: int) -> Any:
+                return len(mark) == 32 and until == self.held.setdefault(mark, until) and len(self.held) == 1
+
+        store = Store()
+        one, other = self.taking(store), self.taking(store)
+        token = one.issue({"iss": "i", "jti": "a", "exp": 1000})
+        self.assertEqual(one.validate(token, 900)["jti"], "a")
+        self.assertEqual(list(store.held.values()), [1060])
+        self.refused(one, one.issue({"jti": "a", "exp": 1000}), 900, "Seen")
+        self.assertEqual(len(store.held), 2)
+        for claims, fault in (({"iss": "i", "exp": 1000}, "NoId"), ({"iss": "i", "jti": "a"}, "NoEnd")):
+            self.refused(other, other.issue(claims), 900, fault)
+        # (what isn't True refuses, and so does what is raised)
+        for answer in (None, 1, "new"):
+            store.take = lambda mark, until, answer=answer: answer  # type: ignore[method-assign, misc, assignment]
+            self.refused(one, token, 900, "Seen")
+        store.take = lambda mark, until: 1 // 0  # type: ignore[method-assign, assignment, return-value]
+        with self.assertRaises(ZeroDivisionError):
+            one.validate(token, 900)
+        for it in (one, other):
+            it.close()
 
     def test_a_token_is_let_in_once(self) -> None:
         with self.taking() as validator:

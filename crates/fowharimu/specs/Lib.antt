@@ -36,6 +36,7 @@ pub use Rattle.jwt_access.specs.DenialWords
 pub use Rattle.jwt_access.specs.Document as AccessDocument
 pub use Rattle.jwt_access.specs.FaultNames as AccessFaultNames
 pub use Rattle.jwt_access.specs.Granted
+pub use Rattle.jwt_access.specs.Moments as AccessMoments
 pub use Rattle.jwt_access.specs.RuleTexts
 pub use Rattle.jwt_access.specs.Rules
 pub use Rattle.jwt_access.specs.Scopes

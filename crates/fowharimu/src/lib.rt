@@ -14,7 +14,7 @@
 //! keys prepared, and a caller's own is a [`Verifier`]. The [`Report`] has the [`Verdict`], what became of each signature, and each try of a
 //! key with its cost.
 //!
-//! An [`AccessRule`] says what an accepted token may do, by [`AccessRule::denial`] of its claims. What one call knows of them, as the `nonce` of a
+//! An [`AccessRule`] says what an accepted token may do, by [`AccessRule::denial`] of its claims at a [`Moment`]. What one call knows of them, as the `nonce` of a
 //! login, is held against them by [`first_unmet`]. Where a token counts once, as the last step a [`Once`] is asked: [`Once::take_accepted`] answers
 //! [`Taken::New`] of each token one time, and nothing else lets it through.
 //!
@@ -37,7 +37,7 @@ pub use jwt_verify::{Fault, InputFault, Report, SigState, Try, Verdict, judge, v
 pub use validator::Validator;
 
 // What an accepted token may do.
-pub use jwt_access::{AccessFault, AccessRule, Denial, DeniedName, RuleMember, has_scope};
+pub use jwt_access::{AccessFault, AccessRule, Denial, DeniedName, Moment, RuleMember, has_scope};
 
 // What one call knows of an accepted token's claims: texts, as a `nonce`, and octets whose hash a claim has to be, as `at_hash`.
 pub use jwt_expected::{Expected, Unmet, Wanted, first_unmet};

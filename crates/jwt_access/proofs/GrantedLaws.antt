@@ -1,5 +1,5 @@
 -- Claims meet a rule in words exactly where its table has no answer.
-use Rattle.std.proofs.Common.{◌≡◌, ◌≢◌, ℕ, ◌==◌, ℤ, List, [], ◌∷◌, map, length, Bool, true, false, not, ◌&&◌, ◌||◌, codes, Option, Some, None, IsNone, is_none, option_map, option_and_then, refl, sym, ap, ◌∙◌, subst, inl, inr, ⊎_elim, arith, Decides}
+use Rattle.std.proofs.Common.{◌≡◌, ◌≢◌, ℕ, ◌==◌, ℤ, List, [], ◌∷◌, map, length, Bool, true, false, not, ◌&&◌, ◌||◌, codes, Option, Some, None, is_none, option_map, option_and_then, refl, sym, ap, ◌∙◌, subst, inl, inr, ⊎_elim, arith, Decides}
 use Rattle.std.specs.Option.{option_or}
 use Rattle.std.specs.Bool.{beq}
 use Rattle.std.specs.Ordering.{int_eq}
@@ -20,10 +20,10 @@ use Rattle.jwt_access.specs.Rules.{Allowed, text, flag, whole, Demand, Rule}
 use Rattle.jwt_access.specs.Pointers.{value_at, path_of, claim_at}
 use Rattle.jwt_access.specs.Scopes.{is_scope_character, is_scope, words, text_grants, list_grants, grants}
 use Rattle.jwt_access.specs.Claims.{is_value, has_value, has_word, meets, is_allowed}
-use Rattle.jwt_access.specs.Denials.{scope_row, demands_rows, denial_of}
+use Rattle.jwt_access.specs.Denials.{scope_row, demands_rows, claims_denial_of}
 use Rattle.jwt_access.specs.Granted.{IsClaim, Grants, IsValue, HasValue, HasWord, Meets, HasScope, IsMet, IsGranted, AsksNoMore}
-use Rattle.jwt_access.specs.declared.denial.Denial.{Denial}
 use Rattle.jwt_access.specs.declared.denial.Denial.TheVariants.{ScopeMissing, ClaimMissing, ClaimNotAllowed}
+use Rattle.jwt_access.specs.declared.moment.Moment.{Moment}
 use Rattle.jwt_access.proofs.RowsLemmas.{first_of_both}
 use Rattle.jwt_access.proofs.Splits.{Lacks, cut_joined}
 use Rattle.jwt_access.proofs.PointerLaws.{path_is, is_path}
@@ -97,7 +97,7 @@ or_false false = refl
 same_text : (t u : List ℕ) → string t ≡ string u → t ≡ u
 same_text t u e = let same : Some t ≡ Some u = ap as_str e in cc
 
-same_list : (ds es : Items) → array ds ≡ array es → ds ≡ es
+pub same_list : (ds es : Items) → array ds ≡ array es → ds ≡ es
 same_list ds es e = let same : Some ds ≡ Some es = ap as_array e in cc
 
 -- neither a text nor a list
@@ -123,7 +123,7 @@ grants_decides scope (array ds) = (
 abbrev whole_of : Data → Option ℤ
 whole_of d = option_and_then as_i64 (as_number d)
 
-value_decides : (v : Allowed) (d : Data) → Decides (is_value v d) (IsValue v d)
+pub value_decides : (v : Allowed) (d : Data) → Decides (is_value v d) (IsValue v d)
 value_decides (text t) d =
     let found = decides_some (λ s. bytes_eq s t) (as_str d) (λ s. s ≡ t) (λ s. bytes_eq-Decides s t) in
     (λ e. let h = found.0 e in text_is d h.0 h.1 ∙ ap string h.2, λ is. found.1 (t, ap as_str is, refl))
@@ -161,7 +161,7 @@ word_decides (text t) d = grants_decides t d
 word_decides (flag b) d = (λ e. absurd cc, λ h. absurd h)
 word_decides (whole z) d = (λ e. absurd cc, λ h. absurd h)
 
-and_decides : {P Q : Type 0} (a b : Bool) → Decides a P → Decides b Q → Decides (a && b) (P × Q)
+pub and_decides : {P Q : Type 0} (a b : Bool) → Decides a P → Decides b Q → Decides (a && b) (P × Q)
 and_decides a b p q = (λ e. let parts = both a b e in (p.0 parts.0, q.0 parts.1), λ h. and_true a b (p.1 h.0) (q.1 h.1))
 
 meets_decides : (claim : List ℕ) (x : Demand) (v : Allowed) (d : Data) → Decides (meets (bytes_eq x.name claim) v d) (Meets claim x v d)
@@ -234,41 +234,41 @@ demands_from claim ms (x ∷ xs) h =
 pub met_decides : (claim : List ℕ) (ms : Members) (demand : Demand) → Decides (is_met claim ms demand) (IsMet claim ms demand)
 met_decides claim ms demand = claim_decides demand.name ms (is_allowed_by claim demand) (HasOne claim demand) (allowed_decides claim demand)
 
-none_both : {A : Type 0} (a b : Option A) → option_or a b ≡ None → (a ≡ None) × (b ≡ None)
+pub none_both : {A : Type 0} (a b : Option A) → option_or a b ≡ None → (a ≡ None) × (b ≡ None)
 none_both None b e = (refl, e)
 none_both (Some x) b e = absurd cc
 
-pub granted : (rule : Rule) (ms : Members) → denial_of rule ms ≡ None → IsGranted rule ms
-unfolding denial_of
-granted rule ms e =
-    let parts = none_both (first_row (map (scope_row rule.scope_claim ms) rule.scopes)) (first_row (demands_rows rule.scope_claim ms rule.claims)) (sym (first_of_both (map (scope_row rule.scope_claim ms) rule.scopes) (demands_rows rule.scope_claim ms rule.claims)) ∙ e) in
-    record {
-      scopes = λ scope h. (claim_decides rule.scope_claim ms (grants scope) (λ d. Grants d scope) (grants_decides scope)).0 (scopes_none rule.scope_claim ms rule.scopes parts.0 scope h);
-      claims = λ demand h. (met_decides rule.scope_claim ms demand).0 (demands_none rule.scope_claim ms rule.claims parts.1 demand h);
-    }
+-- each scope is granted, and each demand is met
+abbrev pub MeetsClaims : Rule → Members → Type 0
+MeetsClaims rule ms =
+    ((scope : List ℕ) → Contains rule.scopes scope → HasScope rule.scope_claim ms scope) × ((demand : Demand) → Contains rule.claims demand → IsMet rule.scope_claim ms demand)
 
-pub undenied : (rule : Rule) (ms : Members) → IsGranted rule ms → denial_of rule ms ≡ None
-unfolding denial_of
-undenied rule ms h =
+pub claims_granted : (rule : Rule) (ms : Members) → claims_denial_of rule ms ≡ None → MeetsClaims rule ms
+unfolding claims_denial_of
+claims_granted rule ms e =
+    let parts = none_both (first_row (map (scope_row rule.scope_claim ms) rule.scopes)) (first_row (demands_rows rule.scope_claim ms rule.claims)) (sym (first_of_both (map (scope_row rule.scope_claim ms) rule.scopes) (demands_rows rule.scope_claim ms rule.claims)) ∙ e) in (
+      λ scope h. (claim_decides rule.scope_claim ms (grants scope) (λ d. Grants d scope) (grants_decides scope)).0 (scopes_none rule.scope_claim ms rule.scopes parts.0 scope h),
+      λ demand h. (met_decides rule.scope_claim ms demand).0 (demands_none rule.scope_claim ms rule.claims parts.1 demand h),
+    )
+
+pub claims_undenied : (rule : Rule) (ms : Members) → MeetsClaims rule ms → claims_denial_of rule ms ≡ None
+unfolding claims_denial_of
+claims_undenied rule ms h =
     first_of_both (map (scope_row rule.scope_claim ms) rule.scopes) (demands_rows rule.scope_claim ms rule.claims)
-    ∙ ap (λ o. option_or o (first_row (demands_rows rule.scope_claim ms rule.claims))) (scopes_from rule.scope_claim ms rule.scopes (λ scope is. (claim_decides rule.scope_claim ms (grants scope) (λ d. Grants d scope) (grants_decides scope)).1 (h.scopes scope is)))
-    ∙ demands_from rule.scope_claim ms rule.claims (λ demand is. (met_decides rule.scope_claim ms demand).1 (h.claims demand is))
+    ∙ ap (λ o. option_or o (first_row (demands_rows rule.scope_claim ms rule.claims))) (scopes_from rule.scope_claim ms rule.scopes (λ scope is. (claim_decides rule.scope_claim ms (grants scope) (λ d. Grants d scope) (grants_decides scope)).1 (h.0 scope is)))
+    ∙ demands_from rule.scope_claim ms rule.claims (λ demand is. (met_decides rule.scope_claim ms demand).1 (h.1 demand is))
 
 -- what one scope is asked, in words
 pub scope_decides : (claim : List ℕ) (ms : Members) (scope : List ℕ) → Decides (is_granted claim ms scope) (HasScope claim ms scope)
 scope_decides claim ms scope = claim_decides claim ms (grants scope) (λ d. Grants d scope) (grants_decides scope)
 
 -- a rule that asks for less grants no less
-pub less_asked : (less more : Rule) (ms : Members) → AsksNoMore less more → IsGranted more ms → IsGranted less ms
-less_asked less more ms asks h = record {
+pub less_asked : (less more : Rule) (at : Moment) (ms : Members) → AsksNoMore less more → IsGranted more at ms → IsGranted less at ms
+less_asked less more at ms asks h = record {
   scopes = λ scope is. subst (λ claim. HasScope claim ms scope) (sym asks.scope_claim) (h.scopes scope (asks.scopes scope is));
   claims = λ demand is. subst (λ claim. IsMet claim ms demand) (sym asks.scope_claim) (h.claims demand (asks.claims demand is));
+  further = λ f is. h.further f (asks.further f is);
 }
-
--- an answer that is the table's, and no answer
-pub denied : (rule : Rule) (ms : Members) (o : Option Denial) → o ≡ denial_of rule ms → (IsNone o → IsGranted rule ms) × (IsGranted rule ms → IsNone o)
-denied rule ms None e = (λ _. granted rule ms (sym e), λ _. refl)
-denied rule ms (Some d) e = (λ h. absurd cc, λ h. absurd (let none = undenied rule ms h in cc))
 
 -- the claim `scope` is the member of that name
 pub scope_member : (ms : Members) → claim_at (codes "scope") ms ≡ get_member (codes "scope") ms

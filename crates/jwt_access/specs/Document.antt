@@ -8,8 +8,8 @@ use Rattle.jwt_text.specs.declared.fault.TextFault.TheVariants.{NameTwice}
 use Rattle.jwt_text.specs.ObjectText.{object_of}
 use Rattle.jwt_text.specs.Members.{member_names}
 use Rattle.jwt_policy.specs.Texts.{is_among}
-use Rattle.jwt_access.specs.Rules.{Rule}
-use Rattle.jwt_access.specs.MemberKinds.{scopes_in, scope_claim_in, demands_in}
+use Rattle.jwt_access.specs.Rules.{Rule, absent, an_object}
+use Rattle.jwt_access.specs.MemberKinds.{scopes_in, scope_claim_in, demands_in, names_in, values_in, only_of, age_of, ascii_of}
 use Rattle.jwt_access.specs.declared.access_fault.AccessFault.{AccessFault}
 use Rattle.jwt_access.specs.declared.access_fault.AccessFault.TheVariants as fault
 
@@ -20,12 +20,27 @@ settings_of fields = do
   scopes ← scopes_in (codes "scopes") fields
   scope_claim ← scope_claim_in (codes "scope_claim") fields
   claims ← demands_in (codes "claims") fields
-  Ok (record { scopes = scopes; scope_claim = scope_claim; claims = claims })
+  absent_claims ← names_in absent (codes "absent") fields
+  only_claims ← values_in only_of (codes "only") fields
+  object_claims ← names_in an_object (codes "objects") fields
+  aged_claims ← values_in age_of (codes "ages") fields
+  ascii_claims ← values_in ascii_of (codes "ascii") fields
+  Ok (record {
+    scopes = scopes;
+    scope_claim = scope_claim;
+    claims = claims;
+    absent_claims = absent_claims;
+    only_claims = only_claims;
+    object_claims = object_claims;
+    aged_claims = aged_claims;
+    ascii_claims = ascii_claims;
+  })
 
 -- ---- their names
 
 abbrev pub known_names : List (List ℕ)
-known_names = codes "scopes" ∷ codes "scope_claim" ∷ codes "claims" ∷ []
+known_names =
+    codes "scopes" ∷ codes "scope_claim" ∷ codes "claims" ∷ codes "absent" ∷ codes "only" ∷ codes "objects" ∷ codes "ages" ∷ codes "ascii" ∷ []
 
 abbrev pub is_known : List ℕ → Bool
 is_known name = is_among known_names name

@@ -2,6 +2,8 @@
 
 -- what a rule asks
 pub mod Rules
+-- the moment at which it is held against dates
+pub mod Moments
 -- scopes
 pub mod Scopes
 -- the claim of a name

@@ -1,10 +1,10 @@
 -- The documents that say a rule, in words.
-use Rattle.std.specs.Prelude.{◌≡◌, ◌≢◌, ◌⊎◌, ◌≤◌, ℕ, List, [], codes, map, length, false, true, Some}
+use Rattle.std.specs.Prelude.{◌≡◌, ◌≢◌, ◌⊎◌, ◌≤◌, ℕ, pos, List, [], codes, map, length, false, true, Some}
 use Rattle.std.specs.List.{Contains, AllZip}
 use Rattle.serde_json.specs.Data.{Data, string, Members}
-use Rattle.jwt_text.specs.Members.{has, text_at, list_at, object_at, member_names}
+use Rattle.jwt_text.specs.Members.{has, text_at, whole_at, list_at, object_at, member_names}
 use Rattle.jwt_text.specs.ObjectText.{IsObjectText}
-use Rattle.jwt_access.specs.Rules.{Demand, Rule}
+use Rattle.jwt_access.specs.Rules.{Allowed, Demand, Asked, absent, only, an_object, aged, ascii, Further, Rule}
 use Rattle.jwt_access.specs.Scopes.{is_scope}
 use Rattle.jwt_access.specs.Granted.{IsPath, IsValue}
 use Rattle.jwt_access.specs.Document.{known_names}
@@ -37,12 +37,52 @@ SaysClaims members demands =
     ((has (codes "claims") members ≡ false) × (demands ≡ []))
     ⊎ ((claims : Members) × (object_at (codes "claims") members ≡ Some claims) × AllZip (SaysDemand claims) (member_names claims) demands)
 
+-- a name of a list, which has a path: this is asked of its claim
+pub record SaysName (asked : Asked) (name : List ℕ) (further : Further) : Type 0 where
+  pub named : name ≡ further.name
+  pub asks : further.asked ≡ asked
+  pub path : List (List ℕ)
+  pub leads : IsPath name path
+
+-- the member is a list of texts, and of the claim of each this is asked, in their order; or it is absent, and there are none
+abbrev pub SaysNames : Asked → List ℕ → Members → List Further → Type 0
+SaysNames asked member members furthers =
+    ((has member members ≡ false) × (furthers ≡ []))
+    ⊎ ((names : List (List ℕ)) × (list_at member members ≡ Some (map string names)) × AllZip (SaysName asked) names furthers)
+
+-- a list of these values, not empty
+abbrev pub SaysOnly : Members → List ℕ → Asked → Type 0
+SaysOnly claims name asked =
+    (allowed : List Allowed) × (list : List Data) × (asked ≡ only allowed) × (list_at name claims ≡ Some list) × (allowed ≢ []) × AllZip IsValue allowed list
+
+-- this whole number, at most 2^32 - 1
+abbrev pub SaysCount : (ℕ → Asked) → Members → List ℕ → Asked → Type 0
+SaysCount asks claims name asked = (count : ℕ) × (asked ≡ asks count) × (whole_at name claims ≡ Some (pos count)) × (count ≤ 4294967295)
+
+-- a member of such an object: its name, which has a path, and what is asked of its claim
+pub record SaysFurther (Says : Members → List ℕ → Asked → Type 0) (claims : Members) (name : List ℕ) (further : Further) : Type 0 where
+  pub named : name ≡ further.name
+  pub path : List (List ℕ)
+  pub leads : IsPath name path
+  pub says : Says claims name further.asked
+
+-- the member is an object with a member for each of these, in ascending octet order of their names, or is absent, and there are none
+abbrev pub SaysValues : (Members → List ℕ → Asked → Type 0) → List ℕ → Members → List Further → Type 0
+SaysValues Says member members furthers =
+    ((has member members ≡ false) × (furthers ≡ []))
+    ⊎ ((claims : Members) × (object_at member members ≡ Some claims) × AllZip (SaysFurther Says claims) (member_names claims) furthers)
+
 -- no other member is there, and each says its part
 pub record SaysRule (members : Members) (rule : Rule) : Type 0 where
   pub known : (name : List ℕ) → Contains (member_names members) name → Contains known_names name
   pub scopes : SaysScopes members rule.scopes
   pub scope_claim : SaysScopeClaim members rule.scope_claim
   pub claims : SaysClaims members rule.claims
+  pub absent_claims : SaysNames absent (codes "absent") members rule.absent_claims
+  pub only_claims : SaysValues SaysOnly (codes "only") members rule.only_claims
+  pub object_claims : SaysNames an_object (codes "objects") members rule.object_claims
+  pub aged_claims : SaysValues (SaysCount aged) (codes "ages") members rule.aged_claims
+  pub ascii_claims : SaysValues (SaysCount ascii) (codes "ascii") members rule.ascii_claims
 
 -- at most 65,536 octets, the text of an object that says the rule
 abbrev pub IsRuleText : List ℕ → Rule → Type 0

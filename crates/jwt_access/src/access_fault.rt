@@ -60,10 +60,12 @@ pub enum AccessFault {
     /// carries scopes begins with `/` and is no JSON Pointer (RFC 6901).
     #[error("the member {:?} is out of its range", .0.text())]
     Range(RuleMember),
-    /// What `claims` says of this claim is no list of texts, truth values and whole numbers of 64 signed bits.
+    /// What `claims` or `only` says of this claim is no list of texts, truth values and whole numbers of 64 signed bits; or what `ages`
+    /// or `ascii` says of it is no such number.
     #[error("what is asked of the claim {:?} is of another kind", .0.text())]
     Claim(RuleMember),
-    /// What `claims` says of this claim is the empty list, or the claim's name begins with `/` and is no JSON Pointer (RFC 6901).
+    /// What `claims` or `only` says of this claim is the empty list; or what `ages` or `ascii` says of it is not from 0 to 4,294,967,295; or the
+    /// claim's name begins with `/` and is no JSON Pointer (RFC 6901).
     #[error("what is asked of the claim {:?} is out of its range", .0.text())]
     ClaimRange(RuleMember),
 }

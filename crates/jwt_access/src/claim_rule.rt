@@ -30,7 +30,7 @@ pub(crate) struct ClaimRule {
 }
 
 /// Whether the element at this place of the list is this value.
-fn is_value_at(list: &List<'_>, place: usize, value: &ClaimValue) -> bool
+pub(crate) fn is_value_at(list: &List<'_>, place: usize, value: &ClaimValue) -> bool
     ensures { result ≡ some_passes (is_value (allowed value.now)) (slice_get list.now place) }
 {
     match value {
@@ -64,7 +64,7 @@ fn holds_value(list: &List<'_>, value: &ClaimValue) -> bool
 
 impl<'a> Spot<'a> {
     /// Whether the claim that stands here is this value.
-    fn is_value(&self, value: &ClaimValue) -> bool
+    pub(crate) fn is_value(&self, value: &ClaimValue) -> bool
         ensures { result ≡ some_passes (is_value (allowed value.now)) (found self.now) }
     {
         match value {

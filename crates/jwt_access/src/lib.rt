@@ -5,10 +5,10 @@
 //! [`has_scope`] asks for one scope.
 //!
 //! ```rust
-//! use jwt_access::{AccessRule, has_scope};
+//! use jwt_access::{AccessRule, Moment, has_scope};
 //!
 //! let rule = AccessRule::read(alloc, b"{\"scopes\":[\"read\"],\"claims\":{\"/realm_access/roles\":[\"editor\",\"admin\"]}}")?;
-//! let may = rule.denial(&claims).is_none();
+//! let may = rule.denial(&claims, Moment::under(&policy, now)).is_none();
 //! let may_write = has_scope(&claims, "write");
 //! ```
 //!
@@ -20,8 +20,11 @@ mod access_fault;
 mod claim_rule;
 mod denial;
 mod document;
+mod further;
+mod further_kinds;
 pub mod laws;
 mod member_kinds;
+mod moment;
 mod place;
 mod pointer;
 mod rule;
@@ -30,5 +33,6 @@ mod spot;
 
 pub use access_fault::{AccessFault, RuleMember};
 pub use denial::{Denial, DeniedName};
+pub use moment::Moment;
 pub use rule::AccessRule;
 pub use scopes::has_scope;

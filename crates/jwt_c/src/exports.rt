@@ -7,7 +7,7 @@ ghost use Rattle.jwt_policy.specs.Document.{policy_of};
 ghost use Rattle.jwt_verify.specs.Verdict.{token_of};
 ghost use Rattle.jwt_handles.specs.Documents.{documents};
 ghost use Rattle.jwt_handles.specs.Reports.{IsBeside, IsOpened, IsRefused, IsAlike, IsAskedBy, IsJudgedBy, report_numbers};
-ghost use Rattle.jwt_handles.specs.Evidence.{states_kept, tries_kept, claims_kept, payload_kept};
+ghost use Rattle.jwt_handles.specs.Evidence.{states_kept, tries_kept, claims_kept, payload_kept, IsMomentBy};
 ghost use Rattle.jwt_handles.specs.Faults.{bare};
 ghost use Rattle.jwt_handles.specs.Keeping.{RemembersProved, RemembersTold};
 ghost use Rattle.jwt_handles.specs.Payloads.{KeepsPayloadBy};
@@ -123,6 +123,9 @@ pub extern "C" fn fow_judge(
     ensures judged { IfSome validator.old.state (λ d. result ≤ FOW_REFUSED
         → IsJudgedBy d now token.now report.new validator.new.state) }
 
+    // So is the moment, against which an access rule holds dates.
+    ensures moment { IfSome validator.old.state (λ d. IsMomentBy (documents d).policy now validator.new.state) }
+
     // Claims are kept of an acceptance alone, and so are the octets of the payload, which are those of the token.
     ensures claims { IfSome validator.new.state (λ e. result ≢ FOW_OK → claims_kept e.last ≡ None) }
     ensures payload { IfSome validator.old.state (λ d. KeepsPayloadBy (documents d).policy token.now result validator.new.state) }
@@ -155,6 +158,9 @@ pub extern "C" fn fow_proved_judge(
     ensures judged { IfSome validator.old.state (λ d. result ≤ FOW_REFUSED
         → IsProvedBy d now token.now report.new validator.new.state) }
     ensures never_asks { result ≢ FOW_ASKS }
+
+    // So is the moment, against which an access rule holds dates.
+    ensures moment { IfSome validator.old.state (λ d. IsMomentBy (documents d).policy now validator.new.state) }
 
     // Claims are kept of an acceptance alone, and so are the octets of the payload, which are those of the token.
     ensures claims { IfSome validator.new.state (λ e. result ≢ FOW_OK → claims_kept e.last ≡ None) }

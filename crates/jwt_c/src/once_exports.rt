@@ -3,10 +3,11 @@
 ghost use Rattle.jwt_handles.specs.declared.status.TheConstants.{FOW_NOT_OPEN, FOW_OK, FOW_REFUSED, FOW_OUT_OF_MEMORY};
 ghost use Rattle.std.specs.Prelude.{◌≡◌, ◌≢◌, ◌↔◌, IfSome, None};
 ghost use Rattle.jwt_handles.specs.Taking.{HoldsNone, TakesLast};
+ghost use Rattle.jwt_handles.specs.Entries.{TellsLast};
 
 use jwt_handles::handle::Handle;
 use jwt_handles::once_handle::OnceHandle;
-use jwt_handles::onces;
+use jwt_handles::{entries, onces};
 use std::alloc::Global;
 
 /// [`onces::once_open`] by its name in C.
@@ -36,6 +37,23 @@ pub extern "C" fn fow_once_take(
         TakesLast d now o result taken.new once.new.state)) }
 {
     onces::once_take(once, alloc, validator, now, taken)
+}
+
+/// [`entries::once_entry`] by its name in C.
+#[unsafe(no_mangle)]
+pub extern "C" fn fow_once_entry(
+    validator: &mut Handle,
+    alloc: Global,
+    mark: &mut [u8],
+    until: &mut u64,
+    lacks: &mut u32,
+) -> u32
+    ensures same { validator.new.state ≡ validator.old.state }
+    ensures none { validator.old.state ≡ None → result ≡ FOW_NOT_OPEN }
+    ensures entry { IfSome validator.old.state (λ d. TellsLast d result mark.old mark.new until.new lacks.new) }
+    ensures unwritten { result ≢ FOW_OK → (mark.new ≡ mark.old) × (until.new ≡ until.old) }
+{
+    entries::once_entry(validator, alloc, mark, until, lacks)
 }
 
 /// [`onces::once_close`] by its name in C.

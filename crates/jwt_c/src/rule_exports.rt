@@ -80,7 +80,7 @@ pub extern "C" fn fow_denied(
     ensures none { validator.old.state ≡ None → result ≡ FOW_NOT_OPEN }
     ensures no_rule { access.old.state ≡ None → result ≡ FOW_NOT_OPEN }
     ensures denied { IfSome validator.old.state (λ d. IfSome access.old.state (λ a.
-        IsHeldAgainst a.rule (claims_kept d.last) result denial.new)) }
+        IsHeldAgainst a.rule d.last.moment (claims_kept d.last) result denial.new)) }
 {
     rules::denied(validator, alloc, access, denial)
 }
@@ -99,7 +99,7 @@ pub extern "C" fn fow_denied_name(
     ensures none { validator.old.state ≡ None → result ≡ FOW_NOT_OPEN }
     ensures no_rule { access.old.state ≡ None → result ≡ FOW_NOT_OPEN }
     ensures name { IfSome validator.old.state (λ d. IfSome access.old.state (λ a.
-        PutsDenied a.rule (claims_kept d.last) result written.new out.old out.new)) }
+        PutsDenied a.rule d.last.moment (claims_kept d.last) result written.new out.old out.new)) }
     ensures unwritten { result ≢ FOW_OK → (out.new ≡ out.old) × (written.new ≡ written.old) }
 {
     rules::denied_name(validator, alloc, access, out, written)

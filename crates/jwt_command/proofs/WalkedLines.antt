@@ -8,7 +8,7 @@ use Rattle.jwt_command.specs.Lines.{lines, onto_first}
 use Rattle.jwt_printing.specs.Printed.{Answer}
 use Rattle.jwt_verdicts.specs.VerdictsJson.{payload_of, token_json, verdict_json}
 use Rattle.jwt_verdicts.specs.Printer.{in_json, printer, unless_read_failed}
-use Rattle.jwt_verdicts.specs.Verdicts.{paid_tries, token_answer}
+use Rattle.jwt_verdicts.specs.Verdicts.{moment_of, paid_tries, token_answer}
 use Rattle.jwt_access.specs.Rules.{Rule}
 use Rattle.jwt_policy.specs.Settings.{Settings}
 use Rattle.jwt_verify.specs.Verdict.{Terms, table, token_of, token_or_none, verdict_of}
@@ -169,7 +169,7 @@ token_bounded rule q l = go (nat_lt q.policy.run.limit (length l)) refl
 
 json_with : Option Rule → Terms → List ℕ → List ℕ → Answer
 json_with rule q payload x =
-    verdict_json rule (verdict_of q x q.policy.run.work) payload (states (table q x) q.policy.run.work q.policy.max_calls) (paid_tries q x) (work (paid_tries q x))
+    verdict_json rule (moment_of q) (verdict_of q x q.policy.run.work) payload (states (table q x) q.policy.run.work q.policy.max_calls) (paid_tries q x) (work (paid_tries q x))
 
 json_with_same : (rule : Option Rule) (q : Terms) (payload x y : List ℕ) → token_of q.policy x ≡ token_of q.policy y → json_with rule q payload x ≡ json_with rule q payload y
 unfolding json_with verdict_of table

@@ -15,7 +15,7 @@ ghost use Rattle.jwt_words.specs.Seen.{held_view};
 ghost use Rattle.jwt_printing.specs.Views.{reply_view};
 ghost use Rattle.jwt_verdicts.specs.Views.{rule_view};
 
-use crate::access::rule_in_hand;
+use crate::access::{moment_of, rule_in_hand};
 use crate::documents::{document, read_document};
 use crate::input::line::LineFault;
 use jwt_access::{AccessFault, AccessRule};
@@ -98,7 +98,7 @@ fn on_token<R: Source>(
         terms.verifiers,
         &mut budget,
     );
-    report_line(alloc, &report, rule, budget.octets())
+    report_line(alloc, &report, rule, moment_of(terms), budget.octets())
 }
 
 /// The verdict on a token in hand, in lines.
@@ -116,7 +116,13 @@ fn on_octets_in_lines(
     let mut scratch = Scratch::new(alloc);
     tells_reports();
     let judged = judge_under(alloc, token, terms, &mut count, &mut scratch);
-    report_line(alloc, &judged.report, rule, count.octets())
+    report_line(
+        alloc,
+        &judged.report,
+        rule,
+        moment_of(terms),
+        count.octets(),
+    )
 }
 
 /// The payload of the token that was read; no octets where none was.
@@ -146,7 +152,14 @@ fn on_octets_in_json(
     tells_tokens();
     let judged = judge_under(alloc, token, terms, &mut count, &mut scratch);
     let payload = payload_in(&judged.token);
-    report_json(alloc, &judged.report, rule, payload, count.octets())
+    report_json(
+        alloc,
+        &judged.report,
+        rule,
+        moment_of(terms),
+        payload,
+        count.octets(),
+    )
 }
 
 /// The verdict on a token in hand, in JSON or in lines.

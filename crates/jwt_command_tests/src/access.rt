@@ -29,7 +29,7 @@ struct Ruled {
 const MET: &str =
     r#"{"claims":{"iss":["ann","joe"],"exp":[1300819380],"http://example.com/is_root":[true]}}"#;
 
-static RULED: [Ruled; 16] = [
+static RULED: [Ruled; 19] = [
     Ruled {
         words: ASKED,
         rule: Some("{}"),
@@ -58,6 +58,25 @@ static RULED: [Ruled; 16] = [
         words: ASKED,
         rule: Some(r#"{"claims":{"http://example.com/is_root":["true",1]}}"#),
         prints: r#"denied ClaimNotAllowed claim="http://example.com/is_root" sig=0 key=0 tries=1 work=295"#,
+        status: 1,
+    },
+    // Dates are held against the moment of the verdict.
+    Ruled {
+        words: ASKED,
+        rule: Some(r#"{"absent":["nonce"],"ages":{"exp":0}}"#),
+        prints: r#"denied ClaimLater claim="exp" sig=0 key=0 tries=1 work=295"#,
+        status: 1,
+    },
+    Ruled {
+        words: ASKED,
+        rule: Some(r#"{"absent":["nonce","iss"]}"#),
+        prints: r#"denied ClaimPresent claim="iss" sig=0 key=0 tries=1 work=295"#,
+        status: 1,
+    },
+    Ruled {
+        words: ASKED,
+        rule: Some(r#"{"ages":{"exp":-1}}"#),
+        prints: r#"refused Access ClaimRange member="exp""#,
         status: 1,
     },
     // A token that is refused is told as ever.

@@ -4,7 +4,7 @@ use Rattle.std.proofs.lemmas.Option.{slice_get_within, get_or_from_slice_get}
 use Rattle.serde_json.specs.Data.{Members}
 use Rattle.jwt_mac.specs.declared.algorithm.Alg.{Alg}
 use Rattle.jwt_expected.specs.Expected.{AreMet, IsMet, expected_text}
-use Rattle.jwt_expected.specs.Unmet.{IsAbsent, IsOther, IsReached, IsFirstUnmet}
+use Rattle.jwt_expected.specs.Unmet.{IsAbsent, IsOther, IsFirstUnmet}
 use Rattle.jwt_expected.specs.declared.expected.Expected.{Expected}
 use Rattle.jwt_expected.specs.declared.expected.Unmet.{Unmet}
 use Rattle.jwt_expected.specs.declared.expected.Unmet.TheVariants.{Absent, Other}

@@ -9,7 +9,8 @@ use Rattle.jwt_access.specs.FaultNames.{denied}
 use Rattle.jwt_access.specs.declared.access_fault.AccessFault.{AccessFault}
 use Rattle.jwt_access.specs.declared.access_fault.AccessFault.TheVariants as fault
 use Rattle.jwt_access.specs.declared.denial.Denial.{Denial}
-use Rattle.jwt_access.specs.declared.denial.Denial.TheVariants.{ScopeMissing, ClaimMissing, ClaimNotAllowed}
+use Rattle.jwt_access.specs.declared.denial.Denial.TheVariants.{ScopeMissing, ClaimMissing, ClaimNotAllowed, ClaimPresent, ClaimHasOther, ClaimNotObject, ClaimNotDate, ClaimLater, ClaimTooOld, ClaimNotAscii}
+use Rattle.jwt_access.specs.declared.moment.Moment.{Moment}
 use Rattle.jwt_handles.specs.declared.rule_state.RuleState.{RuleState}
 use Rattle.jwt_handles.specs.declared.status.TheConstants.{FOW_OK, FOW_REFUSED, FOW_OUT_OF_MEMORY, FOW_ABSENT, FOW_DENIED}
 use Rattle.jwt_handles.specs.Written.{Puts}
@@ -30,6 +31,13 @@ abbrev pub denial_number : Denial → ℕ
 denial_number (ScopeMissing _) = 1001
 denial_number (ClaimMissing _) = 1002
 denial_number (ClaimNotAllowed _) = 1003
+denial_number (ClaimPresent _) = 1004
+denial_number (ClaimHasOther _) = 1005
+denial_number (ClaimNotObject _) = 1006
+denial_number (ClaimNotDate _) = 1007
+denial_number (ClaimLater _) = 1008
+denial_number (ClaimTooOld _) = 1009
+denial_number (ClaimNotAscii _) = 1010
 
 -- ---- what a handle holds
 
@@ -56,16 +64,16 @@ refused_in _ = None
 
 -- ---- a rule that is held against claims
 
--- FOW_OK where the claims meet the rule, else FOW_DENIED and the number of their denial; FOW_ABSENT where there are none
-abbrev pub IsHeldAgainst : Rule → Option Members → ℕ → ℕ → Type 0
-IsHeldAgainst rule None status number = status ≡ FOW_ABSENT
-IsHeldAgainst rule (Some claims) status number =
-    (status ≡ FOW_OK → IsGranted rule claims)
-    × (status ≢ FOW_OK → (status ≡ FOW_DENIED) × ((denial : Denial) × IsDenial rule claims denial × (number ≡ denial_number denial)))
+-- FOW_OK where the claims meet the rule at the moment of the verdict, else FOW_DENIED and the number of their denial; FOW_ABSENT where there are none
+abbrev pub IsHeldAgainst : Rule → Moment → Option Members → ℕ → ℕ → Type 0
+IsHeldAgainst rule moment None status number = status ≡ FOW_ABSENT
+IsHeldAgainst rule moment (Some claims) status number =
+    (status ≡ FOW_OK → IsGranted rule moment claims)
+    × (status ≢ FOW_OK → (status ≡ FOW_DENIED) × ((denial : Denial) × IsDenial rule moment claims denial × (number ≡ denial_number denial)))
 
 -- the scope or the claim of their denial is written; FOW_ABSENT where the claims meet the rule, or there are none
-abbrev pub PutsDenied : Rule → Option Members → ℕ → ℕ → List ℕ → List ℕ → Type 0
-PutsDenied rule None status size old out = status ≡ FOW_ABSENT
-PutsDenied rule (Some claims) status size old out =
-    (status ≡ FOW_ABSENT → IsGranted rule claims)
-    × (status ≢ FOW_ABSENT → (denial : Denial) × IsDenial rule claims denial × Puts (denied denial) status size old out)
+abbrev pub PutsDenied : Rule → Moment → Option Members → ℕ → ℕ → List ℕ → List ℕ → Type 0
+PutsDenied rule moment None status size old out = status ≡ FOW_ABSENT
+PutsDenied rule moment (Some claims) status size old out =
+    (status ≡ FOW_ABSENT → IsGranted rule moment claims)
+    × (status ≢ FOW_ABSENT → (denial : Denial) × IsDenial rule moment claims denial × Puts (denied denial) status size old out)

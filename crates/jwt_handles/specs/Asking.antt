@@ -101,7 +101,7 @@ StaysLast before (Some after) = after.last ≡ before.last
 
 -- the same of it, but that it asks nothing
 abbrev pub unasked : Last → Last
-unasked last = record { evidence = last.evidence; missing = last.missing; asked = None; remembered = last.remembered }
+unasked last = record { evidence = last.evidence; missing = last.missing; asked = None; remembered = last.remembered; moment = last.moment }
 
 -- what is kept of the last judging stays, but for its question, which is gone
 abbrev pub StaysAnswered : State → Option State → Type 0

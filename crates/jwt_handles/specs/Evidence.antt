@@ -1,12 +1,16 @@
 -- The parts of a report beside its numbers.
-use Rattle.std.specs.Prelude.{ℕ, Bool, true, false, List, Option, Some, None, option_map}
+use Rattle.std.specs.Prelude.{◌≡◌, ℕ, ℤ, pos, Bool, true, false, List, Option, Some, None, option_map}
 use Rattle.std.specs.Arc.{arc_value}
 use Rattle.serde_json.specs.Data.{Members}
+use Rattle.jwt_access.specs.Moments.{moment_under}
+use Rattle.jwt_access.specs.declared.moment.Moment.{Moment}
+use Rattle.jwt_policy.specs.Settings.{Settings}
 use Rattle.jwt_verify.specs.declared.report.SigState.{SigState}
 use Rattle.jwt_verify.specs.declared.report.Try.{Try}
 use Rattle.jwt_handles.specs.declared.state.Evidence.{Evidence}
 use Rattle.jwt_handles.specs.declared.state.Evidence.TheVariants.{Own, Shared}
 use Rattle.jwt_handles.specs.declared.state.Last.{Last}
+use Rattle.jwt_handles.specs.declared.state.State.{State}
 
 -- what became of each signature
 abbrev pub states_of : Evidence → List SigState
@@ -44,3 +48,16 @@ claims_kept last = evidence_claims last.evidence
 
 abbrev pub payload_kept : Last → Option (List ℕ)
 payload_kept last = evidence_payload last.evidence
+
+-- ---- the moment of a verdict
+
+-- the state that is held keeps that of a judging under this policy
+abbrev pub IsMomentBy : Settings → ℤ → Option State → Type 0
+IsMomentBy policy now None = ⊥
+IsMomentBy policy now (Some after) = after.last.moment ≡ moment_under policy now
+
+-- ---- Cited by contracts of private functions alone
+
+-- that of a judging that isn't kept yet
+abbrev pub none_yet : Moment
+none_yet = record { now = pos 0; leeway = 0 }

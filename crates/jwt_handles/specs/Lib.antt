@@ -36,6 +36,8 @@ pub mod MostQuestions
 pub mod Proving
 -- memories of tokens that count once, and what they answer of the token that was accepted last
 pub mod Taking
+-- how the token that was accepted last is held by a store of tokens that count once
+pub mod Entries
 -- the ownership of the handle of such a memory
 pub mod OnceHandles
 -- the ownership of the handle of an access rule

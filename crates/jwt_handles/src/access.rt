@@ -9,7 +9,7 @@ ghost use Rattle.jwt_handles.specs.Written.{PutsHeld, PutsSome};
 use crate::rule_state::RuleState;
 use crate::status::{FOW_ABSENT, FOW_DENIED, FOW_OK, FOW_OUT_OF_MEMORY, FOW_REFUSED, NotHeld};
 use crate::writing::put;
-use jwt_access::{AccessFault, AccessRule, Denial};
+use jwt_access::{AccessFault, AccessRule, Denial, Moment};
 use jwt_policy::Claims;
 use std::alloc::Global;
 
@@ -37,6 +37,13 @@ fn denial_number(denial: &Denial<'_>) -> u32
         Denial::ScopeMissing(_) => 1001,
         Denial::ClaimMissing(_) => 1002,
         Denial::ClaimNotAllowed(_) => 1003,
+        Denial::ClaimPresent(_) => 1004,
+        Denial::ClaimHasOther(_) => 1005,
+        Denial::ClaimNotObject(_) => 1006,
+        Denial::ClaimNotDate(_) => 1007,
+        Denial::ClaimLater(_) => 1008,
+        Denial::ClaimTooOld(_) => 1009,
+        Denial::ClaimNotAscii(_) => 1010,
     }
 }
 
@@ -95,13 +102,13 @@ pub(crate) fn put_scope(rule: &AccessRule, number: u32, out: &mut [u8], written:
     }
 }
 
-/// Holds the rule against claims. `FOW_OK`: they meet it; `FOW_DENIED`: they don't, and the number is that of the denial;
+/// Holds the rule against claims at a moment. `FOW_OK`: they meet it; `FOW_DENIED`: they don't, and the number is that of the denial;
 /// `FOW_ABSENT`: there are none.
-pub(crate) fn hold(rule: &AccessRule, claims: Option<&Claims>) -> (u32, u32)
-    ensures { IsHeldAgainst rule.now (option_map (λ c. c.now) claims.entry) result.0 result.1 }
+pub(crate) fn hold(rule: &AccessRule, claims: Option<&Claims>, moment: Moment) -> (u32, u32)
+    ensures { IsHeldAgainst rule.now moment (option_map (λ c. c.now) claims.entry) result.0 result.1 }
 {
     match claims {
-        Some(claims) => match rule.denial(claims) {
+        Some(claims) => match rule.denial(claims, moment) {
             Some(denial) => (FOW_DENIED, denial_number(&denial)),
             None => (FOW_OK, 0),
         },
@@ -114,14 +121,15 @@ pub(crate) fn hold(rule: &AccessRule, claims: Option<&Claims>) -> (u32, u32)
 pub(crate) fn put_denied(
     rule: &AccessRule,
     claims: Option<&Claims>,
+    moment: Moment,
     out: &mut [u8],
     written: &mut usize,
 ) -> u32
-    ensures written { PutsDenied rule.now (option_map (λ c. c.now) claims.entry) result written.new out.old out.new }
+    ensures written { PutsDenied rule.now moment (option_map (λ c. c.now) claims.entry) result written.new out.old out.new }
     ensures unwritten { result ≢ FOW_OK → (out.new ≡ out.old) × (written.new ≡ written.old) }
 {
     match claims {
-        Some(claims) => match rule.denial(claims) {
+        Some(claims) => match rule.denial(claims, moment) {
             Some(denial) => put(denial.denied().as_bytes(), out, written),
             None => FOW_ABSENT,
         },

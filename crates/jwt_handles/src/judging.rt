@@ -11,9 +11,10 @@ ghost use Rattle.jwt_told.specs.Questions.{kept_parts, question_at};
 ghost use Rattle.jwt_told.specs.Told.{told};
 ghost use Rattle.jwt_memory.specs.Outcomes.{report_in, report_of, paid_in, is_remembered, payload_in, payload_unless};
 ghost use Rattle.jwt_memory.specs.Payloads.{HandsOut, IsAcceptance};
+ghost use Rattle.jwt_access.specs.Moments.{moment_under};
 ghost use Rattle.jwt_handles.specs.Documents.{documents};
 ghost use Rattle.jwt_handles.specs.declared.state.Evidence.TheVariants.{Shared};
-ghost use Rattle.jwt_handles.specs.Evidence.{tries_kept, claims_kept, payload_kept};
+ghost use Rattle.jwt_handles.specs.Evidence.{tries_kept, claims_kept, payload_kept, none_yet};
 ghost use Rattle.jwt_handles.specs.Faults.{missing_in, missing_name, bare, verdict_numbers};
 ghost use Rattle.jwt_handles.specs.ProvedKept.{HasSameRoom};
 ghost use Rattle.jwt_handles.specs.Keeping.{AddsHanded, AddsNone, AddsOnly, AddsTold};
@@ -22,9 +23,11 @@ ghost use Rattle.jwt_handles.specs.Remembering.{RestsOn};
 ghost use Rattle.jwt_handles.specs.Reports.{IsAsked, IsAsking, IsJudged, Says, claims_in, report_numbers};
 
 use crate::grounds::Documents;
+use crate::last::no_moment;
 use crate::report::FowReport;
 use crate::state::{Evidence, Last, State};
 use crate::status::{FOW_ASKS, FOW_OUT_OF_MEMORY};
+use jwt_access::Moment;
 use jwt_jws::Signed;
 use jwt_keys::KeySet;
 use jwt_mac::{Budget, CountDown};
@@ -126,6 +129,7 @@ fn asking(alloc: Global, asks: Asking<'_>, keys: &KeySet) -> Result<Judging, All
             missing: Vec::new(alloc),
             asked,
             remembered: false,
+            moment: no_moment(),
         },
     })
 }
@@ -168,6 +172,7 @@ fn kept(report: Report<'_>, payload: Option<Vec<u8>>, cost: u64, missing: Vec<u8
             missing,
             asked: None,
             remembered: false,
+            moment: no_moment(),
         },
     }
 }
@@ -188,6 +193,7 @@ fn shared(
       missing = missing;
       asked = None;
       remembered = remembered;
+      moment = none_yet;
     } }
 {
     let mut said = numbers;
@@ -200,6 +206,7 @@ fn shared(
             missing,
             asked: None,
             remembered,
+            moment: no_moment(),
         },
     }
 }
@@ -381,6 +388,7 @@ pub(crate) fn judge_state(alloc: Global, state: &mut State, octets: &[u8], now: 
     ensures claims { result.verdict ≢ FOW_OK → claims_kept state.new.last ≡ None }
     ensures payload { KeepsPayload (documents state.old).policy octets.now
         result.verdict (payload_kept state.new.last) }
+    ensures moment { state.new.last.moment ≡ moment_under (documents state.old).policy now }
     ensures grounds { state.new.grounds ≡ state.old.grounds }
     ensures told { told state.new.answers ≡ told state.old.answers }
     ensures open { result.verdict ≤ FOW_OUT_OF_MEMORY }
@@ -390,7 +398,8 @@ pub(crate) fn judge_state(alloc: Global, state: &mut State, octets: &[u8], now: 
         state.old.memory state.new.memory }
     ensures room { HasSameRoom state.new.memory state.old.memory }
 {
-    let Judging { said, last } = report_on(alloc, state, octets, now);
+    let Judging { said, mut last } = report_on(alloc, state, octets, now);
+    last.moment = Moment::under(&state.grounds.documents().policy, now);
     state.last = last;
     said
 }

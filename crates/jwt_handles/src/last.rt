@@ -1,13 +1,21 @@
 //! What is kept of the last judging.
 
 ghost use Rattle.std.specs.Prelude.{◌≡◌, None, [], option_map};
-ghost use Rattle.jwt_handles.specs.Evidence.{states_of, tries_of, evidence_claims, evidence_payload, states_kept, tries_kept, claims_kept, payload_kept};
+ghost use Rattle.jwt_handles.specs.Evidence.{states_of, tries_of, evidence_claims, evidence_payload, none_yet, states_kept, tries_kept, claims_kept, payload_kept};
 ghost use Rattle.jwt_handles.specs.Reports.{IsNew};
 
 use crate::state::{Evidence, Last};
+use jwt_access::Moment;
 use jwt_policy::Claims;
 use jwt_verify::{SigState, Try};
 use std::alloc::Global;
+
+/// The moment of a judging that isn't kept yet.
+pub(crate) fn no_moment() -> Moment
+    ensures { result ≡ none_yet }
+{
+    Moment { now: 0, leeway: 0 }
+}
 
 impl Evidence {
     /// None.
@@ -36,6 +44,7 @@ impl Last {
             missing: Vec::new(alloc),
             asked: None,
             remembered: false,
+            moment: no_moment(),
         }
     }
 

@@ -9,6 +9,7 @@
 mod access;
 pub mod answering;
 mod asking;
+pub mod entries;
 pub mod expecting;
 mod faults;
 pub mod grounds;

@@ -7,6 +7,7 @@ ghost use Rattle.jwt_verify.specs.Table.{work};
 ghost use Rattle.jwt_memory.specs.Outcomes.{report_in, paid_in, is_remembered, payload_in};
 ghost use Rattle.jwt_memory.specs.Payloads.{HandsOut};
 ghost use Rattle.jwt_told.specs.Told.{told};
+ghost use Rattle.jwt_access.specs.Moments.{moment_under};
 ghost use Rattle.jwt_handles.specs.Documents.{documents};
 ghost use Rattle.jwt_handles.specs.Evidence.{claims_kept, payload_kept};
 ghost use Rattle.jwt_handles.specs.Keeping.{AddsHanded, AddsOnly};
@@ -20,6 +21,7 @@ use crate::judging::{Judging, bare, judging_of};
 use crate::report::FowReport;
 use crate::state::State;
 use crate::status::FOW_OUT_OF_MEMORY;
+use jwt_access::Moment;
 use jwt_mac::{Budget, CountDown, Verifier};
 use jwt_memory::laws::read_payloads;
 use jwt_memory::{Handed, Memory};
@@ -155,6 +157,7 @@ pub(crate) fn prove_state(alloc: Global, state: &mut State, octets: &[u8], now: 
     ensures claims { result.verdict ≢ FOW_OK → claims_kept state.new.last ≡ None }
     ensures payload { KeepsPayload (documents state.old).policy octets.now
         result.verdict (payload_kept state.new.last) }
+    ensures moment { state.new.last.moment ≡ moment_under (documents state.old).policy now }
     ensures documents { documents state.new ≡ documents state.old }
     ensures told { told state.new.answers ≡ told state.old.answers }
     ensures memory { state.new.memory ≡ state.old.memory }
@@ -163,7 +166,8 @@ pub(crate) fn prove_state(alloc: Global, state: &mut State, octets: &[u8], now: 
     ensures adds { AddsOnly (documents state.old).policy.run.work octets.now result state.new.last
         state.old.grounds.1 state.new.grounds.1 }
 {
-    let Judging { said, last } = state.grounds.judge(alloc, octets, now, &mut *state.scratch);
+    let Judging { said, mut last } = state.grounds.judge(alloc, octets, now, &mut *state.scratch);
+    last.moment = Moment::under(&state.grounds.documents().policy, now);
     state.last = last;
     said
 }

@@ -72,7 +72,7 @@ pub fn access_scope(
     status
 }
 
-/// Holds a rule against the claims of the token that was accepted last. `FOW_OK`: they meet it; `FOW_DENIED`: they don't, for the denial of
+/// Holds a rule against the claims of the token that was accepted last, at the moment of its verdict. `FOW_OK`: they meet it; `FOW_DENIED`: they don't, for the denial of
 /// the number; `FOW_NOT_OPEN`: the validator or the rule's handle holds nothing; `FOW_ABSENT`: the last verdict was no acceptance.
 pub fn denied(
     validator: &mut Handle,
@@ -85,7 +85,7 @@ pub fn denied(
     ensures none { validator.old.state ≡ None → result ≡ FOW_NOT_OPEN }
     ensures no_rule { access.old.state ≡ None → result ≡ FOW_NOT_OPEN }
     ensures denied { IfSome validator.old.state (λ d. IfSome access.old.state (λ a.
-        IsHeldAgainst a.rule (claims_kept d.last) result denial.new)) }
+        IsHeldAgainst a.rule d.last.moment (claims_kept d.last) result denial.new)) }
 {
     *denial = 0;
     let Some(state) = take(validator, alloc) else {
@@ -95,7 +95,7 @@ pub fn denied(
         *validator = Handle::of(state);
         return FOW_NOT_OPEN;
     };
-    let (status, number) = hold(&held.rule, state.last.claims());
+    let (status, number) = hold(&held.rule, state.last.claims(), state.last.moment);
     *denial = number;
     *access = RuleHandle::of(held);
     *validator = Handle::of(state);
@@ -117,7 +117,7 @@ pub fn denied_name(
     ensures none { validator.old.state ≡ None → result ≡ FOW_NOT_OPEN }
     ensures no_rule { access.old.state ≡ None → result ≡ FOW_NOT_OPEN }
     ensures name { IfSome validator.old.state (λ d. IfSome access.old.state (λ a.
-        PutsDenied a.rule (claims_kept d.last) result written.new out.old out.new)) }
+        PutsDenied a.rule d.last.moment (claims_kept d.last) result written.new out.old out.new)) }
     ensures unwritten { result ≢ FOW_OK → (out.new ≡ out.old) × (written.new ≡ written.old) }
 {
     let Some(state) = take(validator, alloc) else {
@@ -127,7 +127,13 @@ pub fn denied_name(
         *validator = Handle::of(state);
         return FOW_NOT_OPEN;
     };
-    let status = put_denied(&held.rule, state.last.claims(), out, written);
+    let status = put_denied(
+        &held.rule,
+        state.last.claims(),
+        state.last.moment,
+        out,
+        written,
+    );
     *access = RuleHandle::of(held);
     *validator = Handle::of(state);
     status

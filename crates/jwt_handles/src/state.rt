@@ -1,6 +1,7 @@
 //! The state of a validator.
 
 use crate::grounds::Grounds;
+use jwt_access::Moment;
 use jwt_memory::{Basis, Memory};
 use jwt_policy::Claims;
 use jwt_text::Scratch;
@@ -34,6 +35,8 @@ pub struct Last {
     pub(crate) asked: Option<OwnedQuestion>,
     /// Whether it came out of a memory: then nothing was tried in it.
     pub(crate) remembered: bool,
+    /// The moment of the verdict, and the policy's leeway.
+    pub(crate) moment: Moment,
 }
 
 /// What a validator holds: documents, which those beside it hold too, with the memory of tokens that the proved verifiers accepted; the

@@ -4,7 +4,7 @@ ghost use Rattle.jwt_handles.specs.declared.status.TheConstants.{FOW_ABSENT, FOW
 ghost use Rattle.std.specs.Prelude.{◌≡◌, ◌≢◌, ◌≤◌, IfSome, None, slice_get, IsUtf8, false};
 ghost use Rattle.jwt_handles.specs.Documents.{documents};
 ghost use Rattle.jwt_handles.specs.Reports.{IsAlike, IsAskedBy, IsJudgedBy, report_numbers};
-ghost use Rattle.jwt_handles.specs.Evidence.{states_kept, tries_kept, claims_kept, payload_kept};
+ghost use Rattle.jwt_handles.specs.Evidence.{states_kept, tries_kept, claims_kept, payload_kept, IsMomentBy};
 ghost use Rattle.jwt_handles.specs.Faults.{bare};
 ghost use Rattle.jwt_handles.specs.Keeping.{RemembersProved, RemembersTold};
 ghost use Rattle.jwt_handles.specs.Payloads.{KeepsPayloadBy};
@@ -37,6 +37,9 @@ pub fn judge(
     // What is accepted or refused is judged by validate's contract, and what is kept of it is its report.
     ensures judged { IfSome validator.old.state (λ d. result ≤ FOW_REFUSED
         → IsJudgedBy d now token.now report.new validator.new.state) }
+
+    // So is the moment, against which an access rule holds dates.
+    ensures moment { IfSome validator.old.state (λ d. IsMomentBy (documents d).policy now validator.new.state) }
 
     // Claims are kept of an acceptance alone, and so are the octets of the payload, which are those of the token.
     ensures claims { IfSome validator.new.state (λ e. result ≢ FOW_OK → claims_kept e.last ≡ None) }
@@ -77,6 +80,9 @@ pub fn proved_judge(
     ensures judged { IfSome validator.old.state (λ d. result ≤ FOW_REFUSED
         → IsProvedBy d now token.now report.new validator.new.state) }
     ensures never_asks { result ≢ FOW_ASKS }
+
+    // So is the moment, against which an access rule holds dates.
+    ensures moment { IfSome validator.old.state (λ d. IsMomentBy (documents d).policy now validator.new.state) }
 
     // Claims are kept of an acceptance alone, and so are the octets of the payload, which are those of the token.
     ensures claims { IfSome validator.new.state (λ e. result ≢ FOW_OK → claims_kept e.last ≡ None) }

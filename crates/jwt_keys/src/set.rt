@@ -1,7 +1,8 @@
 //! A key set: its readable keys in order, found by number and by name.
 
-ghost use Rattle.std.specs.Prelude.{◌≡◌, ◌≤◌, ◌<◌, ◌&&◌, ◌↔◌, [], length, map, Err, IfOk, IfSome, IsTrue, Some, slice_get, option_map};
+ghost use Rattle.std.specs.Prelude.{◌≡◌, ◌≤◌, ◌<◌, ◌&&◌, ◌↔◌, ◌∷◌, [], length, map, Err, IfOk, IfSome, IsTrue, Some, slice_get, option_map};
 ghost use Rattle.std.specs.Slice.Iter.{iter_rest};
+ghost use Rattle.serde_json.specs.Data.{object};
 ghost use Rattle.jwt_keys.specs.Keys.{has_thumbprint, has_name, secret_length};
 ghost use Rattle.jwt_keys.specs.Numbers.{IsLeastFrom};
 ghost use Rattle.jwt_keys.specs.Views.{IsIndex, key_parts};
@@ -11,7 +12,7 @@ use crate::fault::KeysFault;
 use crate::index::{Index, earlier, first_from};
 use crate::key::Key;
 use crate::skip::Skip;
-use jwt_text::{TextFault, object};
+use jwt_text::{ObjectRef, TextFault, object};
 use std::alloc::{AllocError, Global};
 use std::slice::Iter;
 
@@ -68,6 +69,20 @@ impl KeySet {
             Ok(keys) => Ok(keys),
             Err(_) => Err(KeysFault::OutOfMemory),
         }
+    }
+
+    /// The key set of one entry, as [`KeySet::read`] gives it for a document whose list `keys` has this object alone.
+    ///
+    /// # Errors
+    /// Where an allocation was refused.
+    pub fn of_entry(alloc: Global, entry: ObjectRef<'_>) -> Result<KeySet, AllocError>
+        ensures { IfOk result (λ s. key_set s ≡ key_list (object entry.entry ∷ [])) }
+    {
+        let mut keys = Vec::new(alloc);
+        let mut skipped = Vec::new(alloc);
+        add_entry(alloc, &mut keys, &mut skipped, 0, Some(entry))?;
+        let set = KeySet::new(alloc, keys, skipped)?;
+        Ok(set)
     }
 
     /// The key set of these entries.

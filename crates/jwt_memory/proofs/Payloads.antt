@@ -1,15 +1,15 @@
 -- The payload of a token in compact form, whichever policy it is read by.
 use Rattle.std.proofs.Common.{◌≡◌, ◌∙◌, ◌⊎◌, ◌↔◌, ℕ, suc, zero, ◌-◌, Bool, true, false, List, [], ◌∷◌, ◌++◌, length, take, slice_get, Option, Some, None, refl, sym, ap, subst, inl, inr, arith, append_assoc, option_and_then, option_map, Vec, IfSome, Ok}
-use Rattle.std.specs.Prelude.{◌==◌, ◌&&◌, ◌||◌, not, if◌then◌else◌, All}
+use Rattle.std.specs.Prelude.{◌==◌, ◌&&◌, ◌||◌, not, if◌then◌else◌}
 use Rattle.std.specs.List.{find}
 use Rattle.std.specs.Option.{option_map_or, option_or}
 use Rattle.std.proofs.lemmas.Bool.{eqb-true}
 use Rattle.std.proofs.lemmas.List.Folds.{find-append}
 use Rattle.std.proofs.lemmas.List.Elements.{All-append, All-cons, All-nil}
 use Rattle.jwt_text.specs.Base64url.{Spells, octets_of}
-use Rattle.jwt_jws.specs.Forms.{SpelledToken, CompactTexts, compact_texts, is_period, opens_object}
+use Rattle.jwt_jws.specs.Forms.{SpelledToken, CompactTexts, is_period, opens_object}
 use Rattle.jwt_jws.specs.CompactForm.{IsCompact, PartsCompact}
-use Rattle.jwt_jws.specs.SignedToken.{IsSignedToken, IsSpelledToken}
+use Rattle.jwt_jws.specs.SignedToken.{IsSpelledToken}
 use Rattle.jwt_jws.specs.Token.{Token}
 use Rattle.jwt_policy.specs.Settings.{Settings}
 use Rattle.jwt_verify.specs.Asks.{IsToken}
@@ -29,7 +29,7 @@ use Rattle.jwt_memory.specs.declared.outcome.Outcome.{Outcome}
 use Rattle.jwt_memory.specs.declared.outcome.Outcome.TheVariants.{Judged, Accepted, Remembered}
 use Rattle.jwt_memory.specs.Entries.{Holds}
 use Rattle.jwt_memory.specs.Outcomes.{payload_or, payload_unless}
-use Rattle.jwt_memory.specs.Payloads.{IsAcceptance, IsCompactPayload, IsPayloadOf, IsPayloadRead, HandsOut, HandsOutRead, SpellsCompactPayloads, ReadsCompactPayloads}
+use Rattle.jwt_memory.specs.Payloads.{IsAcceptance, IsCompactPayload, IsPayloadRead, HandsOut, HandsOutRead, SpellsCompactPayloads, ReadsCompactPayloads}
 
 -- ---- the line feed that is dropped
 

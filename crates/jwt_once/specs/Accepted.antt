@@ -3,6 +3,7 @@ use Rattle.std.specs.Prelude.{ℕ, ℤ, pos, negsuc, ◌≡◌, ◌+ℤ◌, List
 use Rattle.serde_json.specs.Data.{Members}
 use Rattle.jwt_text.specs.Members.{text_at, whole_at}
 use Rattle.jwt_policy.specs.Settings.{Settings}
+use Rattle.jwt_once.specs.declared.accepted.Entry.{Entry}
 use Rattle.jwt_once.specs.declared.accepted.Lack.{Lack}
 use Rattle.jwt_once.specs.declared.accepted.Lack.TheVariants.{NoId, NoEnd}
 use Rattle.jwt_once.specs.declared.once.Once.{Once}
@@ -22,6 +23,17 @@ end_of policy exp = seconds (exp +ℤ pos policy.claims.leeway)
 -- the mark of this `jti` by the claims' issuer, the empty text where they name none
 abbrev pub mark_in : Members → List ℕ → List ℕ
 mark_in claims jti = mark_of (unwrap_or (text_at (codes "iss") claims) []) jti
+
+-- how a token with this `jti` and this `exp` is held: what it lacks where either is absent, NoId first
+abbrev pub IsEntryWith : Settings → Members → Result Entry Lack → Option (List ℕ) → Option ℤ → Type 0
+IsEntryWith policy claims entry None exp = entry ≡ Err NoId
+IsEntryWith policy claims entry (Some jti) None = entry ≡ Err NoEnd
+IsEntryWith policy claims entry (Some jti) (Some exp) =
+    (held : Entry) × (entry ≡ Ok held) × (held.mark ≡ mark_in claims jti) × (held.until ≡ end_of policy exp)
+
+-- how the token of claims that were accepted under this policy is held
+abbrev pub IsEntryOf : Settings → Members → Result Entry Lack → Type 0
+IsEntryOf policy claims entry = IsEntryWith policy claims entry (text_at (codes "jti") claims) (whole_at (codes "exp") claims)
 
 -- with this `jti` and this `exp`: nothing happens where either is absent, and NoId is said first
 abbrev pub IsTakenWith : Settings → Members → ℤ → Once → Result Taken Lack → Once → Option (List ℕ) → Option ℤ → Type 0

@@ -1,8 +1,9 @@
 //! The call for a token that was accepted.
 
 ghost use Rattle.std.specs.Prelude.{◌≡◌, ◌≤◌, ◌<◌, ◌+ℤ◌, ◌<ℤ◌, pos, negsuc};
-ghost use Rattle.jwt_once.specs.Accepted.{seconds, end_of, IsTakenFor};
+ghost use Rattle.jwt_once.specs.Accepted.{seconds, end_of, IsEntryOf, IsTakenFor};
 
+use crate::mark::mark;
 use crate::once::{Once, Taken};
 use jwt_policy::{Claims, Policy};
 
@@ -13,6 +14,15 @@ pub enum Lack {
     NoId,
     /// There is no `exp`: such a token would have to be held for ever.
     NoEnd,
+}
+
+/// How a token that counts once is held: a store that several processes share is asked with it.
+#[derive(Clone, Copy, Debug, PartialEq, Eq)]
+pub struct Entry {
+    /// The digest of issuer and `jti`: one store has one entry of each.
+    pub mark: [u8; 32],
+    /// The last moment at which it counts, in seconds since 1970-01-01T00:00:00Z.
+    pub until: u64,
 }
 
 /// A moment as the memory counts.
@@ -27,6 +37,27 @@ fn end_of(policy: &Policy, exp: i64) -> u64
     ensures { result ≡ end_of policy.now exp }
 {
     u64::try_from(i128::from(exp) + i128::from(policy.leeway())).unwrap_or(0)
+}
+
+/// How the token of these claims is held, which were accepted under this policy: by `iss`, the empty text where there is none, and `jti`, until `exp` and the
+/// policy's leeway.
+///
+/// # Errors
+/// What the claims lack.
+pub fn entry_of(policy: &Policy, claims: &Claims) -> Result<Entry, Lack>
+    ensures { IsEntryOf policy.now claims.now result }
+{
+    let Some(jti) = claims.jti() else {
+        return Err(Lack::NoId);
+    };
+    let Some(exp) = claims.exp() else {
+        return Err(Lack::NoEnd);
+    };
+    let issuer = claims.iss().unwrap_or("");
+    Ok(Entry {
+        mark: mark(issuer.as_bytes(), jti.as_bytes()),
+        until: end_of(policy, exp),
+    })
 }
 
 impl Once {
@@ -44,18 +75,7 @@ impl Once {
     ) -> Result<Taken, Lack>
         ensures { IsTakenFor policy.now claims.now now self.old result self.new }
     {
-        let Some(jti) = claims.jti() else {
-            return Err(Lack::NoId);
-        };
-        let Some(exp) = claims.exp() else {
-            return Err(Lack::NoEnd);
-        };
-        let issuer = claims.iss().unwrap_or("");
-        Ok(self.take(
-            issuer.as_bytes(),
-            jti.as_bytes(),
-            end_of(policy, exp),
-            seconds(now),
-        ))
+        let entry = entry_of(policy, claims)?;
+        Ok(self.take_mark(entry.mark, entry.until, seconds(now)))
     }
 }

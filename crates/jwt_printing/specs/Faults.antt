@@ -62,6 +62,13 @@ abbrev pub denial_place : Denial → List (List ℕ)
 denial_place (lack.ScopeMissing scope) = codes " scope=" ∷ quoted_text scope ∷ []
 denial_place (lack.ClaimMissing name) = codes " claim=" ∷ quoted_text name ∷ []
 denial_place (lack.ClaimNotAllowed name) = codes " claim=" ∷ quoted_text name ∷ []
+denial_place (lack.ClaimPresent name) = codes " claim=" ∷ quoted_text name ∷ []
+denial_place (lack.ClaimHasOther name) = codes " claim=" ∷ quoted_text name ∷ []
+denial_place (lack.ClaimNotObject name) = codes " claim=" ∷ quoted_text name ∷ []
+denial_place (lack.ClaimNotDate name) = codes " claim=" ∷ quoted_text name ∷ []
+denial_place (lack.ClaimLater name) = codes " claim=" ∷ quoted_text name ∷ []
+denial_place (lack.ClaimTooOld name) = codes " claim=" ∷ quoted_text name ∷ []
+denial_place (lack.ClaimNotAscii name) = codes " claim=" ∷ quoted_text name ∷ []
 
 abbrev pub denial_parts : Denial → List (List ℕ)
 denial_parts d = denial_name d ∷ denial_place d

@@ -77,9 +77,15 @@ pub fn denial_text(alloc: Global, denial: &Denial<'_>) -> Result<Vec<u8>, AllocE
     let name = denial.name();
     match denial {
         Denial::ScopeMissing(scope) => labelled(alloc, name, " scope=", scope.text()),
-        Denial::ClaimMissing(claim) | Denial::ClaimNotAllowed(claim) => {
-            labelled(alloc, name, " claim=", claim.text())
-        }
+        Denial::ClaimMissing(claim)
+        | Denial::ClaimNotAllowed(claim)
+        | Denial::ClaimPresent(claim)
+        | Denial::ClaimHasOther(claim)
+        | Denial::ClaimNotObject(claim)
+        | Denial::ClaimNotDate(claim)
+        | Denial::ClaimLater(claim)
+        | Denial::ClaimTooOld(claim)
+        | Denial::ClaimNotAscii(claim) => labelled(alloc, name, " claim=", claim.text()),
     }
 }
 

@@ -141,13 +141,13 @@ fn rule_words(fault: &AccessFault) -> Option<(&str, &str)> {
         AccessFault::Claim(name) => {
             Some((
                 name.text(),
-                " isn't asked for by a list of texts, whole numbers and truth values",
+                " isn't asked for by a list of texts, whole numbers and truth values, or by a whole number",
             ))
         }
         AccessFault::ClaimRange(name) => {
             Some((
                 name.text(),
-                " begins with / and is no JSON Pointer, or allows no value",
+                " begins with / and is no JSON Pointer, or allows no value, or no number from 0 to 4,294,967,295",
             ))
         }
         _ => None,

@@ -173,7 +173,7 @@ pub(crate) const REFUSALS: [(&str, &str); 42] = [
 ];
 
 /// The denials by their names, each with its sentences.
-pub(crate) const DENIALS: [(&str, &str); 3] = [
+pub(crate) const DENIALS: [(&str, &str); 10] = [
     (
         "ScopeMissing",
         "this scope isn't granted. Answer 403. The client has to ask the issuer for this scope.",
@@ -185,5 +185,33 @@ pub(crate) const DENIALS: [(&str, &str); 3] = [
     (
         "ClaimNotAllowed",
         "this claim has no value that is allowed. Answer 403. `jwt show` says what the claim says.",
+    ),
+    (
+        "ClaimPresent",
+        "this claim is there, and isn't to be. Answer 403. This token is of another kind: `jwt show` says which claims it has.",
+    ),
+    (
+        "ClaimHasOther",
+        "this claim has a value that isn't allowed. Answer 403. Somebody else may use this token too: `jwt show` says whom the claim names.",
+    ),
+    (
+        "ClaimNotObject",
+        "this claim is no object. Answer 403. `jwt show` says what the claim says.",
+    ),
+    (
+        "ClaimNotDate",
+        "this claim is no date: no whole number. Answer 403. A date is a whole number of seconds since 1970-01-01T00:00:00Z, no text and no fraction.",
+    ),
+    (
+        "ClaimLater",
+        "this claim is a date later than the moment and the leeway. Answer 403. Compare the clocks, and raise `leeway` in the policy where they differ by seconds.",
+    ),
+    (
+        "ClaimTooOld",
+        "this claim is a date that is too long ago. Answer 403. The user has to log in once more, or the rule allows too few seconds.",
+    ),
+    (
+        "ClaimNotAscii",
+        "this claim is no text of ASCII, or has too many bytes. Answer 403. Tell the issuer: no identifier is to be that long, or to have other characters.",
     ),
 ];

@@ -3,7 +3,7 @@ use Rattle.std.specs.Prelude.{◌≡◌, ℕ, ◌<◌, ◌≤◌, List, map, len
 use Rattle.json.specs.Token.{Token}
 use Rattle.json.specs.Json.{items, members, value}
 use Rattle.json.specs.Json as json
-use Rattle.serde_json.specs.Data.{Data, Items, Members, no_members}
+use Rattle.serde_json.specs.Data.{Data, no_members}
 use Rattle.serde_json.specs.Read.{of_json, of_items, of_members}
 use Rattle.serde_json.specs.View.{items_of}
 use Rattle.jwt_text.specs.NamesWritten.{names_written, items_names_written, members_names_written}

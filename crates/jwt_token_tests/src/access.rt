@@ -1,5 +1,5 @@
 //! Access rules.
-use jwt_access::{AccessFault, AccessRule, Denial, has_scope};
+use jwt_access::{AccessFault, AccessRule, Denial, Moment, has_scope};
 use jwt_policy::Claims;
 use std::alloc::Global;
 use std::process::Abort;
@@ -20,7 +20,7 @@ fn fault_text(alloc: Global, fault: &AccessFault) -> Result<String, Fail> {
 }
 
 /// The fault of a document with the name that it tells, or `read`.
-fn refusal(alloc: Global, document: &[u8]) -> Result<String, Fail> {
+pub(crate) fn refusal(alloc: Global, document: &[u8]) -> Result<String, Fail> {
     match &AccessRule::read(alloc, document) {
         Ok(_rule) => Ok(String::from_str(alloc, "read")?),
         Err(fault) => fault_text(alloc, fault),
@@ -116,8 +116,14 @@ fn a_document_has_at_most_65536_octets(rt: HostRuntime) -> Result<(), Fail> {
 
 // ---- rules held against claims
 
+/// A moment for rules that ask for no date.
+const NOW: Moment = Moment {
+    now: 1_000,
+    leeway: 0,
+};
+
 /// The rule of a document that is read.
-fn rule_of(alloc: Global, document: &str) -> Result<AccessRule, Fail> {
+pub(crate) fn rule_of(alloc: Global, document: &str) -> Result<AccessRule, Fail> {
     Ok(
         AccessRule::read(alloc, document.as_bytes())
             .ok()
@@ -126,7 +132,7 @@ fn rule_of(alloc: Global, document: &str) -> Result<AccessRule, Fail> {
 }
 
 /// The claims of a payload that is read.
-fn claims_of(alloc: Global, payload: &str) -> Result<Claims, Fail> {
+pub(crate) fn claims_of(alloc: Global, payload: &str) -> Result<Claims, Fail> {
     Ok(
         Claims::read(alloc, payload.as_bytes())
             .ok()
@@ -135,7 +141,7 @@ fn claims_of(alloc: Global, payload: &str) -> Result<Claims, Fail> {
 }
 
 /// A denial with the scope or the claim that it speaks of, or `granted`.
-fn denial_text(alloc: Global, denial: &Option<Denial<'_>>) -> Result<String, Fail> {
+pub(crate) fn denial_text(alloc: Global, denial: &Option<Denial<'_>>) -> Result<String, Fail> {
     let text = match denial {
         None => String::from_str(alloc, "granted")?,
         Some(denial) => format!(in alloc; "{} {}", denial.name(), denial.denied())?,
@@ -147,7 +153,7 @@ fn denial_text(alloc: Global, denial: &Option<Denial<'_>>) -> Result<String, Fai
 fn answer(alloc: Global, document: &str, payload: &str) -> Result<String, Fail> {
     let rule = rule_of(alloc, document)?;
     let claims = claims_of(alloc, payload)?;
-    denial_text(alloc, &rule.denial(&claims))
+    denial_text(alloc, &rule.denial(&claims, NOW))
 }
 
 /// Asserts of each rule what it says of some claims.
@@ -420,7 +426,7 @@ fn scopes_are_whole_words(rt: HostRuntime) -> Result<(), Fail> {
         let claims = claims_of(alloc, payload)?;
         assert_eq!(rt; has_scope(&claims, "read"), want, "at {payload}");
         assert_eq!(rt; rule.has_scope(&claims, "read"), want, "at {payload}");
-        assert_eq!(rt; rule.denial(&claims).is_none(), want, "at {payload}");
+        assert_eq!(rt; rule.denial(&claims, NOW).is_none(), want, "at {payload}");
     }
     Ok(())
 }
@@ -678,7 +684,7 @@ fn faults_and_denials_are_printed(rt: HostRuntime) -> Result<(), Fail> {
     let alloc = rt.alloc();
     let claims = claims_of(alloc, "{}")?;
     let rule = rule_of(alloc, r#"{"scopes":["a"]}"#)?;
-    let denial = rule.denial(&claims).ok_or("no denial")?;
+    let denial = rule.denial(&claims, NOW).ok_or("no denial")?;
     let told = format!(in alloc; "{denial}")?;
     assert_eq!(rt; told.as_str(), "the scope \"a\" is not granted");
     let fault = AccessRule::read(alloc, b"{\"a\":1}")
@@ -696,7 +702,7 @@ fn faults_and_denials_are_printed(rt: HostRuntime) -> Result<(), Fail> {
 
 /// A rule that says something about everything.
 const WHOLE: &str =
-    r#"{"scopes":["read","write"],"scope_claim":"/a~1b/scp","claims":{"/realm_access/roles":["editor",7,true],"azp":["gateway"]}}"#;
+    r#"{"scopes":["read","write"],"scope_claim":"/a~1b/scp","claims":{"/realm_access/roles":["editor",7,true],"azp":["gateway"]},"absent":["nonce"],"only":{"aud":["a","b"]},"objects":["events","/a/b"],"ages":{"auth_time":300},"ascii":{"sub":255}}"#;
 
 /// Whether a rule is read, or memory was refused.
 fn is_read_or_lacks(alloc: Global) -> bool {

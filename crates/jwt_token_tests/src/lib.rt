@@ -10,11 +10,15 @@ mod door;
 #[cfg(test)]
 mod expected;
 #[cfg(test)]
+mod further;
+#[cfg(test)]
 mod issue;
 #[cfg(test)]
 mod memory;
 #[cfg(test)]
 mod once;
+#[cfg(test)]
+mod possession;
 #[cfg(test)]
 mod renewal;
 #[cfg(test)]

@@ -1,4 +1,4 @@
-use jwt_once::{Lack, Once, Taken};
+use jwt_once::{Entry, Lack, Once, Taken, entry_of};
 use jwt_policy::{Claims, Policy};
 use std::alloc::Global;
 use std::num::NonZeroUsize;
@@ -104,5 +104,48 @@ fn moments_before_1970_are_one(rt: HostRuntime) -> Result<(), Fail> {
     assert_eq!(rt; taken(alloc, &mut once, across, -30)?, Ok(Taken::New));
     assert_eq!(rt; taken(alloc, &mut once, across, 39)?, Ok(Taken::Seen));
     assert_eq!(rt; taken(alloc, &mut once, across, 41)?, Ok(Taken::Late));
+    Ok(())
+}
+
+/// How the token of these claims is held, under a policy with a leeway of 60 seconds.
+fn entry(alloc: Global, claims: &str) -> Result<Result<Entry, Lack>, Fail> {
+    let Ok(policy) = Policy::read(alloc, b"{\"algs\":[\"HS256\"],\"leeway\":60}") else {
+        return Err(Fail::from("no policy"));
+    };
+    let Ok(claims) = Claims::read(alloc, claims.as_bytes()) else {
+        return Err(Fail::from("no claims"));
+    };
+    Ok(entry_of(&policy, &claims))
+}
+
+/// A store that is asked with entries holds a token as the memory does.
+#[test]
+fn an_entry_is_that_of_the_memory(rt: HostRuntime) -> Result<(), Fail> {
+    let alloc = rt.alloc();
+    let first = entry(alloc, "{\"iss\":\"i\",\"jti\":\"a\",\"exp\":100}")?;
+    let Ok(first) = first else {
+        return Err(Fail::from("no entry"));
+    };
+    assert_eq!(rt; first.until, 160);
+    let longer = entry(
+        alloc,
+        "{\"sub\":\"s\",\"iss\":\"i\",\"jti\":\"a\",\"exp\":-100}",
+    )?;
+    assert_eq!(rt;
+        longer,
+        Ok(Entry {
+            mark: first.mark,
+            until: 0
+        })
+    );
+    let Ok(other) = entry(alloc, "{\"iss\":\"ia\",\"jti\":\"\",\"exp\":100}")? else {
+        return Err(Fail::from("no entry"));
+    };
+    assert!(rt; other.mark != first.mark);
+    assert_eq!(rt;
+        entry(alloc, "{\"iss\":\"i\",\"exp\":100}")?,
+        Err(Lack::NoId)
+    );
+    assert_eq!(rt; entry(alloc, "{\"jti\":\"a\"}")?, Err(Lack::NoEnd));
     Ok(())
 }

@@ -1,6 +1,6 @@
 //! `judge` and `validate`.
 use jwt_keys::KeySet;
-use jwt_mac::{Alg, Answer, KeyView, Message, Verifier};
+use jwt_mac::{Alg, Answer, CountDown, KeyView, Message, Verifier};
 use jwt_policy::Policy;
 use jwt_support::cases::{
     ACCEPTED, ASKED, BARRED_IN_MODE_ALL, BARRED_THEN_VERIFIED, CLAIM_MISSING, FOUR_KEYS, STEPS,
@@ -13,7 +13,8 @@ use jwt_support::reports::{
 };
 use jwt_support::streams::{Drip, Endless};
 use jwt_support::texts::repeated;
-use jwt_verify::Terms;
+use jwt_text::Scratch;
+use jwt_verify::{Terms, Verdict, judge_token, read_token};
 use std::alloc::{AllocError, Global};
 use std::cell::Cell;
 use std::test::Fail;
@@ -173,6 +174,42 @@ fn is_refusal(said: Option<&str>) -> bool {
         }
         None => false,
     }
+}
+
+/// A token that was read is judged as its octets are.
+#[test]
+fn a_token_that_was_read_is_judged(rt: HostRuntime) -> Result<(), Fail> {
+    let alloc = rt.alloc();
+    let keys = key_set(alloc, r#"{"kty":"oct","k":"<KEY_A>"}"#)?;
+    let policy = Policy::read(alloc, HS256.as_bytes())
+        .ok()
+        .ok_or("no policy")?;
+    let signed = read_token(alloc, TOKEN_A.as_bytes(), &policy)
+        .ok()
+        .ok_or("no token")?;
+    let mut budget = CountDown::new(AMPLE);
+    let mut scratch = Scratch::new(alloc);
+    let report = judge_token(
+        alloc,
+        &signed,
+        &keys,
+        &policy,
+        NOW,
+        &[],
+        &mut budget,
+        &mut scratch,
+    );
+    let accepted = matches!(
+        &report.verdict,
+        Verdict::Accepted {
+            signature: 0,
+            key: 0,
+            ..
+        }
+    );
+    assert!(rt; accepted);
+    assert_eq!(rt; report.tries.len(), 1);
+    Ok(())
 }
 
 /// The terms of these documents at the tests' moment, with no verifier.

@@ -141,14 +141,9 @@ fn run_words<R: Source, W: Sink>(
     let der = reads_der(&request);
     r.keeps = asked.is_some();
     let status = run_read(rt.alloc(), request, &built_in, &mut moments, held, r, w);
-    say_why_refused(
-        rt,
-        status,
-        asked,
-        held,
-        r.kept.as_slice(),
-        w.begin.as_slice(),
-    );
+    if let (1, Some(asked)) = (status, asked) {
+        say_why_refused(rt, asked, held, r.kept.as_slice(), w.begin.as_slice());
+    }
     if der {
         say_how_to_go_on(rt, status, w.begin.as_slice());
     }

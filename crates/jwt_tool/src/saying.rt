@@ -114,22 +114,14 @@ fn say_why(rt: &HostRuntime, printing: Printing, documents: ReadDocuments<'_>, a
     }
 }
 
-/// Says why a document is refused, or the token denied, where the status is that of a refusal: by those in hand, those of standard input, and
-/// the beginning of the answer.
+/// Says why a document is refused, or the token denied: by those in hand, those of standard input, and the beginning of the answer.
 pub fn say_why_refused(
     rt: &HostRuntime,
-    status: u8,
-    asked: Option<Asked>,
+    asked: Asked,
     held: Held<'_>,
     input: &[u8],
     answer: &[u8],
 ) {
-    if status != 1 {
-        return;
-    }
-    let Some(asked) = asked else {
-        return;
-    };
     say_why(rt, asked.printing, documents_of(asked, held, input), answer);
     let line_is_policy = held.policy.is_none() && (held.keys.is_some() || held.token.is_some());
     if line_is_policy && answer.starts_with(b"refused Policy Json") {

@@ -5,6 +5,7 @@ use Rattle.jwt_access.specs.Denials.{denial_of}
 use Rattle.jwt_access.specs.Granted.{IsGranted}
 use Rattle.jwt_access.specs.Rules.{Rule}
 use Rattle.jwt_access.specs.declared.denial.Denial.{Denial}
+use Rattle.jwt_access.specs.declared.moment.Moment.{Moment}
 use Rattle.jwt_verify.specs.declared.report.InputFault.TheVariants.{Read, TooLong}
 use Rattle.jwt_verify.specs.declared.report.Fault.{Fault}
 use Rattle.jwt_verify.specs.declared.report.Fault.TheVariants.{OutOfMemory, Text, Form, WorkExceeded, CallsExceeded, VerifierMemory, Signature, Claim}
@@ -17,11 +18,11 @@ use Rattle.jwt_verdicts.specs.VerdictsJson.{accepted_status, verdict_json}
 use Rattle.jwt_verdicts.specs.Verdicts.{fault_line, unless_lacking, verify_line}
 
 abbrev pub AreSaid : Type 0
-AreSaid = (rule : Rule) (ms : Members) → (denial_of rule ms ≡ None) ↔ IsGranted rule ms
+AreSaid = (rule : Rule) (at : Moment) (ms : Members) → (denial_of rule at ms ≡ None) ↔ IsGranted rule at ms
 
-lacks_none : AreSaid → (rule : Option Rule) (ms : Members) → (lacking rule ms ≡ None) ↔ MeetRule rule ms
-lacks_none said None ms = (λ e. tt, λ h. refl)
-lacks_none said (Some rule) ms = said rule ms
+lacks_none : AreSaid → (rule : Option Rule) (at : Moment) (ms : Members) → (lacking rule at ms ≡ None) ↔ MeetRule rule at ms
+lacks_none said None at ms = (λ e. tt, λ h. refl)
+lacks_none said (Some rule) at ms = said rule at ms
 
 -- ---- in lines
 
@@ -40,10 +41,10 @@ line_refused (CallsExceeded i j) tries work e = omega (arith, e)
 line_refused (Signature i f) tries work e = omega (arith, e)
 line_refused (Claim f) tries work e = omega (arith, e)
 
-pub lines_pass : AreSaid → (rule : Option Rule) (verdict : Verdict) (tries work : ℕ) → ((verify_line rule verdict tries work).status ≡ 0) ↔ IsPassed rule verdict
-lines_pass said rule (Accepted i j claims) tries work =
-    (λ e. (lacks_none said rule claims).0 ((line_status (lacking rule claims) i j tries work).0 e), λ h. (line_status (lacking rule claims) i j tries work).1 ((lacks_none said rule claims).1 h))
-lines_pass said rule (Refused fault) tries work = (line_refused fault tries work, λ h. absurd h)
+pub lines_pass : AreSaid → (rule : Option Rule) (at : Moment) (verdict : Verdict) (tries work : ℕ) → ((verify_line rule at verdict tries work).status ≡ 0) ↔ IsPassed rule at verdict
+lines_pass said rule at (Accepted i j claims) tries work =
+    (λ e. (lacks_none said rule at claims).0 ((line_status (lacking rule at claims) i j tries work).0 e), λ h. (line_status (lacking rule at claims) i j tries work).1 ((lacks_none said rule at claims).1 h))
+lines_pass said rule at (Refused fault) tries work = (line_refused fault tries work, λ h. absurd h)
 
 -- ---- in JSON
 
@@ -51,19 +52,19 @@ json_status : (o : Option Denial) → (accepted_status o ≡ 0) ↔ (o ≡ None)
 json_status None = (λ e. refl, λ e. refl)
 json_status (Some d) = (λ e. absurd (omega (arith, e)), λ e. absurd cc)
 
-json_refused : (rule : Option Rule) (fault : Fault) (payload : List ℕ) (states : List SigState) (tries : List Try) (work : ℕ) → (verdict_json rule (Refused fault) payload states tries work).status ≡ 0 → ⊥
-json_refused rule OutOfMemory payload states tries work e = omega (arith, e)
-json_refused rule VerifierMemory payload states tries work e = omega (arith, e)
-json_refused rule (Text Read) payload states tries work e = omega (arith, e)
-json_refused rule (Text TooLong) payload states tries work e = omega (arith, e)
-json_refused rule (Form f) payload states tries work e = omega (arith, e)
-json_refused rule (WorkExceeded i j) payload states tries work e = omega (arith, e)
-json_refused rule (CallsExceeded i j) payload states tries work e = omega (arith, e)
-json_refused rule (Signature i f) payload states tries work e = omega (arith, e)
-json_refused rule (Claim f) payload states tries work e = omega (arith, e)
+json_refused : (rule : Option Rule) (at : Moment) (fault : Fault) (payload : List ℕ) (states : List SigState) (tries : List Try) (work : ℕ) → (verdict_json rule at (Refused fault) payload states tries work).status ≡ 0 → ⊥
+json_refused rule at OutOfMemory payload states tries work e = omega (arith, e)
+json_refused rule at VerifierMemory payload states tries work e = omega (arith, e)
+json_refused rule at (Text Read) payload states tries work e = omega (arith, e)
+json_refused rule at (Text TooLong) payload states tries work e = omega (arith, e)
+json_refused rule at (Form f) payload states tries work e = omega (arith, e)
+json_refused rule at (WorkExceeded i j) payload states tries work e = omega (arith, e)
+json_refused rule at (CallsExceeded i j) payload states tries work e = omega (arith, e)
+json_refused rule at (Signature i f) payload states tries work e = omega (arith, e)
+json_refused rule at (Claim f) payload states tries work e = omega (arith, e)
 
-pub json_passes : AreSaid → (rule : Option Rule) (verdict : Verdict) (payload : List ℕ) (states : List SigState) (tries : List Try) (work : ℕ)
-    → ((verdict_json rule verdict payload states tries work).status ≡ 0) ↔ IsPassed rule verdict
-json_passes said rule (Accepted i j claims) payload states tries work =
-    (λ e. (lacks_none said rule claims).0 ((json_status (lacking rule claims)).0 e), λ h. (json_status (lacking rule claims)).1 ((lacks_none said rule claims).1 h))
-json_passes said rule (Refused fault) payload states tries work = (json_refused rule fault payload states tries work, λ h. absurd h)
+pub json_passes : AreSaid → (rule : Option Rule) (at : Moment) (verdict : Verdict) (payload : List ℕ) (states : List SigState) (tries : List Try) (work : ℕ)
+    → ((verdict_json rule at verdict payload states tries work).status ≡ 0) ↔ IsPassed rule at verdict
+json_passes said rule at (Accepted i j claims) payload states tries work =
+    (λ e. (lacks_none said rule at claims).0 ((json_status (lacking rule at claims)).0 e), λ h. (json_status (lacking rule at claims)).1 ((lacks_none said rule at claims).1 h))
+json_passes said rule at (Refused fault) payload states tries work = (json_refused rule at fault payload states tries work, λ h. absurd h)

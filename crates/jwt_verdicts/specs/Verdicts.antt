@@ -2,6 +2,8 @@
 use Rattle.std.specs.Prelude.{ℕ, List, [], ◌∷◌, length, codes, Option, Some, None}
 use Rattle.std.specs.Fmt.{decimal}
 use Rattle.jwt_access.specs.Rules.{Rule}
+use Rattle.jwt_access.specs.Moments.{moment_under}
+use Rattle.jwt_access.specs.declared.moment.Moment.{Moment}
 use Rattle.jwt_access.specs.declared.denial.Denial.{Denial}
 use Rattle.jwt_verify.specs.Table.{paid, work}
 use Rattle.jwt_verify.specs.Verdict.{Terms, table, verdict_of}
@@ -39,13 +41,17 @@ unless_lacking None i j tries work = accepted_line i j tries work
 unless_lacking (Some denial) i j tries work = denied_line denial i j tries work
 
 -- An access rule is held against the claims of an accepted token alone: it is told as accepted where it lacks nothing, and else as denied.
-abbrev pub verify_line : Option Rule → Verdict → (tries work : ℕ) → Answer
-verify_line rule (Accepted i j claims) tries work = unless_lacking (lacking rule claims) i j tries work
-verify_line rule (Refused fault) tries work = fault_line fault tries work
+abbrev pub verify_line : Option Rule → Moment → Verdict → (tries work : ℕ) → Answer
+verify_line rule moment (Accepted i j claims) tries work = unless_lacking (lacking rule moment claims) i j tries work
+verify_line rule moment (Refused fault) tries work = fault_line fault tries work
 
 -- the tries that the policy's `work` and `max_calls` pay
 abbrev pub paid_tries : Terms → List ℕ → List Try
 paid_tries q x = paid (table q x) q.policy.run.work q.policy.max_calls
 
+-- the moment of a verdict under these terms
+abbrev pub moment_of : Terms → Moment
+moment_of q = moment_under q.policy q.now
+
 abbrev pub token_answer : Option Rule → Terms → List ℕ → Answer
-token_answer rule q x = verify_line rule (verdict_of q x q.policy.run.work) (length (paid_tries q x)) (work (paid_tries q x))
+token_answer rule q x = verify_line rule (moment_of q) (verdict_of q x q.policy.run.work) (length (paid_tries q x)) (work (paid_tries q x))

@@ -15,7 +15,7 @@ ghost use Rattle.jwt_verdicts.specs.Views.{rule_view};
 
 use crate::denied::lacking;
 use crate::pair::VerifiedPair;
-use jwt_access::{AccessRule, Denial};
+use jwt_access::{AccessRule, Denial, Moment};
 use jwt_printing::{JsonOut, Reply, put_claim_place, put_form_place, read_failed_json};
 use jwt_verify::{Fault, InputFault, Report, SigState, Try, Verdict};
 use std::alloc::{AllocError, Global};
@@ -146,9 +146,15 @@ fn put_lacked(out: &mut JsonOut, denial: &Denial<'_>) -> Result<(), AllocError>
 {
     match denial {
         Denial::ScopeMissing(scope) => out.text("scope", scope.text()),
-        Denial::ClaimMissing(claim) | Denial::ClaimNotAllowed(claim) => {
-            out.text("claim", claim.text())
-        }
+        Denial::ClaimMissing(claim)
+        | Denial::ClaimNotAllowed(claim)
+        | Denial::ClaimPresent(claim)
+        | Denial::ClaimHasOther(claim)
+        | Denial::ClaimNotObject(claim)
+        | Denial::ClaimNotDate(claim)
+        | Denial::ClaimLater(claim)
+        | Denial::ClaimTooOld(claim)
+        | Denial::ClaimNotAscii(claim) => out.text("claim", claim.text()),
     }
 }
 
@@ -199,11 +205,12 @@ fn put_verdict(
     alloc: Global,
     out: &mut JsonOut,
     rule: Option<&AccessRule>,
+    moment: Moment,
     verdict: &Verdict<'_>,
     payload: &[u8],
 ) -> Result<(), AllocError>
     ensures { OnOk result (out.new ≡ out.old
-        ++ named_tokens (verdict_members (rule_view rule.entry) verdict.now payload.now)) }
+        ++ named_tokens (verdict_members (rule_view rule.entry) moment verdict.now payload.now)) }
 {
     match verdict {
         Verdict::Accepted {
@@ -215,7 +222,7 @@ fn put_verdict(
                 signature: *signature,
                 key: *key,
             };
-            put_unless_lacking(alloc, out, &lacking(rule, claims), pair, payload)
+            put_unless_lacking(alloc, out, &lacking(rule, moment, claims), pair, payload)
         }
         Verdict::Refused(fault) => put_refused(out, fault),
     }
@@ -232,11 +239,11 @@ fn accepted_status(denial: &Option<Denial<'_>>) -> u8
 }
 
 /// The status of a verdict.
-fn verdict_status(rule: Option<&AccessRule>, verdict: &Verdict<'_>) -> u8
-    ensures { result ≡ verdict_status (rule_view rule.entry) verdict.now }
+fn verdict_status(rule: Option<&AccessRule>, moment: Moment, verdict: &Verdict<'_>) -> u8
+    ensures { result ≡ verdict_status (rule_view rule.entry) moment verdict.now }
 {
     match verdict {
-        Verdict::Accepted { claims, .. } => accepted_status(&lacking(rule, claims)),
+        Verdict::Accepted { claims, .. } => accepted_status(&lacking(rule, moment, claims)),
         Verdict::Refused(_) => 1,
     }
 }
@@ -246,22 +253,23 @@ fn said(
     alloc: Global,
     report: &Report<'_>,
     rule: Option<&AccessRule>,
+    moment: Moment,
     payload: &[u8],
     work: u64,
 ) -> Result<Reply, AllocError>
     ensures { IfOk result (λ a. reply_view a
-        ≡ said_json (rule_view rule.entry) report.now.verdict payload.now
+        ≡ said_json (rule_view rule.entry) moment report.now.verdict payload.now
         report.now.states.items report.now.tries.items work) }
 {
     let mut out = JsonOut::object(alloc)?;
-    put_verdict(alloc, &mut out, rule, &report.verdict, payload)?;
+    put_verdict(alloc, &mut out, rule, moment, &report.verdict, payload)?;
     put_evidence(
         &mut out,
         report.states.as_slice(),
         report.tries.as_slice(),
         work,
     )?;
-    out.reply(verdict_status(rule, &report.verdict))
+    out.reply(verdict_status(rule, moment, &report.verdict))
 }
 
 /// The line of a report on a token with this payload, where the claims of an accepted token are held against a rule, if there is one.
@@ -270,11 +278,12 @@ pub fn report_json(
     alloc: Global,
     report: &Report<'_>,
     rule: Option<&AccessRule>,
+    moment: Moment,
     payload: &[u8],
     work: u64,
 ) -> Result<Reply, AllocError>
     ensures line { IfOk result (λ a. reply_view a
-        ≡ verdict_json (rule_view rule.entry) report.now.verdict payload.now
+        ≡ verdict_json (rule_view rule.entry) moment report.now.verdict payload.now
         report.now.states.items report.now.tries.items work) }
     ensures memory { IfOk result (λ a. FoundMemory report.now.verdict) }
     ensures failed { IfOk result (λ a. a.status ≡ 3 → report.now.verdict ≡ Refused (Text Read)) }
@@ -290,6 +299,6 @@ pub fn report_json(
             | Fault::CallsExceeded(..)
             | Fault::Signature(..)
             | Fault::Claim(_),
-        ) => said(alloc, report, rule, payload, work),
+        ) => said(alloc, report, rule, moment, payload, work),
     }
 }

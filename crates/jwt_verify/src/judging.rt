@@ -20,7 +20,7 @@ ghost use Rattle.jwt_verify.specs.declared.report.Verdict.TheVariants.{Refused};
 ghost use Rattle.jwt_verify.specs.declared.report.Try.{Try};
 
 use crate::conclusion::verdict_after;
-use crate::laws::reports_in_words;
+use crate::laws::{reports_in_words, tells_tokens};
 use crate::report::{Fault, InputFault, Report, Verdict};
 use crate::terms::Terms;
 use crate::tries::run;
@@ -98,7 +98,7 @@ pub struct JudgedToken<'a, 'p> {
 }
 
 /// The verdict on a signed token.
-fn judge_token<'p, B: Budget>(
+fn report_on<'p, B: Budget>(
     alloc: Global,
     terms: &Terms<'_, 'p, '_>,
     signed: &Signed<'_>,
@@ -168,7 +168,7 @@ fn judge_octets<'a, 'p, B: Budget>(
     signed_tokens();
     match read_with(alloc, octets, terms.policy, scratch) {
         Ok(signed) => JudgedToken {
-            report: judge_token(alloc, terms, &signed, budget, scratch),
+            report: report_on(alloc, terms, &signed, budget, scratch),
             token: Some(signed),
         },
         Err(fault) => JudgedToken {
@@ -328,6 +328,50 @@ pub fn judge_signed<'a, 'p, B: Budget>(
         verifiers,
     };
     judge_under(alloc, octets, &terms, budget, scratch)
+}
+
+/// The report on a token that was read already, as [`judge`] gives it on the octets that the token is of, under the policy by which
+/// [`read_token`] read them: a caller that has to look at a token before it knows the keys needn't read it twice. The scratch is
+/// as [`judge_under`] says.
+///
+/// The condition: the budget is new.
+///
+/// # Refused
+/// As [`judge`] refuses, reading aside, which is done.
+pub fn judge_token<'p, B: Budget>(
+    alloc: Global,
+    signed: &Signed<'_>,
+    keys: &KeySet,
+    policy: &'p Policy,
+    now: i64,
+    verifiers: &[Box<dyn Verifier>],
+    budget: &mut B,
+    scratch: &mut Scratch,
+) -> Report<'p>
+    requires no_octets { B.octets budget.old ≡ 0 }
+    requires no_calls { B.calls budget.old ≡ 0 }
+
+    // The report is the one of `judge`, on all octets that this policy reads as the token.
+    ensures report { (x : List ℕ) → IsToken policy.now x (token signed.now)
+        → IsReport (terms policy.now keys.now now (map meaning verifiers.now))
+        x (B.ceiling budget.old) result }
+    ensures read { result.verdict ≢ Refused (Text Read) }
+    ensures within { IsWithin policy.now.max_calls (B.calls budget.new) }
+
+    // The budget agrees with the tries.
+    ensures octets { B.octets budget.new ≡ work result.tries.items }
+    ensures calls { B.calls budget.new ≡ length result.tries.items }
+    ensures ceiling { B.ceiling budget.new ≡ B.ceiling budget.old }
+{
+    tells_tokens();
+    reports_in_words();
+    let terms = Terms {
+        keys,
+        policy,
+        moment: now,
+        verifiers,
+    };
+    report_on(alloc, &terms, signed, budget, scratch)
 }
 
 /// The octets of the source, as far as they are looked at: all, or one more than the limit.

@@ -4,6 +4,7 @@
 //! order, each at most once, paid from the caller's [`Budget`](jwt_mac::Budget), and stop before a pair that would pass its
 //! ceiling or the policy's `max_calls` (RFC 7515, section 5.2; RFC 8725, section 3).
 //! [`judge_signed`] hands out the token that it read beside the report; [`judge_under`] is the same under [`Terms`].
+//! [`judge_token`] judges a token that [`read_token`] has read.
 #![tactic(auto)]
 
 mod conclusion;
@@ -18,7 +19,8 @@ mod terms;
 mod tries;
 
 pub use judging::{
-    JudgedToken, judge, judge_signed, judge_under, read_token, validate, without_line_feed,
+    JudgedToken, judge, judge_signed, judge_token, judge_under, read_token, validate,
+    without_line_feed,
 };
 pub use report::{Fault, InputFault, Report, SigState, Try, Verdict};
 pub use terms::Terms;

@@ -45,7 +45,7 @@ from ._faults import (
     Undecided,
     Unreadable,
 )
-from ._once import Once, once_of
+from ._once import Once, OnceStore, once_of
 from ._seats import SHORT, Seat, Seats, said, written
 from ._texts import Document, Text, document_of, octets_of
 
@@ -66,6 +66,7 @@ __all__ = [
     "NotExpected",
     "NotTaken",
     "Once",
+    "OnceStore",
     "PolicyRefused",
     "Report",
     "SignatureRefused",
@@ -169,7 +170,7 @@ class Validator:
     `once=tokens` lets each token in once: `validate` takes what is accepted and meets the access rule, by issuer and `jti`, until its `exp` and the
     leeway, and refuses what was taken (NotTaken), what has no `jti` or no `exp`, and what there is no room for. So many tokens are held at most: as
     many as are accepted within the lifetime of one. `once=Once(tokens)` is a memory that validators share. A token is let in once a memory, so once a
-    process; after fork each child has its own. `now` is then the clock's moment: one far in the future closes the memory. `judge` takes nothing.
+    process; after fork each child has its own: where several have to share one, `once` is an OnceStore. `now` is then the clock's moment: one far in the future closes the memory. `judge` takes nothing.
 
     Raises PolicyRefused, KeysRefused or TooManyQuestions, AnotherLibrary where another library was loaded than this package is made for,
     and MemoryError where memory is refused.
@@ -182,7 +183,7 @@ class Validator:
         *,
         most_questions: Optional[int] = _library.MOST_QUESTIONS,
         remember: Tuple[SupportsIndex, SupportsIndex] = (0, 0),
-        once: Union[Once, SupportsIndex, None] = None,
+        once: Union[Once, OnceStore, SupportsIndex, None] = None,
     ) -> None:
         tokens, octets = (_number(it, "remember", 0, 2 * sys.maxsize + 1) for it in remember)
         self._once = once_of(once)

@@ -97,7 +97,7 @@ class AccessRefused(FowharimuError):
 class Denied(FowharimuError):
     """The token is accepted, and its claims don't meet the access rule: a service answers 403 to this, and 401 to TokenRefused.
 
-    `fault` is `ScopeMissing`, `ClaimMissing` or `ClaimNotAllowed`; `scope` the scope that isn't granted, or else `claim` the name of the claim;
+    `fault` is `ScopeMissing`, `ClaimMissing`, `ClaimNotAllowed` or another of docs/ACCESS.md; `scope` the scope that isn't granted, or else `claim` the name of the claim;
     `scopes` are all that the rule asks for: joined by spaces, the `scope` of a challenge that says insufficient_scope (RFC 6750, section 3.1).
     """
 

@@ -154,6 +154,7 @@ _SIGNATURES = {
     "fow_expect_half_hash": (_U32, [_VALIDATOR, *_IN, _U32, *_IN, *_IN, ctypes.POINTER(_U32)]),
     "fow_once_open": (_U32, [_ONCE, _SIZE]),
     "fow_once_take": (_U32, [_ONCE, _VALIDATOR, ctypes.c_int64, ctypes.POINTER(_U32)]),
+    "fow_once_entry": (_U32, [_VALIDATOR, ctypes.POINTER(ctypes.c_uint8), _SIZE, ctypes.POINTER(ctypes.c_uint64), ctypes.POINTER(_U32)]),
     "fow_once_close": (None, [_ONCE]),
     "fow_fault_name": (ctypes.c_char_p, [_U32]),
     "fow_issue": (_U32, [_VALIDATOR, _U32, _U32, _U32, *_IN, *_IN, *_OUT, _REPORT]),

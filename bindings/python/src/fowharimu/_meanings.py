@@ -73,11 +73,18 @@ ACCESS = {
     "Member": "a member is unknown, or of another kind",
     "Range": "a scope is no scope token, or the name of the claim that carries scopes no JSON Pointer (RFC 6901)",
     "Claim": "what is asked of this claim is of another kind",
-    "ClaimRange": "what is asked of this claim is the empty list, or its name begins with `/` and is no JSON Pointer",
+    "ClaimRange": "what is asked of this claim is the empty list or no number from 0 to 2^32 - 1, or its name begins with `/` and is no JSON Pointer",
     "TooLong": "more than 65,536 bytes",
 }
 DENIED = {
     "ScopeMissing": "this scope isn't granted",
     "ClaimMissing": "this claim is absent",
     "ClaimNotAllowed": "this claim has no value that is allowed",
+    "ClaimPresent": "this claim is there, and isn't to be",
+    "ClaimHasOther": "this claim has a value that isn't allowed",
+    "ClaimNotObject": "this claim is no object",
+    "ClaimNotDate": "this claim is no date: no whole number",
+    "ClaimLater": "this claim is a date later than the moment and the leeway",
+    "ClaimTooOld": "this claim is a date that is too long ago",
+    "ClaimNotAscii": "this claim is no text of ASCII, or has too many bytes",
 }

@@ -6,7 +6,7 @@ import ctypes
 import operator
 import sys
 import threading
-from typing import NoReturn, Optional, SupportsIndex, Union
+from typing import NoReturn, Optional, Protocol, SupportsIndex, Union, runtime_checkable
 
 from . import _library
 from ._faults import NotTaken
@@ -14,6 +14,8 @@ from ._seats import Seat
 
 # The names of the answers of enum fow_taken, from FOW_TAKEN_SEEN on.
 _WHY = {2: "Seen", 3: "Late", 4: "Full", 5: "NoId", 6: "NoEnd"}
+# FOW_MARK_LEN.
+MARK = 32
 
 
 class Once:
@@ -52,6 +54,38 @@ class Once:
         raise NotTaken(_WHY[taken.value])
 
 
-def once_of(once: Union[Once, SupportsIndex, None]) -> Optional[Once]:
-    """A memory that was made, or a new one for so many tokens; None where none is asked for."""
-    return once if once is None or isinstance(once, Once) else Once(once)
+@runtime_checkable
+class OnceStore(Protocol):
+    """A store of the application's own, which several processes share: docs/ONCE.md says what it has to promise."""
+
+    def take(self, mark: bytes, until: int) -> bool:
+        """Whether the token of this mark is new: then it is held by it for everybody, until that moment, in seconds since 1970. The mark is the digest of issuer and
+        `jti`, of 32 octets, and the moment `exp` and the policy's leeway. Anything but True refuses the token, and so does what it raises."""
+
+
+class _Stored:
+    """Asks such a store."""
+
+    def __init__(self, store: OnceStore) -> None:
+        self._store, self._library = store, _library.load()
+
+    def take(self, seat: Seat, moment: int) -> None:
+        """As Once.take. Raises what the store raises too."""
+        mark, until, lacks = (ctypes.c_uint8 * MARK)(), ctypes.c_uint64(), ctypes.c_uint32()
+        status = self._library.fow_once_entry(seat.held, mark, MARK, until, lacks)
+        if status == _library.REFUSED:
+            raise NotTaken(_WHY[lacks.value])
+        if status != _library.OK:
+            raise MemoryError
+        if self._store.take(bytes(mark), until.value) is not True:
+            raise NotTaken("Seen")
+
+
+Taking = Union[Once, _Stored]
+
+
+def once_of(once: Union[Taking, OnceStore, SupportsIndex, None]) -> Optional[Taking]:
+    """A memory that was made, or a store, or a new memory for so many tokens; None where none is asked for."""
+    if once is None or isinstance(once, (Once, _Stored)):
+        return once
+    return _Stored(once) if isinstance(once, OnceStore) else Once(once)

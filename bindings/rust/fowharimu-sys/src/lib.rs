@@ -16,6 +16,7 @@ pub const FOW_TOO_SHORT: u32 = 5;
 pub const FOW_ABSENT: u32 = 6;
 pub const FOW_DENIED: u32 = 7;
 pub const FOW_UNNAMED: u32 = 8;
+pub const FOW_NOT_EXPECTED: u32 = 9;
 
 pub const FOW_NO_FETCH: u64 = 0;
 pub const FOW_FETCH_BEGINS: u64 = 1;
@@ -35,6 +36,10 @@ pub const FOW_STEP_TAKE: u32 = 1;
 pub const FOW_STEP_FOLLOW: u32 = 2;
 pub const FOW_STEP_ASK_OAUTH: u32 = 3;
 pub const FOW_STEP_TOO_OFTEN: u32 = 4;
+
+pub const FOW_UNMET_NOTHING: u32 = 0;
+pub const FOW_UNMET_ABSENT: u32 = 1;
+pub const FOW_UNMET_OTHER: u32 = 2;
 
 pub const FOW_TAKEN_NOTHING: u32 = 0;
 pub const FOW_TAKEN_NEW: u32 = 1;
@@ -371,6 +376,27 @@ extern "C" {
         out: *mut u8,
         out_len: usize,
         written: *mut usize,
+    ) -> u32;
+
+    pub fn fow_expect_text(
+        validator: *mut fow_validator,
+        claim: *const u8,
+        claim_len: usize,
+        text: *const u8,
+        text_len: usize,
+        unmet: *mut u32,
+    ) -> u32;
+
+    pub fn fow_expect_half_hash(
+        validator: *mut fow_validator,
+        token: *const u8,
+        token_len: usize,
+        signature: u32,
+        claim: *const u8,
+        claim_len: usize,
+        octets: *const u8,
+        octets_len: usize,
+        unmet: *mut u32,
     ) -> u32;
 
     pub fn fow_once_open(once: *mut fow_once, tokens: usize) -> u32;

@@ -1,6 +1,6 @@
 //! Why something is refused.
 
-use crate::NotTaken;
+use crate::{NotTaken, Unmet};
 use std::error;
 use std::fmt;
 
@@ -53,8 +53,10 @@ pub enum Error {
         member: Option<String>,
     },
     /// The token is accepted, and its claims don't meet the access rule: this scope isn't granted (`ScopeMissing`), or this claim isn't as it
-    /// asks (`ClaimMissing`, `ClaimNotAllowed`). A service answers 403 to this, and 401 to a token that isn't accepted.
+    /// asks (`ClaimMissing`, `ClaimNotAllowed` and others of docs/ACCESS.md). A service answers 403 to this, and 401 to a token that isn't accepted.
     Denied { fault: String, name: String },
+    /// The token is accepted, and isn't the one that the call expected: this is the first claim that isn't as it has to be. A service answers 401 to this.
+    NotExpected { why: Unmet, claim: String },
     /// The token is accepted, and isn't taken by the memory of tokens that count once. A service answers 401 to this.
     NotTaken { why: NotTaken },
     /// The token has more octets than the policy's `limit`.
@@ -125,6 +127,9 @@ impl fmt::Display for Error {
                 member.iter().try_for_each(|it| write!(f, " {it:?}"))
             }
             Error::Denied { fault, name } => write!(f, "the token is denied: {fault} {name:?}"),
+            Error::NotExpected { why, claim } => {
+                write!(f, "the token isn't what was expected: {why:?} {claim:?}")
+            }
             Error::NotTaken { why } => write!(f, "the token counts once, and isn't taken: {why:?}"),
             Error::TooLong => write!(f, "the token is refused: TooLong"),
             Error::Form { fault, .. } => write!(f, "the token is refused: {fault}"),

@@ -1,7 +1,7 @@
 //! Several issuers, each with a policy and keys of its own.
 
 use crate::seat::Named;
-use crate::{clock, Access, Claims, Error, RemoteKeys, Validator};
+use crate::{clock, Access, Call, Claims, Error, RemoteKeys, Validator};
 use std::collections::BTreeMap;
 
 /// What judges the tokens of an issuer: a [`Validator`] or [`RemoteKeys`], from which it is made by `into`.
@@ -48,10 +48,10 @@ impl Judge {
         }
     }
 
-    fn claims(&self, token: &[u8], now: i64, access: Option<&Access>) -> Result<Claims, Error> {
+    fn claims(&self, token: &[u8], call: &Call<'_>) -> Result<Claims, Error> {
         match &self.0 {
-            Kind::Validator(it) => it.claims(token, now, access),
-            Kind::RemoteKeys(it) => it.claims(token, now, access),
+            Kind::Validator(it) => it.validate_with(token, call),
+            Kind::RemoteKeys(it) => it.validate_with(token, call),
         }
     }
 }
@@ -106,7 +106,7 @@ impl Issuers {
     /// # Errors
     /// As of [`validate`](Issuers::validate).
     pub fn validate_at(&self, token: &[u8], now: i64) -> Result<Claims, Error> {
-        self.chosen(token)?.claims(token, now, None)
+        self.validate_with(token, &Call::new().at(now))
     }
 
     /// The claims of a token that is accepted at the clock's moment, where they meet an access rule.
@@ -127,7 +127,15 @@ impl Issuers {
         now: i64,
         access: &Access,
     ) -> Result<Claims, Error> {
-        self.chosen(token)?.claims(token, now, Some(access))
+        self.validate_with(token, &Call::new().at(now).access(access))
+    }
+
+    /// The claims of a token that is accepted, where they are as this call asks.
+    ///
+    /// # Errors
+    /// `Denied` and `NotExpected` where they aren't, and those of [`validate`](Issuers::validate).
+    pub fn validate_with(&self, token: &[u8], call: &Call<'_>) -> Result<Claims, Error> {
+        self.chosen(token)?.claims(token, call)
     }
 
     /// What judges a token: the reader, where it is none, and else what stands under the issuer that it names.

@@ -13,6 +13,7 @@
 //! ```
 
 mod access;
+mod call;
 mod crypto;
 mod error;
 mod fetch;
@@ -30,6 +31,7 @@ mod texts;
 mod urls;
 
 pub use access::Access;
+pub use call::{Call, Unmet};
 pub use error::{Error, Part};
 pub use fetch::{Answer, Fetch, Get};
 pub use issuers::{Issuers, Judge};
@@ -164,7 +166,7 @@ impl Validator {
     /// The claims of a token that is accepted at the clock's moment.
     ///
     /// # Errors
-    /// Each but `Policy`, `Keys`, `Access` and `Denied`; `NotTaken` only where tokens count once ([`taking`](Validator::taking)).
+    /// Each but `Policy`, `Keys`, `Access`, `Denied` and `NotExpected`; `NotTaken` only where tokens count once ([`taking`](Validator::taking)).
     pub fn validate(&self, token: &[u8]) -> Result<Claims, Error> {
         self.validate_at(token, clock())
     }
@@ -172,9 +174,9 @@ impl Validator {
     /// The claims of a token that is accepted at a moment, in seconds since 1970-01-01T00:00:00Z.
     ///
     /// # Errors
-    /// Each but `Policy`, `Keys`, `Access` and `Denied`.
+    /// As of [`validate`](Validator::validate).
     pub fn validate_at(&self, token: &[u8], now: i64) -> Result<Claims, Error> {
-        self.claims(token, now, None)
+        self.validate_with(token, &Call::new().at(now))
     }
 
     /// The claims of a token that is accepted at the clock's moment, where they meet an access rule.
@@ -195,13 +197,16 @@ impl Validator {
         now: i64,
         access: &Access,
     ) -> Result<Claims, Error> {
-        self.claims(token, now, Some(access))
+        self.validate_with(token, &Call::new().at(now).access(access))
     }
 
-    fn claims(&self, token: &[u8], now: i64, access: Option<&Access>) -> Result<Claims, Error> {
+    /// The claims of a token that is accepted, where they are as this call asks.
+    ///
+    /// # Errors
+    /// `Denied` and `NotExpected` where they aren't, and those of [`validate`](Validator::validate).
+    pub fn validate_with(&self, token: &[u8], call: &Call<'_>) -> Result<Claims, Error> {
         let once = self.once.as_deref();
-        self.seats
-            .call(|seat| seat.claims(token, now, access, once))?
+        self.seats.call(|seat| seat.claims(token, call, once))?
     }
 }
 

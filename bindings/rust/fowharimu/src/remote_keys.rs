@@ -6,7 +6,7 @@ use crate::renewal::{Answer, Asker, Clock, Renewal, Running};
 use crate::seat::{Named, Seat, Terms};
 use crate::seats::{locked, Seats};
 use crate::source::unavailable;
-use crate::{clock, Access, Claims, Error};
+use crate::{clock, Access, Call, Claims, Error};
 use std::collections::hash_map::RandomState;
 use std::hash::{BuildHasher, Hash, Hasher};
 use std::io;
@@ -124,7 +124,7 @@ impl RemoteKeys {
     /// # Errors
     /// As of [`validate`](RemoteKeys::validate).
     pub fn validate_at(&self, token: &[u8], now: i64) -> Result<Claims, Error> {
-        self.claims(token, now, None)
+        self.validate_with(token, &Call::new().at(now))
     }
 
     /// The claims of a token that is accepted at the clock's moment, where they meet an access rule.
@@ -145,7 +145,7 @@ impl RemoteKeys {
         now: i64,
         access: &Access,
     ) -> Result<Claims, Error> {
-        self.claims(token, now, Some(access))
+        self.validate_with(token, &Call::new().at(now).access(access))
     }
 
     /// The issuer that the policy allows; `None` where it allows any, or several.
@@ -187,17 +187,15 @@ impl RemoteKeys {
         }
     }
 
-    /// What a token comes to by the keys, and by newer ones where these may change it and can be had.
-    pub(crate) fn claims(
-        &self,
-        token: &[u8],
-        now: i64,
-        access: Option<&Access>,
-    ) -> Result<Claims, Error> {
+    /// The claims of a token that is accepted by the keys, or by newer ones where these may change that and can be had, where they are as this call asks.
+    ///
+    /// # Errors
+    /// `Denied` and `NotExpected` where they aren't, and those of [`validate`](RemoteKeys::validate).
+    pub fn validate_with(&self, token: &[u8], call: &Call<'_>) -> Result<Claims, Error> {
         let shared = &self.shared;
         shared.find_keys(token)?;
         let once = shared.feed.once();
-        let judge = |seat: &mut Seat| (seat.documents(), seat.claims(token, now, access, once));
+        let judge = |seat: &mut Seat| (seat.documents(), seat.claims(token, call, once));
         let (keys, said) = shared.seats.call(judge)?;
         if !said.as_ref().err().map_or(false, asks_for_keys) {
             return said;

@@ -2,7 +2,7 @@
 
 use crate::crypto::Crypto;
 use crate::texts::{text_member, written, NAME_ROOM};
-use crate::{Access, Claims, Error, Once, Part};
+use crate::{Call, Claims, Error, Once, Part};
 use fowharimu_sys as sys;
 use std::ffi::CStr;
 use std::ptr;
@@ -175,21 +175,19 @@ impl Seat {
         }
     }
 
-    /// The claims of a token that is accepted at a moment, where they meet an access rule, if there is one.
+    /// The claims of a token that is accepted, where they are as the call asks.
     pub(crate) fn claims(
         &mut self,
         token: &[u8],
-        now: i64,
-        access: Option<&Access>,
+        call: &Call<'_>,
         once: Option<&Once>,
     ) -> Result<Claims, Error> {
+        let now = call.moment();
         let report = self.judge(token, now);
         if report.verdict != sys::FOW_OK {
             return Err(self.refusal(&report));
         }
-        if let Some(access) = access {
-            access.check(&mut self.held)?;
-        }
+        call.check(&mut self.held, token, report.signature)?;
         let held = &mut self.held;
         // SAFETY: it is the one that judged.
         let remembered = unsafe { sys::fow_remembered(held) };

@@ -1,7 +1,8 @@
-use Rattle.std.proofs.Common.{◌∙◌, subst}
+use Rattle.std.proofs.Common.{length, ap, ◌∙◌, subst}
 use Rattle.jwt_verify.specs.Reports.{IsReport}
 use Rattle.jwt_verify.specs.TermsTable.{terms_meant}
 use Rattle.jwt_printing.specs.Views.{reply_view}
+use Rattle.jwt_verdicts.specs.Verdicts.{verify_line}
 use Rattle.jwt_verdicts.specs.Views.{rule_view}
 use Rattle.jwt_command.proofs.Verifying.{answered_in_hand, both_ok}
 use Rattle.jwt_command.proofs.verify.on_octets_in_lines.Goals as goal
@@ -15,7 +16,7 @@ returns-clause-line g c =
     (λ a line found. answered_in_hand (rule_view c.args.rule) q x c.tells_reports.ensures r c.octets.result
     (subst (λ w. IsReport q x w r) (c.new-count.ensures.ceiling ∙ c.work.ensures.value)
     c.judge_under-judged.ensures.report)
-    (c.octets.ensures ∙ c.judge_under-judged.ensures.octets) found (reply_view a) line)
+    (c.octets.ensures ∙ c.judge_under-judged.ensures.octets) found (reply_view a) (line ∙ ap (λ m. verify_line (rule_view c.args.rule) m r.verdict (length r.tries.items) c.octets.result) c.moment_of.ensures))
 
 pub returns-clause-done : goal.returns-clause-done
 returns-clause-done g c =

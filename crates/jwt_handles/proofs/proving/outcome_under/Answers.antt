@@ -1,6 +1,6 @@
 use Rattle.std.proofs.Common.{Some, sym, subst}
 use Rattle.jwt_memory.specs.Kept.{AreKept}
-use Rattle.jwt_memory.specs.Outcomes.{KeepsHanded, payload_in}
+use Rattle.jwt_memory.specs.Outcomes.{KeepsHanded}
 use Rattle.jwt_handles.specs.Keeping.{AddsHanded}
 use Rattle.jwt_handles.proofs.proving.outcome_under.Goals as goal
 

@@ -11,9 +11,9 @@ pub returns : goal.returns
 returns c =
     let r = c.args.report.now in
     let rule = rule_view c.args.rule in
-    let vs = verdict_members rule r.verdict c.args.payload.now in
+    let vs = verdict_members rule c.args.moment r.verdict c.args.payload.now in
     let es = evidence r.states.items r.tries.items c.args.work in
-    IfOk-weaker c.reply.result _ (λ a. reply_view a ≡ said_json rule r.verdict c.args.payload.now r.states.items r.tries.items c.args.work)
+    IfOk-weaker c.reply.result _ (λ a. reply_view a ≡ said_json rule c.args.moment r.verdict c.args.payload.now r.states.items r.tries.items c.args.work)
     (λ a is. line_put (vs ++ es) c.verdict_status.result c.in_ok-out.out c.put_evidence.new.out c.in_ok-out.ensures
     (two_written vs es c.in_ok-out.out c.put_verdict.new.out c.put_evidence.new.out c.in_ok-put_verdict.ensures
     (rw (c.as_slice.ensures.value, c.as_slice-2.ensures.value) at c.in_ok-put_evidence.ensures)) (reply_view a) is ∙ ap (λ n. json_line (vs ++ es) n) c.verdict_status.ensures) c.reply.ensures

@@ -15,15 +15,15 @@ returns-in-Ok-clause-listed g c =
     let w = g.B.Budget.ceiling c.args.budget.now in
     let t = rw c.in-Ok.is at c.read_with.ensures.value in
     let same = table_of_token q x (token c.in-Ok.signed) t in
-    let f = c.judge_token.ensures.front in
+    let f = c.report_on.ensures.front in
     record {
-      verdict = λ found. c.judge_token.ensures.verdict found ∙ says_of_token q x w (token c.in-Ok.signed) t;
-      whole = rw (sym same) c.judge_token.ensures.tries;
+      verdict = λ found. c.report_on.ensures.verdict found ∙ says_of_token q x w (token c.in-Ok.signed) t;
+      whole = rw (sym same) c.report_on.ensures.tries;
       front = (f.0, ap (λ t. paid t w c.args.terms.now.policy.now.max_calls) (sym same) ∙ f.1);
     }
 
 pub returns-in-Ok-clause-read : goal.returns-in-Ok-clause-read
-returns-in-Ok-clause-read g c = c.judge_token.ensures.read
+returns-in-Ok-clause-read g c = c.report_on.ensures.read
 
 pub returns-in-Err-clause-listed : goal.returns-in-Err-clause-listed
 returns-in-Err-clause-listed g c =

@@ -1,34 +1,37 @@
+-- What is listed step by step of the token is what the report on its octets holds in words.
+use Rattle.std.proofs.Common.{ℕ, List, map, w64, sym, ◌∙◌, ap}
+use Rattle.std.proofs.lemmas.Int.{to_z-of_z}
 use Rattle.jwt_jws.specs.Views.{token}
-use Rattle.jwt_verify.specs.TermsTable.{terms_table, terms_meant}
-use Rattle.jwt_verify.specs.SignatureOutcome.{signing_view}
-use Rattle.jwt_verify.proofs.Judged.{run_says, run_whole, run_read, whole_none, read_none}
-use Rattle.jwt_verify.proofs.judging.judge_token.Goals.{in-Ok, in-Err}
+use Rattle.jwt_verify.specs.Table.{paid}
+use Rattle.jwt_verify.specs.Verdict.{table}
+use Rattle.jwt_verify.specs.TermsTable.{terms_table}
+use Rattle.jwt_verify.specs.Reports.{terms}
+use Rattle.jwt_verify.specs.Steps.{IsListed}
+use Rattle.jwt_verify.proofs.Judged.{says_of_token, table_of_token}
+use Rattle.jwt_verify.proofs.Reporting.{front_allowed}
 use Rattle.jwt_verify.proofs.judging.judge_token.Goals as goal
 
-pub returns-clause-verdict : goal.returns-clause-verdict
+pub returns-clause-report : goal.returns-clause-report
 unfolding terms_table
-returns-clause-verdict g c =
-    let q = terms_meant (λ b. (goal.Verifier-dyn g (b.vtable, b.value)).meaning b.value) c.args.terms.now in
-    elim c.match-run.branch [
-      | in-Ok w ↦ run_says q (g.B.Budget.ceiling c.args.budget.now) (token c.args.signed.now) c.run.new.tries.items c.run.new.states.items w.in-Ok.outcome.end w.in-Ok.outcome.signing c.match-run.verdict w.in-Ok.ensures.run w.in-Ok.ensures.signing
-          (rw (w.verdict-is, ← w.payload.ensures) w.verdict_after-verdict.ensures)
-      | in-Err w ↦ (λ found. absurd (rw w.verdict-is at found))
-    ]
+returns-clause-report g c = λ x is.
+    let v = map (λ b. (goal.Verifier-dyn g (b.vtable, b.value)).meaning b.value) c.args.verifiers.now in
+    let q = terms c.args.policy.now c.args.keys.now c.args.now v in
+    let w = g.B.Budget.ceiling c.args.budget.now in
+    let report = c.report_on.result in
+    let z = to_z-of_z w64 c.args.now c.ranges.now in
+    let t = (c.tells_tokens.ensures.token c.args.policy.now x (token c.args.signed.now)).1 is in
+    let same = table_of_token q x (token c.args.signed.now) t in
+    let f = c.report_on.ensures.front in
+    let listed : IsListed q x w report = record {
+      verdict = λ found. rw z at c.report_on.ensures.verdict found ∙ says_of_token q x w (token c.args.signed.now) t;
+      whole = rw (sym same) c.report_on.ensures.tries;
+      front = (f.0, ap (λ t. paid t w c.args.policy.now.max_calls) (sym same) ∙ f.1);
+    } in
+    (c.reports_in_words.ensures.listed q x w report listed).0
 
-pub returns-clause-tries : goal.returns-clause-tries
-returns-clause-tries g c =
-    let t = terms_table (λ b. (goal.Verifier-dyn g (b.vtable, b.value)).meaning b.value) c.args.terms.now c.args.signed.now in
-    let p = c.args.terms.now.policy.now in
-    elim c.match-run.branch [
-      | in-Ok w ↦ run_whole t (g.B.Budget.ceiling c.args.budget.now) p.max_calls c.run.new.tries.items c.run.new.states.items w.in-Ok.outcome.end p c.args.terms.now.moment (token c.args.signed.now).payload
-          (signing_view w.in-Ok.outcome.signing) c.match-run.verdict w.in-Ok.ensures.run (rw (w.verdict-is, ← w.payload.ensures) w.verdict_after-verdict.ensures)
-      | in-Err w ↦ whole_none t (g.B.Budget.ceiling c.args.budget.now) p.max_calls c.run.new.tries.items c.run.new.states.items c.match-run.verdict w.verdict-is
-    ]
-
-pub returns-clause-read : goal.returns-clause-read
-returns-clause-read g c =
-    elim c.match-run.branch [
-      | in-Ok w ↦ run_read w.in-Ok.outcome.end c.args.terms.now.policy.now c.args.terms.now.moment (token c.args.signed.now).payload (signing_view w.in-Ok.outcome.signing) c.match-run.verdict
-          (rw (w.verdict-is, ← w.payload.ensures) w.verdict_after-verdict.ensures)
-      | in-Err w ↦ read_none c.match-run.verdict w.verdict-is
-    ]
+pub returns-clause-within : goal.returns-clause-within
+unfolding terms_table
+returns-clause-within g c =
+    let v = map (λ b. (goal.Verifier-dyn g (b.vtable, b.value)).meaning b.value) c.args.verifiers.now in
+    let f = c.report_on.ensures.front in
+    rw c.report_on.ensures.calls (front_allowed _ (g.B.Budget.ceiling c.args.budget.now) c.args.policy.now.max_calls c.report_on.result.tries.items f.0 f.1).1

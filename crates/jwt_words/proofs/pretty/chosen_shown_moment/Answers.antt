@@ -19,3 +19,8 @@ pub returns-in-None : goal.returns-in-None
 returns-in-None c =
     let f = found_of c.args.options.now in
     ap (shown_from (seconds_of c.args.clock) (rows_of f)) (c.in-None.ensures ∙ first_value-rows f (codes "now"))
+
+pub returns-in-Some-chosen_now : goal.returns-in-Some-chosen_now
+returns-in-Some-chosen_now c =
+    let f = found_of c.args.options.now in
+    ap (option_map (λ now. Some now)) c.in-Some-chosen_now.ensures ∙ ap (shown_from (seconds_of c.args.clock) (rows_of f)) (c.in-Some.ensures ∙ first_value-rows f (codes "now"))

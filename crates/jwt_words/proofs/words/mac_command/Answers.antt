@@ -1,14 +1,16 @@
-use Rattle.std.proofs.Common.{rules, ◌≡◌, ◌∙◌, ap₂}
-use Rattle.std.specs.Prelude.{Bool, false, codes, ◌||◌}
+use Rattle.std.proofs.Common.{◌≡◌, ◌∙◌, ap, ap₂}
+use Rattle.std.specs.Prelude.{false}
 use Rattle.std.proofs.lemmas.Result.{IfOk-weaker}
-use Rattle.clap.specs.Words.{app_of, new_app, with_rule}
+use Rattle.clap.specs.Simple.{app_of_fields}
+use Rattle.clap.specs.Words.{app_of, with_rule}
 use Rattle.clap.specs.declared.builder.command.Command.TheViews.{out-Command as fields_of}
 use Rattle.jwt_words.specs.Words.{mac_app}
+use Rattle.jwt_words.proofs.Settings.{either, has_globals}
 use Rattle.jwt_words.proofs.words.mac_command.Goals as goal
 
 pub returns-clause-shape : goal.returns-clause-shape
 returns-clause-shape c =
-    let start : app_of c.about.result ≡ new_app (codes "mac") = search rules in
+    let start = ap app_of_fields c.about.ensures ∙ c.new.ensures.app in
     let one = c.in_ok-arg.ensures.shape c.option.ensures.local ∙ ap₂ with_rule start c.option.ensures.shape in
     let two = c.in_ok-arg-2.ensures.shape c.option-2.ensures.local ∙ ap₂ with_rule one c.option-2.ensures.shape in
     IfOk-weaker c.arg-3.result _ (λ r. app_of r ≡ mac_app)
@@ -16,8 +18,7 @@ returns-clause-shape c =
 
 pub returns-clause-local : goal.returns-clause-local
 returns-clause-local c =
-    let either = λ (a b : Bool). a || b in
-    let none : (fields_of c.about.result).has_globals ≡ false = search rules in
+    let none = ap has_globals c.about.ensures ∙ c.new.ensures.local in
     let one = c.in_ok-arg.ensures.globals ∙ ap₂ either none c.option.ensures.local in
     let two = c.in_ok-arg-2.ensures.globals ∙ ap₂ either one c.option-2.ensures.local in
     IfOk-weaker c.arg-3.result _ (λ r. (fields_of r).has_globals ≡ false)

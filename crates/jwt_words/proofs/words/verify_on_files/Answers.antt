@@ -1,9 +1,10 @@
 use Rattle.std.proofs.Common.{◌≡◌, ◌∙◌, ap₂}
-use Rattle.std.specs.Prelude.{Bool, false, ◌||◌}
+use Rattle.std.specs.Prelude.{false}
 use Rattle.std.proofs.lemmas.Result.{IfOk-weaker}
 use Rattle.clap.specs.Words.{app_of, with_rule}
 use Rattle.clap.specs.declared.builder.command.Command.TheViews.{out-Command as fields_of}
 use Rattle.jwt_words.specs.Words.{verify_on_files}
+use Rattle.jwt_words.proofs.Settings.{either}
 use Rattle.jwt_words.proofs.words.verify_on_files.Goals as goal
 
 pub returns-clause-shape : goal.returns-clause-shape
@@ -16,7 +17,6 @@ returns-clause-shape c =
 
 pub returns-clause-local : goal.returns-clause-local
 returns-clause-local c =
-    let either = λ (a b : Bool). a || b in
     let none = c.in_ok-verify_on_input.ensures.local in
     let one = c.in_ok-arg.ensures.globals ∙ ap₂ either none c.option.ensures.local in
     let two = c.in_ok-arg-2.ensures.globals ∙ ap₂ either one c.keys_option.ensures.local in

@@ -31,7 +31,8 @@ public final class Denied extends Exception {
     /**
      * Why it is denied, by the first demand of the rule that the claims don't meet.
      *
-     * @return the name that the program {@code jwt} prints: {@code ScopeMissing}, {@code ClaimMissing} or {@code ClaimNotAllowed}
+     * @return the name that the program {@code jwt} prints: {@code ScopeMissing}, {@code ClaimMissing}, {@code ClaimNotAllowed}
+     *         or another of docs/ACCESS.md
      */
     public String fault() {
         return fault;

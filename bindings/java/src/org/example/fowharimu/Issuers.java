@@ -49,6 +49,12 @@ public final class Issuers implements Judging {
         return chosen(token).validate(token, now, access);
     }
 
+    /** As {@link Validator#validate(byte[], Asking)}, by what stands under the token's issuer. */
+    @Override
+    public String validate(byte[] token, Asking asking) throws Refused, Denied {
+        return chosen(token).validate(token, asking);
+    }
+
     /** As {@link Validator#judge(byte[], long)}. Where nothing judges tokens of that issuer, the verdict has that refusal and nothing else. */
     @Override
     public Verdict judge(byte[] token, long now) {

@@ -78,6 +78,32 @@ public sealed interface Judging extends AutoCloseable permits Validator, RemoteK
     String validate(byte[] token, long now, Access access) throws Refused, Denied;
 
     /**
+     * The claims of a token that is accepted, where they are as this call asks.
+     *
+     * @param token the token
+     * @param asking the moment, the access rule, and what is expected of claims
+     * @return the payload: a JSON text
+     * @throws Refused where the token isn't accepted; of {@link Refused.Kind#NOT_EXPECTED} where it is, and isn't the one that was expected
+     * @throws Denied where it is accepted, and its claims don't meet the rule
+     * @throws IllegalArgumentException where a surrogate stands alone in the name of a claim, or in the text that is expected of it
+     */
+    default String validate(String token, Asking asking) throws Refused, Denied {
+        return validate(Text.octets(token), asking);
+    }
+
+    /**
+     * The claims of a token that is accepted, where they are as this call asks.
+     *
+     * @param token the token's octets
+     * @param asking the moment, the access rule, and what is expected of claims
+     * @return the payload: a JSON text
+     * @throws Refused where the token isn't accepted; of {@link Refused.Kind#NOT_EXPECTED} where it is, and isn't the one that was expected
+     * @throws Denied where it is accepted, and its claims don't meet the rule
+     * @throws IllegalArgumentException where a surrogate stands alone in the name of a claim, or in the text that is expected of it
+     */
+    String validate(byte[] token, Asking asking) throws Refused, Denied;
+
+    /**
      * All that is said of a token at the clock's moment.
      *
      * @param token the token

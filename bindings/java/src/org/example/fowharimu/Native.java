@@ -13,6 +13,7 @@ final class Native {
     static final int OUT_OF_MEMORY = 3;
     static final int ABSENT = 6;
     static final int DENIED = 7;
+    static final int NOT_EXPECTED = 9;
     /** The one denial that speaks of a scope. */
     static final int SCOPE_MISSING = 1001;
     /** How many numbers a report has, and where each stands. */
@@ -140,6 +141,14 @@ final class Native {
 
     /** The scope or the claim of that denial; null where there is none. It throws OutOfMemoryError. */
     static native byte[] deniedName(long it, long access);
+
+    /**
+     * Whether a claim of the token that was accepted last is this text. Gives the status, and writes for {@link #NOT_EXPECTED} why, a number of enum fow_unmet.
+     */
+    static native int expectText(long it, byte[] claim, byte[] text, int[] unmet);
+
+    /** Whether it is the half hash of these octets, by the algorithm of the signature of this number, which verified; as {@link #expectText}. */
+    static native int expectHalfHash(long it, int signature, byte[] claim, byte[] octets, int[] unmet);
 
     /** The address of a memory for so many tokens that count once; 0 where memory is refused. */
     static native long openOnce(int tokens);

@@ -33,14 +33,19 @@ public final class Refused extends Exception {
          * have passed by the greatest moment that was judged at; {@code Full}: as many tokens are held as there is room for; {@code NoId}, {@code NoEnd}: it
          * has no {@code jti}, or no {@code exp}.
          */
-        NOT_TAKEN
+        NOT_TAKEN,
+        /**
+         * An accepted token that isn't the one that was expected ({@link Asking}); {@link #about} is the first claim that isn't as it has to be. {@code Absent}, or
+         * {@code Other}: it is another text, or no text.
+         */
+        NOT_EXPECTED
     }
 
     private static final long serialVersionUID = 1;
     private static final String[] WHAT = {
         "the policy is refused", "the key set is refused", "the policy is refused", "the token is refused", "the token is refused",
         "the token is refused", "the token is refused", "the token is refused", "the claims are refused", "the access rule is refused",
-        "the token is refused", "the token counts once, and isn't taken"
+        "the token is refused", "the token counts once, and isn't taken", "the token isn't what was expected"
     };
     /** What is refused. */
     private final Kind kind;
@@ -76,7 +81,7 @@ public final class Refused extends Exception {
      * Why it is refused.
      *
      * @return the name that the program {@code jwt} prints, such as {@code Expired}; of {@link Kind#QUESTIONS} {@code TooManyQuestions}, of
-     *     {@link Kind#KEYS_TOO_OLD} {@code KeysTooOld}, and of {@link Kind#NOT_TAKEN} those that stand there
+     *     {@link Kind#KEYS_TOO_OLD} {@code KeysTooOld}, and of {@link Kind#NOT_TAKEN} and {@link Kind#NOT_EXPECTED} those that stand there
      */
     public String fault() {
         return fault;

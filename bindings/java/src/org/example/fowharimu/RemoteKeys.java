@@ -189,6 +189,13 @@ public final class RemoteKeys implements Judging {
         return by(token, call);
     }
 
+    /** As {@link Validator#validate(byte[], Asking)}. The refusal may be of the kind {@link Refused.Kind#KEYS_TOO_OLD} too. */
+    @Override
+    public String validate(byte[] token, Asking asking) throws Refused, Denied {
+        Call<String, Denied> call = it -> it.validate(token, asking);
+        return by(token, call);
+    }
+
     /** As {@link Validator#judge(byte[], long)}. Where the keys are too old and none can be fetched, the verdict has that refusal and nothing else. */
     @Override
     public Verdict judge(byte[] token, long now) {

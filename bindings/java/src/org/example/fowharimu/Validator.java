@@ -230,6 +230,19 @@ public final class Validator implements Judging {
         }
     }
 
+    @Override
+    public String validate(byte[] token, Asking asking) throws Refused, Denied {
+        long now = asking.moment();
+        Seats.Seat seat = seats.take();
+        try {
+            accept(seat, token, now);
+            asking.hold(seat);
+            return taken(seat, now);
+        } finally {
+            give(seat);
+        }
+    }
+
     /**
      * All that is said of a token at the clock's moment.
      *

@@ -1,0 +1,421 @@
+
+/*
+ * Tokens that count once: jwt_once.  How a token is held, by which mark and
+ * until when, says the library.  The zone holds that for all workers.
+ */
+
+#include "ngx_http_fowharimu.h"
+
+
+/* a token that was taken */
+typedef struct {
+    ngx_rbtree_node_t                by_mark;
+    ngx_rbtree_node_t                by_until;
+    uint64_t                         until;
+    u_char                           mark[NGX_HTTP_FOWHARIMU_MARK];
+} ngx_http_fowharimu_taken_t;
+
+
+/* what stands in a zone */
+typedef struct {
+    ngx_rbtree_t                     marks;
+    ngx_rbtree_node_t                marks_sentinel;
+    ngx_rbtree_t                     turns;
+    ngx_rbtree_node_t                turns_sentinel;
+    uint64_t                         latest;    /* moment that was told */
+} ngx_http_fowharimu_memory_t;
+
+
+static ngx_int_t ngx_http_fowharimu_init_zone(ngx_shm_zone_t *zone,
+    void *data);
+static void ngx_http_fowharimu_insert_mark(ngx_rbtree_node_t *temp,
+    ngx_rbtree_node_t *node, ngx_rbtree_node_t *sentinel);
+static void ngx_http_fowharimu_insert_turn(ngx_rbtree_node_t *temp,
+    ngx_rbtree_node_t *node, ngx_rbtree_node_t *sentinel);
+static ngx_int_t ngx_http_fowharimu_compare_marks(
+    ngx_rbtree_node_t *one, ngx_rbtree_node_t *other);
+static ngx_uint_t ngx_http_fowharimu_is_of_request(ngx_http_request_t *r,
+    ngx_shm_zone_t *zone, ngx_http_fowharimu_entry_t *entry);
+static const char *ngx_http_fowharimu_take_entry(ngx_shm_zone_t *zone,
+    ngx_http_fowharimu_entry_t *entry, time_t now);
+static const char *ngx_http_fowharimu_take_locked(ngx_slab_pool_t *pool,
+    ngx_http_fowharimu_entry_t *entry, time_t now);
+static ngx_http_fowharimu_taken_t *ngx_http_fowharimu_find_taken(
+    ngx_http_fowharimu_memory_t *memory, u_char *mark);
+static void ngx_http_fowharimu_drop(ngx_slab_pool_t *pool,
+    ngx_http_fowharimu_taken_t *taken);
+static void ngx_http_fowharimu_drop_passed(ngx_slab_pool_t *pool);
+
+
+/* "jwt_once zone=name[:size]", or "jwt_once off" */
+
+char *
+ngx_http_fowharimu_set_once(ngx_conf_t *cf, ngx_command_t *cmd, void *conf)
+{
+    ngx_http_fowharimu_loc_conf_t *lcf = conf;
+
+    u_char     *p;
+    ssize_t     size;
+    ngx_str_t  *value, name, s;
+
+    if (lcf->once != NGX_CONF_UNSET_PTR) {
+        return "is duplicate";
+    }
+
+    value = cf->args->elts;
+
+    if (ngx_strcmp(value[1].data, "off") == 0) {
+        lcf->once = NULL;
+        return NGX_CONF_OK;
+    }
+
+    if (ngx_strncmp(value[1].data, "zone=", 5) != 0 || value[1].len == 5) {
+        return "takes \"off\", or \"zone=name:size\"";
+    }
+
+    name.data = value[1].data + 5;
+    name.len = value[1].len - 5;
+    size = 0;
+
+    p = (u_char *) ngx_strchr(name.data, ':');
+
+    if (p) {
+        s.data = p + 1;
+        s.len = name.data + name.len - s.data;
+        name.len = p - name.data;
+        size = ngx_parse_size(&s);
+
+        if (size < (ssize_t) (8 * ngx_pagesize) || name.len == 0) {
+            return "takes a zone of at least eight pages of memory";
+        }
+    }
+
+    lcf->once = ngx_shared_memory_add(cf, &name, size,
+                                      &ngx_http_fowharimu_module);
+    if (lcf->once == NULL) {
+        return NGX_CONF_ERROR;
+    }
+
+    lcf->once->init = ngx_http_fowharimu_init_zone;
+
+    return NGX_CONF_OK;
+}
+
+
+/* (what a zone holds stays over a reload that leaves it as large as it is) */
+
+static ngx_int_t
+ngx_http_fowharimu_init_zone(ngx_shm_zone_t *zone, void *data)
+{
+    ngx_slab_pool_t              *pool;
+    ngx_http_fowharimu_memory_t  *memory;
+
+    pool = (ngx_slab_pool_t *) zone->shm.addr;
+
+    if (data) {
+        zone->data = data;
+        return NGX_OK;
+    }
+
+    if (zone->shm.exists) {
+        zone->data = pool->data;
+        return NGX_OK;
+    }
+
+    memory = ngx_slab_calloc(pool, sizeof(ngx_http_fowharimu_memory_t));
+    if (memory == NULL) {
+        return NGX_ERROR;
+    }
+
+    ngx_rbtree_init(&memory->marks, &memory->marks_sentinel,
+                    ngx_http_fowharimu_insert_mark);
+    ngx_rbtree_init(&memory->turns, &memory->turns_sentinel,
+                    ngx_http_fowharimu_insert_turn);
+
+    pool->data = memory;
+    pool->log_nomem = 0;
+    zone->data = memory;
+
+    return NGX_OK;
+}
+
+
+/*
+ * How the library would hold the token that was accepted just now.  It gives why
+ * it can't be, and NULL where it can.
+ */
+
+const char *
+ngx_http_fowharimu_entry(ngx_http_fowharimu_validator_t *validator,
+    ngx_http_fowharimu_entry_t *entry)
+{
+    uint32_t  lacks;
+
+    lacks = FOW_TAKEN_NOTHING;
+
+    switch (fow_once_entry(&validator->handle, entry->mark,
+                           NGX_HTTP_FOWHARIMU_MARK, &entry->until, &lacks))
+    {
+
+    case FOW_OK:
+        return NULL;
+
+    case FOW_REFUSED:
+        return lacks == FOW_TAKEN_NO_ID ? "NoId" : "NoEnd";
+
+    default:
+        return "OutOfMemory";
+    }
+}
+
+
+/*
+ * Takes the token of a request that was let through otherwise, at the moment of
+ * its verdict.  It gives why it isn't taken, and NULL where it is, by this
+ * request: a redirect within nginx and a subrequest don't take it again.
+ */
+
+const char *
+ngx_http_fowharimu_take(ngx_http_request_t *r, ngx_shm_zone_t *zone,
+    ngx_http_fowharimu_judged_t *judged)
+{
+    const char                *fault;
+    ngx_http_fowharimu_ctx_t  *main;
+
+    if (ngx_http_fowharimu_is_of_request(r, zone, &judged->entry)) {
+        return NULL;
+    }
+
+    main = ngx_http_fowharimu_find_ctx(r, r->main);
+
+    if (main == NULL) {
+        main = ngx_http_fowharimu_own_ctx(r->main);
+        if (main == NULL) {
+            return "OutOfMemory";
+        }
+    }
+
+    fault = ngx_http_fowharimu_take_entry(zone, &judged->entry,
+                                          judged->moment);
+    if (fault == NULL) {
+        main->zone = zone;
+        main->entry = judged->entry;
+    }
+
+    return fault;
+}
+
+
+static ngx_uint_t
+ngx_http_fowharimu_is_of_request(ngx_http_request_t *r, ngx_shm_zone_t *zone,
+    ngx_http_fowharimu_entry_t *entry)
+{
+    ngx_http_fowharimu_ctx_t  *main;
+
+    main = ngx_http_fowharimu_find_ctx(r, r->main);
+
+    return main && main->zone == zone
+           && ngx_memcmp(main->entry.mark, entry->mark,
+                         NGX_HTTP_FOWHARIMU_MARK)
+              == 0;
+}
+
+
+static const char *
+ngx_http_fowharimu_take_entry(ngx_shm_zone_t *zone,
+    ngx_http_fowharimu_entry_t *entry, time_t now)
+{
+    const char       *fault;
+    ngx_slab_pool_t  *pool;
+
+    pool = (ngx_slab_pool_t *) zone->shm.addr;
+
+    ngx_shmtx_lock(&pool->mutex);
+
+    fault = ngx_http_fowharimu_take_locked(pool, entry, now);
+
+    ngx_shmtx_unlock(&pool->mutex);
+
+    return fault;
+}
+
+
+/* as jwt_once of the library does, step by step */
+
+static const char *
+ngx_http_fowharimu_take_locked(ngx_slab_pool_t *pool,
+    ngx_http_fowharimu_entry_t *entry, time_t now)
+{
+    ngx_http_fowharimu_taken_t   *taken;
+    ngx_http_fowharimu_memory_t  *memory;
+
+    memory = pool->data;
+
+    if (now > 0 && (uint64_t) now > memory->latest) {
+        memory->latest = now;
+    }
+
+    if (entry->until < memory->latest) {
+        return "Late";
+    }
+
+    taken = ngx_http_fowharimu_find_taken(memory, entry->mark);
+
+    if (taken && memory->latest <= taken->until) {
+        return "Seen";
+    }
+
+    if (taken) {
+        ngx_http_fowharimu_drop(pool, taken);
+
+    } else {
+        ngx_http_fowharimu_drop_passed(pool);
+    }
+
+    taken = ngx_slab_alloc_locked(pool, sizeof(ngx_http_fowharimu_taken_t));
+    if (taken == NULL) {
+        return "Full";
+    }
+
+    taken->until = entry->until;
+    ngx_memcpy(taken->mark, entry->mark, NGX_HTTP_FOWHARIMU_MARK);
+
+    taken->by_mark.key = 0;
+    taken->by_until.key = 0;
+
+    ngx_rbtree_insert(&memory->marks, &taken->by_mark);
+    ngx_rbtree_insert(&memory->turns, &taken->by_until);
+
+    return NULL;
+}
+
+
+static ngx_http_fowharimu_taken_t *
+ngx_http_fowharimu_find_taken(ngx_http_fowharimu_memory_t *memory,
+    u_char *mark)
+{
+    ngx_int_t                    rc;
+    ngx_rbtree_node_t           *node;
+    ngx_http_fowharimu_taken_t  *taken;
+
+    node = memory->marks.root;
+
+    while (node != &memory->marks_sentinel) {
+
+        taken = ngx_rbtree_data(node, ngx_http_fowharimu_taken_t, by_mark);
+        rc = ngx_memcmp(mark, taken->mark, NGX_HTTP_FOWHARIMU_MARK);
+
+        if (rc == 0) {
+            return taken;
+        }
+
+        node = rc < 0 ? node->left : node->right;
+    }
+
+    return NULL;
+}
+
+
+/* drops what has passed, the earliest first, and no more than two */
+
+static void
+ngx_http_fowharimu_drop_passed(ngx_slab_pool_t *pool)
+{
+    ngx_uint_t                    n;
+    ngx_rbtree_node_t            *node;
+    ngx_http_fowharimu_taken_t   *taken;
+    ngx_http_fowharimu_memory_t  *memory;
+
+    memory = pool->data;
+
+    for (n = 0; n < 2 && memory->turns.root != &memory->turns_sentinel; n++) {
+
+        node = ngx_rbtree_min(memory->turns.root, &memory->turns_sentinel);
+        taken = ngx_rbtree_data(node, ngx_http_fowharimu_taken_t, by_until);
+
+        if (memory->latest <= taken->until) {
+            return;
+        }
+
+        ngx_http_fowharimu_drop(pool, taken);
+    }
+}
+
+
+static void
+ngx_http_fowharimu_drop(ngx_slab_pool_t *pool,
+    ngx_http_fowharimu_taken_t *taken)
+{
+    ngx_http_fowharimu_memory_t  *memory;
+
+    memory = pool->data;
+
+    ngx_rbtree_delete(&memory->marks, &taken->by_mark);
+    ngx_rbtree_delete(&memory->turns, &taken->by_until);
+    ngx_slab_free_locked(pool, taken);
+}
+
+
+static void
+ngx_http_fowharimu_insert_mark(ngx_rbtree_node_t *temp,
+    ngx_rbtree_node_t *node, ngx_rbtree_node_t *sentinel)
+{
+    ngx_rbtree_node_t  **p;
+
+    for ( ;; ) {
+        p = ngx_http_fowharimu_compare_marks(node, temp) < 0 ? &temp->left
+                                                             : &temp->right;
+        if (*p == sentinel) {
+            break;
+        }
+
+        temp = *p;
+    }
+
+    *p = node;
+    node->parent = temp;
+    node->left = sentinel;
+    node->right = sentinel;
+    ngx_rbt_red(node);
+}
+
+
+static ngx_int_t
+ngx_http_fowharimu_compare_marks(ngx_rbtree_node_t *one,
+    ngx_rbtree_node_t *other)
+{
+    ngx_http_fowharimu_taken_t  *first, *second;
+
+    first = ngx_rbtree_data(one, ngx_http_fowharimu_taken_t, by_mark);
+    second = ngx_rbtree_data(other, ngx_http_fowharimu_taken_t, by_mark);
+
+    return ngx_memcmp(first->mark, second->mark, NGX_HTTP_FOWHARIMU_MARK);
+}
+
+
+static void
+ngx_http_fowharimu_insert_turn(ngx_rbtree_node_t *temp,
+    ngx_rbtree_node_t *node, ngx_rbtree_node_t *sentinel)
+{
+    ngx_rbtree_node_t           **p;
+    ngx_http_fowharimu_taken_t   *one, *other;
+
+    one = ngx_rbtree_data(node, ngx_http_fowharimu_taken_t, by_until);
+
+    for ( ;; ) {
+        other = ngx_rbtree_data(temp, ngx_http_fowharimu_taken_t, by_until);
+        p = one->until < other->until ? &temp->left : &temp->right;
+
+        if (*p == sentinel) {
+            break;
+        }
+
+        temp = *p;
+    }
+
+    *p = node;
+    node->parent = temp;
+    node->left = sentinel;
+    node->right = sentinel;
+    ngx_rbt_red(node);
+}

@@ -1,0 +1,22 @@
+use Rattle.std.proofs.Common.{◌≡◌, ℤ, map, subst, rules, w64, to_z, of_z}
+use Rattle.jwt_jws.specs.Views.{token}
+use Rattle.jwt_verify.specs.Accepted.{IsFault}
+use Rattle.jwt_keys.specs.Views.{key_parts}
+use Rattle.jwt_possession.specs.Proofs.{terms_with}
+use Rattle.jwt_possession.proofs.OwnTerms.{own_fault}
+use Rattle.jwt_possession.proofs.proof.signed_by_own_key.Goals as goal
+
+pub returns-in-Err-accepted_by-clause-fault : goal.returns-in-Err-accepted_by-clause-fault
+returns-in-Err-accepted_by-clause-fault g c = λ request found.
+    let v = map (λ b. (goal.Verifier-dyn g (b.vtable, b.value)).meaning b.value) c.args.verifiers.now in
+    let work = c.args.policy.now.run.work in
+    let own = c.in-Ok-own_key.ensures.ok in
+    let z : to_z w64 (of_z w64 c.args.now) ≡ c.args.now = search rules in
+    let fault = c.in-Err-accepted_by.ensures.fault c.args.proof.now c.in-Ok.ensures.token found in (
+      token c.in-Ok.signed,
+      own.0,
+      c.in-Ok.ensures.token,
+      own.1,
+      subst (λ (n : ℤ). IsFault (terms_with c.args.policy.now own.0 n v) c.args.proof.now work c.in-Err-accepted_by.fault) z
+          (own_fault c.args.policy.now (to_z w64 (of_z w64 c.args.now)) v c.args.proof.now work (map key_parts c.in-Ok-own_key.keys.keys.items) own.0 c.in-Err-accepted_by.fault own.2 fault),
+    )

@@ -1,0 +1,191 @@
+//! Judges a proof of possession.
+
+ghost use Rattle.std.specs.Prelude.{◌≡◌, ◌∷◌, [], List, ℕ, map, IfOk, IfErr};
+ghost use Rattle.jwt_jws.specs.Views.{token};
+ghost use Rattle.jwt_keys.specs.Keys.{KeyParts};
+ghost use Rattle.jwt_keys.specs.KeySets.{key_set};
+ghost use Rattle.jwt_verify.specs.Asks.{IsToken};
+ghost use Rattle.jwt_verify.specs.Accepted.{IsAccepted, IsFault};
+ghost use Rattle.jwt_verify.specs.Reports.{FoundMemory, terms};
+ghost use Rattle.jwt_verify.specs.declared.report.Verdict.TheVariants.{Refused};
+ghost use Rattle.jwt_possession.specs.Possessions.{proved, last_moment};
+ghost use Rattle.jwt_possession.specs.Proofs.{IsSignedByOwnKey, IsProof, IsProofFault};
+ghost use Rattle.jwt_possession.specs.declared.request.Request.{Request as AnyRequest};
+
+use crate::own_key::{KeyFault, own_key};
+use crate::policy::ProofPolicy;
+use crate::possession::Possession;
+use crate::request::{Request, RequestFault, request_fault};
+use jwt_jws::Signed;
+use jwt_keys::KeySet;
+use jwt_mac::Verifier;
+use jwt_policy::{Claims, Policy};
+use jwt_text::Scratch;
+use jwt_verify::{Fault, Report, Verdict, judge_token, read_token};
+use std::alloc::Global;
+
+/// Why a token is no proof for a request: the first cause in this order.
+#[derive(Debug, Drop)]
+pub enum ProofFault<'p> {
+    /// The octets are no signed token, or too long for the policy (RFC 9449, section 4.3, step 2).
+    NoToken(Fault<'p>),
+    /// It isn't in compact form, or its header has no key that may prove anything (steps 2, 6 and 7).
+    NoKey(KeyFault),
+    /// The policy for proofs doesn't accept it by that key: its header, its signature, a claim that is absent or of another kind, or `iat`
+    /// (steps 3 to 6 and 11).
+    NotAccepted(Fault<'p>),
+    /// It is for another request (steps 8 to 10 and 12).
+    OtherRequest(RequestFault),
+    /// An allocation was refused. It may stand in place of any other answer.
+    OutOfMemory,
+}
+
+impl<'p> ProofFault<'p> {
+    ghost use Rattle.jwt_possession.specs.FaultNames.{proof_fault_name};
+
+    /// The name of the fault, that of its cause.
+    pub fn name(&self) -> &'static str
+        ensures { result.now ≡ proof_fault_name self.now }
+    {
+        match self {
+            ProofFault::NoToken(fault) => fault.name(),
+            ProofFault::NoKey(fault) => fault.name(),
+            ProofFault::NotAccepted(fault) => fault.name(),
+            ProofFault::OtherRequest(fault) => fault.name(),
+            ProofFault::OutOfMemory => "OutOfMemory",
+        }
+    }
+}
+
+/// The claims of a token that was read, where the policy accepts it by the keys of this set.
+fn accepted_by<'p>(
+    alloc: Global,
+    signed: &Signed<'_>,
+    keys: &KeySet,
+    policy: &'p Policy,
+    now: i64,
+    verifiers: &[Box<dyn Verifier>],
+) -> Result<Claims, Fault<'p>>
+    ensures accepted { IfOk result (λ claims. (x : List ℕ) → IsToken policy.now x (token signed.now)
+        → (signature : ℕ) × (key : ℕ)
+        × IsAccepted (terms policy.now keys.now now (map meaning verifiers.now))
+        x policy.now.run.work signature key claims) }
+    ensures fault { IfErr result (λ fault. (x : List ℕ) → IsToken policy.now x (token signed.now)
+        → FoundMemory (Refused fault)
+        → IsFault (terms policy.now keys.now now (map meaning verifiers.now))
+        x policy.now.run.work fault) }
+{
+    let mut budget = policy.budget();
+    let mut scratch = Scratch::new(alloc);
+    let Report {
+        verdict,
+        states: _,
+        tries: _,
+    } = judge_token(
+        alloc,
+        signed,
+        keys,
+        policy,
+        now,
+        verifiers,
+        &mut budget,
+        &mut scratch,
+    );
+    match verdict {
+        Verdict::Accepted { claims, .. } => Ok(claims),
+        Verdict::Refused(fault) => Err(fault),
+    }
+}
+
+/// A token that was accepted by the key in its own header.
+#[derive(Drop)]
+struct Own {
+    /// The set of that one key.
+    keys: KeySet,
+    /// Its claims.
+    claims: Claims,
+}
+
+/// The token that the octets are, accepted by the key in its own header.
+fn signed_by_own_key<'p>(
+    alloc: Global,
+    proof: &[u8],
+    policy: &'p Policy,
+    now: i64,
+    verifiers: &[Box<dyn Verifier>],
+) -> Result<Own, ProofFault<'p>>
+    ensures own { IfOk result (λ own. (key : KeyParts) × ((key_set own.keys).keys ≡ key ∷ [])
+        × IsSignedByOwnKey policy.now (map meaning verifiers.now) now proof.now key own.claims) }
+    ensures fault { IfErr result (λ fault. (request : AnyRequest)
+        → IsProofFault policy.now (map meaning verifiers.now) now request proof.now fault) }
+{
+    let signed = match read_token(alloc, proof, policy) {
+        Ok(signed) => signed,
+        Err(fault) => return Err(ProofFault::NoToken(fault)),
+    };
+    let keys = match own_key(alloc, &signed) {
+        Ok(keys) => keys,
+        Err(fault) => return Err(ProofFault::NoKey(fault)),
+    };
+    let claims = match accepted_by(alloc, &signed, &keys, policy, now, verifiers) {
+        Ok(claims) => claims,
+        Err(fault) => return Err(ProofFault::NotAccepted(fault)),
+    };
+    Ok(Own { keys, claims })
+}
+
+/// The thumbprint of the key of a set of one.
+fn thumbprint_of(keys: &KeySet) -> &str
+    ensures { (key : KeyParts) → (key_set keys.now).keys ≡ key ∷ [] → result.now ≡ key.thumbprint }
+{
+    match keys.key(0) {
+        Some(key) => key.thumbprint_text(),
+        None => "",
+    }
+}
+
+/// The possession that the octets prove to this request at this moment: that its sender holds the key in their own header (RFC 9449,
+/// section 4.3). `now` is in seconds since 1970-01-01T00:00:00Z. The first of `verifiers` that names the algorithm is asked, as by
+/// [`judge`](jwt_verify::judge).
+///
+/// The header's key is tried on this proof, and on nothing else. Its `kid`, `alg`, `use` and `key_ops`, where they are there, count as
+/// those of a key in a key set.
+///
+/// # Errors
+/// The first that holds of `NoToken`, `NoKey`, `NotAccepted` and `OtherRequest`. `OutOfMemory` comes where an allocation was refused, by
+/// itself or as that of the first three, in place of any other answer.
+pub fn judge_proof<'p>(
+    alloc: Global,
+    proof: &[u8],
+    request: &Request<'_>,
+    policy: &'p ProofPolicy,
+    now: i64,
+    verifiers: &[Box<dyn Verifier>],
+) -> Result<Possession, ProofFault<'p>>
+    ensures proof { IfOk result (λ p. (key : KeyParts) × ((proved p).thumbprint ≡ key.thumbprint)
+        × IsProof policy.now (map meaning verifiers.now) now request.now proof.now key
+        (proved p).claims) }
+    ensures until { IfOk result (λ p. (proved p).until ≡ last_moment policy.now (proved p).claims) }
+    ensures fault { IfErr result (IsProofFault policy.now (map meaning verifiers.now) now request.now
+        proof.now) }
+{
+    let Own { keys, claims } = match signed_by_own_key(
+        alloc,
+        proof,
+        policy.policy(),
+        now,
+        verifiers,
+    ) {
+        Ok(own) => own,
+        Err(fault) => return Err(fault),
+    };
+    match request_fault(alloc, &claims, request, thumbprint_of(&keys)) {
+        Ok(None) => {}
+        Ok(Some(fault)) => return Err(ProofFault::OtherRequest(fault)),
+        Err(_) => return Err(ProofFault::OutOfMemory),
+    }
+    match Possession::of(alloc, thumbprint_of(&keys), claims, policy) {
+        Ok(possession) => Ok(possession),
+        Err(_) => Err(ProofFault::OutOfMemory),
+    }
+}

@@ -1,0 +1,331 @@
+"""Proofs of possession and requests: one that is accepted by each kind of key, and what is wrong with each other, one step of RFC 9449, section 4.3, at a time."""
+import dataclasses
+import hashlib
+import json
+import pathlib
+import sys
+
+sys.path.insert(0, str(pathlib.Path(__file__).resolve().parent.parent))
+sys.path.insert(0, str(pathlib.Path(__file__).resolve().parent.parent / "cases"))
+from harness import base64url, octets_of
+from signing import HMAC_K, key_text, sign
+
+# A moment, and the policy for proofs, under which `iat` may be 60 seconds old, and clocks 5 seconds apart.
+NOW = 1_700_000_000
+ALGS = ["ES256", "ES384", "ES512", "RS256", "PS256", "EdDSA"]
+POLICY = {"algs": ALGS, "typ": "dpop+jwt", "required": ["jti", "htm", "htu", "iat"], "max_age": 60, "leeway": 5}
+TOKEN = "the.access.token"
+URI = "https://api.example/things"
+# The proofs of RFC 9449, figures 2 and 12; that of figure 4 is the first. The access token is the one of figure 12.
+FIGURE_2 = (
+    "eyJ0eXAiOiJkcG9wK2p3dCIsImFsZyI6IkVTMjU2IiwiandrIjp7Imt0eSI6IkVDIiwieCI6Imw4dEZyaHgtMzR0VjNoUklDUkRZOXpDa0RscEJoRjQyVVFVZldWQVdCRnMiLCJ5IjoiOVZFNGpmX09rX282NHpi"
+    "VFRsY3VOSmFqSG10NnY5VERWclUwQ2R2R1JEQSIsImNydiI6IlAtMjU2In19.eyJqdGkiOiItQndDM0VTYzZhY2MybFRjIiwiaHRtIjoiUE9TVCIsImh0dSI6Imh0dHBzOi8vc2VydmVyLmV4YW1wbGUuY29tL3Rv"
+    "a2VuIiwiaWF0IjoxNTYyMjYyNjE2fQ.2-GxA6T8lP4vfrg8v-FdWP0A0zdrj8igiMLvqRMUvwnQg4PtFLbdLXiOSsX0x7NVY-FNyJK70nfbV37xRZT3Lg"
+)
+FIGURE_12 = (
+    "eyJ0eXAiOiJkcG9wK2p3dCIsImFsZyI6IkVTMjU2IiwiandrIjp7Imt0eSI6IkVDIiwieCI6Imw4dEZyaHgtMzR0VjNoUklDUkRZOXpDa0RscEJoRjQyVVFVZldWQVdCRnMiLCJ5IjoiOVZFNGpmX09rX282NHpi"
+    "VFRsY3VOSmFqSG10NnY5VERWclUwQ2R2R1JEQSIsImNydiI6IlAtMjU2In19.eyJqdGkiOiJlMWozVl9iS2ljOC1MQUVCIiwiaHRtIjoiR0VUIiwiaHR1IjoiaHR0cHM6Ly9yZXNvdXJjZS5leGFtcGxlLm9yZy9w"
+    "cm90ZWN0ZWRyZXNvdXJjZSIsImlhdCI6MTU2MjI2MjYxOCwiYXRoIjoiZlVIeU8ycjJaM0RaNTNFc05yV0JiMHhXWG9hTnk1OUlpS0NBcWtzbVFFbyJ9.2oW9RP35yRqzhrtNP86L-Ey71EOptxRimPPToA1plemAgR6"
+    "pxHF8y6-yqyVnmcw6Fy1dqd-jfxSYoMxhAJpLjA"
+)
+FIGURE_12_TOKEN = "Kz~8mXK1EalYznwH-LC-1fBAo.4Ljp~zsPE_NeO.gxU"
+FIGURE_2_KEY = "0ZcOCORZNYy-DWpqq30jZyJGHTN0d2HglBV3uiguA4I"
+
+
+def compact(value: object) -> str:
+    """A value as JSON text without white space."""
+    return json.dumps(value, separators=(",", ":"), ensure_ascii=False)
+
+
+def thumbprint(alg: str) -> str:
+    """The thumbprint of the key of this algorithm (RFC 7638)."""
+    key = json.loads(key_text(alg))
+    names = {"EC": ("crv", "kty", "x", "y"), "OKP": ("crv", "kty", "x"), "RSA": ("e", "kty", "n")}[key["kty"]]
+    return base64url(hashlib.sha256(compact({name: key[name] for name in names}).encode()).digest())
+
+
+def hash_of(token: str) -> str:
+    """What `ath` is of an access token (section 4.2)."""
+    return base64url(hashlib.sha256(token.encode()).digest())
+
+
+def made(alg: str = "ES256", header: dict | None = None, claims: dict | None = None, signed_as: str | None = None, payload: str | None = None, without: tuple = ()) -> str:
+    """A proof by the key of this algorithm: these members are added or take the place of others, those without a name are left out."""
+    full = {"typ": "dpop+jwt", "alg": alg, "jwk": json.loads(key_text(alg)), **(header or {})}
+    said = {"jti": "e1j3V_bKic8-LAEB", "htm": "GET", "htu": URI, "iat": NOW, "ath": hash_of(TOKEN), **(claims or {})}
+    for name in without:
+        full.pop(name, None)
+        said.pop(name, None)
+    text = payload if payload is not None else compact(said)
+    signed = base64url(compact(full).encode()) + "." + base64url(text.encode())
+    return signed + "." + base64url(sign(signed_as or alg, signed.encode()))
+
+
+@dataclasses.dataclass(frozen=True)
+class Row:
+    """A proof and a request, and what is answered: `held`, or the name of the fault."""
+
+    name: str
+    answer: str
+    proof: str
+    method: str = "GET"
+    uri: str = URI
+    nonce: str | None = None
+    # the access token, and its claims; no access token where it is None
+    token: str | None = TOKEN
+    claims: str = compact({"sub": "user", "cnf": {"jkt": thumbprint("ES256")}})
+    now: int = NOW
+
+
+def bound(alg: str) -> str:
+    """The claims of an access token that is bound to the key of this algorithm."""
+    return compact({"sub": "user", "cnf": {"jkt": thumbprint(alg)}})
+
+
+def good() -> list[Row]:
+    """Proofs that hold."""
+    rows = [Row(f"by-{alg}", "held", made(alg), claims=bound(alg)) for alg in ALGS]
+    rows += [
+        Row("figure-2-and-4", "held", FIGURE_2, "POST", "https://server.example.com/token", token=None, now=1562262616),
+        Row("figure-12", "held", FIGURE_12, "GET", "https://resource.example.org/protectedresource", token=FIGURE_12_TOKEN, claims=compact({"cnf": {"jkt": FIGURE_2_KEY}}), now=1562262618),
+        Row("no-access-token", "held", made(without=("ath",)), token=None),
+        Row("hash-without-access-token", "held", made(), token=None),
+        Row("nonce-is-the-one", "held", made(claims={"nonce": "n-0S6"}), nonce="n-0S6"),
+        Row("nonce-unasked", "held", made(claims={"nonce": "n-0S6"})),
+        Row("further-claims", "held", made(claims={"more": {"deep": [1]}, "exp": NOW + 9})),
+        Row("key-says-what-it-is-for", "held", made(header={"jwk": {**json.loads(key_text("ES256")), "use": "sig", "key_ops": ["verify"], "alg": "ES256"}})),
+        Row("key-and-header-of-one-kid", "held", made(header={"kid": "one", "jwk": {**json.loads(key_text("ES256")), "kid": "one"}})),
+        Row("typ-in-capitals", "held", made(header={"typ": "DPOP+JWT"})),
+        Row("typ-in-full", "held", made(header={"typ": "application/dpop+jwt"})),
+        Row("oldest", "held", made(), now=NOW + 65),
+        Row("from-a-clock-ahead", "held", made(), now=NOW - 5),
+        Row("before-1970", "held", made(claims={"iat": -60}), now=0),
+    ]
+    return rows
+
+
+# The text in `htu`, the request's URI, whether they are one.
+URIS = [
+    ("scheme-case", "HTTPS://api.example/things", URI, True),
+    ("host-case", "https://API.Example/things", URI, True),
+    ("default-port", "https://api.example:443/things", URI, True),
+    ("empty-port", "https://api.example:/things", URI, True),
+    ("default-port-of-http", "http://api.example:80/things", "http://api.example/things", True),
+    ("port-of-the-request", "https://api.example/things", "https://api.example:443/things", True),
+    ("empty-path", "https://api.example", "https://api.example/", True),
+    ("empty-path-and-query", "https://api.example?a=b", "https://api.example/", True),
+    ("query", "https://api.example/things?a=b", URI, True),
+    ("fragment", "https://api.example/things#part", URI, True),
+    ("query-of-the-request", URI, "https://api.example/things?a=b#part", True),
+    ("question-mark-in-fragment", "https://api.example/things#a?b", URI, True),
+    ("unreserved-encoded", "https://api.example/%74hing%73", URI, True),
+    ("tilde-encoded", "https://api.example/%7Euser", "https://api.example/~user", True),
+    ("small-hexadecimal-digits", "https://api.example/%c3%bc", "https://api.example/%C3%BC", True),
+    ("host-encoded", "https://%61pi.ex%41mple/things", URI, True),
+    ("dot", "https://api.example/./things", URI, True),
+    ("dots", "https://api.example/a/../things", URI, True),
+    ("dots-encoded", "https://api.example/a/%2e%2E/things", URI, True),
+    ("dots-above-the-root", "https://api.example/../../things", URI, True),
+    ("dots-at-the-end", "https://api.example/things/a/..", "https://api.example/things/", True),
+    ("dot-at-the-end", "https://api.example/things/.", "https://api.example/things/", True),
+    ("address-in-brackets", "https://[2001:DB8::1]:443/things", "https://[2001:db8::1]/things", True),
+    ("another-path", "https://api.example/other", URI, False),
+    ("path-case", "https://api.example/Things", URI, False),
+    ("slash-behind", "https://api.example/things/", URI, False),
+    ("slash-before", "https://api.example//things", URI, False),
+    ("another-host", "https://api.example.org/things", URI, False),
+    ("host-with-a-dot", "https://api.example./things", URI, False),
+    ("another-scheme", "http://api.example/things", URI, False),
+    ("unknown-scheme", "ftp://api.example/things", URI, False),
+    ("no-scheme", "//api.example/things", URI, False),
+    ("path-alone", "/things", URI, False),
+    ("one-slash", "https:/api.example/things", URI, False),
+    ("empty", "", URI, False),
+    ("another-port", "https://api.example:8443/things", URI, False),
+    ("port-of-another-scheme", "https://api.example:80/things", URI, False),
+    ("port-with-a-zero", "https://api.example:0443/things", URI, False),
+    ("port-no-number", "https://api.example:443x/things", URI, False),
+    ("two-ports", "https://api.example:443:443/things", URI, False),
+    ("user", "https://user@api.example/things", URI, False),
+    ("user-as-host", "https://api.example@evil.example/things", URI, False),
+    ("no-host", "https:///things", URI, False),
+    ("no-host-both", "https:///things", "https:///things", False),
+    ("slash-encoded", "https://api.example%2Fthings", URI, False),
+    ("slash-encoded-in-the-path", "https://api.example/a%2Fthings", "https://api.example/a/things", False),
+    ("reserved-encoded", "https://api.example/a%3Bb", "https://api.example/a;b", False),
+    ("query-encoded", "https://api.example/things%3Fa=b", URI, False),
+    ("percent-alone", "https://api.example/things%", "https://api.example/things%", False),
+    ("percent-and-one-digit", "https://api.example/things%7", "https://api.example/things%7", False),
+    ("percent-and-no-digits", "https://api.example/%zz", "https://api.example/%zz", False),
+    ("encoded-twice", "https://api.example/%2574hings", URI, False),
+    ("scheme-encoded", "http%73://api.example/things", URI, False),
+    ("port-encoded", "https://api.example:%34%34%33/things", URI, False),
+    ("backslash", "https://api.example\\things", URI, False),
+    ("white-space-before", " https://api.example/things", URI, False),
+    ("white-space-behind", "https://api.example/things ", URI, False),
+    ("three-dots", "https://api.example/a/.../things", URI, False),
+    ("dots-in-a-name", "https://api.example/..things", URI, False),
+]
+
+
+def uris() -> list[Row]:
+    """Each way to write `htu` (step 9)."""
+    return [Row(f"uri-{name}", "held" if same else "OtherUri", made(claims={"htu": htu}), uri=uri) for name, htu, uri, same in URIS]
+
+
+def not_signed() -> list[Row]:
+    """No one compact JWS, or no key of its own (steps 2, 6 and 7)."""
+    one = made()
+    header, payload, signature = one.split(".")
+    key = json.loads(key_text("ES256"))
+    flat = compact({"payload": payload, "protected": header, "signature": signature})
+    general = compact({"payload": payload, "signatures": [{"protected": header, "signature": signature}]})
+    two = compact({"payload": payload, "signatures": [{"protected": header, "signature": signature}] * 2})
+    outside = base64url(compact({"typ": "dpop+jwt", "alg": "ES256"}).encode()) + "." + payload
+    apart = compact({"payload": payload, "protected": outside.split(".")[0], "header": {"jwk": key}, "signature": base64url(sign("ES256", outside.encode()))})
+    rows = [
+        Row("empty", "Empty", ""),
+        Row("two-proofs-and-a-comma", "Encrypted", one + "," + one),
+        Row("two-parts", "Segments", header + "." + payload),
+        Row("four-parts", "Segments", one + "."),
+        Row("white-space-before", "Base64", " " + one),
+        Row("line-feed-behind", "Base64", one + "\n"),
+        Row("padded", "Base64", one + "="),
+        Row("too-long", "TooLong", made(claims={"more": "a" * 8192})),
+        Row("flattened", "NotCompact", flat),
+        Row("general", "NotCompact", general),
+        Row("two-signatures", "NotCompact", two),
+        Row("key-in-unprotected-header", "NotCompact", apart),
+        Row("no-key", "KeyMissing", made(without=("jwk",))),
+        Row("key-is-a-text", "KeyMissing", made(header={"jwk": key_text("ES256")})),
+        Row("key-is-a-list", "KeyMissing", made(header={"jwk": [key]})),
+        Row("key-is-null", "KeyMissing", made(header={"jwk": None})),
+        Row("key-by-name-alone", "KeyMissing", made(header={"kid": thumbprint("ES256")}, without=("jwk",))),
+        Row("key-of-a-secret", "KeyPrivate", made(header={"alg": "HS256", "jwk": {"kty": "oct", "k": HMAC_K}}, signed_as="HS256")),
+        Row("secret-beside-the-point", "KeyPrivate", made(header={"jwk": {**key, "k": HMAC_K}})),
+    ]
+    for name in ("d", "p", "q", "dp", "dq", "qi", "oth"):
+        rows.append(Row(f"private-{name}", "KeyPrivate", made(header={"jwk": {**key, name: "AQ"}})))
+    rows += [
+        Row("private-null", "KeyPrivate", made(header={"jwk": {**key, "d": None}})),
+        Row("key-is-empty", "KeyUnreadable", made(header={"jwk": {}})),
+        Row("key-of-unknown-kind", "KeyUnreadable", made(header={"jwk": {**key, "kty": "XYZ"}})),
+        Row("key-on-unknown-curve", "KeyUnreadable", made(header={"jwk": {**key, "crv": "secp256k1"}})),
+        Row("key-without-a-coordinate", "KeyUnreadable", made(header={"jwk": {name: key[name] for name in ("kty", "crv", "x")}})),
+        Row("key-in-base64", "KeyUnreadable", made(header={"jwk": {**key, "x": key["x"] + "="}})),
+        Row("key-is-a-certificate", "KeyMissing", made(header={"x5c": ["AA=="]}, without=("jwk",))),
+    ]
+    return rows
+
+
+def not_accepted() -> list[Row]:
+    """Another header, another signature, claims that are absent, or another moment (steps 3 to 6 and 11)."""
+    key = json.loads(key_text("ES256"))
+    one = made()
+    header, payload, signature = one.split(".")
+    point = {**key, "y": key["x"]}
+    rows = [
+        Row("typ-absent", "TypMismatch", made(without=("typ",))),
+        Row("typ-of-a-token", "TypMismatch", made(header={"typ": "JWT"})),
+        Row("typ-of-an-access-token", "TypMismatch", made(header={"typ": "at+jwt"})),
+        Row("typ-no-text", "TypShape", made(header={"typ": ["dpop+jwt"]})),
+        Row("alg-absent", "AlgMissing", made(without=("alg",))),
+        Row("alg-none", "AlgNone", header_changed({"alg": "none"})),
+        Row("alg-unknown", "AlgUnknown", header_changed({"alg": "ES256K"})),
+        Row("alg-not-allowed", "AlgNotAllowed", made("RS384", claims={}), claims=bound("RS384")),
+        Row("alg-hmac", "AlgNotAllowed", made(header={"alg": "HS256"}, signed_as="HS256")),
+        Row("alg-of-another-key", "NoKey", made(header={"alg": "RS256"}, signed_as="RS256")),
+        Row("signed-by-another-key", "BadSignature", header_changed({"jwk": {**json.loads(key_text("ES256")), **other_point()}})),
+        Row("no-point-of-the-curve", "BadSignature", made(header={"jwk": point})),
+        Row("signature-empty", "BadSignature", header + "." + payload + "."),
+        Row("signature-changed", "BadSignature", header + "." + payload + "." + signature[:-2] + ("A" if signature[-2] != "A" else "B") + signature[-1]),
+        Row("claims-changed", "BadSignature", header + "." + base64url(compact({"jti": "a", "htm": "GET", "htu": URI, "iat": NOW, "ath": hash_of(TOKEN)}).encode()) + "." + signature),
+        Row("key-for-encryption", "NoKey", made(header={"jwk": {**key, "use": "enc"}})),
+        Row("key-to-sign-alone", "NoKey", made(header={"jwk": {**key, "key_ops": ["sign"]}})),
+        Row("key-of-another-alg", "NoKey", made(header={"jwk": {**key, "alg": "ES384"}})),
+        Row("kid-of-no-key", "NoKey", made(header={"kid": "one"})),
+        Row("critical-member", "CritUnknown", made(header={"crit": ["more"], "more": 1})),
+        Row("unencoded", "Unencoded", made(header={"b64": False})),
+        Row("key-by-url", "KeyUrl", made(header={"jku": "https://evil.example/keys"})),
+        Row("nested", "Nested", made(header={"cty": "JWT"})),
+        Row("encrypted", "EncHeader", made(header={"enc": "A128GCM"})),
+        Row("claims-no-json", "ClaimsShape", made(payload="{")),
+        Row("claims-a-list", "ClaimsShape", made(payload="[]")),
+        Row("claim-twice", "ClaimsShape", made(payload='{"jti":"a","jti":"b","htm":"GET","htu":"%s","iat":%d}' % (URI, NOW))),
+        Row("jti-no-text", "ClaimKind", made(claims={"jti": 7})),
+        Row("iat-no-number", "ClaimKind", made(claims={"iat": str(NOW)})),
+        Row("iat-a-fraction", "ClaimDate", made(claims={"iat": NOW + 0.5})),
+        Row("audience", "Audience", made(claims={"aud": URI})),
+        Row("expired", "Expired", made(claims={"exp": NOW - 5})),
+        Row("not-yet", "NotYet", made(claims={"nbf": NOW + 6})),
+        Row("too-old", "TooOld", made(), now=NOW + 66),
+        Row("much-too-old", "TooOld", made(claims={"iat": 0})),
+        Row("issued-later", "IssuedLater", made(), now=NOW - 6),
+        Row("greatest-iat", "IssuedLater", made(claims={"iat": 2**63 - 1})),
+        Row("least-iat", "TooOld", made(claims={"iat": -(2**63)})),
+    ]
+    for name in ("jti", "htm", "htu", "iat"):
+        rows.append(Row(f"no-{name}", "ClaimMissing", made(without=(name,))))
+    return rows
+
+
+def header_changed(members: dict) -> str:
+    """A proof whose header has these members, with the signature of what its header then is, by the key of ES256."""
+    return made(header=members, signed_as="ES256")
+
+
+def other_point() -> dict:
+    """The coordinates of the key of RFC 9449, figure 2, of which nobody here has the private part."""
+    header = json.loads(octets_of(FIGURE_2.split(".")[0]))
+    return {name: header["jwk"][name] for name in ("x", "y")}
+
+
+def for_another() -> list[Row]:
+    """Another method, nonce, access token or key (steps 8, 10 and 12)."""
+    rows = [
+        Row("another-method", "OtherMethod", made(), method="POST"),
+        Row("method-case", "OtherMethod", made(claims={"htm": "get"})),
+        Row("method-prefix", "OtherMethod", made(claims={"htm": "GE"})),
+        Row("method-longer", "OtherMethod", made(claims={"htm": "GET "})),
+        Row("method-empty", "OtherMethod", made(claims={"htm": ""})),
+        Row("method-no-text", "OtherMethod", made(claims={"htm": ["GET"]})),
+        Row("uri-no-text", "OtherUri", made(claims={"htu": [URI]})),
+        Row("uri-of-the-request-is-none", "OtherUri", made(claims={"htu": "things"}), uri="things"),
+        Row("method-before-uri", "OtherMethod", made(claims={"htu": "things"}), method="POST"),
+        Row("uri-before-nonce", "OtherUri", made(claims={"htu": "things"}), nonce="n"),
+        Row("no-nonce", "OtherNonce", made(), nonce="n-0S6"),
+        Row("another-nonce", "OtherNonce", made(claims={"nonce": "n-0S7"}), nonce="n-0S6"),
+        Row("nonce-prefix", "OtherNonce", made(claims={"nonce": "n-0S"}), nonce="n-0S6"),
+        Row("nonce-longer", "OtherNonce", made(claims={"nonce": "n-0S66"}), nonce="n-0S6"),
+        Row("nonce-no-text", "OtherNonce", made(claims={"nonce": ["n-0S6"]}), nonce="n-0S6"),
+        Row("nonce-before-access-token", "OtherNonce", made(without=("ath",)), nonce="n"),
+        Row("no-hash", "OtherAccessToken", made(without=("ath",))),
+        Row("hash-of-another-token", "OtherAccessToken", made(claims={"ath": hash_of("another")})),
+        Row("hash-of-the-token-and-more", "OtherAccessToken", made(), token=TOKEN + "."),
+        Row("hash-padded", "OtherAccessToken", made(claims={"ath": hash_of(TOKEN) + "="})),
+        Row("hash-in-hexadecimal", "OtherAccessToken", made(claims={"ath": hashlib.sha256(TOKEN.encode()).hexdigest()})),
+        Row("hash-by-another-function", "OtherAccessToken", made(claims={"ath": base64url(hashlib.sha512(TOKEN.encode()).digest())})),
+        Row("left-half-of-the-hash", "OtherAccessToken", made(claims={"ath": hash_of(TOKEN)[:22]})),
+        Row("hash-no-text", "OtherAccessToken", made(claims={"ath": [hash_of(TOKEN)]})),
+        Row("hash-before-key", "OtherAccessToken", made("EdDSA", without=("ath",))),
+        Row("another-key", "OtherKey", made("EdDSA")),
+        Row("token-not-bound", "OtherKey", made(), claims=compact({"sub": "user"})),
+        Row("confirmation-no-object", "OtherKey", made(), claims=compact({"cnf": thumbprint("ES256")})),
+        Row("thumbprint-beside-confirmation", "OtherKey", made(), claims=compact({"cnf": {}, "jkt": thumbprint("ES256")})),
+        Row("thumbprint-no-text", "OtherKey", made(), claims=compact({"cnf": {"jkt": [thumbprint("ES256")]}})),
+        Row("thumbprint-prefix", "OtherKey", made(), claims=compact({"cnf": {"jkt": thumbprint("ES256")[:-1]}})),
+        Row("thumbprint-padded", "OtherKey", made(), claims=compact({"cnf": {"jkt": thumbprint("ES256") + "="}})),
+        Row("bound-to-a-certificate", "OtherKey", made(), claims=compact({"cnf": {"x5t#S256": thumbprint("ES256")}})),
+        Row("key-itself-in-confirmation", "OtherKey", made(), claims=compact({"cnf": {"jwk": json.loads(key_text("ES256"))}})),
+    ]
+    return rows
+
+
+def all_rows() -> list[Row]:
+    """Every row, each name once."""
+    rows = good() + uris() + not_signed() + not_accepted() + for_another()
+    names = [row.name for row in rows]
+    twice = {name for name in names if names.count(name) > 1}
+    if twice:
+        raise ValueError(f"names that stand twice: {sorted(twice)}")
+    return rows
