@@ -6,35 +6,31 @@ ghost use Rattle.ecdsa.specs.Stands.{IsBelow, IsChord, IsTangent};
 use crate::field::Field;
 use crate::point::Point;
 
-/// The third point of a chord, of u = x1 z^2, s = y1 z^3, h = (x2 - x1) z^2, r = (y2 - y1) z^3.
+/// The third point of a chord from p, of h = (x2 - x1) z^2, r = (y2 - y1) z^3 for the z of p.
 pub fn chord<const N: usize, const KIND: usize>(
     f: &Field<N, KIND>,
-    u: [u64; N],
-    s: [u64; N],
+    p: Point<N>,
     h: [u64; N],
     r: [u64; N],
-    z: [u64; N],
 ) -> Point<N>
-    requires u { Below f.now u }
-    requires s { Below f.now s }
+    requires p { IsBelow f.now p }
     requires h { Below f.now h }
     requires r { Below f.now r }
-    requires z { Below f.now z }
     ensures below { IsBelow f.now result }
-    ensures chord { IsChord (size f.now) (value f.now u.entry) (value f.now s.entry) (value f.now h.entry) (value f.now r.entry) (value f.now z.entry) (value f.now result.x) (value f.now result.y) (value f.now result.z) }
+    ensures chord { IsChord (size f.now) (value f.now p.entry.x) (value f.now p.entry.y) (value f.now h.entry) (value f.now r.entry) (value f.now p.entry.z) (value f.now result.x) (value f.now result.y) (value f.now result.z) }
 {
     let hh = f.square(h);
     let hhh = f.times(hh, h);
-    let v = f.times(u, hh);
+    let v = f.times(p.x, hh);
     let vv = f.plus(v, v);
     let taken = f.plus(hhh, vv);
     let rr = f.square(r);
     let x = f.minus(rr, taken);
     let rest = f.minus(v, x);
     let across = f.times(r, rest);
-    let down = f.times(s, hhh);
+    let down = f.times(p.y, hhh);
     let y = f.minus(across, down);
-    let third = f.times(z, h);
+    let third = f.times(p.z, h);
     Point { x, y, z: third }
 }
 

@@ -19,6 +19,13 @@ pub struct Digits<const N: usize> {
     pub lowest: usize,
 }
 
+/// A hexadecimal digit of a scalar, and its place, from the lowest.
+#[derive(Clone, Copy)]
+pub struct Digit {
+    pub place: usize,
+    pub value: usize,
+}
+
 /// The lowest hexadecimal digit, and the number of the others.
 pub fn lowest_digit<const N: usize>(a: [u64; N]) -> Digits<N>
     requires { 0 < N }

@@ -166,22 +166,28 @@ fn windows_of_base<'a, const N: usize, const KIND: usize>(
     }
 }
 
+/// The octets of a key's coordinates.
+#[derive(Clone, Copy)]
+struct Coordinates<'a> {
+    x: &'a [u8],
+    y: &'a [u8],
+}
+
 /// Prepares a key beside the others, and before the first one the base point. False where it is no key, or is prepared already.
 fn prepare<const N: usize, const KIND: usize>(
     alloc: Global,
     curve: &Curve<N, KIND>,
     keys: &mut PreparedKeys<N>,
     octets: usize,
-    x: &[u8],
-    y: &[u8],
+    at: Coordinates<'_>,
 ) -> Result<bool, AllocError>
     requires known { domain curve.now ≡ curve_over N }
     requires octets { octets ≤ 8 * N }
 {
-    if windows_of(curve, keys.keys.as_slice(), x, y).is_some() {
+    if windows_of(curve, keys.keys.as_slice(), at.x, at.y).is_some() {
         return Ok(false);
     }
-    let Some(key) = prepare_key(alloc, curve, octets, x, y)? else {
+    let Some(key) = prepare_key(alloc, curve, octets, at.x, at.y)? else {
         return Ok(false);
     };
     if keys.base.is_none() {
@@ -220,7 +226,7 @@ pub fn prepare_p256(
     x: &[u8],
     y: &[u8],
 ) -> Result<bool, AllocError> {
-    prepare(alloc, &p256(), keys, 32, x, y)
+    prepare(alloc, &p256(), keys, 32, Coordinates { x, y })
 }
 
 /// Whether a signature of 64 octets, R and S, is that of a digest of 32 octets by the public key (x, y) of P-256: as
@@ -258,7 +264,7 @@ pub fn prepare_p384(
     x: &[u8],
     y: &[u8],
 ) -> Result<bool, AllocError> {
-    prepare(alloc, &p384(), keys, 48, x, y)
+    prepare(alloc, &p384(), keys, 48, Coordinates { x, y })
 }
 
 /// Whether a signature of 96 octets, R and S, is that of a digest of 48 octets by the public key (x, y) of P-384: as
@@ -296,7 +302,7 @@ pub fn prepare_p521(
     x: &[u8],
     y: &[u8],
 ) -> Result<bool, AllocError> {
-    prepare(alloc, &p521(), keys, 66, x, y)
+    prepare(alloc, &p521(), keys, 66, Coordinates { x, y })
 }
 
 /// Whether a signature of 132 octets, R and S, is that of a digest of 64 octets by the public key (x, y) of P-521: as

@@ -171,7 +171,7 @@ fn multiple_of_base<const N: usize, const KIND: usize>(
     ensures stands { IfSome tables.now.base (λ t. AreWindows N (domain curve.now) (Affine (domain curve.now).gx (domain curve.now).gy) t.now.xs.items t.now.ys.items) → Stands curve.now.field result (multiple (domain curve.now) curve.now.digits (number u.entry) (Affine (domain curve.now).gx (domain curve.now).gy)) }
 {
     match tables.base {
-        None => base_multiple(curve, tables.doubles.xs, tables.doubles.ys, u),
+        None => base_multiple(curve, tables.doubles, u),
         Some(windows) => window_multiple(curve, windows, u),
     }
 }

@@ -57,36 +57,35 @@ pub fn double_finite<const N: usize, const KIND: usize>(
     Some(tangent(f, Point { x, y, z }))
 }
 
-/// The sum of two points over one z: x1 = u1/z^2, y1 = s1/z^3, x2 = u2/z^2, y2 = s2/z^3.
+/// The sum of two points over one z: p, and that of x and y over the z of p.
 pub fn add_over<const N: usize, const KIND: usize>(
     curve: &Curve<N, KIND>,
-    u1: [u64; N],
-    s1: [u64; N],
-    u2: [u64; N],
-    s2: [u64; N],
-    z: [u64; N],
+    p: Point<N>,
+    x: [u64; N],
+    y: [u64; N],
 ) -> Option<Point<N>>
-    requires u1 { Below curve.now.field u1 }
-    requires s1 { Below curve.now.field s1 }
-    requires u2 { Below curve.now.field u2 }
-    requires s2 { Below curve.now.field s2 }
-    requires z { Below curve.now.field z }
+    requires p { IsBelow curve.now.field p }
+    requires x { Below curve.now.field x }
+    requires y { Below curve.now.field y }
     ensures below { IfSome result (λ q. IsBelow curve.now.field q) }
-    ensures stands { (left right : Option CurvePoint) → Meet (domain curve.now) (value curve.now.field u1.entry) (value curve.now.field s1.entry) (value curve.now.field u2.entry) (value curve.now.field s2.entry) (value curve.now.field z.entry) left right → Stands curve.now.field result (sum_of (domain curve.now) left right) }
+    ensures stands { (left right : Option CurvePoint) → Meet (domain curve.now) (value curve.now.field p.entry.x) (value curve.now.field p.entry.y) (value curve.now.field x.entry) (value curve.now.field y.entry) (value curve.now.field p.entry.z) left right → Stands curve.now.field result (sum_of (domain curve.now) left right) }
 {
     let f = &curve.field;
-    let h = f.minus(u2, u1);
-    let r = f.minus(s2, s1);
+    let u = p.x;
+    let s = p.y;
+    let z = p.z;
+    let h = f.minus(x, u);
+    let r = f.minus(y, s);
     if !f.is_zero(h) {
-        return Some(chord(f, u1, s1, h, r, z));
+        return Some(chord(f, Point { x: u, y: s, z }, h, r));
     }
     if lacks_inverse(f, z) {
         return Some(Point { x: z, y: z, z });
     }
     if f.is_zero(r) {
-        return double_finite(curve, Point { x: u1, y: s1, z });
+        return double_finite(curve, Point { x: u, y: s, z });
     }
-    let sum = f.plus(s1, s2);
+    let sum = f.plus(s, y);
     if f.is_zero(sum) {
         return None;
     }
@@ -121,7 +120,7 @@ pub fn add_pair<const N: usize, const KIND: usize>(
     ensures below { IfSome result (λ q. IsBelow curve.now.field q) }
     ensures stands { (left right : Option CurvePoint) → AreFor (size curve.now.field) (value curve.now.field p.entry.x) (value curve.now.field p.entry.y) (value curve.now.field p.entry.z) left → AreFor (size curve.now.field) (value curve.now.field q.entry.x) (value curve.now.field q.entry.y) (value curve.now.field q.entry.z) right → Stands curve.now.field result (sum_of (domain curve.now) left right) }
 {
-    add_over(curve, p.x, p.y, q.x, q.y, p.z)
+    add_over(curve, p, q.x, q.y)
 }
 
 /// The sum of two finite points, of which the second has z = 1.
@@ -141,7 +140,7 @@ fn add_two_affine<const N: usize, const KIND: usize>(
     let zzz = f.times(zz, p.z);
     let u2 = f.times(q.x, zz);
     let s2 = f.times(q.y, zzz);
-    add_over(curve, p.x, p.y, u2, s2, p.z)
+    add_over(curve, p, u2, s2)
 }
 
 /// The sum with a finite point that has z = 1.
@@ -183,7 +182,7 @@ fn add_two<const N: usize, const KIND: usize>(
     let u2 = f.times(q.x, zz1);
     let s2 = f.times(q.y, zzz1);
     let z = f.times(p.z, q.z);
-    add_over(curve, u1, s1, u2, s2, z)
+    add_over(curve, Point { x: u1, y: s1, z }, u2, s2)
 }
 
 /// The sum with a finite point.

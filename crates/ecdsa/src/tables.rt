@@ -9,7 +9,7 @@ ghost use Rattle.ecdsa.specs.Field.{size, value, Below};
 ghost use Rattle.ecdsa.specs.Stands.{IsBelow, AreFor, Stands};
 
 use crate::curve::Curve;
-use crate::multiples::lowest_digit;
+use crate::multiples::{Digit, lowest_digit};
 use crate::point::Point;
 use crate::sums::{add, add_affine, add_pair};
 use numbers::{highest_bit, highest_power};
@@ -43,12 +43,11 @@ pub struct Doubles<'a, const N: usize> {
 /// The base point doubled so often, of the table.
 fn double_at<const N: usize, const KIND: usize>(
     curve: &Curve<N, KIND>,
-    xs: &[[u64; N]],
-    ys: &[[u64; N]],
+    doubles: Doubles<'_, N>,
     i: usize,
     one: [u64; N],
 ) -> Point<N>
-    requires table { IsTable curve.now.field (domain curve.now) xs.now ys.now }
+    requires table { IsTable curve.now.field (domain curve.now) doubles.xs.now doubles.ys.now }
     requires i { i < 4 * curve.now.digits }
     requires below { Below curve.now.field one }
     requires one { value curve.now.field one ≡ 1 }
@@ -56,6 +55,8 @@ fn double_at<const N: usize, const KIND: usize>(
     ensures one { value curve.now.field result.z ≡ 1 }
     ensures stands { AreFor (size curve.now.field) (value curve.now.field result.x) (value curve.now.field result.y) (value curve.now.field result.z) (doubled (domain curve.now) i (Affine (domain curve.now).gx (domain curve.now).gy)) }
 {
+    let xs = doubles.xs;
+    let ys = doubles.ys;
     let x = xs[i];
     let y = ys[i];
     Point { x, y, z: one }
@@ -64,25 +65,23 @@ fn double_at<const N: usize, const KIND: usize>(
 /// The sum of the doubles of the two lowest bits of a digit that are set: both have z = 1.
 fn lower_half<const N: usize, const KIND: usize>(
     curve: &Curve<N, KIND>,
-    xs: &[[u64; N]],
-    ys: &[[u64; N]],
-    place: usize,
-    digit: usize,
+    doubles: Doubles<'_, N>,
+    digit: Digit,
     one: [u64; N],
 ) -> Option<Point<N>>
-    requires table { IsTable curve.now.field (domain curve.now) xs.now ys.now }
-    requires place { place < curve.now.digits }
+    requires table { IsTable curve.now.field (domain curve.now) doubles.xs.now doubles.ys.now }
+    requires place { digit.place < curve.now.digits }
     requires below { Below curve.now.field one }
     requires one { value curve.now.field one ≡ 1 }
     ensures below { IfSome result (λ q. IsBelow curve.now.field q) }
-    ensures stands { Stands curve.now.field result (digit_multiple (domain curve.now) (4 * place) 2 digit (Affine (domain curve.now).gx (domain curve.now).gy)) }
+    ensures stands { Stands curve.now.field result (digit_multiple (domain curve.now) (4 * digit.place) 2 digit.value (Affine (domain curve.now).gx (domain curve.now).gy)) }
 {
-    let first = double_at(curve, xs, ys, 4 * place, one);
-    let second = double_at(curve, xs, ys, 4 * place + 1, one);
-    if digit % 2 == 0 {
-        return next(curve, None, (digit / 2) % 2 == 1, second);
+    let first = double_at(curve, doubles, 4 * digit.place, one);
+    let second = double_at(curve, doubles, 4 * digit.place + 1, one);
+    if digit.value % 2 == 0 {
+        return next(curve, None, (digit.value / 2) % 2 == 1, second);
     }
-    if (digit / 2) % 2 == 0 {
+    if (digit.value / 2) % 2 == 0 {
         return Some(first);
     }
     add_pair(curve, first, second)
@@ -91,23 +90,21 @@ fn lower_half<const N: usize, const KIND: usize>(
 /// What a digit of the scalar adds to the multiple of the base point: the sum of the doubles whose bit is set, from the lowest.
 fn step<const N: usize, const KIND: usize>(
     curve: &Curve<N, KIND>,
-    xs: &[[u64; N]],
-    ys: &[[u64; N]],
-    place: usize,
-    digit: usize,
+    doubles: Doubles<'_, N>,
+    digit: Digit,
     one: [u64; N],
 ) -> Option<Point<N>>
-    requires table { IsTable curve.now.field (domain curve.now) xs.now ys.now }
-    requires place { place < curve.now.digits }
+    requires table { IsTable curve.now.field (domain curve.now) doubles.xs.now doubles.ys.now }
+    requires place { digit.place < curve.now.digits }
     requires below { Below curve.now.field one }
     requires one { value curve.now.field one ≡ 1 }
     ensures below { IfSome result (λ q. IsBelow curve.now.field q) }
-    ensures stands { Stands curve.now.field result (digit_multiple (domain curve.now) (4 * place) 4 digit (Affine (domain curve.now).gx (domain curve.now).gy)) }
+    ensures stands { Stands curve.now.field result (digit_multiple (domain curve.now) (4 * digit.place) 4 digit.value (Affine (domain curve.now).gx (domain curve.now).gy)) }
 {
-    let mut sum = lower_half(curve, xs, ys, place, digit, one);
-    let mut rest = digit / 4;
+    let mut sum = lower_half(curve, doubles, digit, one);
+    let mut rest = digit.value / 4;
     'bits: for bit in 2..4usize {
-        let double = double_at(curve, xs, ys, 4 * place + bit, one);
+        let double = double_at(curve, doubles, 4 * digit.place + bit, one);
         sum = next(curve, sum, rest % 2 == 1, double);
         rest = rest / 2;
     }
@@ -117,39 +114,36 @@ fn step<const N: usize, const KIND: usize>(
 /// The sum with what a digit adds, which is one of the doubles where one bit is set.
 fn next_digit<const N: usize, const KIND: usize>(
     curve: &Curve<N, KIND>,
-    xs: &[[u64; N]],
-    ys: &[[u64; N]],
+    doubles: Doubles<'_, N>,
     sum: Option<Point<N>>,
-    place: usize,
-    digit: usize,
+    digit: Digit,
     one: [u64; N],
 ) -> Option<Point<N>>
-    requires table { IsTable curve.now.field (domain curve.now) xs.now ys.now }
+    requires table { IsTable curve.now.field (domain curve.now) doubles.xs.now doubles.ys.now }
     requires sum { IfSome sum (λ q. IsBelow curve.now.field q) }
-    requires place { place < curve.now.digits }
-    requires digit { digit < 16 }
+    requires place { digit.place < curve.now.digits }
+    requires digit { digit.value < 16 }
     requires below { Below curve.now.field one }
     requires one { value curve.now.field one ≡ 1 }
     ensures below { IfSome result (λ q. IsBelow curve.now.field q) }
-    ensures stands { (R : Option CurvePoint) → Stands curve.now.field sum.entry R → Stands curve.now.field result (sum_of (domain curve.now) R (digit_multiple (domain curve.now) (4 * place) 4 digit (Affine (domain curve.now).gx (domain curve.now).gy))) }
+    ensures stands { (R : Option CurvePoint) → Stands curve.now.field sum.entry R → Stands curve.now.field result (sum_of (domain curve.now) R (digit_multiple (domain curve.now) (4 * digit.place) 4 digit.value (Affine (domain curve.now).gx (domain curve.now).gy))) }
 {
-    if digit == highest_power(digit) {
-        let bit = highest_bit(digit);
-        let double = double_at(curve, xs, ys, 4 * place + bit, one);
+    if digit.value == highest_power(digit.value) {
+        let bit = highest_bit(digit.value);
+        let double = double_at(curve, doubles, 4 * digit.place + bit, one);
         return add_affine(curve, sum, double);
     }
-    let here = step(curve, xs, ys, place, digit, one);
+    let here = step(curve, doubles, digit, one);
     add(curve, sum, here)
 }
 
 /// The multiple of the base point.
 pub fn base_multiple<const N: usize, const KIND: usize>(
     curve: &Curve<N, KIND>,
-    xs: &[[u64; N]],
-    ys: &[[u64; N]],
+    doubles: Doubles<'_, N>,
     u: [u64; N],
 ) -> Option<Point<N>>
-    requires table { IsTable curve.now.field (domain curve.now) xs.now ys.now }
+    requires table { IsTable curve.now.field (domain curve.now) doubles.xs.now doubles.ys.now }
     ensures below { IfSome result (λ q. IsBelow curve.now.field q) }
     ensures stands { Stands curve.now.field result (multiple (domain curve.now) curve.now.digits (number u.entry) (Affine (domain curve.now).gx (domain curve.now).gy)) }
 {
@@ -159,7 +153,11 @@ pub fn base_multiple<const N: usize, const KIND: usize>(
     let one = curve.field.one();
     'digits: for place in 0..digits {
         let split = lowest_digit(rest);
-        sum = next_digit(curve, xs, ys, sum, place, split.lowest, one);
+        let digit = Digit {
+            place,
+            value: split.lowest,
+        };
+        sum = next_digit(curve, doubles, sum, digit, one);
         rest = split.rest;
     }
     sum

@@ -11,7 +11,7 @@ ghost use Rattle.ecdsa.specs.Windows.{AreBelow, AreWindows, AreRows, AreRough, I
 
 use crate::curve::Curve;
 use crate::field::Field;
-use crate::multiples::lowest_digit;
+use crate::multiples::{Digit, lowest_digit};
 use crate::point::Point;
 use crate::sums::{add, add_affine, double};
 use numbers::highest_power;
@@ -53,22 +53,28 @@ fn settled<const N: usize, const KIND: usize>(
     (settled_x, settled_y)
 }
 
+/// The windows so far, as they are summed, before z is 1: the coordinates of each.
+#[derive(Clone, Copy)]
+struct Rows<'a, const N: usize> {
+    xs: &'a [[u64; N]],
+    ys: &'a [[u64; N]],
+    zs: &'a [[u64; N]],
+}
+
 /// The window of a place by those before it: the sum of that of the digit without its highest bit and the double of that bit. At a
 /// digit 0 it is any point.
 fn window_from<const N: usize, const KIND: usize>(
     curve: &Curve<N, KIND>,
-    xs: &[[u64; N]],
-    ys: &[[u64; N]],
-    zs: &[[u64; N]],
+    rows: Rows<'_, N>,
     k: usize,
     double: &Option<Point<N>>,
     one: [u64; N],
 ) -> Option<Point<N>>
-    requires rows { AreRows curve.now.field k xs.now ys.now zs.now }
+    requires rows { AreRows curve.now.field k rows.xs.now rows.ys.now rows.zs.now }
     requires double { IfSome double.now (λ q. IsBelow curve.now.field q) }
     requires one { Below curve.now.field one }
     ensures below { IfSome result (λ q. IsBelow curve.now.field q) }
-    ensures stands { (P : CurvePoint) → AreRough curve.now.field (domain curve.now) P k xs.now ys.now zs.now → Stands curve.now.field double.now (doubled (domain curve.now) (doublings k) P) → k % 16 ≢ 0 → Stands curve.now.field result (digit_multiple (domain curve.now) (4 * (k / 16)) 4 (k % 16) P) }
+    ensures stands { (P : CurvePoint) → AreRough curve.now.field (domain curve.now) P k rows.entry.xs.now rows.entry.ys.now rows.entry.zs.now → Stands curve.now.field double.now (doubled (domain curve.now) (doublings k) P) → k % 16 ≢ 0 → Stands curve.now.field result (digit_multiple (domain curve.now) (4 * (k / 16)) 4 (k % 16) P) }
 {
     let digit = k % 16;
     if digit == 0 {
@@ -83,9 +89,9 @@ fn window_from<const N: usize, const KIND: usize>(
         return *double;
     }
     let before = k - power;
-    let x = at(xs, before);
-    let y = at(ys, before);
-    let z = at(zs, before);
+    let x = at(rows.xs, before);
+    let y = at(rows.ys, before);
+    let z = at(rows.zs, before);
     add(curve, Some(Point { x, y, z }), *double)
 }
 
@@ -139,15 +145,12 @@ fn rough_windows<const N: usize, const KIND: usize>(
     products.push(product)?;
     let mut double = Some(p);
     'rows: for k in 0..count {
-        let Some(window) = window_from(
-            curve,
-            xs.as_slice(),
-            ys.as_slice(),
-            zs.as_slice(),
-            k,
-            &double,
-            one,
-        ) else {
+        let rows = Rows {
+            xs: xs.as_slice(),
+            ys: ys.as_slice(),
+            zs: zs.as_slice(),
+        };
+        let Some(window) = window_from(curve, rows, k, &double, one) else {
             return Ok(None);
         };
         let x = window.x;
@@ -231,23 +234,22 @@ fn next<const N: usize, const KIND: usize>(
     curve: &Curve<N, KIND>,
     windows: &Windows<N>,
     sum: Option<Point<N>>,
-    place: usize,
-    digit: usize,
+    digit: Digit,
     one: [u64; N],
 ) -> Option<Point<N>>
     requires rows { AreBelow (domain curve.now) windows.now.xs.items windows.now.ys.items }
-    requires place { place < curve.now.digits }
-    requires digit { digit < 16 }
+    requires place { digit.place < curve.now.digits }
+    requires digit { digit.value < 16 }
     requires sum { IfSome sum (λ q. IsBelow curve.now.field q) }
     requires below { Below curve.now.field one }
     requires one { value curve.now.field one ≡ 1 }
     ensures below { IfSome result (λ q. IsBelow curve.now.field q) }
-    ensures stands { (P : CurvePoint) (R : Option CurvePoint) → AreWindows N (domain curve.now) P windows.now.xs.items windows.now.ys.items → Stands curve.now.field sum.entry R → Stands curve.now.field result (sum_of (domain curve.now) R (digit_multiple (domain curve.now) (4 * place) 4 digit P)) }
+    ensures stands { (P : CurvePoint) (R : Option CurvePoint) → AreWindows N (domain curve.now) P windows.now.xs.items windows.now.ys.items → Stands curve.now.field sum.entry R → Stands curve.now.field result (sum_of (domain curve.now) R (digit_multiple (domain curve.now) (4 * digit.place) 4 digit.value P)) }
 {
-    if digit == 0 {
+    if digit.value == 0 {
         return sum;
     }
-    let window = window_at(curve, windows, 16 * place + digit, one);
+    let window = window_at(curve, windows, 16 * digit.place + digit.value, one);
     add_affine(curve, sum, window)
 }
 
@@ -267,7 +269,11 @@ pub fn window_multiple<const N: usize, const KIND: usize>(
     let one = curve.field.one();
     'digits: for place in 0..digits {
         let split = lowest_digit(rest);
-        sum = next(curve, windows, sum, place, split.lowest, one);
+        let digit = Digit {
+            place,
+            value: split.lowest,
+        };
+        sum = next(curve, windows, sum, digit, one);
         rest = split.rest;
     }
     sum

@@ -7,7 +7,7 @@ use Rattle.ecdsa.proofs.formulas.chord.Goals as goal
 pub returns-clause-chord : goal.returns-clause-chord
 returns-clause-chord g c =
     let f = c.args.f.now in
-    chord_made (number f.n) (value f c.args.u) (value f c.args.s) (value f c.args.h) (value f c.args.r) (value f c.args.z)
+    chord_made (number f.n) (value f c.args.p.x) (value f c.args.p.y) (value f c.args.h) (value f c.args.r) (value f c.args.p.z)
     (value f c.square-hh.result) (value f c.times-hhh.result) (value f c.times-v.result) (value f c.plus-vv.result) (value f c.plus-taken.result)
     (value f c.square-rr.result) (value f c.minus-x.result) (value f c.minus-rest.result) (value f c.times-across.result) (value f c.times-down.result)
     (value f c.minus-y.result) (value f c.times-third.result) (omega (arith, f.above))

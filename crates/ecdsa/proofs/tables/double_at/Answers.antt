@@ -9,19 +9,19 @@ use Rattle.ecdsa.proofs.tables.double_at.Goals as goal
 pub offset_bounds-ys-i : goal.offset_bounds-ys-i
 offset_bounds-ys-i g c =
     let E = domain c.args.curve.now in
-    omega (arith, c.requires.table.long, c.requires.i, as_long c.args.curve.now.field E 0 (Affine E.gx E.gy) c.args.xs.now c.args.ys.now c.requires.table.rows)
+    omega (arith, c.requires.table.long, c.requires.i, as_long c.args.curve.now.field E 0 (Affine E.gx E.gy) c.args.doubles.xs.now c.args.doubles.ys.now c.requires.table.rows)
 
 pub bounds-ys-i : goal.bounds-ys-i
 bounds-ys-i g c =
     let E = domain c.args.curve.now in
-    omega (arith, c.requires.table.long, c.requires.i, as_long c.args.curve.now.field E 0 (Affine E.gx E.gy) c.args.xs.now c.args.ys.now c.requires.table.rows)
+    omega (arith, c.requires.table.long, c.requires.i, as_long c.args.curve.now.field E 0 (Affine E.gx E.gy) c.args.doubles.xs.now c.args.doubles.ys.now c.requires.table.rows)
 
 pub returns-clause-below : goal.returns-clause-below
 returns-clause-below g c =
     let f = c.args.curve.now.field in
     let E = domain c.args.curve.now in
-    let xs = c.args.xs.now in
-    let ys = c.args.ys.now in
+    let xs = c.args.doubles.xs.now in
+    let ys = c.args.doubles.ys.now in
     let i = c.args.i in
     let row = row_from_first f E (Affine E.gx E.gy) xs ys c.requires.table.rows i (omega (arith, c.requires.table.long, c.requires.i)) in
     let same = as_long f E 0 (Affine E.gx E.gy) xs ys c.requires.table.rows in
@@ -35,8 +35,8 @@ pub returns-clause-stands : goal.returns-clause-stands
 returns-clause-stands g c =
     let f = c.args.curve.now.field in
     let E = domain c.args.curve.now in
-    let xs = c.args.xs.now in
-    let ys = c.args.ys.now in
+    let xs = c.args.doubles.xs.now in
+    let ys = c.args.doubles.ys.now in
     let i = c.args.i in
     let R = doubled E i (Affine E.gx E.gy) in
     let row = row_from_first f E (Affine E.gx E.gy) xs ys c.requires.table.rows i (omega (arith, c.requires.table.long, c.requires.i)) in

@@ -11,8 +11,8 @@ returns-then-digit-highest_power-clause-stands g c R at =
     let f = c.args.curve.now.field in
     let E = domain c.args.curve.now in
     let G = Affine E.gx E.gy in
-    let d = c.args.digit in
-    let times = 4 * c.args.place in
+    let d = c.args.digit.value in
+    let times = 4 * c.args.digit.place in
     let power : d ≡ 2 ^ highest d = c.if-digit-highest_power.true ∙ c.highest_power.ensures in
     let some : d ≢ 0 = λ none. absurd (omega (arith, none, power, ap (λ k. 2 ^ highest k) none)) in
     let here = ap (λ n. doubled E (times + n) G) c.highest_bit-bit.ensures.is ∙ by_power E times G d c.requires.digit some power in
@@ -22,4 +22,4 @@ returns-then-digit-highest_power-clause-stands g c R at =
 pub returns-clause-stands : goal.returns-clause-stands
 returns-clause-stands g c R at =
     let E = domain c.args.curve.now in
-    c.add.ensures.stands R (digit_multiple E (4 * c.args.place) 4 c.args.digit (Affine E.gx E.gy)) at c.step-here.ensures.stands
+    c.add.ensures.stands R (digit_multiple E (4 * c.args.digit.place) 4 c.args.digit.value (Affine E.gx E.gy)) at c.step-here.ensures.stands

@@ -19,9 +19,9 @@ bits-preserved g c =
     let f = c.args.curve.now.field in
     let E = domain c.args.curve.now in
     let G = Affine E.gx E.gy in
-    let times = 4 * c.args.place in
+    let times = 4 * c.args.digit.place in
     let i = c.bits.bit in
-    let d = c.args.digit in
+    let d = c.args.digit.value in
     let it = c.bits.invariant in
     record {
       below = c.next-sum.ensures.below;
@@ -35,4 +35,4 @@ pub returns-clause-stands : goal.returns-clause-stands
 returns-clause-stands g c =
     let E = domain c.args.curve.now in
     let end : c.bits.bit ≡ 4 = omega (arith, c.bits.invariant.within) in
-    subst (λ n. Stands c.args.curve.now.field c.bits.sum (digit_multiple E (4 * c.args.place) n c.args.digit (Affine E.gx E.gy))) end c.bits.invariant.stands
+    subst (λ n. Stands c.args.curve.now.field c.bits.sum (digit_multiple E (4 * c.args.digit.place) n c.args.digit.value (Affine E.gx E.gy))) end c.bits.invariant.stands

@@ -9,6 +9,6 @@ abbrev pub invariant-bits : goal.invariant-bits
 invariant-bits g l = record {
   below : IfSome l.sum (λ p. IsBelow l.curve.field p);
   within : l.bit ≤ 4;
-  rest : l.rest ≡ l.fn.digit / 2 ^ l.bit;
-  stands : Stands l.curve.field l.sum (digit_multiple (domain l.curve) (4 * l.place) l.bit l.fn.digit (Affine (domain l.curve).gx (domain l.curve).gy));
+  rest : l.rest ≡ l.fn.digit.value / 2 ^ l.bit;
+  stands : Stands l.curve.field l.sum (digit_multiple (domain l.curve) (4 * l.digit.place) l.bit l.fn.digit.value (Affine (domain l.curve).gx (domain l.curve).gy));
 }

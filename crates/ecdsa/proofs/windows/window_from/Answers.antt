@@ -44,8 +44,8 @@ returns-clause-stands g c P rough at some =
     let left = digit_multiple E (4 * (j / 16)) 4 (j % 16) P in
     let earlier : AreFor (size f) (value f c.at-x.result) (value f c.at-y.result) (value f c.at-z.result) left =
     subst (λ a. AreFor (size f) (value f a) (value f c.at-y.result) (value f c.at-z.result) left) (sym c.at-x.ensures)
-    (subst (λ b. AreFor (size f) (value f (get_or c.args.xs.now j [])) (value f b) (value f c.at-z.result) left) (sym c.at-y.ensures)
-    (subst (λ z. AreFor (size f) (value f (get_or c.args.xs.now j [])) (value f (get_or c.args.ys.now j [])) (value f z) left) (sym c.at-z.ensures) (rough j within other))) in
+    (subst (λ b. AreFor (size f) (value f (get_or c.args.rows.xs.now j [])) (value f b) (value f c.at-z.result) left) (sym c.at-y.ensures)
+    (subst (λ z. AreFor (size f) (value f (get_or c.args.rows.xs.now j [])) (value f (get_or c.args.rows.ys.now j [])) (value f z) left) (sym c.at-z.ensures) (rough j within other))) in
     subst (λ o. Stands f c.add.result o)
     (ap (λ o. sum_of E o (doubled E (4 * (k / 16) + highest (k % 16)) P)) (ap₂ (λ a b. digit_multiple E (4 * a) 4 b P) whole rest)
     ∙ by_highest E (4 * (k / 16)) P (k % 16) (omega arith) some)
