@@ -22,7 +22,7 @@ use jwt_mac::{Alg, Budget, CountDown, KeyView, Message, Verifier, hmac};
 use jwt_policy::{Policy, PolicyFault};
 use jwt_text::{Reader, Scratch, TextFault, object};
 use jwt_verify::laws::tells_reports;
-use jwt_verify::{Fault, InputFault, JudgedToken, Verdict, judge, judge_signed, validate};
+use jwt_verify::{Fault, InputFault, JudgedToken, Terms, Verdict, judge, judge_under, validate};
 use std::alloc::Global;
 
 // The moment, in seconds since 1970-01-01T00:00:00Z: a second before the token of RFC 7515, appendix A.1, expires.
@@ -129,7 +129,7 @@ impl Ready<'_> {
         self.judge_by(alloc, &verifiers)
     }
 
-    /// Judges a signed token that was read before.
+    /// Judges the token, with the scratch of the runs before.
     fn signed(&self, alloc: Global, scratch: &mut Scratch) -> Result<Ran, RunFault>
         ensures value { IfOk result (λ ran. ran ≡ judged (ready_view self.now)) }
         ensures within { IfOk result (λ ran. ran.octets ≤ 1000000000000) }
@@ -137,13 +137,16 @@ impl Ready<'_> {
         let verifiers: [Box<dyn Verifier>; 0] = [];
         let mut budget = CountDown::new(self.policy.work());
         tells_reports();
-        let JudgedToken { report, token: _ } = judge_signed(
+        let terms = Terms {
+            keys: self.keys,
+            policy: self.policy,
+            moment: NOW,
+            verifiers: &verifiers,
+        };
+        let JudgedToken { report, token: _ } = judge_under(
             alloc,
             self.given.token,
-            self.keys,
-            self.policy,
-            NOW,
-            &verifiers,
+            &terms,
             &mut budget,
             scratch,
         );

@@ -13,7 +13,7 @@ pub(crate) enum Workload {
     /// The same with the keys of the set prepared, at most 16.
     Prepared,
 
-    /// `judge_signed` on the token, with a new budget and the scratch of the runs before.
+    /// `judge_under` on the token, with a new budget and the scratch of the runs before.
     Signed,
 
     /// `validate` on the token as a source, with a new budget.

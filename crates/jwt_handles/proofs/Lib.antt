@@ -1,9 +1,9 @@
+-- ---- For by_answers.rt
+pub mod Resting
 -- ---- For expecting.rt
 pub mod Standings
 -- ---- For handle.rt
 pub mod Handles
--- ---- For judging.rt
-pub mod Resting
 -- ---- For once_handle.rt
 pub mod OnceHandles
 -- ---- For rule_handle.rt

@@ -55,97 +55,116 @@ fn typ_of(typ: &str) -> Option<&str>
     if typ.is_empty() { None } else { Some(typ) }
 }
 
-/// Writes the token of some claims at the front of `out`. `FOW_OK`; `FOW_REFUSED`: it is refused, as the report says;
-/// `FOW_OUT_OF_MEMORY`: memory was refused; `FOW_TOO_SHORT`: `out` is too short.
-fn put_token(
-    alloc: Global,
-    options: IssueOptions<'_>,
-    keys: &KeySet,
-    claims: &ClaimSet,
-    out: &mut [u8],
-    written: &mut usize,
-    report: &mut FowReport,
-) -> u32
-    ensures written { PutsToken
-        (issued_by (options_parts options.entry) (key_set keys.now).keys claims.now)
-        result report.new written.new out.old out.new }
-    ensures unwritten { result ≢ FOW_OK → (out.new ≡ out.old) × (written.new ≡ written.old) }
-    ensures unsaid { result ≢ FOW_REFUSED → report.new ≡ report.old }
-{
-    match issue_by(alloc, options, keys, claims) {
-        Ok(token) => put(&token, out, written),
-        Err(IssueFault::OutOfMemory) => FOW_OUT_OF_MEMORY,
-        Err(fault) => {
-            *report = FowReport::of_issue(fault);
-            FOW_REFUSED
-        }
-    }
+/// How a token is to be issued, with the keys that may sign it.
+#[derive(Clone, Copy)]
+struct Issuing<'a> {
+    options: IssueOptions<'a>,
+    keys: &'a KeySet,
 }
 
-/// The same of claims as they stand.
-fn put_issued(
-    alloc: Global,
-    options: IssueOptions<'_>,
-    keys: &KeySet,
-    claims: &[u8],
-    out: &mut [u8],
-    written: &mut usize,
-    report: &mut FowReport,
-) -> u32
-    ensures written { PutsIssued (options_parts options.entry) (key_set keys.now).keys
-        (claim_set_of claims.now) result report.new written.new out.old out.new }
-    ensures unwritten { result ≢ FOW_OK → (out.new ≡ out.old) × (written.new ≡ written.old) }
-    ensures unsaid { result ≢ FOW_REFUSED → report.new ≡ report.old }
-{
-    let Ok(octets) = claims.to_vec(alloc) else {
-        return FOW_OUT_OF_MEMORY;
-    };
-    match ClaimSet::from_octets(alloc, octets) {
-        Ok(claims) => put_token(alloc, options, keys, &claims, out, written, report),
-        Err(ClaimFault::OutOfMemory) => FOW_OUT_OF_MEMORY,
-        Err(fault) => {
-            *report = FowReport::of_claims(&fault);
-            FOW_REFUSED
-        }
-    }
-}
-
-/// The same in the form and by the algorithm of these numbers, with this `typ` where it has octets. `FOW_ABSENT`: there is no such
-/// algorithm or form.
-pub(crate) fn put_numbered(
-    alloc: Global,
-    alg: u32,
-    form: u32,
-    key: u32,
-    typ: &str,
-    keys: &KeySet,
-    claims: &[u8],
-    out: &mut [u8],
-    written: &mut usize,
-    report: &mut FowReport,
-) -> u32
-    ensures alg { hmac_at alg ≡ None → result ≡ FOW_ABSENT }
-    ensures form { form_at form ≡ None → result ≡ FOW_ABSENT }
-    ensures token { IfSome (hmac_at alg)
-        (λ a. IfSome (form_at form) (λ f. PutsIssued
-        (record { alg = a; typ = typ_of typ.now; form = f; key = key }) (key_set keys.now).keys
-        (claim_set_of claims.now) result report.new written.new out.old out.new)) }
-    ensures unwritten { result ≢ FOW_OK → (out.new ≡ out.old) × (written.new ≡ written.old) }
-    ensures unsaid { result ≢ FOW_REFUSED → report.new ≡ report.old }
-{
-    match hmac_at(alg) {
-        Some(alg) => match form_at(form) {
-            Some(form) => {
-                let options = IssueOptions {
-                    alg,
-                    typ: typ_of(typ),
-                    form,
-                    key,
-                };
-                put_issued(alloc, options, keys, claims, out, written, report)
+impl Issuing<'_> {
+    /// Writes the token of some claims at the front of `out`. `FOW_OK`; `FOW_REFUSED`: it is refused, as the report says;
+    /// `FOW_OUT_OF_MEMORY`: memory was refused; `FOW_TOO_SHORT`: `out` is too short.
+    fn put_token(
+        &self,
+        alloc: Global,
+        claims: &ClaimSet,
+        out: &mut [u8],
+        written: &mut usize,
+        report: &mut FowReport,
+    ) -> u32
+        ensures written { PutsToken
+            (issued_by (options_parts self.now.options) (key_set self.now.keys.now).keys claims.now)
+            result report.new written.new out.old out.new }
+        ensures unwritten { result ≢ FOW_OK → (out.new ≡ out.old) × (written.new ≡ written.old) }
+        ensures unsaid { result ≢ FOW_REFUSED → report.new ≡ report.old }
+    {
+        match issue_by(alloc, self.options, self.keys, claims) {
+            Ok(token) => put(&token, out, written),
+            Err(IssueFault::OutOfMemory) => FOW_OUT_OF_MEMORY,
+            Err(fault) => {
+                *report = FowReport::of_issue(fault);
+                FOW_REFUSED
             }
+        }
+    }
+
+    /// The same of claims as they stand.
+    fn put(
+        &self,
+        alloc: Global,
+        claims: &[u8],
+        out: &mut [u8],
+        written: &mut usize,
+        report: &mut FowReport,
+    ) -> u32
+        ensures written { PutsIssued (options_parts self.now.options) (key_set self.now.keys.now).keys
+            (claim_set_of claims.now) result report.new written.new out.old out.new }
+        ensures unwritten { result ≢ FOW_OK → (out.new ≡ out.old) × (written.new ≡ written.old) }
+        ensures unsaid { result ≢ FOW_REFUSED → report.new ≡ report.old }
+    {
+        let Ok(octets) = claims.to_vec(alloc) else {
+            return FOW_OUT_OF_MEMORY;
+        };
+        match ClaimSet::from_octets(alloc, octets) {
+            Ok(claims) => self.put_token(alloc, &claims, out, written, report),
+            Err(ClaimFault::OutOfMemory) => FOW_OUT_OF_MEMORY,
+            Err(fault) => {
+                *report = FowReport::of_claims(&fault);
+                FOW_REFUSED
+            }
+        }
+    }
+}
+
+/// The same in the numbers of the header: the algorithm, the form, the key, and `typ`, which is asked for where it has octets.
+#[derive(Clone, Copy)]
+pub(crate) struct NumberedIssuing<'a> {
+    pub(crate) alg: u32,
+    pub(crate) form: u32,
+    pub(crate) key: u32,
+    pub(crate) typ: &'a str,
+    pub(crate) keys: &'a KeySet,
+}
+
+impl NumberedIssuing<'_> {
+    /// Writes the token of these claims, as they stand, at the front of `out`. `FOW_OK`; `FOW_REFUSED`: it is refused, as the report
+    /// says; `FOW_OUT_OF_MEMORY`: memory was refused; `FOW_TOO_SHORT`: `out` is too short; `FOW_ABSENT`: there is no such algorithm or
+    /// form.
+    pub(crate) fn put(
+        &self,
+        alloc: Global,
+        claims: &[u8],
+        out: &mut [u8],
+        written: &mut usize,
+        report: &mut FowReport,
+    ) -> u32
+        ensures alg { hmac_at self.now.alg ≡ None → result ≡ FOW_ABSENT }
+        ensures form { form_at self.now.form ≡ None → result ≡ FOW_ABSENT }
+        ensures token { IfSome (hmac_at self.now.alg)
+            (λ a. IfSome (form_at self.now.form) (λ f. PutsIssued
+            (record { alg = a; typ = typ_of self.now.typ.now; form = f; key = self.now.key }) (key_set self.now.keys.now).keys
+            (claim_set_of claims.now) result report.new written.new out.old out.new)) }
+        ensures unwritten { result ≢ FOW_OK → (out.new ≡ out.old) × (written.new ≡ written.old) }
+        ensures unsaid { result ≢ FOW_REFUSED → report.new ≡ report.old }
+    {
+        match hmac_at(self.alg) {
+            Some(alg) => match form_at(self.form) {
+                Some(form) => {
+                    let issuing = Issuing {
+                        options: IssueOptions {
+                            alg,
+                            typ: typ_of(self.typ),
+                            form,
+                            key: self.key,
+                        },
+                        keys: self.keys,
+                    };
+                    issuing.put(alloc, claims, out, written, report)
+                }
+                None => FOW_ABSENT,
+            },
             None => FOW_ABSENT,
-        },
-        None => FOW_ABSENT,
+        }
     }
 }

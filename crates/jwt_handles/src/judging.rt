@@ -1,7 +1,7 @@
 //! The judging of a token by answers.
 
 ghost use Rattle.jwt_handles.specs.declared.status.TheConstants.{FOW_ASKS, FOW_OK, FOW_OUT_OF_MEMORY, FOW_REFUSED};
-ghost use Rattle.std.specs.Prelude.{◌≡◌, ◌≢◌, ◌↔◌, ◌⊎◌, None, ◌≤◌, true, false, IfOk, IfErr, IsTrue, MatchResult, length, option_map};
+ghost use Rattle.std.specs.Prelude.{◌≡◌, ◌≢◌, ◌↔◌, ◌⊎◌, None, ◌≤◌, true, false, IfOk, IfErr, IsTrue, length, option_map};
 ghost use Rattle.std.specs.Arc.{arc_value};
 ghost use Rattle.jwt_jws.specs.Views.{token};
 ghost use Rattle.jwt_keys.specs.KeySets.{key_set};
@@ -10,19 +10,18 @@ ghost use Rattle.jwt_verify.specs.Verdict.{checked};
 ghost use Rattle.jwt_told.specs.Questions.{kept_parts, question_at};
 ghost use Rattle.jwt_told.specs.Told.{told};
 ghost use Rattle.jwt_memory.specs.Outcomes.{report_in, report_of, paid_in, is_remembered, payload_in, payload_unless};
-ghost use Rattle.jwt_memory.specs.Payloads.{HandsOut, IsAcceptance};
+ghost use Rattle.jwt_memory.specs.Payloads.{IsAcceptance};
 ghost use Rattle.jwt_access.specs.Moments.{moment_under};
 ghost use Rattle.jwt_handles.specs.Documents.{documents};
 ghost use Rattle.jwt_handles.specs.declared.state.Evidence.TheVariants.{Shared};
 ghost use Rattle.jwt_handles.specs.Evidence.{tries_kept, claims_kept, payload_kept, none_yet};
-ghost use Rattle.jwt_handles.specs.Faults.{missing_in, missing_name, bare, verdict_numbers};
+ghost use Rattle.jwt_handles.specs.Faults.{missing_in, missing_name, bare};
 ghost use Rattle.jwt_handles.specs.ProvedKept.{HasSameRoom};
-ghost use Rattle.jwt_handles.specs.Keeping.{AddsHanded, AddsNone, AddsOnly, AddsTold};
+ghost use Rattle.jwt_handles.specs.Keeping.{AddsOnly, AddsTold};
 ghost use Rattle.jwt_handles.specs.Payloads.{KeepsPayload};
-ghost use Rattle.jwt_handles.specs.Remembering.{RestsOn};
-ghost use Rattle.jwt_handles.specs.Reports.{IsAsked, IsAsking, IsJudged, Says, claims_in, report_numbers};
+ghost use Rattle.jwt_handles.specs.Reports.{IsAsked, IsJudged, Says, claims_in, report_numbers};
 
-use crate::grounds::Documents;
+use crate::by_answers::ByAnswers;
 use crate::last::no_moment;
 use crate::report::FowReport;
 use crate::state::{Evidence, Last, State};
@@ -30,12 +29,10 @@ use crate::status::{FOW_ASKS, FOW_OUT_OF_MEMORY};
 use jwt_access::Moment;
 use jwt_jws::Signed;
 use jwt_keys::KeySet;
-use jwt_mac::{Budget, CountDown};
-use jwt_memory::laws::read_payloads;
-use jwt_memory::{Basis, Handed, Memory, Outcome};
+use jwt_mac::Budget;
+use jwt_memory::{Basis, Handed, Outcome};
 use jwt_policy::{ClaimFault, Claims};
-use jwt_text::Scratch;
-use jwt_told::{Answers, Asking, OpenPair, OwnedQuestion, judge_told};
+use jwt_told::{Asking, OpenPair, OwnedQuestion};
 use jwt_verify::{Fault, Report, Verdict};
 use std::alloc::{AllocError, Global};
 use std::sync::Arc;
@@ -299,46 +296,6 @@ pub(crate) fn judging_of(
     }
 }
 
-/// What judging by answers hands out, or a question, over a memory where there is one.
-#[tactic(auto, unfolding(jwt_verify::specs::Table::work))]
-fn outcome_of<'a, 'p>(
-    alloc: Global,
-    memory: &mut Option<Memory>,
-    octets: &'a [u8],
-    documents: &'p Documents,
-    now: i64,
-    answers: &Answers,
-    budget: &mut CountDown,
-    scratch: &mut Scratch,
-) -> Result<Handed<'p>, Asking<'a>>
-    requires no_octets { ⟦<CountDown as Budget>⟧.octets budget.old ≡ 0 }
-    requires no_calls { ⟦<CountDown as Budget>⟧.calls budget.old ≡ 0 }
-    requires ceiling { ⟦<CountDown as Budget>⟧.ceiling budget.old ≡ documents.now.policy.run.work }
-    ensures rests { IfOk result (λ h. RestsOn (is_remembered h.outcome) (told answers.now) memory.old
-        documents.now now octets.now (report_in h.outcome)) }
-    ensures paid { IfOk result (λ h. ⟦<CountDown as Budget>⟧.octets budget.new ≡ work (paid_in h.outcome)) }
-    ensures payload { IfOk result (λ h. HandsOut documents.now.policy octets.now
-        (report_in h.outcome).verdict (payload_in h)) }
-    ensures adds { MatchResult result
-        (λ h. AddsHanded documents.now.policy.run.work octets.now h memory.old memory.new)
-        (λ _. AddsNone memory.old memory.new) }
-    ensures told { AddsTold (told answers.now) documents.now memory.old memory.new }
-    ensures room { HasSameRoom memory.new memory.old }
-    ensures asks { IfErr result (λ a. IsAsking (told answers.now) documents.now now octets.now a) }
-{
-    read_payloads();
-    let Documents { policy, keys } = documents;
-    match memory {
-        Some(memory) => jwt_memory::judge_told(
-            memory, alloc, octets, keys, policy, now, answers, budget, scratch,
-        ),
-        None => match judge_told(alloc, octets, keys, policy, now, answers, budget, scratch) {
-            Ok(judged) => Ok(Handed::of(alloc, judged)),
-            Err(asks) => Err(asks),
-        },
-    }
-}
-
 /// The judging of a state on a token. It changes the state's memory of tokens and its scratch, whose contents affect nothing.
 fn report_on(alloc: Global, state: &mut State, octets: &[u8], now: i64) -> Judging
     ensures judged { result.said.verdict ≤ FOW_REFUSED
@@ -359,13 +316,15 @@ fn report_on(alloc: Global, state: &mut State, octets: &[u8], now: i64) -> Judgi
 {
     let documents = state.grounds.documents();
     let mut budget = documents.policy.budget();
-    match outcome_of(
+    let by = ByAnswers {
+        documents,
+        moment: now,
+        answers: &state.answers,
+    };
+    match by.outcome(
         alloc,
         &mut state.memory,
         octets,
-        documents,
-        now,
-        &state.answers,
         &mut budget,
         &mut *state.scratch,
     ) {

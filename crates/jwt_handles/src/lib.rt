@@ -9,6 +9,7 @@
 mod access;
 pub mod answering;
 mod asking;
+mod by_answers;
 pub mod entries;
 pub mod expecting;
 mod faults;

@@ -59,7 +59,7 @@ fn outcome_under<'p>(
 {
     read_payloads();
     match memory {
-        Some(memory) => jwt_memory::judge_under(memory, alloc, octets, under, budget, scratch),
+        Some(memory) => memory.judge_under(alloc, octets, under, budget, scratch),
         None => {
             let judged = judge_under(alloc, octets, under, budget, scratch);
             Handed::of(alloc, judged)

@@ -10,7 +10,7 @@ ghost use Rattle.jwt_handles.specs.Issuing.{hmac_at, form_at, typ_of, PutsIssued
 ghost use Rattle.jwt_issue.specs.ClaimSets.{claim_set_of};
 
 use crate::handle::{Handle, take};
-use crate::issuing::put_numbered;
+use crate::issuing::NumberedIssuing;
 use crate::report::FowReport;
 use crate::status::{FOW_ABSENT, FOW_NOT_OPEN};
 use crate::writing::payload_of;
@@ -98,18 +98,16 @@ pub fn issue(
         return FOW_NOT_OPEN;
     };
     let status = match from_utf8(typ) {
-        Ok(typ) => put_numbered(
-            alloc,
-            alg,
-            form,
-            key,
-            typ,
-            &state.grounds.documents().keys,
-            claims,
-            out,
-            written,
-            report,
-        ),
+        Ok(typ) => {
+            let issuing = NumberedIssuing {
+                alg,
+                form,
+                key,
+                typ,
+                keys: &state.grounds.documents().keys,
+            };
+            issuing.put(alloc, claims, out, written, report)
+        }
         Err(_) => FOW_ABSENT,
     };
     *validator = Handle::of(state);

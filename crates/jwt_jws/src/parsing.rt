@@ -11,7 +11,7 @@ use crate::json::{SpelledJson, SpelledSignature, json_object, opens_object, spel
 use crate::laws::compact_form;
 use crate::signature::Signature;
 use crate::signed::Signed;
-use crate::signing::{make_signature, octets_of};
+use crate::signing::{SignaturePlace, SignatureTexts, make_signature, octets_of};
 use crate::unprotected::Unprotected;
 use jwt_text::{ObjectRef, Part, Scratch};
 use std::alloc::Global;
@@ -31,15 +31,16 @@ fn compact_signed<'a>(
     let payload = octets_of(alloc, segments.payload, Place::Payload)?;
     // The claims are read with it too: got once, it never grows.
     scratch.reserve(payload.len())?;
-    let signature = make_signature(
-        alloc,
-        Form::Compact,
-        0,
-        Part::Slice(segments.protected),
-        &Unprotected::Absent,
-        segments.signature,
-        scratch,
-    )?;
+    let place = SignaturePlace {
+        form: Form::Compact,
+        number: 0,
+    };
+    let texts = SignatureTexts {
+        protected: Part::Slice(segments.protected),
+        header: &Unprotected::Absent,
+        signature: segments.signature,
+    };
+    let signature = make_signature(alloc, place, texts, scratch)?;
     Ok(Signed {
         form: Form::Compact,
         payload_text: Part::Slice(segments.payload),
@@ -52,24 +53,19 @@ fn compact_signed<'a>(
 /// A signature of a token in JSON form, with its own copy of the protected text.
 fn owned_signature<'a>(
     alloc: Global,
-    form: Form,
-    i: u32,
+    place: SignaturePlace,
     spelled: &SpelledSignature<'_>,
     scratch: &mut Scratch,
 ) -> Result<Signature<'a>, FormFault>
     ensures { Answers FormFault.OutOfMemory parts result
-        (signature_of form i (spelled_view spelled.now)) }
+        (signature_of place.form place.number (spelled_view spelled.now)) }
 {
-    let text = Part::Owned(Vec::from_slice(alloc, spelled.protected)?);
-    make_signature(
-        alloc,
-        form,
-        i,
-        text,
-        &spelled.header,
-        spelled.signature,
-        scratch,
-    )
+    let texts = SignatureTexts {
+        protected: Part::Owned(Vec::from_slice(alloc, spelled.protected)?),
+        header: &spelled.header,
+        signature: spelled.signature,
+    };
+    make_signature(alloc, place, texts, scratch)
 }
 
 /// The signatures after the first.
@@ -86,7 +82,11 @@ fn later_signatures<'a>(
 {
     let mut signatures = Vec::with_capacity(alloc, spelled.len())?;
     for (i, signature) in spelled.iter().enumerate() {
-        let made = owned_signature(alloc, form, 1 + i as u32, signature, scratch)?;
+        let place = SignaturePlace {
+            form,
+            number: 1 + i as u32,
+        };
+        let made = owned_signature(alloc, place, signature, scratch)?;
         signatures.push(made)?;
     }
     Ok(signatures)
@@ -107,7 +107,11 @@ fn json_signed<'a>(
         return Err(FormFault::Members);
     };
     let payload = octets_of(alloc, spelled.payload, Place::Payload)?;
-    let first = owned_signature(alloc, spelled.form, 0, first, scratch)?;
+    let place = SignaturePlace {
+        form: spelled.form,
+        number: 0,
+    };
+    let first = owned_signature(alloc, place, first, scratch)?;
     let more = later_signatures(alloc, spelled.form, later, scratch)?;
     let text = Vec::from_slice(alloc, spelled.payload)?;
     Ok(Signed {

@@ -15,6 +15,21 @@ use crate::unprotected::Unprotected;
 use jwt_text::{Object, Part, Scratch, TextFault, object_with};
 use std::alloc::Global;
 
+/// Where a signature stands: in a token of which form, and its number there, from 0.
+#[derive(Clone, Copy)]
+pub(crate) struct SignaturePlace {
+    pub(crate) form: Form,
+    pub(crate) number: u32,
+}
+
+/// The three members of a signature, as they are spelled. The signature keeps the protected text, the other two are lent.
+#[derive(Drop)]
+pub(crate) struct SignatureTexts<'a, 'b> {
+    pub(crate) protected: Part<'a>,
+    pub(crate) header: &'b Unprotected<'b>,
+    pub(crate) signature: &'b [u8],
+}
+
 /// The octets that a text of the token spells.
 pub(crate) fn octets_of(alloc: Global, text: &[u8], place: Place) -> Result<Vec<u8>, FormFault>
     ensures { Answers FormFault.OutOfMemory (λ v. v.items) result
@@ -62,19 +77,19 @@ fn header_of(
 #[tactic(auto, unfolding(crate::specs::Forms::protected_of))]
 fn protected_header(
     alloc: Global,
-    form: Form,
-    i: u32,
+    place: SignaturePlace,
     text: &[u8],
     buffer: &mut Vec<u8>,
     scratch: &mut Scratch,
 ) -> Result<Object, FormFault>
-    ensures { Answers FormFault.OutOfMemory (λ o. o) result (protected_of form i text.now) }
+    ensures { Answers FormFault.OutOfMemory (λ o. o) result
+        (protected_of place.form place.number text.now) }
 {
-    if form != Form::Compact && text.is_empty() {
+    if place.form != Form::Compact && text.is_empty() {
         return Ok(Object::empty(alloc));
     }
-    octets_into(text, Place::Protected(i), buffer)?;
-    header_of(alloc, buffer.as_slice(), i, scratch)
+    octets_into(text, Place::Protected(place.number), buffer)?;
+    header_of(alloc, buffer.as_slice(), place.number, scratch)
 }
 
 /// A copy of the unprotected header of signature `i`, `None` where it is absent.
@@ -107,41 +122,37 @@ fn names_overlap(protected: &Object, unprotected: &Option<Object>) -> bool
     }
 }
 
-/// Signature `i`, from its three members as they are spelled. The octets of its protected header and then its own are in one
-/// buffer.
+/// The signature at this place, from its three members as they are spelled. The octets of its protected header and then its own are
+/// in one buffer.
 #[inline(always)]
 #[tactic(auto, unfolding(crate::specs::Forms::signature_of))]
 pub(crate) fn make_signature<'a>(
     alloc: Global,
-    form: Form,
-    i: u32,
-    protected_text: Part<'a>,
-    header: &Unprotected<'_>,
-    signature: &[u8],
+    place: SignaturePlace,
+    texts: SignatureTexts<'a, '_>,
     scratch: &mut Scratch,
 ) -> Result<Signature<'a>, FormFault>
-    ensures value { Answers FormFault.OutOfMemory parts result (signature_of form i
+    ensures value { Answers FormFault.OutOfMemory parts result (signature_of place.form place.number
         (record {
-          protected = part_octets protected_text.entry;
-          header = header_view header.now;
-          signature = signature.now;
+          protected = part_octets texts.entry.protected;
+          header = header_view texts.entry.header.now;
+          signature = texts.entry.signature.now;
         })) }
-    ensures same_text { IfOk result (λ s. s.protected_text ≡ protected_text.entry) }
+    ensures same_text { IfOk result (λ s. s.protected_text ≡ texts.entry.protected) }
 {
-    let mut octets = Vec::with_capacity(alloc, protected_text.octets().len().max(signature.len()))?;
-    let protected = protected_header(
-        alloc,
-        form,
-        i,
-        protected_text.octets(),
-        &mut octets,
-        scratch,
-    )?;
-    let unprotected = unprotected_header(alloc, i, header)?;
+    let SignatureTexts {
+        protected: protected_text,
+        header,
+        signature,
+    } = texts;
+    let longest = protected_text.octets().len().max(signature.len());
+    let mut octets = Vec::with_capacity(alloc, longest)?;
+    let protected = protected_header(alloc, place, protected_text.octets(), &mut octets, scratch)?;
+    let unprotected = unprotected_header(alloc, place.number, header)?;
     if names_overlap(&protected, &unprotected) {
-        return Err(FormFault::NamesOverlap(i));
+        return Err(FormFault::NamesOverlap(place.number));
     }
-    octets_into(signature, Place::Signature(i), &mut octets)?;
+    octets_into(signature, Place::Signature(place.number), &mut octets)?;
     let repeats = crit_repeats(alloc, &protected)?;
     Ok(Signature {
         protected_text,

@@ -14,6 +14,17 @@ use jwt_verify::{Report, Verdict};
 use std::alloc::Global;
 use std::sync::Arc;
 
+/// A report on a token in hand, with what was paid for it.
+#[derive(Drop)]
+pub(crate) struct PaidReport<'p> {
+    /// The report.
+    pub(crate) report: Report<'p>,
+    /// The payload of the token, where the report is an acceptance and memory was there.
+    pub(crate) payload: Option<Vec<u8>>,
+    /// The octets that the report's tries cost.
+    pub(crate) cost: u64,
+}
+
 impl Memory {
     /// The outcome that an acceptance is. The memory keeps it, where it may and memory is there.
     fn accepted<'p>(
@@ -45,27 +56,30 @@ impl Memory {
         }
     }
 
-    /// What a report on the octets hands out, with the payload where it is an acceptance; its tries cost so many octets. The memory keeps
-    /// an acceptance with its payload, where it may and memory is there.
+    /// What a report on the octets hands out, with the payload where it is an acceptance. The memory keeps an acceptance with its payload,
+    /// where it may and memory is there.
     pub(crate) fn kept<'p>(
         &mut self,
         alloc: Global,
         octets: &[u8],
         ceiling: u64,
-        report: Report<'p>,
-        payload: Option<Vec<u8>>,
-        cost: u64,
+        paid: PaidReport<'p>,
     ) -> Handed<'p>
-        requires cost { cost ≡ work report.tries.items }
-        requires accepted { IfSome payload (λ _. IsAcceptance report.verdict) }
-        requires payload { IfSome payload (λ v. opens_object octets.now ≡ false → IsCompactPayload octets.now v.items) }
-        ensures report { report_in result.outcome ≡ report.entry }
-        ensures paid { paid_in result.outcome ≡ report.entry.tries.items }
+        requires cost { paid.cost ≡ work paid.report.tries.items }
+        requires accepted { IfSome paid.payload (λ _. IsAcceptance paid.report.verdict) }
+        requires payload { IfSome paid.payload (λ v. opens_object octets.now ≡ false → IsCompactPayload octets.now v.items) }
+        ensures report { report_in result.outcome ≡ paid.entry.report }
+        ensures paid { paid_in result.outcome ≡ paid.entry.report.tries.items }
         ensures anew { is_remembered result.outcome ≡ false }
-        ensures payload { payload_in result ≡ option_map (λ v. v.items) payload }
+        ensures payload { payload_in result ≡ option_map (λ v. v.items) paid.entry.payload }
         ensures held { KeepsHanded octets.now ceiling result self.old self.new }
         ensures room { HasRoomOf self.new self.old }
     {
+        let PaidReport {
+            report,
+            payload,
+            cost,
+        } = paid;
         let Some(payload) = payload else {
             return Handed {
                 outcome: Outcome::Judged(report),

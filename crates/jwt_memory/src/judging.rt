@@ -17,6 +17,7 @@ ghost use Rattle.jwt_memory.specs.Kept.{AreKept};
 ghost use Rattle.jwt_memory.specs.Outcomes.{report_in, paid_in, is_remembered, shared_payload, IsFound, KeepsOnly};
 ghost use Rattle.jwt_memory.specs.Payloads.{HandsOut, IsAcceptance, IsCompactPayload};
 
+use crate::handing::PaidReport;
 use crate::laws::{accepted_ever, compact_payloads};
 use crate::memory::Memory;
 use crate::outcome::{Handed, Outcome};
@@ -123,7 +124,12 @@ pub fn judge<'p, B: Budget>(
                 budget,
             );
             let payload = compact_payload(alloc, &report.verdict, octets);
-            let handed = memory.kept(alloc, octets, ceiling, report, payload, budget.octets());
+            let paid = PaidReport {
+                report,
+                payload,
+                cost: budget.octets(),
+            };
+            let handed = memory.kept(alloc, octets, ceiling, paid);
             let Handed {
                 outcome,
                 payload: _,

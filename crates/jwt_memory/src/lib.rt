@@ -5,8 +5,8 @@
 //! moment. The verdict is the one that [`jwt_verify::judge`] gives, by the same clauses.
 //!
 //! A memory is of one policy, one key set and one list of verifiers: `AreKept` of `specs/Kept.antt` says of each token that it holds
-//! that at every moment the report on it is what its claims come to then. [`judge_under`] hands out the payload too, and so does [`judge_told`], which is
-//! the same over [`jwt_told::judge_told`].
+//! that at every moment the report on it is what its claims come to then. [`Memory::judge_under`] hands out the payload too, and so does
+//! [`Memory::judge_told`], which is the same over [`jwt_told::judge_told`].
 #![tactic(auto)]
 
 mod handing;
@@ -20,5 +20,3 @@ mod under;
 pub use judging::judge;
 pub use memory::{Basis, Memory, MemoryEntry};
 pub use outcome::{Handed, Outcome};
-pub use telling::judge_told;
-pub use under::judge_under;

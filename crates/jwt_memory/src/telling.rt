@@ -16,116 +16,118 @@ ghost use Rattle.jwt_memory.specs.ToldKept.{IsToldNow, IsRecalled, KeepsTold};
 ghost use Rattle.jwt_memory.specs.Outcomes.{report_in, paid_in, is_remembered, payload_in, KeepsNone, KeepsHanded};
 ghost use Rattle.jwt_memory.specs.Payloads.{HandsOut};
 
+use crate::handing::PaidReport;
 use crate::laws::{accepted_ever, accepted_verdicts, compact_payloads, read_payloads};
 use crate::memory::Memory;
 use crate::outcome::{Handed, Outcome, payload_of};
-use jwt_keys::KeySet;
 use jwt_mac::{Budget, CountDown};
-use jwt_policy::{Policy, check};
+use jwt_policy::check;
 use jwt_text::Scratch;
-use jwt_told::{Answers, Asking};
+use jwt_told::{Asking, ToldTerms};
 use jwt_verify::JudgedToken;
 use std::alloc::Global;
 
-/// The verdict on octets in hand, or a question, as [`jwt_told::judge_told`] gives it. Where the memory holds the same octets, and they
-/// were accepted under this budget's ceiling, nothing is tried and nothing is asked: the claims are held against the policy at the moment
-/// `now`.
-///
-/// A remembered verdict rests on the answers that were there when its token was kept: it is what they came to, and the true one where
-/// they were true. So a wrong answer stays wrong for as long as its token is remembered, also where the answers were cleared, and
-/// spoils no other.
-///
-/// It hands out the payload of an accepted token, as [`judge_under`](crate::judge_under) does.
-///
-/// The condition: the budget is new.
-///
-/// # Refused
-/// As [`jwt_told::judge_told`] refuses.
-///
-/// # Errors
-/// As [`jwt_told::judge_told`] asks.
-#[tactic(auto, unfolding(jwt_verify::specs::Table::work))]
-pub fn judge_told<'a, 'p>(
-    memory: &mut Memory,
-    alloc: Global,
-    octets: &'a [u8],
-    keys: &KeySet,
-    policy: &'p Policy,
-    now: i64,
-    answers: &Answers,
-    budget: &mut CountDown,
-    scratch: &mut Scratch,
-) -> Result<Handed<'p>, Asking<'a>>
-    requires no_octets { ⟦<CountDown as Budget>⟧.octets budget.old ≡ 0 }
-    requires no_calls { ⟦<CountDown as Budget>⟧.calls budget.old ≡ 0 }
+impl Memory {
+    /// The verdict on octets in hand, or a question, as [`jwt_told::judge_told`] gives it. Where the memory holds the same octets, and they
+    /// were accepted under this budget's ceiling, nothing is tried and nothing is asked: the claims are held against the policy at the moment
+    /// of these terms.
+    ///
+    /// A remembered verdict rests on the answers that were there when its token was kept: it is what they came to, and the true one where
+    /// they were true. So a wrong answer stays wrong for as long as its token is remembered, also where the answers were cleared, and
+    /// spoils no other.
+    ///
+    /// It hands out the payload of an accepted token, as [`Memory::judge_under`] does.
+    ///
+    /// The condition: the budget is new.
+    ///
+    /// # Refused
+    /// As [`jwt_told::judge_told`] refuses.
+    ///
+    /// # Errors
+    /// As [`jwt_told::judge_told`] asks.
+    #[tactic(auto, unfolding(jwt_verify::specs::Table::work))]
+    pub fn judge_told<'a, 'p>(
+        &mut self,
+        alloc: Global,
+        octets: &'a [u8],
+        under: &ToldTerms<'_, 'p, '_>,
+        budget: &mut CountDown,
+        scratch: &mut Scratch,
+    ) -> Result<Handed<'p>, Asking<'a>>
+        requires no_octets { ⟦<CountDown as Budget>⟧.octets budget.old ≡ 0 }
+        requires no_calls { ⟦<CountDown as Budget>⟧.calls budget.old ≡ 0 }
 
-    // A new judging rests on the answers now, whatever the memory holds, as jwt_told::judge_told says it.
-    ensures anew { IfOk result (λ h. is_remembered h.outcome ≡ false → IsToldNow (told answers.now)
-        policy.now keys.now now octets.now (⟦<CountDown as Budget>⟧.ceiling budget.old) (report_in h.outcome)) }
+        // A new judging rests on the answers now, whatever the memory holds, as jwt_told::judge_told says it.
+        ensures anew { IfOk result (λ h. is_remembered h.outcome ≡ false → IsToldNow (told under.now.answers.now)
+            under.now.policy.now under.now.keys.now under.now.moment octets.now (⟦<CountDown as Budget>⟧.ceiling budget.old) (report_in h.outcome)) }
 
-    // A remembered verdict is what the claims of a token that the memory held come to now: of all these octets, accepted under this
-    // ceiling.
-    ensures remembered { IfOk result (λ h. is_remembered h.outcome ≡ true → IsRecalled memory.old
-        policy.now now octets.now (⟦<CountDown as Budget>⟧.ceiling budget.old) (report_in h.outcome)) }
+        // A remembered verdict is what the claims of a token that the memory held come to now: of all these octets, accepted under this
+        // ceiling.
+        ensures remembered { IfOk result (λ h. is_remembered h.outcome ≡ true → IsRecalled self.old
+            under.now.policy.now under.now.moment octets.now (⟦<CountDown as Budget>⟧.ceiling budget.old) (report_in h.outcome)) }
 
-    // What is handed out is the payload of the token, which is accepted.
-    ensures payload { IfOk result (λ h. HandsOut policy.now octets.now (report_in h.outcome).verdict (payload_in h)) }
+        // What is handed out is the payload of the token, which is accepted.
+        ensures payload { IfOk result (λ h. HandsOut under.now.policy.now octets.now (report_in h.outcome).verdict (payload_in h)) }
 
-    ensures memory { IfOk result (λ h. (report_in h.outcome).verdict ≡ Refused OutOfMemory → TakesMemory policy.now octets.now) }
+        ensures memory { IfOk result (λ h. (report_in h.outcome).verdict ≡ Refused OutOfMemory → TakesMemory under.now.policy.now octets.now) }
 
-    // The memory keeps nothing new but this token, where it is accepted now, with the payload that is handed out; and by the answers now, on
-    // which what it comes to later rests.
-    ensures held { MatchResult result
-        (λ h. KeepsHanded octets.now (⟦<CountDown as Budget>⟧.ceiling budget.old) h memory.old memory.new)
-        (λ _. KeepsNone memory.old memory.new) }
-    ensures kept { KeepsTold (told answers.now) policy.now keys.now memory.old memory.new }
-    ensures room { HasRoomOf memory.new memory.old }
+        // The memory keeps nothing new but this token, where it is accepted now, with the payload that is handed out; and by the answers now, on
+        // which what it comes to later rests.
+        ensures held { MatchResult result
+            (λ h. KeepsHanded octets.now (⟦<CountDown as Budget>⟧.ceiling budget.old) h self.old self.new)
+            (λ _. KeepsNone self.old self.new) }
+        ensures kept { KeepsTold (told under.now.answers.now) under.now.policy.now under.now.keys.now self.old self.new }
+        ensures room { HasRoomOf self.new self.old }
 
-    // It asks about the first try of a run by the answers that has none. It comes with the token.
-    ensures tries { IfErr result (λ a. AreTries
-        (terms policy.now keys.now now (told_meaning (told answers.now) ∷ []))
-        octets.now (⟦<CountDown as Budget>⟧.ceiling budget.old) a.tries.items) }
-    ensures first { IfErr result (λ a. IsFirstOpen (told answers.now)
-        policy.now octets.now (key_set keys.now).keys a.tries.items
-        a.pair.signature a.pair.key) }
-    ensures question { IfErr result (λ a. IsOpen (told answers.now)
-        policy.now octets.now (key_set keys.now).keys
-        a.pair.signature a.pair.key) }
-    ensures token { IfErr result (λ a. token_of policy.now octets.now ≡ Ok (token a.token)) }
+        // It asks about the first try of a run by the answers that has none. It comes with the token.
+        ensures tries { IfErr result (λ a. AreTries
+            (terms under.now.policy.now under.now.keys.now under.now.moment (told_meaning (told under.now.answers.now) ∷ []))
+            octets.now (⟦<CountDown as Budget>⟧.ceiling budget.old) a.tries.items) }
+        ensures first { IfErr result (λ a. IsFirstOpen (told under.now.answers.now)
+            under.now.policy.now octets.now (key_set under.now.keys.now).keys a.tries.items
+            a.pair.signature a.pair.key) }
+        ensures question { IfErr result (λ a. IsOpen (told under.now.answers.now)
+            under.now.policy.now octets.now (key_set under.now.keys.now).keys
+            a.pair.signature a.pair.key) }
+        ensures token { IfErr result (λ a. token_of under.now.policy.now octets.now ≡ Ok (token a.token)) }
 
-    // What the budget counts: what was paid in this call.
-    ensures octets { MatchResult result
-        (λ h. ⟦<CountDown as Budget>⟧.octets budget.new ≡ work (paid_in h.outcome))
-        (λ a. ⟦<CountDown as Budget>⟧.octets budget.new ≡ work a.tries.items) }
-    ensures calls { MatchResult result
-        (λ h. ⟦<CountDown as Budget>⟧.calls budget.new ≡ length (paid_in h.outcome))
-        (λ a. ⟦<CountDown as Budget>⟧.calls budget.new ≡ length a.tries.items) }
-    ensures within { IsWithin policy.now.max_calls (⟦<CountDown as Budget>⟧.calls budget.new) }
-    ensures ceiling { ⟦<CountDown as Budget>⟧.ceiling budget.new
-        ≡ ⟦<CountDown as Budget>⟧.ceiling budget.old }
-{
-    accepted_ever();
-    accepted_verdicts();
-    compact_payloads();
-    read_payloads();
-    let ceiling = budget.left();
-    match memory.recall(octets, ceiling) {
-        Some(basis) => {
-            let fault = check(policy, &basis.claims, now);
-            Ok(Handed {
-                outcome: Outcome::Remembered(basis, fault),
-                payload: None,
-            })
-        }
-        None => match jwt_told::judge_told(
-            alloc, octets, keys, policy, now, answers, budget, scratch,
-        ) {
-            Ok(judged) => {
-                let payload = payload_of(alloc, &judged);
-                let JudgedToken { report, token: _ } = judged;
-                Ok(memory.kept(alloc, octets, ceiling, report, payload, budget.octets()))
+        // What the budget counts: what was paid in this call.
+        ensures octets { MatchResult result
+            (λ h. ⟦<CountDown as Budget>⟧.octets budget.new ≡ work (paid_in h.outcome))
+            (λ a. ⟦<CountDown as Budget>⟧.octets budget.new ≡ work a.tries.items) }
+        ensures calls { MatchResult result
+            (λ h. ⟦<CountDown as Budget>⟧.calls budget.new ≡ length (paid_in h.outcome))
+            (λ a. ⟦<CountDown as Budget>⟧.calls budget.new ≡ length a.tries.items) }
+        ensures within { IsWithin under.now.policy.now.max_calls (⟦<CountDown as Budget>⟧.calls budget.new) }
+        ensures ceiling { ⟦<CountDown as Budget>⟧.ceiling budget.new
+            ≡ ⟦<CountDown as Budget>⟧.ceiling budget.old }
+    {
+        accepted_ever();
+        accepted_verdicts();
+        compact_payloads();
+        read_payloads();
+        let ceiling = budget.left();
+        match self.recall(octets, ceiling) {
+            Some(basis) => {
+                let fault = check(under.policy, &basis.claims, under.moment);
+                Ok(Handed {
+                    outcome: Outcome::Remembered(basis, fault),
+                    payload: None,
+                })
             }
-            Err(asking) => Err(asking),
-        },
+            None => match jwt_told::judge_told(alloc, octets, under, budget, scratch) {
+                Ok(judged) => {
+                    let payload = payload_of(alloc, &judged);
+                    let JudgedToken { report, token: _ } = judged;
+                    let paid = PaidReport {
+                        report,
+                        payload,
+                        cost: budget.octets(),
+                    };
+                    Ok(self.kept(alloc, octets, ceiling, paid))
+                }
+                Err(asking) => Err(asking),
+            },
+        }
     }
 }

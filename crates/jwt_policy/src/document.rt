@@ -5,7 +5,7 @@ ghost use Rattle.jwt_policy.specs.Texts.{is_among};
 ghost use Rattle.jwt_policy.specs.Document.{policy_of, policy_in, settings_of, run_settings_of, header_settings_of, claim_settings_of, names_of_version_one, is_version_two, is_known, first_unknown};
 ghost use Rattle.jwt_policy.specs.MemberKinds.{optional, whole_of};
 
-use crate::member_kinds::{algs, flag, mode, optional, texts, typ, understood, whole};
+use crate::member_kinds::{Bounds, algs, flag, mode, optional, texts, typ, understood, whole};
 use crate::policy::{ClaimPart, HeaderPart, Policy, RunPart};
 use crate::policy_fault::PolicyFault;
 use jwt_text::{ObjectRef, TextFault, object};
@@ -148,7 +148,11 @@ fn settings(alloc: Global, members: &ObjectRef<'_>) -> Result<Policy, PolicyFaul
     let run = run_part(alloc, members)?;
     let header = header_part(alloc, members)?;
     let claims = claim_part(alloc, members)?;
-    let max_calls = optional(alloc, members, "max_calls", 0, 32_768)?;
+    let calls = Bounds {
+        low: 0,
+        high: 32_768,
+    };
+    let max_calls = optional(alloc, members, "max_calls", calls)?;
     Ok(Policy {
         run,
         header,
@@ -161,12 +165,18 @@ fn settings(alloc: Global, members: &ObjectRef<'_>) -> Result<Policy, PolicyFaul
 fn run_part(alloc: Global, members: &ObjectRef<'_>) -> Result<RunPart, PolicyFault>
     ensures { ¬ IsErrOf result PolicyFault.OutOfMemory → result ≡ run_settings_of members.now }
 {
-    let version = whole(alloc, members, "version", 1, 2, 1)? as u32;
+    let version = whole(alloc, members, "version", Bounds::new(1, 2), 1)? as u32;
     let algs = algs(alloc, members, "algs")?;
     let mode = mode(alloc, members, "mode")?;
-    let limit = whole(alloc, members, "limit", 1, 1_048_576, 8192)? as u32;
-    let work = whole(alloc, members, "work", 0, 1_000_000_000_000, 1_048_576)?;
-    let max_signatures = whole(alloc, members, "max_signatures", 1, 32, 8)? as u32;
+    let limit = whole(alloc, members, "limit", Bounds::new(1, 1_048_576), 8192)? as u32;
+    let work = whole(
+        alloc,
+        members,
+        "work",
+        Bounds::new(0, 1_000_000_000_000),
+        1_048_576,
+    )?;
+    let max_signatures = whole(alloc, members, "max_signatures", Bounds::new(1, 32), 8)? as u32;
     let line_feed = flag(alloc, members, "line_feed")?;
     Ok(RunPart {
         version,
@@ -202,8 +212,8 @@ fn claim_part(alloc: Global, members: &ObjectRef<'_>) -> Result<ClaimPart, Polic
     let issuers = texts(alloc, members, "issuers")?;
     let audiences = texts(alloc, members, "audiences")?;
     let required = texts(alloc, members, "required")?;
-    let leeway = whole(alloc, members, "leeway", 0, 86_400, 0)? as u32;
-    let max_age = optional(alloc, members, "max_age", 1, 4_294_967_295)?;
+    let leeway = whole(alloc, members, "leeway", Bounds::new(0, 86_400), 0)? as u32;
+    let max_age = optional(alloc, members, "max_age", Bounds::new(1, 4_294_967_295))?;
     Ok(ClaimPart {
         issuers,
         audiences,

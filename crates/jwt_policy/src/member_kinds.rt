@@ -15,77 +15,91 @@ use std::alloc::Global;
 
 // ---- whole numbers, truth values, texts
 
-/// The number, where it is from low to high.
-fn between(low: u64, high: u64, value: i64) -> Option<u64>
-    ensures { result ≡ between low high value }
+/// The whole numbers from `low` to `high`, both among them.
+#[derive(Clone, Copy)]
+pub(crate) struct Bounds {
+    pub(crate) low: u64,
+    pub(crate) high: u64,
+}
+
+impl Bounds {
+    /// The bounds from `low` to `high`.
+    pub(crate) fn new(low: u64, high: u64) -> Self
+        ensures low { result.low ≡ low }
+        ensures high { result.high ≡ high }
+    {
+        Bounds { low, high }
+    }
+}
+
+/// The number, where it is within the bounds.
+fn between(bounds: Bounds, value: i64) -> Option<u64>
+    ensures { result ≡ between bounds.low bounds.high value }
 {
     let value = u64::try_from(value).ok()?;
-    if low <= value && value <= high {
+    if bounds.low <= value && value <= bounds.high {
         Some(value)
     } else {
         None
     }
 }
 
-/// A whole number from low to high that is there.
+/// A whole number within the bounds that is there.
 fn whole_of(
     alloc: Global,
     members: &ObjectRef<'_>,
     name: &str,
-    low: u64,
-    high: u64,
+    bounds: Bounds,
 ) -> Result<u64, PolicyFault>
     ensures value { ¬ IsErrOf result PolicyFault.OutOfMemory
-        → result ≡ whole_of low high name.now members.now }
-    ensures range { IfOk result (λ n. (low ≤ n) × (n ≤ high)) }
+        → result ≡ whole_of bounds.low bounds.high name.now members.now }
+    ensures range { IfOk result (λ n. (bounds.low ≤ n) × (n ≤ bounds.high)) }
 {
     let Some(value) = members.whole(name) else {
         return Err(PolicyFault::member(alloc, name));
     };
-    match between(low, high, value) {
+    match between(bounds, value) {
         Some(value) => Ok(value),
         None => Err(PolicyFault::range(alloc, name)),
     }
 }
 
-/// A whole number from low to high.
+/// A whole number within the bounds, or the default where it is absent.
 pub(crate) fn whole(
     alloc: Global,
     members: &ObjectRef<'_>,
     name: &str,
-    low: u64,
-    high: u64,
+    bounds: Bounds,
     default: u64,
 ) -> Result<u64, PolicyFault>
-    requires { (low ≤ default) × (default ≤ high) }
+    requires { (bounds.low ≤ default) × (default ≤ bounds.high) }
     ensures value { ¬ IsErrOf result PolicyFault.OutOfMemory
-        → result ≡ whole_in low high default name.now members.now }
-    ensures range { IfOk result (λ n. (low ≤ n) × (n ≤ high)) }
+        → result ≡ whole_in bounds.low bounds.high default name.now members.now }
+    ensures range { IfOk result (λ n. (bounds.low ≤ n) × (n ≤ bounds.high)) }
 {
     if members.has(name) {
-        whole_of(alloc, members, name, low, high)
+        whole_of(alloc, members, name, bounds)
     } else {
         Ok(default)
     }
 }
 
-/// A whole number from low to high, or none where it is absent.
+/// A whole number within the bounds, or none where it is absent.
 pub(crate) fn optional(
     alloc: Global,
     members: &ObjectRef<'_>,
     name: &str,
-    low: u64,
-    high: u64,
+    bounds: Bounds,
 ) -> Result<Option<u32>, PolicyFault>
-    requires { high < 2 ^ 32 }
+    requires { bounds.high < 2 ^ 32 }
     ensures value { ¬ IsErrOf result PolicyFault.OutOfMemory
-        → result ≡ optional (whole_of low high) name.now members.now }
-    ensures range { IfOk result (λ o. IfSome o (λ n. (low ≤ n) × (n ≤ high))) }
+        → result ≡ optional (whole_of bounds.low bounds.high) name.now members.now }
+    ensures range { IfOk result (λ o. IfSome o (λ n. (bounds.low ≤ n) × (n ≤ bounds.high))) }
 {
     if !members.has(name) {
         return Ok(None);
     }
-    let value = whole_of(alloc, members, name, low, high)?;
+    let value = whole_of(alloc, members, name, bounds)?;
     Ok(Some(value as u32))
 }
 

@@ -3,11 +3,11 @@
 use fowharimu::{Outcome, Remembering};
 use jwt_keys::KeySet;
 use jwt_mac::Budget;
-use jwt_memory::{Memory, judge_told};
+use jwt_memory::Memory;
 use jwt_policy::{ClaimFault, Policy};
 use jwt_support::examples::{HS256, KEYS_A2, NOW, TOKEN_A2, filled};
 use jwt_text::Scratch;
-use jwt_told::{Answers, OpenPair, read_token};
+use jwt_told::{Answers, OpenPair, ToldTerms, read_token};
 use jwt_verify::{Fault, Verdict};
 use std::alloc::Global;
 use std::num::NonZeroUsize;
@@ -201,17 +201,13 @@ fn word_by(
     let mut budget = policy.budget();
     let mut scratch = Scratch::new(alloc);
     let octets = TOKEN_A2.as_bytes();
-    match judge_told(
-        memory,
-        alloc,
-        octets,
+    let terms = ToldTerms {
         keys,
         policy,
-        NOW,
+        moment: NOW,
         answers,
-        &mut budget,
-        &mut scratch,
-    ) {
+    };
+    match memory.judge_told(alloc, octets, &terms, &mut budget, &mut scratch) {
         Ok(handed) => word_of(&handed.outcome),
         Err(_) => "asks",
     }

@@ -5,7 +5,7 @@ use jwt_mac::{Alg, KeyView};
 use jwt_policy::{Policy, SigFault};
 use jwt_support::examples::{KEYS_A2, NOW, TOKEN_A2};
 use jwt_text::Scratch;
-use jwt_told::{Answers, Asking, OpenPair, Question, judge_told, read_token};
+use jwt_told::{Answers, Asking, OpenPair, Question, ToldTerms, judge_told, read_token};
 use jwt_verify::{Fault, JudgedToken, Verdict};
 use std::alloc::Global;
 use std::test::Fail;
@@ -138,16 +138,13 @@ fn word_in(
     tell(alloc, case, keys, policy, &mut answers)?;
     let mut budget = policy.budget();
     let octets = TOKEN_A2.as_bytes();
-    let judged = judge_told(
-        alloc,
-        octets,
+    let terms = ToldTerms {
         keys,
         policy,
-        NOW,
-        &answers,
-        &mut budget,
-        scratch,
-    );
+        moment: NOW,
+        answers: &answers,
+    };
+    let judged = judge_told(alloc, octets, &terms, &mut budget, scratch);
     Ok(word_of(&judged))
 }
 

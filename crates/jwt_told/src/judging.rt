@@ -17,11 +17,10 @@ ghost use Rattle.jwt_told.specs.Questions.{AreTries, IsFirstOpen, IsOpen, NoneOp
 use crate::answers::Answers;
 use crate::laws::right_answers;
 use crate::questions::{Asking, OpenPair, first_open};
+use crate::terms::ToldTerms;
 use crate::unread::untried;
 use jwt_jws::Signed;
-use jwt_keys::KeySet;
 use jwt_mac::{Budget, CountDown, Verifier};
-use jwt_policy::Policy;
 use jwt_text::Scratch;
 use jwt_verify::laws::tells_tokens;
 use jwt_verify::{Fault, JudgedToken, Report, Terms, Try, Verdict, judge_under};
@@ -67,21 +66,18 @@ fn asking<'a>(first: Try, report: Report<'_>, token: Signed<'a>) -> Asking<'a>
 
 /// The terms of a verdict by the one verifier that means the answers.
 fn told_terms<'k, 'p, 'v>(
-    keys: &'k KeySet,
-    policy: &'p Policy,
-    now: i64,
+    under: &ToldTerms<'k, 'p, '_>,
     verifiers: &'v [Box<dyn Verifier>],
-    answers: &Answers,
 ) -> Terms<'k, 'p, 'v>
-    requires one { map meaning verifiers.now ≡ told_meaning (told answers.now) ∷ [] }
+    requires one { map meaning verifiers.now ≡ told_meaning (told under.now.answers.now) ∷ [] }
     ensures meant { terms_meant meaning result
-        ≡ terms policy.now keys.now now (told_meaning (told answers.now) ∷ []) }
-    ensures policy { result.policy.now ≡ policy.now }
+        ≡ terms under.now.policy.now under.now.keys.now under.now.moment (told_meaning (told under.now.answers.now) ∷ []) }
+    ensures policy { result.policy.now ≡ under.now.policy.now }
 {
     Terms {
-        keys,
-        policy,
-        moment: now,
+        keys: under.keys,
+        policy: under.policy,
+        moment: under.moment,
         verifiers,
     }
 }
@@ -91,41 +87,38 @@ fn told_terms<'k, 'p, 'v>(
 fn judge_by<'a, 'p>(
     alloc: Global,
     octets: &'a [u8],
-    keys: &KeySet,
-    policy: &'p Policy,
-    now: i64,
-    answers: &Answers,
+    under: &ToldTerms<'_, 'p, '_>,
     budget: &mut CountDown,
     scratch: &mut Scratch,
 ) -> JudgedToken<'a, 'p>
     requires no_octets { ⟦<CountDown as Budget>⟧.octets budget.old ≡ 0 }
     requires no_calls { ⟦<CountDown as Budget>⟧.calls budget.old ≡ 0 }
     ensures report { IsReport
-        (terms policy.now keys.now now (told_meaning (told answers.now) ∷ []))
+        (terms under.now.policy.now under.now.keys.now under.now.moment (told_meaning (told under.now.answers.now) ∷ []))
         octets.now (⟦<CountDown as Budget>⟧.ceiling budget.old) result.report }
-    ensures token { IsReadAs policy.now octets.now result.report.verdict result.token }
-    ensures memory { result.report.verdict ≡ Refused OutOfMemory → TakesMemory policy.now octets.now }
-    ensures within { IsWithin policy.now.max_calls (⟦<CountDown as Budget>⟧.calls budget.new) }
+    ensures token { IsReadAs under.now.policy.now octets.now result.report.verdict result.token }
+    ensures memory { result.report.verdict ≡ Refused OutOfMemory → TakesMemory under.now.policy.now octets.now }
+    ensures within { IsWithin under.now.policy.now.max_calls (⟦<CountDown as Budget>⟧.calls budget.new) }
     ensures octets { ⟦<CountDown as Budget>⟧.octets budget.new ≡ work result.report.tries.items }
     ensures calls { ⟦<CountDown as Budget>⟧.calls budget.new ≡ length result.report.tries.items }
     ensures ceiling { ⟦<CountDown as Budget>⟧.ceiling budget.new
         ≡ ⟦<CountDown as Budget>⟧.ceiling budget.old }
 {
-    let Ok(shared) = boxed(alloc, answers) else {
+    let Ok(shared) = boxed(alloc, under.answers) else {
         return JudgedToken {
-            report: untried(alloc, octets, policy),
+            report: untried(alloc, octets, under.policy),
             token: None,
         };
     };
     let verifiers: [Box<dyn Verifier>; 1] = [shared];
-    let terms = told_terms(keys, policy, now, &verifiers, answers);
+    let terms = told_terms(under, &verifiers);
     judge_under(alloc, octets, &terms, budget, scratch)
 }
 
 /// Judges a token in hand by answers on signatures by public keys, or asks about a pair that has no answer.
 ///
 /// It tries what [`judge`] tries, in the same order: a signature by HMAC is verified, and one by another algorithm is looked up
-/// among the answers. `now` is in seconds since 1970-01-01T00:00:00Z. The caller answers questions by [`Answers::tell`], and calls
+/// among the answers. The caller answers questions by [`Answers::tell`], and calls
 /// again with a new budget. Each question is a try that counts as a call, so the policy's `max_calls` bounds them.
 ///
 /// A pair without an answer counts as invalid, and the run goes on to its end. So a caller may answer the listed tries one after another,
@@ -150,10 +143,7 @@ fn judge_by<'a, 'p>(
 pub fn judge_told<'a, 'p>(
     alloc: Global,
     octets: &'a [u8],
-    keys: &KeySet,
-    policy: &'p Policy,
-    now: i64,
-    answers: &Answers,
+    under: &ToldTerms<'_, 'p, '_>,
     budget: &mut CountDown,
     scratch: &mut Scratch,
 ) -> Result<JudgedToken<'a, 'p>, Asking<'a>>
@@ -162,37 +152,37 @@ pub fn judge_told<'a, 'p>(
 
     // The report is that of a run by the answers.
     ensures report { IfOk result (λ j. IsReport
-        (terms policy.now keys.now now (told_meaning (told answers.now) ∷ []))
+        (terms under.now.policy.now under.now.keys.now under.now.moment (told_meaning (told under.now.answers.now) ∷ []))
         octets.now (⟦<CountDown as Budget>⟧.ceiling budget.old) j.report) }
-    ensures memory { IfOk result (λ j. j.report.verdict ≡ Refused OutOfMemory → TakesMemory policy.now octets.now) }
+    ensures memory { IfOk result (λ j. j.report.verdict ≡ Refused OutOfMemory → TakesMemory under.now.policy.now octets.now) }
 
     // It comes with the token that the octets are.
-    ensures read { IfOk result (λ j. IsReadAs policy.now octets.now j.report.verdict j.token) }
+    ensures read { IfOk result (λ j. IsReadAs under.now.policy.now octets.now j.report.verdict j.token) }
 
     // Where the answers are true, the verdict is the true one, unless memory was refused.
     ensures right { IfOk result (λ j. FoundMemory j.report.verdict
-        → (truth : Truth) → AreRight truth (told answers.now)
+        → (truth : Truth) → AreRight truth (told under.now.answers.now)
         → IsVerdict
-        (terms policy.now keys.now now (true_meaning truth ∷ []))
+        (terms under.now.policy.now under.now.keys.now under.now.moment (true_meaning truth ∷ []))
         octets.now (⟦<CountDown as Budget>⟧.ceiling budget.old) j.report.verdict) }
 
     // Each of its tries has an answer, unless memory was refused.
-    ensures told { IfOk result (λ j. FoundMemory j.report.verdict → NoneOpen (told answers.now)
-        policy.now octets.now (key_set keys.now).keys j.report.tries.items) }
+    ensures told { IfOk result (λ j. FoundMemory j.report.verdict → NoneOpen (told under.now.answers.now)
+        under.now.policy.now octets.now (key_set under.now.keys.now).keys j.report.tries.items) }
 
     // It asks about the first try of that run that has no answer.
     ensures tries { IfErr result (λ a. AreTries
-        (terms policy.now keys.now now (told_meaning (told answers.now) ∷ []))
+        (terms under.now.policy.now under.now.keys.now under.now.moment (told_meaning (told under.now.answers.now) ∷ []))
         octets.now (⟦<CountDown as Budget>⟧.ceiling budget.old) a.tries.items) }
-    ensures first { IfErr result (λ a. IsFirstOpen (told answers.now)
-        policy.now octets.now (key_set keys.now).keys a.tries.items
+    ensures first { IfErr result (λ a. IsFirstOpen (told under.now.answers.now)
+        under.now.policy.now octets.now (key_set under.now.keys.now).keys a.tries.items
         a.pair.signature a.pair.key) }
-    ensures question { IfErr result (λ a. IsOpen (told answers.now)
-        policy.now octets.now (key_set keys.now).keys
+    ensures question { IfErr result (λ a. IsOpen (told under.now.answers.now)
+        under.now.policy.now octets.now (key_set under.now.keys.now).keys
         a.pair.signature a.pair.key) }
 
     // A question comes with the token too.
-    ensures token { IfErr result (λ a. token_of policy.now octets.now ≡ Ok (token a.token)) }
+    ensures token { IfErr result (λ a. token_of under.now.policy.now octets.now ≡ Ok (token a.token)) }
 
     // What the budget counts.
     ensures octets { MatchResult result
@@ -201,20 +191,18 @@ pub fn judge_told<'a, 'p>(
     ensures calls { MatchResult result
         (λ j. ⟦<CountDown as Budget>⟧.calls budget.new ≡ length j.report.tries.items)
         (λ a. ⟦<CountDown as Budget>⟧.calls budget.new ≡ length a.tries.items) }
-    ensures within { IsWithin policy.now.max_calls (⟦<CountDown as Budget>⟧.calls budget.new) }
+    ensures within { IsWithin under.now.policy.now.max_calls (⟦<CountDown as Budget>⟧.calls budget.new) }
     ensures ceiling { ⟦<CountDown as Budget>⟧.ceiling budget.new
         ≡ ⟦<CountDown as Budget>⟧.ceiling budget.old }
 {
     right_answers();
     tells_tokens();
-    let JudgedToken { report, token } = judge_by(
-        alloc, octets, keys, policy, now, answers, budget, scratch,
-    );
+    let JudgedToken { report, token } = judge_by(alloc, octets, under, budget, scratch);
     if !found_memory(&report.verdict) {
         return Ok(JudgedToken { report, token });
     }
     match token {
-        Some(signed) => match first_open(answers, &signed, keys, &report.tries) {
+        Some(signed) => match first_open(under.answers, &signed, under.keys, &report.tries) {
             Some(first) => Err(asking(first, report, signed)),
             None => Ok(JudgedToken {
                 report,

@@ -1,19 +1,18 @@
 //! Judges a token in hand, or one that a source gives.
 
-ghost use Rattle.std.specs.Prelude.{◌≡◌, ◌≢◌, ◌≤◌, ◌+◌, ◌++◌, [], ℕ, List, Some, Err, true, false, map, length, drop, IfOk, OnOk, IfErr, IfSome};
+ghost use Rattle.std.specs.Prelude.{◌≡◌, ◌≢◌, ◌≤◌, ◌+◌, ◌++◌, [], ℕ, List, Some, true, false, map, length, drop, IfSome};
 ghost use Rattle.std.specs.List.{AllPairs};
-ghost use Rattle.jwt_text.specs.Answers.{Answers};
 ghost use Rattle.jwt_jws.specs.Views.{token};
 ghost use Rattle.jwt_verify.specs.Table.{work, paid};
 ghost use Rattle.jwt_verify.specs.TermsTable.{terms_meant, terms_table};
-ghost use Rattle.jwt_verify.specs.Verdict.{token_verdict, token_of, without_line_feed};
+ghost use Rattle.jwt_verify.specs.Verdict.{token_verdict};
 ghost use Rattle.jwt_verify.specs.Asks.{IsToken};
-ghost use Rattle.jwt_verify.specs.Accepted.{IsTokenFault, IsVerdict};
+ghost use Rattle.jwt_verify.specs.Accepted.{IsVerdict};
 ghost use Rattle.jwt_verify.specs.Laws.{IsBefore};
 ghost use Rattle.jwt_verify.specs.Paying.{IsWithin};
 ghost use Rattle.jwt_text.specs.Intake.{TakesAtMost};
 ghost use Rattle.jwt_verify.specs.Reports.{FoundMemory, IsReport, IsReadAs, AreEligible, IsBounded, TakesMemory, Failed, terms};
-ghost use Rattle.jwt_verify.specs.Steps.{IsWhole, IsListed, IsTakenIn, IsSourceFault};
+ghost use Rattle.jwt_verify.specs.Steps.{IsWhole, IsListed};
 ghost use Rattle.jwt_verify.specs.declared.report.InputFault.TheVariants.{Read};
 ghost use Rattle.jwt_verify.specs.declared.report.Fault.TheVariants.{OutOfMemory, Text};
 ghost use Rattle.jwt_verify.specs.declared.report.Verdict.TheVariants.{Refused};
@@ -21,72 +20,17 @@ ghost use Rattle.jwt_verify.specs.declared.report.Try.{Try};
 
 use crate::conclusion::verdict_after;
 use crate::laws::{reports_in_words, tells_tokens};
-use crate::report::{Fault, InputFault, Report, Verdict};
+use crate::reading::{read_with, take_in};
+use crate::report::{Fault, Report, Verdict};
 use crate::terms::Terms;
 use crate::tries::run;
-use jwt_jws::laws::{form_faults, signed_tokens};
-use jwt_jws::{FormFault, Signed, parse_with};
+use jwt_jws::Signed;
+use jwt_jws::laws::signed_tokens;
 use jwt_keys::KeySet;
 use jwt_mac::{Budget, Verifier};
 use jwt_policy::Policy;
-use jwt_text::{Intake, Scratch, Source, TextFault};
+use jwt_text::{Scratch, Source};
 use std::alloc::Global;
-
-/// The octets without one line feed at their end, where that is to be dropped.
-pub fn without_line_feed(octets: &[u8], drops: bool) -> &[u8]
-    ensures value { result.now ≡ without_line_feed drops octets.now }
-    ensures short { length result.now ≤ length octets.now }
-{
-    if drops && octets.len() > 0 && octets[octets.len() - 1] == 10 {
-        &octets[..octets.len() - 1]
-    } else {
-        octets
-    }
-}
-
-/// The signed token that the octets are, read with a scratch at hand, or why they are none.
-#[tactic(auto, unfolding(crate::specs::Verdict::token_of))]
-fn read_with<'a, 'p>(
-    alloc: Global,
-    octets: &'a [u8],
-    policy: &'p Policy,
-    scratch: &mut Scratch,
-) -> Result<Signed<'a>, Fault<'p>>
-    ensures value { Answers Fault.OutOfMemory token result (token_of policy.now octets.now) }
-    ensures memory { result ≡ Err Fault.OutOfMemory → TakesMemory policy.now octets.now }
-{
-    if octets.len() > policy.limit() as usize {
-        return Err(Fault::Text(InputFault::TooLong));
-    }
-    let token = without_line_feed(octets, policy.line_feed());
-    match parse_with(alloc, token, policy.max_signatures(), scratch) {
-        Ok(signed) => Ok(signed),
-        Err(FormFault::OutOfMemory) => Err(Fault::OutOfMemory),
-        Err(fault) => Err(Fault::Form(fault)),
-    }
-}
-
-/// The signed token that the octets are, as [`judge`] reads it under the policy (RFC 7515, section 7).
-/// Nothing is verified.
-///
-/// # Errors
-/// Why the octets are none: `Text(TooLong)`, more octets than the policy's `limit`, or `Form`.
-/// `OutOfMemory` comes where an allocation was refused, and in place of neither `Text(TooLong)`, `Form(Empty)` nor a wrong number
-/// of periods, for which none is made.
-pub fn read_token<'a, 'p>(
-    alloc: Global,
-    octets: &'a [u8],
-    policy: &'p Policy,
-) -> Result<Signed<'a>, Fault<'p>>
-    ensures token { IfOk result (λ signed. IsToken policy.now octets.now (token signed)) }
-    ensures fault { IfErr result
-        (λ f. f ≢ Fault.OutOfMemory → IsTokenFault policy.now octets.now f) }
-    ensures memory { result ≡ Err Fault.OutOfMemory → TakesMemory policy.now octets.now }
-{
-    signed_tokens();
-    form_faults();
-    read_with(alloc, octets, policy, &mut Scratch::new(alloc))
-}
 
 /// A report, and the token that it is on.
 #[derive(Drop)]
@@ -286,50 +230,6 @@ pub fn judge_under<'a, 'p, B: Budget>(
     judge_octets(alloc, terms, octets, budget, scratch)
 }
 
-/// The report as [`judge`] gives it, with the token that was read for it, as [`judge_under`] hands it out.
-///
-/// The condition: the budget is new.
-///
-/// # Refused
-/// As [`judge`] refuses.
-pub fn judge_signed<'a, 'p, B: Budget>(
-    alloc: Global,
-    octets: &'a [u8],
-    keys: &KeySet,
-    policy: &'p Policy,
-    now: i64,
-    verifiers: &[Box<dyn Verifier>],
-    budget: &mut B,
-    scratch: &mut Scratch,
-) -> JudgedToken<'a, 'p>
-    requires no_octets { B.octets budget.old ≡ 0 }
-    requires no_calls { B.calls budget.old ≡ 0 }
-
-    // The report is the one of `judge`.
-    ensures report { IsReport (terms policy.now keys.now now (map meaning verifiers.now))
-        octets.now (B.ceiling budget.old) result.report }
-    ensures read { result.report.verdict ≢ Refused (Text Read) }
-    ensures memory { result.report.verdict ≡ Refused OutOfMemory
-        → TakesMemory policy.now octets.now }
-    ensures within { IsWithin policy.now.max_calls (B.calls budget.new) }
-
-    // The token is the one that the octets are.
-    ensures token { IsReadAs policy.now octets.now result.report.verdict result.token }
-
-    // The budget agrees with the tries.
-    ensures octets { B.octets budget.new ≡ work result.report.tries.items }
-    ensures calls { B.calls budget.new ≡ length result.report.tries.items }
-    ensures ceiling { B.ceiling budget.new ≡ B.ceiling budget.old }
-{
-    let terms = Terms {
-        keys,
-        policy,
-        moment: now,
-        verifiers,
-    };
-    judge_under(alloc, octets, &terms, budget, scratch)
-}
-
 /// The report on a token that was read already, as [`judge`] gives it on the octets that the token is of, under the policy by which
 /// [`read_token`] read them: a caller that has to look at a token before it knows the keys needn't read it twice. The scratch is
 /// as [`judge_under`] says.
@@ -372,25 +272,6 @@ pub fn judge_token<'p, B: Budget>(
         verifiers,
     };
     report_on(alloc, &terms, signed, budget, scratch)
-}
-
-/// The octets of the source, as far as they are looked at: all, or one more than the limit.
-fn take_in<'p, R: Source>(alloc: Global, source: &mut R, limit: u32) -> Result<Intake, Fault<'p>>
-    requires least { 1 ≤ limit }
-    requires greatest { limit ≤ 1048576 }
-    ensures octets { IfSome (R.remaining source.old)
-        (λ x. IsTakenIn result limit x (R.remaining source.new)) }
-    ensures bound { IfOk result (λ held. length held.octets ≤ limit + 1) }
-    ensures ok { OnOk result (R.failed source.new ≡ false) }
-    ensures fault { IfErr result (IsSourceFault (R.failed source.old) (R.failed source.new)) }
-{
-    let mut intake = Intake::new(alloc, limit);
-    match intake.read_from(source) {
-        Ok(()) => Ok(intake),
-        Err(TextFault::TooLong) => Ok(intake),
-        Err(TextFault::Read) => Err(Fault::Text(InputFault::Read)),
-        Err(_) => Err(Fault::OutOfMemory),
-    }
 }
 
 /// The verdict on what a source gives: as [`judge`] says of it, however the source cuts it.

@@ -3,7 +3,7 @@
 //! [`validate`] takes a token from a source and [`judge`] takes it in hand. Both try the eligible pairs of signature and key in
 //! order, each at most once, paid from the caller's [`Budget`](jwt_mac::Budget), and stop before a pair that would pass its
 //! ceiling or the policy's `max_calls` (RFC 7515, section 5.2; RFC 8725, section 3).
-//! [`judge_signed`] hands out the token that it read beside the report; [`judge_under`] is the same under [`Terms`].
+//! [`judge_under`] judges under [`Terms`], and hands out the token that it read beside the report.
 //! [`judge_token`] judges a token that [`read_token`] has read.
 #![tactic(auto)]
 
@@ -13,14 +13,13 @@ pub mod laws;
 mod live_signature;
 mod next_key;
 mod pair;
+mod reading;
 mod report;
 mod signature_outcome;
 mod terms;
 mod tries;
 
-pub use judging::{
-    JudgedToken, judge, judge_signed, judge_token, judge_under, read_token, validate,
-    without_line_feed,
-};
+pub use judging::{JudgedToken, judge, judge_token, judge_under, validate};
+pub use reading::{read_token, without_line_feed};
 pub use report::{Fault, InputFault, Report, SigState, Try, Verdict};
 pub use terms::Terms;

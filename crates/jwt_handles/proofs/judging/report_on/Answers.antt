@@ -38,13 +38,13 @@ returns-in-Ok-judging_of-clause-claims c h =
 
 pub returns-in-Ok-judging_of-clause-kept : goal.returns-in-Ok-judging_of-clause-kept
 returns-in-Ok-judging_of-clause-kept c =
-    subst (λ it. AddsTold (told c.args.state.now.answers) it c.args.state.now.memory c.outcome_of.new.memory) c.documents-documents.ensures c.outcome_of.ensures.told
+    subst (λ it. AddsTold (told c.args.state.now.answers) it c.args.state.now.memory c.outcome.new.memory) c.documents-documents.ensures c.outcome.ensures.told
 
 pub returns-in-Ok-judging_of-clause-adds : goal.returns-in-Ok-judging_of-clause-adds
 returns-in-Ok-judging_of-clause-adds c =
     let d = c.args.state.now in let x = c.args.octets.now in let lent = c.documents-documents.result.now in
-    subst (λ it. AddsOnly it.policy.run.work x c.in-Ok-judging_of.judging.said c.in-Ok-judging_of.judging.last d.memory c.outcome_of.new.memory) c.documents-documents.ensures
-    (adds_said lent.policy.run.work x c.in-Ok-judging_of.judging.said c.in-Ok-judging_of.judging.last c.in-Ok.handed c.in-Ok-judging_of.ensures.says d.memory c.outcome_of.new.memory c.in-Ok.ensures.adds)
+    subst (λ it. AddsOnly it.policy.run.work x c.in-Ok-judging_of.judging.said c.in-Ok-judging_of.judging.last d.memory c.outcome.new.memory) c.documents-documents.ensures
+    (adds_said lent.policy.run.work x c.in-Ok-judging_of.judging.said c.in-Ok-judging_of.judging.last c.in-Ok.handed c.in-Ok-judging_of.ensures.says d.memory c.outcome.new.memory c.in-Ok.ensures.adds)
 
 pub returns-in-Ok-judging_of-clause-payload : goal.returns-in-Ok-judging_of-clause-payload
 returns-in-Ok-judging_of-clause-payload c =
@@ -80,33 +80,33 @@ returns-in-Ok-asking-clause-asks c _ =
 
 pub returns-in-Ok-asking-clause-kept : goal.returns-in-Ok-asking-clause-kept
 returns-in-Ok-asking-clause-kept c =
-    subst (λ it. AddsTold (told c.args.state.now.answers) it c.args.state.now.memory c.outcome_of.new.memory) c.documents-documents.ensures c.outcome_of.ensures.told
+    subst (λ it. AddsTold (told c.args.state.now.answers) it c.args.state.now.memory c.outcome.new.memory) c.documents-documents.ensures c.outcome.ensures.told
 
 pub returns-in-Ok-asking-clause-adds : goal.returns-in-Ok-asking-clause-adds
 returns-in-Ok-asking-clause-adds c =
     let d = c.args.state.now in let x = c.args.octets.now in let lent = c.documents-documents.result.now in
-    subst (λ it. AddsOnly it.policy.run.work x c.in-Ok-asking.judging.said c.in-Ok-asking.judging.last d.memory c.outcome_of.new.memory) c.documents-documents.ensures
-    (adds_none lent.policy.run.work x c.in-Ok-asking.judging.said c.in-Ok-asking.judging.last d.memory c.outcome_of.new.memory c.in-Err.ensures.adds)
+    subst (λ it. AddsOnly it.policy.run.work x c.in-Ok-asking.judging.said c.in-Ok-asking.judging.last d.memory c.outcome.new.memory) c.documents-documents.ensures
+    (adds_none lent.policy.run.work x c.in-Ok-asking.judging.said c.in-Ok-asking.judging.last d.memory c.outcome.new.memory c.in-Err.ensures.adds)
 
 pub returns-in-Err-judging_of-clause-kept : goal.returns-in-Err-judging_of-clause-kept
 returns-in-Err-judging_of-clause-kept c =
-    subst (λ it. AddsTold (told c.args.state.now.answers) it c.args.state.now.memory c.outcome_of.new.memory) c.documents-documents.ensures c.outcome_of.ensures.told
+    subst (λ it. AddsTold (told c.args.state.now.answers) it c.args.state.now.memory c.outcome.new.memory) c.documents-documents.ensures c.outcome.ensures.told
 
 pub returns-in-Err-judging_of-clause-adds : goal.returns-in-Err-judging_of-clause-adds
 returns-in-Err-judging_of-clause-adds c =
     let d = c.args.state.now in let x = c.args.octets.now in let lent = c.documents-documents.result.now in
-    subst (λ it. AddsOnly it.policy.run.work x c.bare.result.said c.bare.result.last d.memory c.outcome_of.new.memory) c.documents-documents.ensures
-    (adds_nothing lent.policy.run.work x c.bare.result.said c.bare.result.last c.in-Ok.handed c.in-Err-judging_of.ensures.fails d.memory c.outcome_of.new.memory c.in-Ok.ensures.adds)
+    subst (λ it. AddsOnly it.policy.run.work x c.bare.result.said c.bare.result.last d.memory c.outcome.new.memory) c.documents-documents.ensures
+    (adds_nothing lent.policy.run.work x c.bare.result.said c.bare.result.last c.in-Ok.handed c.in-Err-judging_of.ensures.fails d.memory c.outcome.new.memory c.in-Ok.ensures.adds)
 
 pub returns-in-Err-asking-clause-kept : goal.returns-in-Err-asking-clause-kept
 returns-in-Err-asking-clause-kept c =
-    subst (λ it. AddsTold (told c.args.state.now.answers) it c.args.state.now.memory c.outcome_of.new.memory) c.documents-documents.ensures c.outcome_of.ensures.told
+    subst (λ it. AddsTold (told c.args.state.now.answers) it c.args.state.now.memory c.outcome.new.memory) c.documents-documents.ensures c.outcome.ensures.told
 
 pub returns-in-Err-asking-clause-adds : goal.returns-in-Err-asking-clause-adds
 returns-in-Err-asking-clause-adds c =
     let d = c.args.state.now in let x = c.args.octets.now in let lent = c.documents-documents.result.now in
-    subst (λ it. AddsOnly it.policy.run.work x c.bare-in-Err-asking.result.said c.bare-in-Err-asking.result.last d.memory c.outcome_of.new.memory) c.documents-documents.ensures
-    (adds_none lent.policy.run.work x c.bare-in-Err-asking.result.said c.bare-in-Err-asking.result.last d.memory c.outcome_of.new.memory c.in-Err.ensures.adds)
+    subst (λ it. AddsOnly it.policy.run.work x c.bare-in-Err-asking.result.said c.bare-in-Err-asking.result.last d.memory c.outcome.new.memory) c.documents-documents.ensures
+    (adds_none lent.policy.run.work x c.bare-in-Err-asking.result.said c.bare-in-Err-asking.result.last d.memory c.outcome.new.memory c.in-Err.ensures.adds)
 
 pub returns-in-Ok-judging_of-clause-open : goal.returns-in-Ok-judging_of-clause-open
 returns-in-Ok-judging_of-clause-open c =

@@ -1,5 +1,5 @@
 use Rattle.jwt_verify.proofs.Memory.{token_words, why_none}
-use Rattle.jwt_verify.proofs.judging.read_token.Goals as goal
+use Rattle.jwt_verify.proofs.reading.read_token.Goals as goal
 
 pub returns-clause-token : goal.returns-clause-token
 returns-clause-token c = token_words c.signed_tokens.ensures c.args.policy.now c.args.octets.now c.read_with.result c.read_with.ensures.value

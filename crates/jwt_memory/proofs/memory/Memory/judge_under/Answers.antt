@@ -5,7 +5,7 @@ use Rattle.jwt_memory.specs.declared.memory.Basis.{Basis}
 use Rattle.jwt_memory.specs.Outcomes.{IsFound, payload_in, report_in}
 use Rattle.jwt_memory.proofs.Keeping.{recalled, may_be_kept, moved}
 use Rattle.jwt_memory.proofs.Payloads.{recalled_payload, handed_anew, read_is_spelled}
-use Rattle.jwt_memory.proofs.under.judge_under.Goals as goal
+use Rattle.jwt_memory.proofs.memory.Memory.judge_under.Goals as goal
 
 pub kept-requires-clause-payload : goal.kept-requires-clause-payload
 kept-requires-clause-payload g c =
@@ -23,14 +23,14 @@ returns-in-Some-clause-report g c =
     let z : to_z w64 (of_z w64 c.args.terms.now.moment) ≡ c.args.terms.now.moment = search rules in
     let is : c.check-fault.result ≡ check_of p b.claims c.args.terms.now.moment =
     c.check-fault.ensures ∙ ap (λ (a : Basis). check_of p a.claims (to_z w64 (of_z w64 c.args.terms.now.moment))) c.deref.ensures ∙ ap (check_of p b.claims) z in
-    recalled p c.args.terms.now.keys.now v c.args.octets.now w b c.args.memory.now c.args.terms.now.moment c.check-fault.result c.requires.kept (f.0, f.1, f.2, f.3 ∙ same, f.4) is
+    recalled p c.args.terms.now.keys.now v c.args.octets.now w b c.args.self.now c.args.terms.now.moment c.check-fault.result c.requires.kept (f.0, f.1, f.2, f.3 ∙ same, f.4) is
 
 pub returns-in-Some-clause-payload : goal.returns-in-Some-clause-payload
 returns-in-Some-clause-payload g c =
     let w = g.B.Budget.ceiling c.args.budget.now in
     let same : c.left-ceiling.result ≡ w = omega (arith, c.left-ceiling.ensures, c.requires.no_octets) in
     let f = c.in-Some.ensures.found in
-    recalled_payload c.compact_payloads.ensures.reads c.args.terms.now.policy.now c.args.octets.now w (arc_value c.in-Some.basis) c.args.memory.now c.check-fault.result (f.0, f.1, f.2, f.3 ∙ same, f.4)
+    recalled_payload c.compact_payloads.ensures.reads c.args.terms.now.policy.now c.args.octets.now w (arc_value c.in-Some.basis) c.args.self.now c.check-fault.result (f.0, f.1, f.2, f.3 ∙ same, f.4)
 
 pub returns-in-None-clause-payload : goal.returns-in-None-clause-payload
 returns-in-None-clause-payload g c =
@@ -44,7 +44,7 @@ returns-in-Some-clause-found g c =
     let f = c.in-Some.ensures.found in (f.0, f.1, f.2, f.3 ∙ same)
 
 pub returns-in-None-clause-found : goal.returns-in-None-clause-found
-returns-in-None-clause-found g c = subst (λ b. IsFound b c.args.memory.now c.args.octets.now (g.B.Budget.ceiling c.args.budget.now)) (sym c.kept.ensures.anew) tt
+returns-in-None-clause-found g c = subst (λ b. IsFound b c.args.self.now c.args.octets.now (g.B.Budget.ceiling c.args.budget.now)) (sym c.kept.ensures.anew) tt
 
 pub returns-in-Some-clause-kept : goal.returns-in-Some-clause-kept
 returns-in-Some-clause-kept g c e h = c.requires.kept e (c.in-Some.ensures.held e h)
