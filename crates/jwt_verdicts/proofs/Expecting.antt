@@ -3,7 +3,7 @@ use Rattle.std.proofs.Common.{◌≡◌, ◌≢◌, ◌↔◌, ◌∙◌, ap, sy
 use Rattle.std.specs.Borrow.{Bor}
 use Rattle.std.specs.Prelude.{Decides, bytes_eq, option_and_then}
 use Rattle.std.proofs.lemmas.Slice.Eq.{bytes_eq-Decides}
-use Rattle.serde_json.specs.Data.{Data, Members, string}
+use Rattle.serde_json.specs.Data.{Data, Members, null, boolean, number, string, array, object}
 use Rattle.jwt_access.specs.Claims.{is_value}
 use Rattle.jwt_access.specs.Rules.{text}
 use Rattle.jwt_access.specs.Granted.{IsClaim, IsPath}
@@ -93,7 +93,7 @@ absent_lacks spelled alg claim wanted ms place (expected, reached, absent) =
 
 pub other_lacks : AreSpelled → (alg : Alg) (claim wanted : Bor (List ℕ)) (ms : Members) (place : ℕ) → IsFirstUnmet alg ms (of_text claim wanted ∷ []) (Other place)
     → expected_lacking (Some (as_asked claim wanted)) ms ≡ Some (ClaimNotAllowed claim.now)
-other_lacks spelled alg claim wanted ms place (expected, reached, value, is, differs) =
+other_lacks spelled alg claim wanted ms place (expected, reached, (value, is, differs)) =
     let one = only_one (of_text claim wanted) expected place reached.is in
     other_is (as_asked claim wanted) (claim_at claim.now ms) value
     (claim_is spelled claim.now ms value (subst (λ x. IsClaim x.claim.now ms value) one is))
