@@ -21,6 +21,18 @@ pub(crate) struct Telling<'r> {
 }
 
 impl<'r> Telling<'r> {
+    /// Without an access rule.
+    pub(crate) fn of(printing: Printing, expected: Option<Expectation<'r>>) -> Telling<'r>
+        ensures printing { result.printing ≡ printing }
+        ensures expected { result.expected ≡ expected.entry }
+    {
+        Telling {
+            printing,
+            rule: None,
+            expected,
+        }
+    }
+
     /// What the claims of a token that is accepted under these terms are held against.
     pub(crate) fn demands(&self, terms: &Terms<'_, '_, '_>) -> Demands<'r>
         ensures asked { demands_view result ≡ asked_of self.now }

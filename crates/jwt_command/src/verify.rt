@@ -223,15 +223,15 @@ fn on_last<R: Source>(
 /// The access rule, where one is in hand, and the token.
 fn on_rule<R: Source>(
     alloc: Global,
-    options: &VerifyOptions<'_>,
+    asked: &Telling<'_>,
     terms: &Terms<'_, '_, '_>,
     held: Held<'_>,
     r: &mut R,
 ) -> Result<Reply, AllocError>
     requires { R.failed r.old ≡ false }
     ensures line { IfSome (R.remaining r.old) (λ x. IfOk result (λ a. reply_view a
-        ≡ unless_read_failed (told_by options.now.printing options.now.expected) (R.failed r.new)
-        (under_rule (told_by options.now.printing options.now.expected) (terms_meant (λ b. meaning (b.vtable, b.value)) terms.now)
+        ≡ unless_read_failed (told_by asked.now.printing asked.now.expected) (R.failed r.new)
+        (under_rule (told_by asked.now.printing asked.now.expected) (terms_meant (λ b. meaning (b.vtable, b.value)) terms.now)
         (rule_in_hand (held_view held.entry).access)
         (last_document (held_view held.entry).token x)))) }
     ensures stops { IfSome (R.remaining r.old) (λ x. (R.failed r.new ≡ true)
@@ -242,14 +242,14 @@ fn on_rule<R: Source>(
     match rule_in_hand(alloc, held.access) {
         Ok(rule) => {
             let telling = Telling {
-                printing: options.printing,
+                printing: asked.printing,
                 rule: rule.as_ref(),
-                expected: options.expected,
+                expected: asked.expected,
             };
             on_last(alloc, terms, &telling, held.token, r)
         }
         Err(AccessFault::OutOfMemory) => Err(AllocError),
-        Err(fault) => printed_access_fault(alloc, options.printing, &fault),
+        Err(fault) => printed_access_fault(alloc, asked.printing, &fault),
     }
 }
 
@@ -280,7 +280,8 @@ fn on_keys<R: Source>(
     match KeySet::read(alloc, text.octets()) {
         Ok(keys) => {
             let terms = terms_at(options.moment, options.verifiers, policy, &keys);
-            on_rule(alloc, options, &terms, held, r)
+            let asked = Telling::of(printing, options.expected);
+            on_rule(alloc, &asked, &terms, held, r)
         }
         Err(KeysFault::OutOfMemory) => Err(AllocError),
         Err(fault) => printed_keys_fault(alloc, printing, &fault),

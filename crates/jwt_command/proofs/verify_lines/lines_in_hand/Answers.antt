@@ -28,11 +28,11 @@ returns-in-Ok-rule_in_hand g c =
     let vs = map (λ b. (goal.Verifier-dyn g (b.vtable, b.value)).meaning b.value) c.args.lines.now.verifiers.now in
     let policy_is : Ok c.in-Ok.policy ≡ policy_of c.args.lines.now.policy.now = c.in-Ok.ensures.answer (λ bad. cc bad) in
     let read : Ok c.in-Ok-rule_in_hand.rule ≡ rule_in_hand (option_map (λ t. t.now) c.args.lines.now.access) = c.in-Ok-rule_in_hand.ensures (λ bad. cc bad) in
-    let is : rule_in_hand (option_map (λ t. t.now) c.args.lines.now.access) ≡ Ok (rule_view c.as_ref-rule.result) = sym read ∙ ap Ok (sym c.as_ref-rule.ensures.value) in
+    let is : rule_in_hand (option_map (λ t. t.now) c.args.lines.now.access) ≡ Ok (rule_view c.as_ref.result) = sym read ∙ ap Ok (sym c.as_ref.ensures.value) in
     lines_are_given (told_by c.args.lines.now.printing c.args.lines.now.expected) vs g.C.Clock.says (seconds_of c.args.lines.now.moment) (g.R.Source.remaining c.args.r.now) (policy_of c.args.lines.now.policy.now) (key_set_of c.args.lines.now.keys.now) (rule_in_hand (option_map (λ t. t.now) c.args.lines.now.access)) c.in-Ok.policy (key_set c.in-Ok-read.keys) _ _
     (sym policy_is) c.in-Ok-read.ensures.answer
     (lines_by_rule_are_given (told_by c.args.lines.now.printing c.args.lines.now.expected) vs g.C.Clock.says (seconds_of c.args.lines.now.moment) (g.R.Source.remaining c.args.r.now) c.in-Ok.policy (key_set c.in-Ok-read.keys) (rule_in_hand (option_map (λ t. t.now) c.args.lines.now.access))
-    (rule_view c.as_ref-rule.result) _ _ is c.answer_lines.ensures)
+    (rule_view c.as_ref.result) _ _ is c.answer_lines.ensures)
 
 pub returns : goal.returns
 returns g c =
