@@ -14,7 +14,7 @@ _jwt() {
             return
             ;;
         # The values of these aren't known here.
-        issue:--typ | mac:--k | mac:--limit | show:--limit | show:--now | verify:--now | jwk:--kid) ;;
+        issue:--typ | mac:--k | mac:--limit | show:--limit | show:--now | verify:--now | verify:--expect | jwk:--kid) ;;
         mac:*) choices="--k --key-file --limit" ;;
         keys:*) choices="--json" ;;
         show:*)
@@ -23,7 +23,7 @@ _jwt() {
             return
             ;;
         policy:*) choices="--policy --keys --json" ;;
-        verify:*) choices="--now --public-keys --lines --json --policy --keys --access --token --trim" ;;
+        verify:*) choices="--now --public-keys --lines --json --policy --keys --access --expect --token --trim" ;;
         issue:*) choices="--alg --typ --form --keys" ;;
         jwk:*) choices="--file --der --alg --kid --kid-thumbprint --bare --new --secret --json" ;;
         esac

@@ -18,6 +18,7 @@ complete -c jwt -n "__fish_seen_subcommand_from verify show" -l now -x -d "The m
 complete -c jwt -n "__fish_seen_subcommand_from verify policy" -l policy -r -F -d "The policy"
 complete -c jwt -n "__fish_seen_subcommand_from verify policy issue" -l keys -r -F -d "The key set"
 complete -c jwt -n "__fish_seen_subcommand_from verify" -l access -r -F -d "The access rule"
+complete -c jwt -n "__fish_seen_subcommand_from verify" -l expect -x -d "What a claim has to be"
 complete -c jwt -n "__fish_seen_subcommand_from verify" -l token -r -F -d "The token"
 complete -c jwt -n "__fish_seen_subcommand_from verify" -l trim -d "Drop a final line feed of standard input"
 complete -c jwt -n "__fish_seen_subcommand_from verify" -l public-keys -d "Verify signatures by public keys too"

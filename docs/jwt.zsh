@@ -24,7 +24,7 @@ _jwt() {
     case $command in
     verify)
         _arguments '--now[the moment]:seconds or date:' '--public-keys[verify signatures by public keys too]' '--lines[answer each line]' \
-            '--json[print JSON]' '--policy[the policy]:file:_files' '--keys[the key set]:file:_files' '--access[the access rule]:file:_files' \
+            '--json[print JSON]' '--policy[the policy]:file:_files' '--keys[the key set]:file:_files' '--access[the access rule]:file:_files' '--expect[what a claim has to be]:name=text:' \
             '(--trim)--token[the token]:file:_files' '(--token)--trim[drop a final line feed of standard input]'
         ;;
     show)

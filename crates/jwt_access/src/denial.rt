@@ -21,7 +21,7 @@ use jwt_policy::Claims;
 use std::marker::Model;
 use thiserror::Error;
 
-/// A scope, or the name of a claim, lent by the rule that asks for it.
+/// A scope, or the name of a claim, lent by whoever asks for it.
 #[derive(Debug, Drop)]
 pub struct DeniedName<'a> {
     text: &'a str,
@@ -37,7 +37,7 @@ impl<'a> Model for DeniedName<'a> {
 
 impl<'a> DeniedName<'a> {
     /// This name.
-    pub(crate) fn new(text: &'a str) -> DeniedName<'a>
+    pub fn new(text: &'a str) -> DeniedName<'a>
         ensures { result ≡ text.entry.now }
     {
         DeniedName { text }

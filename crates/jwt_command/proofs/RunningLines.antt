@@ -11,11 +11,10 @@ use Rattle.jwt_words.specs.InHand.{Held, unread}
 use Rattle.jwt_command.specs.Lines.{GivesLines, with_held}
 use Rattle.jwt_printing.specs.Printed.{Answer, out_of_memory}
 use Rattle.jwt_command.specs.RunLines.{LinesByKeys, LinesByPolicy, LinesByRule, LinesInHand, LinesNamed, Outcome, Printed, RunsLines}
-use Rattle.jwt_verdicts.specs.Printer.{printer}
+use Rattle.jwt_verdicts.specs.Printer.{Printer, printer_for}
 use Rattle.jwt_printing.specs.Refused.{printed_file_fault}
 use Rattle.jwt_command.specs.Verify.{asked_for, terms_of_keys}
 use Rattle.jwt_words.specs.Words.{LinesOrder}
-use Rattle.jwt_words.specs.declared.printing.Printing.{Printing}
 
 -- what holds for each x holds where x is known
 pub where_known : (known : Option (List ℕ)) (P : List ℕ → Type 0) → ((x : List ℕ) → P x) → IfSome known P
@@ -31,53 +30,53 @@ or_else : (A B C : Type 0) → (B → C) → A ⊎ B → A ⊎ C
 or_else A B C f (inl a) = inl a
 or_else A B C f (inr b) = inr (f b)
 
-pub policy_is_refused : {A E : Type 0} (view : A → Answer) (printing : Printing) (verifiers : List Meaning) (says : ℕ → List ℕ → ℕ → Type 0) (now : Option ℕ) (known : Option (List ℕ)) (policy : Result Settings PolicyFault) (set : Result KeyList KeysFault) (rule : Result (Option Rule) AccessFault)
-    (fault : PolicyFault) (reply : Result A E) (unread : Bool) (o : Outcome) → policy ≡ Err fault → IfOk reply (λ r. view r ≡ (printer printing).policy_refused fault)
+pub policy_is_refused : {A E : Type 0} (view : A → Answer) (tell : Printer) (verifiers : List Meaning) (says : ℕ → List ℕ → ℕ → Type 0) (now : Option ℕ) (known : Option (List ℕ)) (policy : Result Settings PolicyFault) (set : Result KeyList KeysFault) (rule : Result (Option Rule) AccessFault)
+    (fault : PolicyFault) (reply : Result A E) (unread : Bool) (o : Outcome) → policy ≡ Err fault → IfOk reply (λ r. view r ≡ tell.policy_refused fault)
     → IfOk reply (λ r. Printed (view r) o) → IfErr reply (λ e. Printed out_of_memory o)
-    → IfSome known (λ x. Printed out_of_memory o ⊎ LinesByPolicy printing verifiers says now policy set rule x unread o)
-policy_is_refused view printing verifiers says now known policy set rule fault reply unread o is line printed lacks =
-    where_known known (λ x. Printed out_of_memory o ⊎ LinesByPolicy printing verifiers says now policy set rule x unread o) (λ x.
-    or_else (Printed out_of_memory o) (Printed ((printer printing).policy_refused fault) o) (LinesByPolicy printing verifiers says now policy set rule x unread o)
-    (λ h. subst (λ (p : Result Settings PolicyFault). LinesByPolicy printing verifiers says now p set rule x unread o) (sym is) h) (given view reply ((printer printing).policy_refused fault) o line printed lacks))
+    → IfSome known (λ x. Printed out_of_memory o ⊎ LinesByPolicy tell verifiers says now policy set rule x unread o)
+policy_is_refused view tell verifiers says now known policy set rule fault reply unread o is line printed lacks =
+    where_known known (λ x. Printed out_of_memory o ⊎ LinesByPolicy tell verifiers says now policy set rule x unread o) (λ x.
+    or_else (Printed out_of_memory o) (Printed (tell.policy_refused fault) o) (LinesByPolicy tell verifiers says now policy set rule x unread o)
+    (λ h. subst (λ (p : Result Settings PolicyFault). LinesByPolicy tell verifiers says now p set rule x unread o) (sym is) h) (given view reply (tell.policy_refused fault) o line printed lacks))
 
-pub keys_are_refused : {A E : Type 0} (view : A → Answer) (printing : Printing) (verifiers : List Meaning) (says : ℕ → List ℕ → ℕ → Type 0) (now : Option ℕ) (known : Option (List ℕ)) (policy : Result Settings PolicyFault) (set : Result KeyList KeysFault) (rule : Result (Option Rule) AccessFault)
+pub keys_are_refused : {A E : Type 0} (view : A → Answer) (tell : Printer) (verifiers : List Meaning) (says : ℕ → List ℕ → ℕ → Type 0) (now : Option ℕ) (known : Option (List ℕ)) (policy : Result Settings PolicyFault) (set : Result KeyList KeysFault) (rule : Result (Option Rule) AccessFault)
     (p : Settings) (fault : KeysFault) (reply : Result A E) (unread : Bool) (o : Outcome) → policy ≡ Ok p → set ≡ Err fault
-    → IfOk reply (λ r. view r ≡ (printer printing).keys_refused fault) → IfOk reply (λ r. Printed (view r) o) → IfErr reply (λ e. Printed out_of_memory o)
-    → IfSome known (λ x. Printed out_of_memory o ⊎ LinesByPolicy printing verifiers says now policy set rule x unread o)
-keys_are_refused view printing verifiers says now known policy set rule p fault reply unread o policy_is set_is line printed lacks =
-    where_known known (λ x. Printed out_of_memory o ⊎ LinesByPolicy printing verifiers says now policy set rule x unread o) (λ x.
-    or_else (Printed out_of_memory o) (Printed ((printer printing).keys_refused fault) o) (LinesByPolicy printing verifiers says now policy set rule x unread o)
-    (λ h. subst (λ (q : Result Settings PolicyFault). LinesByPolicy printing verifiers says now q set rule x unread o) (sym policy_is)
-    (subst (λ (s : Result KeyList KeysFault). LinesByKeys printing verifiers says now p s rule x unread o) (sym set_is) h)) (given view reply ((printer printing).keys_refused fault) o line printed lacks))
+    → IfOk reply (λ r. view r ≡ tell.keys_refused fault) → IfOk reply (λ r. Printed (view r) o) → IfErr reply (λ e. Printed out_of_memory o)
+    → IfSome known (λ x. Printed out_of_memory o ⊎ LinesByPolicy tell verifiers says now policy set rule x unread o)
+keys_are_refused view tell verifiers says now known policy set rule p fault reply unread o policy_is set_is line printed lacks =
+    where_known known (λ x. Printed out_of_memory o ⊎ LinesByPolicy tell verifiers says now policy set rule x unread o) (λ x.
+    or_else (Printed out_of_memory o) (Printed (tell.keys_refused fault) o) (LinesByPolicy tell verifiers says now policy set rule x unread o)
+    (λ h. subst (λ (q : Result Settings PolicyFault). LinesByPolicy tell verifiers says now q set rule x unread o) (sym policy_is)
+    (subst (λ (s : Result KeyList KeysFault). LinesByKeys tell verifiers says now p s rule x unread o) (sym set_is) h)) (given view reply (tell.keys_refused fault) o line printed lacks))
 
-pub lines_are_given : (printing : Printing) (verifiers : List Meaning) (says : ℕ → List ℕ → ℕ → Type 0) (now : Option ℕ) (known : Option (List ℕ)) (policy : Result Settings PolicyFault) (set : Result KeyList KeysFault) (rule : Result (Option Rule) AccessFault)
+pub lines_are_given : (tell : Printer) (verifiers : List Meaning) (says : ℕ → List ℕ → ℕ → Type 0) (now : Option ℕ) (known : Option (List ℕ)) (policy : Result Settings PolicyFault) (set : Result KeyList KeysFault) (rule : Result (Option Rule) AccessFault)
     (p : Settings) (keys : KeyList) (unread : Bool) (o : Outcome) → policy ≡ Ok p → set ≡ Ok keys
-    → IfSome known (λ x. Printed out_of_memory o ⊎ LinesByRule printing verifiers says now p keys rule x unread o)
-    → IfSome known (λ x. Printed out_of_memory o ⊎ LinesByPolicy printing verifiers says now policy set rule x unread o)
-lines_are_given printing verifiers says now None policy set rule p keys unread o policy_is set_is given = tt
-lines_are_given printing verifiers says now (Some x) policy set rule p keys unread o policy_is set_is given =
-    or_else (Printed out_of_memory o) (LinesByRule printing verifiers says now p keys rule x unread o) (LinesByPolicy printing verifiers says now policy set rule x unread o)
-    (λ h. subst (λ (q : Result Settings PolicyFault). LinesByPolicy printing verifiers says now q set rule x unread o) (sym policy_is)
-    (subst (λ (s : Result KeyList KeysFault). LinesByKeys printing verifiers says now p s rule x unread o) (sym set_is) h)) given
+    → IfSome known (λ x. Printed out_of_memory o ⊎ LinesByRule tell verifiers says now p keys rule x unread o)
+    → IfSome known (λ x. Printed out_of_memory o ⊎ LinesByPolicy tell verifiers says now policy set rule x unread o)
+lines_are_given tell verifiers says now None policy set rule p keys unread o policy_is set_is given = tt
+lines_are_given tell verifiers says now (Some x) policy set rule p keys unread o policy_is set_is given =
+    or_else (Printed out_of_memory o) (LinesByRule tell verifiers says now p keys rule x unread o) (LinesByPolicy tell verifiers says now policy set rule x unread o)
+    (λ h. subst (λ (q : Result Settings PolicyFault). LinesByPolicy tell verifiers says now q set rule x unread o) (sym policy_is)
+    (subst (λ (s : Result KeyList KeysFault). LinesByKeys tell verifiers says now p s rule x unread o) (sym set_is) h)) given
 
 -- ---- the rule
 
-pub rule_is_refused : {A E : Type 0} (view : A → Answer) (printing : Printing) (verifiers : List Meaning) (says : ℕ → List ℕ → ℕ → Type 0) (now : Option ℕ) (known : Option (List ℕ)) (p : Settings) (keys : KeyList) (rule : Result (Option Rule) AccessFault)
-    (fault : AccessFault) (reply : Result A E) (unread : Bool) (o : Outcome) → rule ≡ Err fault → IfOk reply (λ r. view r ≡ (printer printing).access_refused fault)
+pub rule_is_refused : {A E : Type 0} (view : A → Answer) (tell : Printer) (verifiers : List Meaning) (says : ℕ → List ℕ → ℕ → Type 0) (now : Option ℕ) (known : Option (List ℕ)) (p : Settings) (keys : KeyList) (rule : Result (Option Rule) AccessFault)
+    (fault : AccessFault) (reply : Result A E) (unread : Bool) (o : Outcome) → rule ≡ Err fault → IfOk reply (λ r. view r ≡ tell.access_refused fault)
     → IfOk reply (λ r. Printed (view r) o) → IfErr reply (λ e. Printed out_of_memory o)
-    → IfSome known (λ x. Printed out_of_memory o ⊎ LinesByRule printing verifiers says now p keys rule x unread o)
-rule_is_refused view printing verifiers says now known p keys rule fault reply unread o is line printed lacks =
-    where_known known (λ x. Printed out_of_memory o ⊎ LinesByRule printing verifiers says now p keys rule x unread o) (λ x.
-    or_else (Printed out_of_memory o) (Printed ((printer printing).access_refused fault) o) (LinesByRule printing verifiers says now p keys rule x unread o)
-    (λ h. subst (λ (k : Result (Option Rule) AccessFault). LinesByRule printing verifiers says now p keys k x unread o) (sym is) h) (given view reply ((printer printing).access_refused fault) o line printed lacks))
+    → IfSome known (λ x. Printed out_of_memory o ⊎ LinesByRule tell verifiers says now p keys rule x unread o)
+rule_is_refused view tell verifiers says now known p keys rule fault reply unread o is line printed lacks =
+    where_known known (λ x. Printed out_of_memory o ⊎ LinesByRule tell verifiers says now p keys rule x unread o) (λ x.
+    or_else (Printed out_of_memory o) (Printed (tell.access_refused fault) o) (LinesByRule tell verifiers says now p keys rule x unread o)
+    (λ h. subst (λ (k : Result (Option Rule) AccessFault). LinesByRule tell verifiers says now p keys k x unread o) (sym is) h) (given view reply (tell.access_refused fault) o line printed lacks))
 
-pub lines_by_rule_are_given : (printing : Printing) (verifiers : List Meaning) (says : ℕ → List ℕ → ℕ → Type 0) (now : Option ℕ) (known : Option (List ℕ)) (p : Settings) (keys : KeyList) (rule : Result (Option Rule) AccessFault)
+pub lines_by_rule_are_given : (tell : Printer) (verifiers : List Meaning) (says : ℕ → List ℕ → ℕ → Type 0) (now : Option ℕ) (known : Option (List ℕ)) (p : Settings) (keys : KeyList) (rule : Result (Option Rule) AccessFault)
     (asked : Option Rule) (unread : Bool) (o : Outcome) → rule ≡ Ok asked
-    → IfSome known (λ x. GivesLines (λ m l. (printer printing).token asked (terms_of_keys verifiers m p keys) l) (printer printing).read_failed (with_held p.run.limit says) now x unread o.before o.after o.failed o.status)
-    → IfSome known (λ x. Printed out_of_memory o ⊎ LinesByRule printing verifiers says now p keys rule x unread o)
-lines_by_rule_are_given printing verifiers says now None p keys rule asked unread o is given = tt
-lines_by_rule_are_given printing verifiers says now (Some x) p keys rule asked unread o is given =
-    inr (subst (λ (k : Result (Option Rule) AccessFault). LinesByRule printing verifiers says now p keys k x unread o) (sym is) given)
+    → IfSome known (λ x. GivesLines (λ m l. tell.token asked (terms_of_keys verifiers m p keys) l) tell.read_failed (with_held p.run.limit says) now x unread o.before o.after o.failed o.status)
+    → IfSome known (λ x. Printed out_of_memory o ⊎ LinesByRule tell verifiers says now p keys rule x unread o)
+lines_by_rule_are_given tell verifiers says now None p keys rule asked unread o is given = tt
+lines_by_rule_are_given tell verifiers says now (Some x) p keys rule asked unread o is given =
+    inr (subst (λ (k : Result (Option Rule) AccessFault). LinesByRule tell verifiers says now p keys k x unread o) (sym is) given)
 
 pub file_is_unread : {A E : Type 0} (view : A → Answer) (built_in : List Meaning) (says : ℕ → List ℕ → ℕ → Type 0) (order : LinesOrder) (held : Held) (known : Option (List ℕ)) (name : List ℕ)
     (reply : Result A E) (failed : Bool) (o : Outcome) → Some name ≡ unread order.files held → IfOk reply (λ r. view r ≡ printed_file_fault order.printing name)
@@ -87,29 +86,29 @@ file_is_unread view built_in says order held known name reply failed o is line p
     or_else (Printed out_of_memory o) (Printed (printed_file_fault order.printing name) o) (LinesNamed (unread order.files held) built_in says order held x failed o)
     (λ h. subst (λ (u : Option (List ℕ)). LinesNamed u built_in says order held x failed o) is h) (given view reply (printed_file_fault order.printing name) o line printed lacks))
 
-policy_lacks : (printing : Printing) (verifiers : List Meaning) (says : ℕ → List ℕ → ℕ → Type 0) (now : Option ℕ) (policy keys access : Option (List ℕ)) (x : List ℕ) (unread : Bool) (o : Outcome)
-    → policy ≡ None → Printed (printer printing).read_failed o → LinesInHand printing verifiers says now policy keys access x unread o
-policy_lacks printing verifiers says now policy keys access x unread o is printed = subst (λ (p : Option (List ℕ)). LinesInHand printing verifiers says now p keys access x unread o) (sym is) printed
+policy_lacks : (tell : Printer) (verifiers : List Meaning) (says : ℕ → List ℕ → ℕ → Type 0) (now : Option ℕ) (policy keys access : Option (List ℕ)) (x : List ℕ) (unread : Bool) (o : Outcome)
+    → policy ≡ None → Printed tell.read_failed o → LinesInHand tell verifiers says now policy keys access x unread o
+policy_lacks tell verifiers says now policy keys access x unread o is printed = subst (λ (p : Option (List ℕ)). LinesInHand tell verifiers says now p keys access x unread o) (sym is) printed
 
-keys_lack : (printing : Printing) (verifiers : List Meaning) (says : ℕ → List ℕ → ℕ → Type 0) (now : Option ℕ) (policy keys access : Option (List ℕ)) (x : List ℕ) (unread : Bool) (o : Outcome)
-    → keys ≡ None → Printed (printer printing).read_failed o → LinesInHand printing verifiers says now policy keys access x unread o
-keys_lack printing verifiers says now None keys access x unread o is printed = printed
-keys_lack printing verifiers says now (Some p) keys access x unread o is printed = subst (λ (k : Option (List ℕ)). LinesInHand printing verifiers says now (Some p) k access x unread o) (sym is) printed
+keys_lack : (tell : Printer) (verifiers : List Meaning) (says : ℕ → List ℕ → ℕ → Type 0) (now : Option ℕ) (policy keys access : Option (List ℕ)) (x : List ℕ) (unread : Bool) (o : Outcome)
+    → keys ≡ None → Printed tell.read_failed o → LinesInHand tell verifiers says now policy keys access x unread o
+keys_lack tell verifiers says now None keys access x unread o is printed = printed
+keys_lack tell verifiers says now (Some p) keys access x unread o is printed = subst (λ (k : Option (List ℕ)). LinesInHand tell verifiers says now (Some p) k access x unread o) (sym is) printed
 
 pub without_policy : {A E : Type 0} (view : A → Answer) (built_in : List Meaning) (says : ℕ → List ℕ → ℕ → Type 0) (order : LinesOrder) (held : Held) (known : Option (List ℕ)) (reply : Result A E) (failed : Bool) (o : Outcome)
-    → None ≡ unread order.files held → held.policy ≡ None → IfOk reply (λ r. view r ≡ (printer order.printing).read_failed) → IfOk reply (λ r. Printed (view r) o)
+    → None ≡ unread order.files held → held.policy ≡ None → IfOk reply (λ r. view r ≡ (printer_for order.printing order.expected).read_failed) → IfOk reply (λ r. Printed (view r) o)
     → IfErr reply (λ e. Printed out_of_memory o) → IfSome known (λ x. RunsLines built_in says order held x failed o)
 without_policy view built_in says order held known reply failed o is lacking answer printed lacks =
     where_known known (λ x. RunsLines built_in says order held x failed o) (λ x.
-    or_else (Printed out_of_memory o) (Printed (printer order.printing).read_failed o) (LinesNamed (unread order.files held) built_in says order held x failed o)
+    or_else (Printed out_of_memory o) (Printed (printer_for order.printing order.expected).read_failed o) (LinesNamed (unread order.files held) built_in says order held x failed o)
     (λ h. subst (λ (u : Option (List ℕ)). LinesNamed u built_in says order held x failed o) is
-    (policy_lacks order.printing (asked_for order.public_keys built_in) says order.now held.policy held.keys held.access x failed o lacking h)) (given view reply (printer order.printing).read_failed o answer printed lacks))
+    (policy_lacks (printer_for order.printing order.expected) (asked_for order.public_keys built_in) says order.now held.policy held.keys held.access x failed o lacking h)) (given view reply (printer_for order.printing order.expected).read_failed o answer printed lacks))
 
 pub without_keys : {A E : Type 0} (view : A → Answer) (built_in : List Meaning) (says : ℕ → List ℕ → ℕ → Type 0) (order : LinesOrder) (held : Held) (known : Option (List ℕ)) (reply : Result A E) (failed : Bool) (o : Outcome)
-    → None ≡ unread order.files held → held.keys ≡ None → IfOk reply (λ r. view r ≡ (printer order.printing).read_failed) → IfOk reply (λ r. Printed (view r) o)
+    → None ≡ unread order.files held → held.keys ≡ None → IfOk reply (λ r. view r ≡ (printer_for order.printing order.expected).read_failed) → IfOk reply (λ r. Printed (view r) o)
     → IfErr reply (λ e. Printed out_of_memory o) → IfSome known (λ x. RunsLines built_in says order held x failed o)
 without_keys view built_in says order held known reply failed o is lacking answer printed lacks =
     where_known known (λ x. RunsLines built_in says order held x failed o) (λ x.
-    or_else (Printed out_of_memory o) (Printed (printer order.printing).read_failed o) (LinesNamed (unread order.files held) built_in says order held x failed o)
+    or_else (Printed out_of_memory o) (Printed (printer_for order.printing order.expected).read_failed o) (LinesNamed (unread order.files held) built_in says order held x failed o)
     (λ h. subst (λ (u : Option (List ℕ)). LinesNamed u built_in says order held x failed o) is
-    (keys_lack order.printing (asked_for order.public_keys built_in) says order.now held.policy held.keys held.access x failed o lacking h)) (given view reply (printer order.printing).read_failed o answer printed lacks))
+    (keys_lack (printer_for order.printing order.expected) (asked_for order.public_keys built_in) says order.now held.policy held.keys held.access x failed o lacking h)) (given view reply (printer_for order.printing order.expected).read_failed o answer printed lacks))

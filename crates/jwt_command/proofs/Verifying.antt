@@ -32,8 +32,9 @@ use Rattle.jwt_command.specs.Documents.{TakesDocument, behind, document, documen
 use Rattle.jwt_text.specs.Intake.{TakesAtMost}
 use Rattle.jwt_command.specs.Issue.{issue_answer, issue_under}
 use Rattle.jwt_issue.specs.Options.{OptionParts}
+use Rattle.jwt_verdicts.specs.Denied.{Demands}
 use Rattle.jwt_verdicts.specs.VerdictsJson.{verdict_json, token_json, payload_of}
-use Rattle.jwt_verdicts.specs.Printer.{Printer, in_lines, unless_read_failed, printer}
+use Rattle.jwt_verdicts.specs.Printer.{Printer, printer, printer_for, unless_read_failed}
 use Rattle.jwt_printing.specs.Refused.{printed_file_fault, unless_unread}
 use Rattle.jwt_command.specs.Verify.{keys_answer, payload_in, under_keys, under_policy, verify_answer}
 use Rattle.jwt_printing.specs.Refused.{keys_refused}
@@ -44,6 +45,7 @@ use Rattle.jwt_command.specs.Stops.{behind_keys, behind_policy, keys_most, token
 use Rattle.jwt_command.specs.TakenLines.{TakesLine}
 use Rattle.jwt_command.proofs.LineLemmas.{line_taken}
 use Rattle.jwt_words.specs.declared.printing.Printing.{Printing}
+use Rattle.jwt_words.specs.declared.printing.Printing.TheVariants.{Lines}
 
 -- ---- what is taken
 
@@ -175,28 +177,28 @@ failed_read v es sts found (inl read, tries, states) = read
 failed_read v es sts found (inr memory, tries, states) = absurd (subst FoundMemory memory found)
 
 -- the line of a report, where memory was there, is that of the verdict on what the source gave
-pub answered : (rule : Option Rule) (q : Terms) (x : List ℕ) → TellsReports → (failed : Bool) (r : Report) (octets : ℕ) → (r.verdict ≢ Refused (Text Read) → IsReport q x q.policy.run.work r)
+pub answered : (asked : Demands) (q : Terms) (x : List ℕ) → TellsReports → (failed : Bool) (r : Report) (octets : ℕ) → (r.verdict ≢ Refused (Text Read) → IsReport q x q.policy.run.work r)
     → (failed ≡ true → Failed r.verdict r.tries.items r.states.items) → (r.verdict ≡ Refused (Text Read) → failed ≡ true) → octets ≡ work r.tries.items → FoundMemory r.verdict
-    → (a : Answer) → a ≡ verify_line rule (moment_of q) r.verdict (length r.tries.items) octets → a ≡ unless_read_failed in_lines failed (token_answer rule q x)
-answered rule q x tells failed r octets report fails read counted found a line = elim (read_or r.verdict) [
-  | inl e ↦ line ∙ ap (λ v. verify_line rule (moment_of q) v (length r.tries.items) octets) e ∙ sym (ap (λ f. unless_read_failed in_lines f (token_answer rule q x)) (read e))
+    → (a : Answer) → a ≡ verify_line asked (moment_of q) r.verdict (length r.tries.items) octets → a ≡ unless_read_failed (printer_for Lines asked.expected) failed (token_answer asked q x)
+answered asked q x tells failed r octets report fails read counted found a line = elim (read_or r.verdict) [
+  | inl e ↦ line ∙ ap (λ v. verify_line asked (moment_of q) v (length r.tries.items) octets) e ∙ sym (ap (λ f. unless_read_failed (printer_for Lines asked.expected) f (token_answer asked q x)) (read e))
   | inr n ↦ (let t = tells q x q.policy.run.work r (report n) found in
-      let same : a ≡ token_answer rule q x = line ∙ ap (λ n. verify_line rule (moment_of q) r.verdict (length r.tries.items) n) counted ∙ ap (λ v. verify_line rule (moment_of q) v (length r.tries.items) (work r.tries.items)) t.0
-      ∙ ap (λ es. verify_line rule (moment_of q) (verdict_of q x q.policy.run.work) (length es) (work es)) t.1 in
+      let same : a ≡ token_answer asked q x = line ∙ ap (λ n. verify_line asked (moment_of q) r.verdict (length r.tries.items) n) counted ∙ ap (λ v. verify_line asked (moment_of q) v (length r.tries.items) (work r.tries.items)) t.0
+      ∙ ap (λ es. verify_line asked (moment_of q) (verdict_of q x q.policy.run.work) (length es) (work es)) t.1 in
       working failed (λ is. n (failed_read r.verdict r.tries.items r.states.items found (fails is))) same)
 ]
   where
-    working : (failed : Bool) → (failed ≡ true → ⊥) → a ≡ token_answer rule q x → a ≡ unless_read_failed in_lines failed (token_answer rule q x)
+    working : (failed : Bool) → (failed ≡ true → ⊥) → a ≡ token_answer asked q x → a ≡ unless_read_failed (printer_for Lines asked.expected) failed (token_answer asked q x)
     working true never same = absurd (never refl)
     working false never same = same
 
 -- the same of a report on octets in hand
-pub answered_in_hand : (rule : Option Rule) (q : Terms) (x : List ℕ) → TellsReports → (r : Report) (octets : ℕ) → IsReport q x q.policy.run.work r
-    → octets ≡ work r.tries.items → FoundMemory r.verdict → (a : Answer) → a ≡ verify_line rule (moment_of q) r.verdict (length r.tries.items) octets → a ≡ token_answer rule q x
-answered_in_hand rule q x tells r octets report counted found a line =
+pub answered_in_hand : (asked : Demands) (q : Terms) (x : List ℕ) → TellsReports → (r : Report) (octets : ℕ) → IsReport q x q.policy.run.work r
+    → octets ≡ work r.tries.items → FoundMemory r.verdict → (a : Answer) → a ≡ verify_line asked (moment_of q) r.verdict (length r.tries.items) octets → a ≡ token_answer asked q x
+answered_in_hand asked q x tells r octets report counted found a line =
     let t = tells q x q.policy.run.work r report found in
-    line ∙ ap (λ n. verify_line rule (moment_of q) r.verdict (length r.tries.items) n) counted ∙ ap (λ v. verify_line rule (moment_of q) v (length r.tries.items) (work r.tries.items)) t.0
-    ∙ ap (λ es. verify_line rule (moment_of q) (verdict_of q x q.policy.run.work) (length es) (work es)) t.1
+    line ∙ ap (λ n. verify_line asked (moment_of q) r.verdict (length r.tries.items) n) counted ∙ ap (λ v. verify_line asked (moment_of q) v (length r.tries.items) (work r.tries.items)) t.0
+    ∙ ap (λ es. verify_line asked (moment_of q) (verdict_of q x q.policy.run.work) (length es) (work es)) t.1
 
 -- the same in JSON
 -- the payload of the token that was read for a verdict is that of the token that the octets are
@@ -209,12 +211,12 @@ read_payload p x v None tells found is = none_read (token_of p x) refl
     none_read (Ok token) e = absurd (is (λ lacks. subst FoundMemory lacks found) token ((tells p x token).0 e))
     none_read (Err fault) e = refl
 
-pub answered_in_json : (rule : Option Rule) (q : Terms) (x payload : List ℕ) → TellsReports → (r : Report) (octets : ℕ) → IsReport q x q.policy.run.work r → payload ≡ payload_of q x
-    → octets ≡ work r.tries.items → FoundMemory r.verdict → (a : Answer) → a ≡ verdict_json rule (moment_of q) r.verdict payload r.states.items r.tries.items octets → a ≡ token_json rule q x
-answered_in_json rule q x payload tells r octets report payload_is counted found a line =
+pub answered_in_json : (asked : Demands) (q : Terms) (x payload : List ℕ) → TellsReports → (r : Report) (octets : ℕ) → IsReport q x q.policy.run.work r → payload ≡ payload_of q x
+    → octets ≡ work r.tries.items → FoundMemory r.verdict → (a : Answer) → a ≡ verdict_json asked (moment_of q) r.verdict payload r.states.items r.tries.items octets → a ≡ token_json asked q x
+answered_in_json asked q x payload tells r octets report payload_is counted found a line =
     let t = tells q x q.policy.run.work r report found in
-    line ∙ ap (λ p. verdict_json rule (moment_of q) r.verdict p r.states.items r.tries.items octets) payload_is
-    ∙ ap (λ n. verdict_json rule (moment_of q) r.verdict (payload_of q x) r.states.items r.tries.items n) counted
-    ∙ ap (λ v. verdict_json rule (moment_of q) v (payload_of q x) r.states.items r.tries.items (work r.tries.items)) t.0
-    ∙ ap (λ sts. verdict_json rule (moment_of q) (verdict_of q x q.policy.run.work) (payload_of q x) sts r.tries.items (work r.tries.items)) t.2
-    ∙ ap (λ es. verdict_json rule (moment_of q) (verdict_of q x q.policy.run.work) (payload_of q x) (states (table q x) q.policy.run.work q.policy.max_calls) es (work es)) t.1
+    line ∙ ap (λ p. verdict_json asked (moment_of q) r.verdict p r.states.items r.tries.items octets) payload_is
+    ∙ ap (λ n. verdict_json asked (moment_of q) r.verdict (payload_of q x) r.states.items r.tries.items n) counted
+    ∙ ap (λ v. verdict_json asked (moment_of q) v (payload_of q x) r.states.items r.tries.items (work r.tries.items)) t.0
+    ∙ ap (λ sts. verdict_json asked (moment_of q) (verdict_of q x q.policy.run.work) (payload_of q x) sts r.tries.items (work r.tries.items)) t.2
+    ∙ ap (λ es. verdict_json asked (moment_of q) (verdict_of q x q.policy.run.work) (payload_of q x) (states (table q x) q.policy.run.work q.policy.max_calls) es (work es)) t.1

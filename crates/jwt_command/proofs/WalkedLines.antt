@@ -7,9 +7,11 @@ use Rattle.std.specs.Io.KnownBytes.{Consumes, IsAtEnd, Keeps, prepend_known}
 use Rattle.jwt_command.specs.Lines.{lines, onto_first}
 use Rattle.jwt_printing.specs.Printed.{Answer}
 use Rattle.jwt_verdicts.specs.VerdictsJson.{payload_of, token_json, verdict_json}
-use Rattle.jwt_verdicts.specs.Printer.{in_json, printer, unless_read_failed}
+use Rattle.jwt_verdicts.specs.Printer.{printer_for, unless_read_failed}
 use Rattle.jwt_verdicts.specs.Verdicts.{moment_of, paid_tries, token_answer}
 use Rattle.jwt_access.specs.Rules.{Rule}
+use Rattle.jwt_verdicts.specs.Denied.{Demands}
+use Rattle.jwt_words.specs.Words.{Expectation}
 use Rattle.jwt_policy.specs.Settings.{Settings}
 use Rattle.jwt_verify.specs.Verdict.{Terms, table, token_of, token_or_none, verdict_of}
 use Rattle.jwt_verify.specs.Table.{states, work}
@@ -147,56 +149,56 @@ walked_feed limit (Some x) (Some y) (Some z) held new ahead after any (walked, k
 
 -- ---- the answer to a token looks no further
 
-answer_by_token : (rule : Option Rule) (q : Terms) (x y : List ℕ) → token_of q.policy x ≡ token_of q.policy y → token_answer rule q x ≡ token_answer rule q y
+answer_by_token : (asked : Demands) (q : Terms) (x y : List ℕ) → token_of q.policy x ≡ token_of q.policy y → token_answer asked q x ≡ token_answer asked q y
 unfolding verdict_of table
-answer_by_token rule q x y is = rw is refl
+answer_by_token asked q x y is = rw is refl
 
 token_too_long : (p : Settings) (x : List ℕ) → p.run.limit < length x → token_of p x ≡ Err (Text TooLong)
 unfolding token_of
 token_too_long p x long = let is : nat_lt p.run.limit (length x) ≡ true = grind (arith, nat_tests, long) in rw is refl
 
-pub token_bounded : (rule : Option Rule) (q : Terms) (l : List ℕ) → token_answer rule q (take (q.policy.run.limit + 1) l) ≡ token_answer rule q l
-token_bounded rule q l = go (nat_lt q.policy.run.limit (length l)) refl
+pub token_bounded : (asked : Demands) (q : Terms) (l : List ℕ) → token_answer asked q (take (q.policy.run.limit + 1) l) ≡ token_answer asked q l
+token_bounded asked q l = go (nat_lt q.policy.run.limit (length l)) refl
   where
-    go : (b : Bool) → nat_lt q.policy.run.limit (length l) ≡ b → token_answer rule q (take (q.policy.run.limit + 1) l) ≡ token_answer rule q l
+    go : (b : Bool) → nat_lt q.policy.run.limit (length l) ≡ b → token_answer asked q (take (q.policy.run.limit + 1) l) ≡ token_answer asked q l
     go true e = let long : q.policy.run.limit < length l = grind (arith, nat_tests, e) in
-        answer_by_token rule q (take (q.policy.run.limit + 1) l) l
+        answer_by_token asked q (take (q.policy.run.limit + 1) l) l
         (token_too_long q.policy (take (q.policy.run.limit + 1) l) (omega (arith, length-take-all l (q.policy.run.limit + 1) (omega (arith, long)))) ∙ sym (token_too_long q.policy l long))
     go false e = let short : length l ≤ q.policy.run.limit = grind (arith, nat_tests, e) in
-        ap (token_answer rule q) (take_all (q.policy.run.limit + 1) l (omega (arith, short)))
+        ap (token_answer asked q) (take_all (q.policy.run.limit + 1) l (omega (arith, short)))
 
 -- ---- nor does that in JSON
 
-json_with : Option Rule → Terms → List ℕ → List ℕ → Answer
-json_with rule q payload x =
-    verdict_json rule (moment_of q) (verdict_of q x q.policy.run.work) payload (states (table q x) q.policy.run.work q.policy.max_calls) (paid_tries q x) (work (paid_tries q x))
+json_with : Demands → Terms → List ℕ → List ℕ → Answer
+json_with asked q payload x =
+    verdict_json asked (moment_of q) (verdict_of q x q.policy.run.work) payload (states (table q x) q.policy.run.work q.policy.max_calls) (paid_tries q x) (work (paid_tries q x))
 
-json_with_same : (rule : Option Rule) (q : Terms) (payload x y : List ℕ) → token_of q.policy x ≡ token_of q.policy y → json_with rule q payload x ≡ json_with rule q payload y
+json_with_same : (asked : Demands) (q : Terms) (payload x y : List ℕ) → token_of q.policy x ≡ token_of q.policy y → json_with asked q payload x ≡ json_with asked q payload y
 unfolding json_with verdict_of table
-json_with_same rule q payload x y is = rw is refl
+json_with_same asked q payload x y is = rw is refl
 
-json_by_token : (rule : Option Rule) (q : Terms) (x y : List ℕ) → token_of q.policy x ≡ token_of q.policy y → token_json rule q x ≡ token_json rule q y
+json_by_token : (asked : Demands) (q : Terms) (x y : List ℕ) → token_of q.policy x ≡ token_of q.policy y → token_json asked q x ≡ token_json asked q y
 unfolding json_with
-json_by_token rule q x y is = json_with_same rule q (payload_of q x) x y is ∙ ap (λ t. json_with rule q (token_or_none t).payload y) is
+json_by_token asked q x y is = json_with_same asked q (payload_of q x) x y is ∙ ap (λ t. json_with asked q (token_or_none t).payload y) is
 
-pub json_bounded : (rule : Option Rule) (q : Terms) (l : List ℕ) → token_json rule q (take (q.policy.run.limit + 1) l) ≡ token_json rule q l
-json_bounded rule q l = go (nat_lt q.policy.run.limit (length l)) refl
+pub json_bounded : (asked : Demands) (q : Terms) (l : List ℕ) → token_json asked q (take (q.policy.run.limit + 1) l) ≡ token_json asked q l
+json_bounded asked q l = go (nat_lt q.policy.run.limit (length l)) refl
   where
-    go : (b : Bool) → nat_lt q.policy.run.limit (length l) ≡ b → token_json rule q (take (q.policy.run.limit + 1) l) ≡ token_json rule q l
+    go : (b : Bool) → nat_lt q.policy.run.limit (length l) ≡ b → token_json asked q (take (q.policy.run.limit + 1) l) ≡ token_json asked q l
     go true e = let long : q.policy.run.limit < length l = grind (arith, nat_tests, e) in
-        json_by_token rule q (take (q.policy.run.limit + 1) l) l
+        json_by_token asked q (take (q.policy.run.limit + 1) l) l
         (token_too_long q.policy (take (q.policy.run.limit + 1) l) (omega (arith, length-take-all l (q.policy.run.limit + 1) (omega (arith, long)))) ∙ sym (token_too_long q.policy l long))
     go false e = let short : length l ≤ q.policy.run.limit = grind (arith, nat_tests, e) in
-        ap (token_json rule q) (take_all (q.policy.run.limit + 1) l (omega (arith, short)))
+        ap (token_json asked q) (take_all (q.policy.run.limit + 1) l (omega (arith, short)))
 
 -- the answer looks at a token no further than one octet past the limit, in JSON or in lines
-pub printed_bounded : (printing : Printing) (rule : Option Rule) (q : Terms) (l : List ℕ) → (printer printing).token rule q (take (q.policy.run.limit + 1) l) ≡ (printer printing).token rule q l
-printed_bounded Json rule q l = json_bounded rule q l
-printed_bounded Lines rule q l = token_bounded rule q l
+pub printed_bounded : (printing : Printing) (e : Option Expectation) (rule : Option Rule) (q : Terms) (l : List ℕ) → (printer_for printing e).token rule q (take (q.policy.run.limit + 1) l) ≡ (printer_for printing e).token rule q l
+printed_bounded Json e rule q l = json_bounded (record { rule = rule; expected = e }) q l
+printed_bounded Lines e rule q l = token_bounded (record { rule = rule; expected = e }) q l
 
 -- the answer in JSON to what was taken of a token
-pub json_taken : {A E : Type 0} (view : A → Answer) (r : Result A E) (rule : Option Rule) (q : Terms) (x octets : List ℕ) (limit : ℕ) (failed : Bool) → limit ≡ q.policy.run.limit → octets ≡ take (limit + 1) x → failed ≡ false
-    → IfOk r (λ a. view a ≡ token_json rule q octets) → IfOk r (λ a. view a ≡ unless_read_failed in_json failed (token_json rule q x))
-json_taken view (Ok a) rule q x octets limit failed l o works is =
-    is ∙ ap (token_json rule q) (o ∙ ap (λ n. take (n + 1) x) l) ∙ json_bounded rule q x ∙ sym (ap (λ f. unless_read_failed in_json f (token_json rule q x)) works)
-json_taken view (Err e) rule q x octets limit failed l o works is = tt
+pub json_taken : {A E : Type 0} (view : A → Answer) (r : Result A E) (asked : Demands) (q : Terms) (x octets : List ℕ) (limit : ℕ) (failed : Bool) → limit ≡ q.policy.run.limit → octets ≡ take (limit + 1) x → failed ≡ false
+    → IfOk r (λ a. view a ≡ token_json asked q octets) → IfOk r (λ a. view a ≡ unless_read_failed (printer_for Json asked.expected) failed (token_json asked q x))
+json_taken view (Ok a) asked q x octets limit failed l o works is =
+    is ∙ ap (token_json asked q) (o ∙ ap (λ n. take (n + 1) x) l) ∙ json_bounded asked q x ∙ sym (ap (λ f. unless_read_failed (printer_for Json asked.expected) f (token_json asked q x)) works)
+json_taken view (Err e) asked q x octets limit failed l o works is = tt

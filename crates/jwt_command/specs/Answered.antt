@@ -7,7 +7,7 @@ use Rattle.jwt_command.specs.Keys.{list_answer}
 use Rattle.jwt_command.specs.Mac.{mac_answer, mac_in_hand}
 use Rattle.jwt_printing.specs.Printed.{Answer, line}
 use Rattle.jwt_command.specs.Show.{show_answer}
-use Rattle.jwt_verdicts.specs.Printer.{printer}
+use Rattle.jwt_verdicts.specs.Printer.{printer_for}
 use Rattle.jwt_printing.specs.Refused.{unless_unread}
 use Rattle.jwt_command.specs.Verify.{asked_for, verify_answer}
 use Rattle.jwt_words.specs.Words.{Issue, Keys, Mac, MacFile, Order, Show, Verify, Version, files_in_order}
@@ -23,7 +23,7 @@ answer_in_hand printing built_in held (Mac key limit) failed x = mac_answer key 
 answer_in_hand printing built_in held (MacFile name limit) failed x = mac_in_hand held.key limit failed x
 answer_in_hand printing built_in held Keys failed x = list_answer printing failed x
 answer_in_hand printing built_in held (Show limit) failed x = show_answer printing limit failed x
-answer_in_hand printing built_in held (Verify now public_keys files) failed x = verify_answer (printer printing) (asked_for public_keys built_in) now held failed x
+answer_in_hand printing built_in held (Verify now public_keys expected files) failed x = verify_answer (printer_for printing expected) (asked_for public_keys built_in) now held failed x
 answer_in_hand printing built_in held (Issue alg typ form files) failed x = issue_answer (record { alg = alg; typ = typ; form = form; key = 0 }) held.keys failed x
 answer_in_hand printing built_in held Version failed x = version_answer
 

@@ -12,11 +12,10 @@ use Rattle.jwt_words.specs.InHand.{Held, unread}
 use Rattle.jwt_command.specs.Access.{rule_in_hand}
 use Rattle.jwt_command.specs.Lines.{GivesLines, with_held}
 use Rattle.jwt_printing.specs.Printed.{Answer, Prints, out_of_memory}
-use Rattle.jwt_verdicts.specs.Printer.{printer}
+use Rattle.jwt_verdicts.specs.Printer.{Printer, printer_for}
 use Rattle.jwt_printing.specs.Refused.{printed_file_fault}
 use Rattle.jwt_command.specs.Verify.{asked_for, terms_of_keys}
 use Rattle.jwt_words.specs.Words.{LinesOrder}
-use Rattle.jwt_words.specs.declared.printing.Printing.{Printing}
 
 -- what went out before and after, whether the writer has failed, and the status
 pub record Outcome : Type 0 where
@@ -28,29 +27,29 @@ pub record Outcome : Type 0 where
 abbrev pub Printed : Answer → Outcome → Type 0
 Printed a o = Prints a o.before o.after o.failed o.status
 
--- under a policy, a key set and an access rule, if one is asked: a verdict for each line of x, by what a clock says, told in JSON or in lines
-abbrev pub LinesByRule : Printing → List Meaning → (ℕ → List ℕ → ℕ → Type 0) → Option ℕ → Settings → KeyList → Result (Option Rule) AccessFault → List ℕ → Bool → Outcome → Type 0
-LinesByRule printing verifiers says now p set (Ok rule) x fails o =
-    GivesLines (λ m l. (printer printing).token rule (terms_of_keys verifiers m p set) l) (printer printing).read_failed (with_held p.run.limit says) now x fails o.before o.after o.failed o.status
-LinesByRule printing verifiers says now p set (Err fault) x fails o = Printed ((printer printing).access_refused fault) o
+-- under a policy, a key set and an access rule, if one is asked: a verdict for each line of x, by what a clock says, told by this printer
+abbrev pub LinesByRule : Printer → List Meaning → (ℕ → List ℕ → ℕ → Type 0) → Option ℕ → Settings → KeyList → Result (Option Rule) AccessFault → List ℕ → Bool → Outcome → Type 0
+LinesByRule tell verifiers says now p set (Ok rule) x fails o =
+    GivesLines (λ m l. tell.token rule (terms_of_keys verifiers m p set) l) tell.read_failed (with_held p.run.limit says) now x fails o.before o.after o.failed o.status
+LinesByRule tell verifiers says now p set (Err fault) x fails o = Printed (tell.access_refused fault) o
 
-abbrev pub LinesByKeys : Printing → List Meaning → (ℕ → List ℕ → ℕ → Type 0) → Option ℕ → Settings → Result KeyList KeysFault → Result (Option Rule) AccessFault → List ℕ → Bool → Outcome → Type 0
-LinesByKeys printing verifiers says now p (Ok set) rule x fails o = LinesByRule printing verifiers says now p set rule x fails o
-LinesByKeys printing verifiers says now p (Err fault) rule x fails o = Printed ((printer printing).keys_refused fault) o
+abbrev pub LinesByKeys : Printer → List Meaning → (ℕ → List ℕ → ℕ → Type 0) → Option ℕ → Settings → Result KeyList KeysFault → Result (Option Rule) AccessFault → List ℕ → Bool → Outcome → Type 0
+LinesByKeys tell verifiers says now p (Ok set) rule x fails o = LinesByRule tell verifiers says now p set rule x fails o
+LinesByKeys tell verifiers says now p (Err fault) rule x fails o = Printed (tell.keys_refused fault) o
 
-abbrev pub LinesByPolicy : Printing → List Meaning → (ℕ → List ℕ → ℕ → Type 0) → Option ℕ → Result Settings PolicyFault → Result KeyList KeysFault → Result (Option Rule) AccessFault → List ℕ → Bool → Outcome → Type 0
-LinesByPolicy printing verifiers says now (Ok p) set rule x fails o = LinesByKeys printing verifiers says now p set rule x fails o
-LinesByPolicy printing verifiers says now (Err fault) set rule x fails o = Printed ((printer printing).policy_refused fault) o
+abbrev pub LinesByPolicy : Printer → List Meaning → (ℕ → List ℕ → ℕ → Type 0) → Option ℕ → Result Settings PolicyFault → Result KeyList KeysFault → Result (Option Rule) AccessFault → List ℕ → Bool → Outcome → Type 0
+LinesByPolicy tell verifiers says now (Ok p) set rule x fails o = LinesByKeys tell verifiers says now p set rule x fails o
+LinesByPolicy tell verifiers says now (Err fault) set rule x fails o = Printed (tell.policy_refused fault) o
 
 -- the policy and the key set are in hand
-abbrev pub LinesInHand : Printing → List Meaning → (ℕ → List ℕ → ℕ → Type 0) → Option ℕ → Option (List ℕ) → Option (List ℕ) → Option (List ℕ) → List ℕ → Bool → Outcome → Type 0
-LinesInHand printing verifiers says now (Some policy) (Some keys) access x fails o =
-    LinesByPolicy printing verifiers says now (policy_of policy) (key_set_of keys) (rule_in_hand access) x fails o
-LinesInHand printing verifiers says now policy keys access x fails o = Printed (printer printing).read_failed o
+abbrev pub LinesInHand : Printer → List Meaning → (ℕ → List ℕ → ℕ → Type 0) → Option ℕ → Option (List ℕ) → Option (List ℕ) → Option (List ℕ) → List ℕ → Bool → Outcome → Type 0
+LinesInHand tell verifiers says now (Some policy) (Some keys) access x fails o =
+    LinesByPolicy tell verifiers says now (policy_of policy) (key_set_of keys) (rule_in_hand access) x fails o
+LinesInHand tell verifiers says now policy keys access x fails o = Printed tell.read_failed o
 
 abbrev pub LinesNamed : Option (List ℕ) → List Meaning → (ℕ → List ℕ → ℕ → Type 0) → LinesOrder → Held → List ℕ → Bool → Outcome → Type 0
 LinesNamed (Some name) built_in says order held x fails o = Printed (printed_file_fault order.printing name) o
-LinesNamed None built_in says order held x fails o = LinesInHand order.printing (asked_for order.public_keys built_in) says order.now held.policy held.keys held.access x fails o
+LinesNamed None built_in says order held x fails o = LinesInHand (printer_for order.printing order.expected) (asked_for order.public_keys built_in) says order.now held.policy held.keys held.access x fails o
 
 -- a file can't be read, or a document is refused, or a verdict for each line; or an allocation was refused before the first line
 abbrev pub RunsLines : List Meaning → (ℕ → List ℕ → ℕ → Type 0) → LinesOrder → Held → List ℕ → Bool → Outcome → Type 0

@@ -45,7 +45,7 @@ most_in_hand held (Mac key limit) x = behind_key (key_spelled key) limit
 most_in_hand held (MacFile name limit) x = mac_most held.key limit
 most_in_hand held Keys x = 4194305
 most_in_hand held (Show limit) x = limit + 1
-most_in_hand held (Verify now public_keys files) x = verify_most held x
+most_in_hand held (Verify now public_keys expected files) x = verify_most held x
 most_in_hand held (Issue alg typ form files) x = keys_most 1048577 held.keys x
 most_in_hand held Version x = 0
 

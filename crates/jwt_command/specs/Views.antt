@@ -1,8 +1,28 @@
 -- This crate's own values as contracts see them.
-use Rattle.std.specs.Prelude.{ℕ, List}
+use Rattle.std.specs.Prelude.{ℕ, List, Option, option_map}
+use Rattle.std.specs.Borrow.{Bor}
+use Rattle.jwt_access.specs.Rules.{Rule}
+use Rattle.jwt_words.specs.Seen.{expectation_view}
+use Rattle.jwt_words.specs.declared.expectation.Expectation.{Expectation}
+use Rattle.jwt_words.specs.declared.printing.Printing.{Printing}
+use Rattle.jwt_verdicts.specs.Denied.{Demands}
+use Rattle.jwt_verdicts.specs.Printer.{Printer, printer_for}
 use Rattle.jwt_command.specs.declared.documents.TakenDocument.{TakenDocument}
 use Rattle.jwt_command.specs.declared.documents.TakenDocument.TheVariants.{Line, Held as InHand}
+use Rattle.jwt_command.specs.declared.telling.Telling.{Telling}
 
 abbrev pub document_octets : TakenDocument → List ℕ
 document_octets (Line v) = v.items
 document_octets (InHand octets) = octets.now
+
+-- an access rule, where there is one
+abbrev pub rule_view : Option (Bor Rule) → Option Rule
+rule_view rule = option_map (λ r. r.now) rule
+
+-- how answers are told, with what is expected of a claim
+abbrev pub told_by : Printing → Option Expectation → Printer
+told_by printing expected = printer_for printing (option_map expectation_view expected)
+
+-- what is asked of the claims of an accepted token
+abbrev pub asked_of : Telling → Demands
+asked_of telling = record { rule = rule_view telling.rule; expected = option_map expectation_view telling.expected }

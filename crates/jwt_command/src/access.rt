@@ -1,10 +1,8 @@
 //! The access rule of `verify`.
 ghost use Rattle.std.specs.Prelude.{◌≡◌, IsErrOf, option_map};
-ghost use Rattle.jwt_access.specs.Moments.{moment_under};
 ghost use Rattle.jwt_command.specs.Access.{rule_in_hand};
 
-use jwt_access::{AccessFault, AccessRule, Moment};
-use jwt_verify::Terms;
+use jwt_access::{AccessFault, AccessRule};
 use std::alloc::Global;
 
 /// The rule of the document in hand; none where there is no document.
@@ -22,11 +20,4 @@ pub(crate) fn rule_in_hand(
         },
         None => Ok(None),
     }
-}
-
-/// The moment of a verdict under these terms, with the policy's leeway.
-pub(crate) fn moment_of(terms: &Terms<'_, '_, '_>) -> Moment
-    ensures { result ≡ moment_under terms.now.policy.now terms.now.moment }
-{
-    Moment::under(terms.policy, terms.moment)
 }

@@ -20,6 +20,7 @@ mod policy;
 mod pretty;
 pub mod run;
 mod show;
+mod telling;
 mod verify;
 pub mod verify_lines;
 

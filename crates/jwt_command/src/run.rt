@@ -324,12 +324,14 @@ fn reply_in_hand<R: Source>(
         Order::Verify {
             now,
             public_keys,
+            expected,
             ..
         } => {
             let options = VerifyOptions {
                 printing,
                 moment: now,
                 verifiers: asked_for(public_keys, at_hand.built_in),
+                expected,
             };
             verify(alloc, &options, held, r)
         }

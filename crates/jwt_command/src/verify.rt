@@ -8,17 +8,19 @@ ghost use Rattle.jwt_text.specs.Intake.{TakesAtMost};
 ghost use Rattle.jwt_command.specs.Access.{rule_in_hand, under_rule};
 ghost use Rattle.jwt_command.specs.Stops.{keys_most, token_most, verify_most};
 ghost use Rattle.jwt_verdicts.specs.VerdictsJson.{token_json};
-ghost use Rattle.jwt_verdicts.specs.Printer.{in_json, printer, in_lines, unless_read_failed};
+ghost use Rattle.jwt_verdicts.specs.Printer.{unless_read_failed};
 ghost use Rattle.jwt_command.specs.Verify.{keys_answer, payload_in, terms_of_keys, verify_answer};
 ghost use Rattle.jwt_verdicts.specs.Verdicts.{token_answer};
 ghost use Rattle.jwt_words.specs.Seen.{held_view};
 ghost use Rattle.jwt_printing.specs.Views.{reply_view};
-ghost use Rattle.jwt_verdicts.specs.Views.{rule_view};
+ghost use Rattle.jwt_command.specs.Views.{asked_of, rule_view, told_by};
+ghost use Rattle.jwt_words.specs.declared.printing.Printing.TheVariants.{Json, Lines};
 
-use crate::access::{moment_of, rule_in_hand};
+use crate::access::rule_in_hand;
 use crate::documents::{document, read_document};
 use crate::input::line::LineFault;
-use jwt_access::{AccessFault, AccessRule};
+use crate::telling::Telling;
+use jwt_access::AccessFault;
 use jwt_jws::Signed;
 use jwt_keys::{KeySet, KeysFault};
 use jwt_mac::{Budget, CountDown, Verifier};
@@ -31,7 +33,7 @@ use jwt_text::{Scratch, Source};
 use jwt_verdicts::{report_json, report_line};
 use jwt_verify::laws::{tells_reports, tells_tokens};
 use jwt_verify::{Terms, judge_under, validate};
-use jwt_words::{Held, Moment, Printing};
+use jwt_words::{Expectation, Held, Moment, Printing};
 use std::alloc::{AllocError, Global};
 
 /// What is asked of `verify`, beside the documents, and the verifiers for it.
@@ -43,15 +45,8 @@ pub(crate) struct VerifyOptions<'v> {
     pub(crate) moment: Moment,
     /// The verifiers for public keys, where they are asked for.
     pub(crate) verifiers: &'v [Box<dyn Verifier>],
-}
-
-/// What the answer to a token needs beside the verdict.
-#[derive(Clone, Copy)]
-pub(crate) struct Telling<'r> {
-    /// How the answer is told.
-    pub(crate) printing: Printing,
-    /// The access rule that the claims of an accepted token are held against, where one is in hand.
-    pub(crate) rule: Option<&'r AccessRule>,
+    /// What one claim of an accepted token has to be, where that is asked.
+    pub(crate) expected: Option<Expectation<'v>>,
 }
 
 /// The terms of a verdict at a moment.
@@ -77,12 +72,12 @@ pub(crate) fn terms_at<'k, 'p, 'v>(
 fn on_token<R: Source>(
     alloc: Global,
     terms: &Terms<'_, '_, '_>,
-    rule: Option<&AccessRule>,
+    telling: &Telling<'_>,
     r: &mut R,
 ) -> Result<Reply, AllocError>
     ensures line { IfSome (R.remaining r.old) (λ x. IfOk result (λ a. reply_view a
-        ≡ unless_read_failed in_lines (R.failed r.new)
-        (token_answer (rule_view rule.entry) (terms_meant (λ b. meaning (b.vtable, b.value)) terms.now) x))) }
+        ≡ unless_read_failed (told_by Lines telling.now.expected) (R.failed r.new)
+        (token_answer (asked_of telling.now) (terms_meant (λ b. meaning (b.vtable, b.value)) terms.now) x))) }
     ensures stops { IfSome (R.remaining r.old) (λ x. (R.failed r.new ≡ true)
         ⊎ TakesAtMost (terms.now.policy.now.run.limit + 1) x (R.remaining r.new)) }
     ensures failed { IfOk result (λ a. a.status ≡ 3 → R.failed r.new ≡ true) }
@@ -98,18 +93,18 @@ fn on_token<R: Source>(
         terms.verifiers,
         &mut budget,
     );
-    report_line(alloc, &report, rule, moment_of(terms), budget.octets())
+    report_line(alloc, &report, &telling.demands(terms), budget.octets())
 }
 
 /// The verdict on a token in hand, in lines.
 fn on_octets_in_lines(
     alloc: Global,
     terms: &Terms<'_, '_, '_>,
-    rule: Option<&AccessRule>,
+    telling: &Telling<'_>,
     token: &[u8],
 ) -> Result<Reply, AllocError>
     ensures line { IfOk result (λ a. reply_view a
-        ≡ token_answer (rule_view rule.entry) (terms_meant (λ b. meaning (b.vtable, b.value)) terms.now) token.now) }
+        ≡ token_answer (asked_of telling.now) (terms_meant (λ b. meaning (b.vtable, b.value)) terms.now) token.now) }
     ensures done { IfOk result (λ a. a.status ≢ 3) }
 {
     let mut count = CountDown::new(terms.policy.work());
@@ -119,8 +114,7 @@ fn on_octets_in_lines(
     report_line(
         alloc,
         &judged.report,
-        rule,
-        moment_of(terms),
+        &telling.demands(terms),
         count.octets(),
     )
 }
@@ -139,11 +133,11 @@ fn payload_in<'t>(token: &'t Option<Signed<'_>>) -> &'t [u8]
 fn on_octets_in_json(
     alloc: Global,
     terms: &Terms<'_, '_, '_>,
-    rule: Option<&AccessRule>,
+    telling: &Telling<'_>,
     token: &[u8],
 ) -> Result<Reply, AllocError>
     ensures line { IfOk result (λ a. reply_view a
-        ≡ token_json (rule_view rule.entry) (terms_meant (λ b. meaning (b.vtable, b.value)) terms.now) token.now) }
+        ≡ token_json (asked_of telling.now) (terms_meant (λ b. meaning (b.vtable, b.value)) terms.now) token.now) }
     ensures done { IfOk result (λ a. a.status ≢ 3) }
 {
     let mut count = CountDown::new(terms.policy.work());
@@ -155,8 +149,7 @@ fn on_octets_in_json(
     report_json(
         alloc,
         &judged.report,
-        rule,
-        moment_of(terms),
+        &telling.demands(terms),
         payload,
         count.octets(),
     )
@@ -170,14 +163,13 @@ pub(crate) fn on_octets(
     token: &[u8],
 ) -> Result<Reply, AllocError>
     ensures line { IfOk result (λ a. reply_view a
-        ≡ (printer telling.now.printing).token (rule_view telling.now.rule)
+        ≡ (told_by telling.now.printing telling.now.expected).token (rule_view telling.now.rule)
         (terms_meant (λ b. meaning (b.vtable, b.value)) terms.now) token.now) }
     ensures done { IfOk result (λ a. a.status ≢ 3) }
 {
-    let Telling { printing, rule } = *telling;
-    match printing {
-        Printing::Json => on_octets_in_json(alloc, terms, rule, token),
-        Printing::Lines => on_octets_in_lines(alloc, terms, rule, token),
+    match telling.printing {
+        Printing::Json => on_octets_in_json(alloc, terms, telling, token),
+        Printing::Lines => on_octets_in_lines(alloc, terms, telling, token),
     }
 }
 
@@ -185,18 +177,18 @@ pub(crate) fn on_octets(
 fn on_token_json<R: Source>(
     alloc: Global,
     terms: &Terms<'_, '_, '_>,
-    rule: Option<&AccessRule>,
+    telling: &Telling<'_>,
     r: &mut R,
 ) -> Result<Reply, AllocError>
     ensures line { IfSome (R.remaining r.old) (λ x. IfOk result (λ a. reply_view a
-        ≡ unless_read_failed in_json (R.failed r.new)
-        (token_json (rule_view rule.entry) (terms_meant (λ b. meaning (b.vtable, b.value)) terms.now) x))) }
+        ≡ unless_read_failed (told_by Json telling.now.expected) (R.failed r.new)
+        (token_json (asked_of telling.now) (terms_meant (λ b. meaning (b.vtable, b.value)) terms.now) x))) }
     ensures stops { IfSome (R.remaining r.old) (λ x. (R.failed r.new ≡ true)
         ⊎ TakesAtMost (terms.now.policy.now.run.limit + 1) x (R.remaining r.new)) }
     ensures failed { IfOk result (λ a. a.status ≡ 3 → R.failed r.new ≡ true) }
 {
     match read_document(alloc, terms.policy.limit(), r)? {
-        Some(token) => on_octets_in_json(alloc, terms, rule, token.octets()),
+        Some(token) => on_octets_in_json(alloc, terms, telling, token.octets()),
         None => read_failed_json(alloc),
     }
 }
@@ -211,8 +203,8 @@ fn on_last<R: Source>(
 ) -> Result<Reply, AllocError>
     requires { R.failed r.old ≡ false }
     ensures line { IfSome (R.remaining r.old) (λ x. IfOk result (λ a. reply_view a
-        ≡ unless_read_failed (printer telling.now.printing) (R.failed r.new)
-        ((printer telling.now.printing).token (rule_view telling.now.rule)
+        ≡ unless_read_failed (told_by telling.now.printing telling.now.expected) (R.failed r.new)
+        ((told_by telling.now.printing telling.now.expected).token (rule_view telling.now.rule)
         (terms_meant (λ b. meaning (b.vtable, b.value)) terms.now)
         (last_document (option_map (λ t. t.now) token.entry) x)))) }
     ensures stops { IfSome (R.remaining r.old) (λ x. (R.failed r.new ≡ true)
@@ -221,26 +213,25 @@ fn on_last<R: Source>(
         x (R.remaining r.new)) }
     ensures failed { IfOk result (λ a. a.status ≡ 3 → R.failed r.new ≡ true) }
 {
-    let Telling { printing, rule } = *telling;
-    match (token, printing) {
+    match (token, telling.printing) {
         (Some(token), _) => on_octets(alloc, terms, telling, token),
-        (None, Printing::Json) => on_token_json(alloc, terms, rule, r),
-        (None, Printing::Lines) => on_token(alloc, terms, rule, r),
+        (None, Printing::Json) => on_token_json(alloc, terms, telling, r),
+        (None, Printing::Lines) => on_token(alloc, terms, telling, r),
     }
 }
 
 /// The access rule, where one is in hand, and the token.
 fn on_rule<R: Source>(
     alloc: Global,
-    printing: Printing,
+    asked: &Telling<'_>,
     terms: &Terms<'_, '_, '_>,
     held: Held<'_>,
     r: &mut R,
 ) -> Result<Reply, AllocError>
     requires { R.failed r.old ≡ false }
     ensures line { IfSome (R.remaining r.old) (λ x. IfOk result (λ a. reply_view a
-        ≡ unless_read_failed (printer printing) (R.failed r.new)
-        (under_rule (printer printing) (terms_meant (λ b. meaning (b.vtable, b.value)) terms.now)
+        ≡ unless_read_failed (told_by asked.now.printing asked.now.expected) (R.failed r.new)
+        (under_rule (told_by asked.now.printing asked.now.expected) (terms_meant (λ b. meaning (b.vtable, b.value)) terms.now)
         (rule_in_hand (held_view held.entry).access)
         (last_document (held_view held.entry).token x)))) }
     ensures stops { IfSome (R.remaining r.old) (λ x. (R.failed r.new ≡ true)
@@ -250,12 +241,15 @@ fn on_rule<R: Source>(
 {
     match rule_in_hand(alloc, held.access) {
         Ok(rule) => {
-            let rule = rule.as_ref();
-            let telling = Telling { printing, rule };
+            let telling = Telling {
+                printing: asked.printing,
+                rule: rule.as_ref(),
+                expected: asked.expected,
+            };
             on_last(alloc, terms, &telling, held.token, r)
         }
         Err(AccessFault::OutOfMemory) => Err(AllocError),
-        Err(fault) => printed_access_fault(alloc, printing, &fault),
+        Err(fault) => printed_access_fault(alloc, asked.printing, &fault),
     }
 }
 
@@ -268,8 +262,8 @@ fn on_keys<R: Source>(
     r: &mut R,
 ) -> Result<Reply, AllocError>
     ensures line { IfSome (R.remaining r.old) (λ x. IfOk result (λ a. reply_view a
-        ≡ unless_read_failed (printer options.now.printing) (R.failed r.new)
-        (keys_answer (printer options.now.printing) (map meaning options.now.verifiers.now)
+        ≡ unless_read_failed (told_by options.now.printing options.now.expected) (R.failed r.new)
+        (keys_answer (told_by options.now.printing options.now.expected) (map meaning options.now.verifiers.now)
         options.now.moment.seconds (held_view held.entry) policy.now x))) }
     ensures stops { IfSome (R.remaining r.old) (λ x. (R.failed r.new ≡ true)
         ⊎ TakesAtMost (keys_most (token_most (held_view held.entry) policy.now)
@@ -286,7 +280,8 @@ fn on_keys<R: Source>(
     match KeySet::read(alloc, text.octets()) {
         Ok(keys) => {
             let terms = terms_at(options.moment, options.verifiers, policy, &keys);
-            on_rule(alloc, printing, &terms, held, r)
+            let asked = Telling::of(printing, options.expected);
+            on_rule(alloc, &asked, &terms, held, r)
         }
         Err(KeysFault::OutOfMemory) => Err(AllocError),
         Err(fault) => printed_keys_fault(alloc, printing, &fault),
@@ -303,7 +298,7 @@ pub(crate) fn verify<R: Source>(
     r: &mut R,
 ) -> Result<Reply, AllocError>
     ensures line { IfSome (R.remaining r.old) (λ x. IfOk result (λ a. reply_view a
-        ≡ verify_answer (printer options.now.printing) (map meaning options.now.verifiers.now)
+        ≡ verify_answer (told_by options.now.printing options.now.expected) (map meaning options.now.verifiers.now)
         options.now.moment.seconds (held_view held.entry) (R.failed r.new) x)) }
     ensures stops { IfSome (R.remaining r.old) (λ x. (R.failed r.new ≡ true)
         ⊎ TakesAtMost (verify_most (held_view held.entry) x) x (R.remaining r.new)) }

@@ -10,15 +10,16 @@ ghost use Rattle.jwt_command.specs.RunLines.{LinesByPolicy, Printed, RunsLines};
 ghost use Rattle.jwt_words.specs.Seen.{lines_view, held_view, seconds_of};
 ghost use Rattle.jwt_command.specs.TakenLines.{after_line, first_line};
 ghost use Rattle.jwt_verdicts.specs.Printer.{printer};
-ghost use Rattle.jwt_verdicts.specs.Views.{rule_view};
+ghost use Rattle.jwt_command.specs.Views.{rule_view, told_by};
 ghost use Rattle.jwt_command.specs.Verify.{terms_of_keys};
 
 use crate::access::rule_in_hand;
 use crate::input::buffered::Ahead;
 use crate::input::line::LineFault;
 use crate::run::{AtHand, asked_for};
-use crate::verify::{Telling, on_octets, terms_at};
-use jwt_access::{AccessFault, AccessRule};
+use crate::telling::Telling;
+use crate::verify::{on_octets, terms_at};
+use jwt_access::AccessFault;
 use jwt_keys::{KeySet, KeysFault};
 use jwt_mac::Verifier;
 use jwt_policy::{Policy, PolicyFault};
@@ -27,7 +28,7 @@ use jwt_printing::{
     printed_policy_fault, printed_read_fault,
 };
 use jwt_text::{Sink, Source, write_out};
-use jwt_words::{LinesOrder, Moment, Printing, unread};
+use jwt_words::{Expectation, LinesOrder, Moment, Printing, unread};
 use std::alloc::Global;
 
 // From how many octets on the answers that are ready are sent, where more lines are in hand.
@@ -71,8 +72,8 @@ fn moment<C: Clock>(now: Option<Moment>, clock: &mut C, number: u64, line: &[u8]
 /// What the answers to all lines share.
 #[derive(Clone, Copy)]
 struct Shared<'t> {
-    /// How the answers are told.
-    printing: Printing,
+    /// How the answers are told, with the access rule, where one is in hand, and what is expected of a claim.
+    telling: Telling<'t>,
     /// The moment that `--now` names, if it does.
     moment: Option<Moment>,
     /// The verifiers for public keys, where they are asked for.
@@ -81,8 +82,6 @@ struct Shared<'t> {
     policy: &'t Policy,
     /// The key set.
     keys: &'t KeySet,
-    /// The access rule, where one is in hand.
-    rule: Option<&'t AccessRule>,
 }
 
 /// A line of the input.
@@ -103,7 +102,7 @@ fn answer_line<C: Clock>(
     ready: &mut Vec<u8>,
 ) -> Result<(), LineFault>
     ensures answered { OnOk result (LineAnswered
-        (λ m l. (printer shared.now.printing).token (rule_view shared.now.rule)
+        (λ m l. (told_by shared.now.telling.printing shared.now.telling.expected).token (rule_view shared.now.telling.rule)
         (terms_of_keys (map meaning shared.now.verifiers.now) m shared.now.policy.now
         (key_set shared.now.keys.now)) l)
         (C.says line.now.number line.now.octets.now) (seconds_of shared.now.moment)
@@ -116,11 +115,7 @@ fn answer_line<C: Clock>(
         return Err(LineFault::Read);
     };
     let terms = terms_at(moment, shared.verifiers, shared.policy, shared.keys);
-    let telling = Telling {
-        printing: shared.printing,
-        rule: shared.rule,
-    };
-    let Ok(reply) = on_octets(alloc, &terms, &telling, line.octets) else {
+    let Ok(reply) = on_octets(alloc, &terms, &shared.telling, line.octets) else {
         return Err(LineFault::OutOfMemory);
     };
     match ready.extend_from_slice(reply.text.as_slice()) {
@@ -227,15 +222,15 @@ fn answer_lines<R: Source, W: Sink, C: Clock>(
     w: &mut W,
 ) -> u8
     ensures { IfSome (R.remaining r.old) (λ x. GivesLines
-        (λ m l. (printer shared.now.printing).token (rule_view shared.now.rule)
+        (λ m l. (told_by shared.now.telling.printing shared.now.telling.expected).token (rule_view shared.now.telling.rule)
         (terms_of_keys (map meaning shared.now.verifiers.now) m shared.now.policy.now
         (key_set shared.now.keys.now)) l)
-        (printer shared.now.printing).read_failed
+        (told_by shared.now.telling.printing shared.now.telling.expected).read_failed
         (with_held shared.now.policy.now.run.limit C.says) (seconds_of shared.now.moment) x
         (R.failed r.new)
         (W.contents w.old) (W.contents w.new) (W.failed w.new) result) }
 {
-    let printing = shared.printing;
+    let printing = shared.telling.printing;
     let limit = shared.policy.limit();
     let Ok(mut ahead) = Ahead::new(alloc) else {
         return lack_memory(w);
@@ -278,6 +273,8 @@ struct LinesInHand<'a> {
     keys: &'a [u8],
     /// The document of the access rule, if there is one.
     access: Option<&'a [u8]>,
+    /// What one claim of an accepted token has to be, where that is asked.
+    expected: Option<Expectation<'a>>,
 }
 
 /// Answers each line under the documents in hand, each of which is read once: the policy, the key set, and the access rule, where
@@ -297,7 +294,7 @@ fn lines_in_hand<R: Source, W: Sink, C: Clock>(
           failed = W.failed w.new;
           status = result;
         })
-        ⊎ LinesByPolicy lines.now.printing (map meaning lines.now.verifiers.now) C.says
+        ⊎ LinesByPolicy (told_by lines.now.printing lines.now.expected) (map meaning lines.now.verifiers.now) C.says
         (seconds_of lines.now.moment) (policy_of lines.now.policy.now)
         (key_set_of lines.now.keys.now)
         (rule_in_hand (option_map (λ t. t.now) lines.now.access)) x
@@ -322,14 +319,17 @@ fn lines_in_hand<R: Source, W: Sink, C: Clock>(
     };
     match rule_in_hand(alloc, lines.access) {
         Ok(rule) => {
-            let rule = rule.as_ref();
-            let shared = Shared {
+            let telling = Telling {
                 printing,
+                rule: rule.as_ref(),
+                expected: lines.expected,
+            };
+            let shared = Shared {
+                telling,
                 moment: lines.moment,
                 verifiers: lines.verifiers,
                 policy: &policy,
                 keys: &keys,
-                rule,
             };
             answer_lines(alloc, &shared, clock, r, w)
         }
@@ -380,6 +380,7 @@ pub(crate) fn run_lines<R: Source, W: Sink, C: Clock>(
                     policy,
                     keys,
                     access: held.access,
+                    expected: order.expected,
                 };
                 lines_in_hand(alloc, &lines, clock, r, w)
             }

@@ -14,6 +14,24 @@ const ASKED: &[&str] = &["jwt", "verify", "--access", "a", "--now", MOMENT];
 
 const LATER: &[&str] = &["jwt", "verify", "--access", "a", "--now", "1300819380"];
 
+/// The words of `verify` with what a claim has to be, and with a rule too.
+const EXPECTED: &[&str] = &["jwt", "verify", "--expect", "iss=joe", "--now", MOMENT];
+
+const UNEXPECTED: &[&str] = &[
+    "jwt", "verify", "--expect", "iss=jo", "--access", "a", "--now", MOMENT,
+];
+
+const EXPECTED_ABSENT: &[&str] = &[
+    "jwt",
+    "verify",
+    "--json",
+    "--expect=nonce=n",
+    "--now",
+    MOMENT,
+];
+
+const EXPECTED_NUMBER: &[&str] = &["jwt", "verify", "--expect=exp=1300819380", "--now", MOMENT];
+
 const IN_JSON: &[&str] = &["jwt", "verify", "--json", "--access", "a", "--now", MOMENT];
 
 /// A rule, what `verify` prints of the token of RFC 7515, appendix A.1, under it, and its status.
@@ -29,7 +47,7 @@ struct Ruled {
 const MET: &str =
     r#"{"claims":{"iss":["ann","joe"],"exp":[1300819380],"http://example.com/is_root":[true]}}"#;
 
-static RULED: [Ruled; 19] = [
+static RULED: [Ruled; 24] = [
     Ruled {
         words: ASKED,
         rule: Some("{}"),
@@ -145,6 +163,37 @@ static RULED: [Ruled; 19] = [
         words: IN_JSON,
         rule: Some(r#"{"claims":{"iss":[]}}"#),
         prints: r#"{"verdict":"refused","document":"access","fault":"ClaimRange","member":"iss"}"#,
+        status: 1,
+    },
+    // What is expected of a claim is its very text, and the rule is asked first.
+    Ruled {
+        words: EXPECTED,
+        rule: None,
+        prints: ACCEPTED,
+        status: 0,
+    },
+    Ruled {
+        words: UNEXPECTED,
+        rule: Some(MET),
+        prints: r#"denied ClaimNotAllowed claim="iss" sig=0 key=0 tries=1 work=295"#,
+        status: 1,
+    },
+    Ruled {
+        words: UNEXPECTED,
+        rule: Some(r#"{"scopes":["a"]}"#),
+        prints: r#"denied ScopeMissing scope="a" sig=0 key=0 tries=1 work=295"#,
+        status: 1,
+    },
+    Ruled {
+        words: EXPECTED_ABSENT,
+        rule: None,
+        prints: r#"{"verdict":"denied","denial":"ClaimMissing","claim":"nonce","signature":0,"key":0,"signatures":[{"state":"Verified","key":0}],"tries":[{"signature":0,"key":0,"cost":295}],"work":295}"#,
+        status: 1,
+    },
+    Ruled {
+        words: EXPECTED_NUMBER,
+        rule: None,
+        prints: r#"denied ClaimNotAllowed claim="exp" sig=0 key=0 tries=1 work=295"#,
         status: 1,
     },
 ];

@@ -5,7 +5,7 @@ use jwt_support::streams::Drip;
 use std::test::Fail;
 
 /// What clap says of wrong words.
-static SAID: [CommandRow; 3] = [
+static SAID: [CommandRow; 4] = [
     CommandRow {
         words: &["jwt"],
         input: &[],
@@ -36,6 +36,16 @@ static SAID: [CommandRow; 3] = [
             "error: one of the following arguments has to be provided:",
             "  --k <TEXT>",
             "  --key-file <FILE>",
+            "",
+            "For more information, try '--help'.",
+        ],
+        status: 2,
+    },
+    CommandRow {
+        words: &["jwt", "verify", "--now", "7", "--expect", "nonce"],
+        input: &[],
+        prints: &[
+            "error: invalid value 'nonce' for '--expect <NAME=TEXT>': it has no '='",
             "",
             "For more information, try '--help'.",
         ],

@@ -1,2 +1,4 @@
 -- ---- For laws.rt
 pub mod Passing
+-- ---- For denied.rt
+pub mod Expecting

@@ -1,7 +1,6 @@
 -- The line of a verdict.
 use Rattle.std.specs.Prelude.{ℕ, List, [], ◌∷◌, length, codes, Option, Some, None}
 use Rattle.std.specs.Fmt.{decimal}
-use Rattle.jwt_access.specs.Rules.{Rule}
 use Rattle.jwt_access.specs.Moments.{moment_under}
 use Rattle.jwt_access.specs.declared.moment.Moment.{Moment}
 use Rattle.jwt_access.specs.declared.denial.Denial.{Denial}
@@ -13,7 +12,7 @@ use Rattle.jwt_verify.specs.declared.report.Fault.TheVariants.{OutOfMemory, Veri
 use Rattle.jwt_verify.specs.declared.report.Try.{Try}
 use Rattle.jwt_verify.specs.declared.report.Verdict.{Verdict}
 use Rattle.jwt_verify.specs.declared.report.Verdict.TheVariants.{Accepted, Refused}
-use Rattle.jwt_verdicts.specs.Denied.{lacking}
+use Rattle.jwt_verdicts.specs.Denied.{Demands, lacking}
 use Rattle.jwt_printing.specs.Faults.{denial_parts, joined_parts}
 use Rattle.jwt_verdicts.specs.Faults.{fault_parts}
 use Rattle.jwt_printing.specs.Printed.{Answer, line, out_of_memory, read_failed}
@@ -40,10 +39,10 @@ abbrev pub unless_lacking : Option Denial → (i j tries work : ℕ) → Answer
 unless_lacking None i j tries work = accepted_line i j tries work
 unless_lacking (Some denial) i j tries work = denied_line denial i j tries work
 
--- An access rule is held against the claims of an accepted token alone: it is told as accepted where it lacks nothing, and else as denied.
-abbrev pub verify_line : Option Rule → Moment → Verdict → (tries work : ℕ) → Answer
-verify_line rule moment (Accepted i j claims) tries work = unless_lacking (lacking rule moment claims) i j tries work
-verify_line rule moment (Refused fault) tries work = fault_line fault tries work
+-- The claims of an accepted token alone are held against what is asked of them: it is told as accepted where they lack nothing, and else as denied.
+abbrev pub verify_line : Demands → Moment → Verdict → (tries work : ℕ) → Answer
+verify_line demands moment (Accepted i j claims) tries work = unless_lacking (lacking demands moment claims) i j tries work
+verify_line demands moment (Refused fault) tries work = fault_line fault tries work
 
 -- the tries that the policy's `work` and `max_calls` pay
 abbrev pub paid_tries : Terms → List ℕ → List Try
@@ -53,5 +52,5 @@ paid_tries q x = paid (table q x) q.policy.run.work q.policy.max_calls
 abbrev pub moment_of : Terms → Moment
 moment_of q = moment_under q.policy q.now
 
-abbrev pub token_answer : Option Rule → Terms → List ℕ → Answer
-token_answer rule q x = verify_line rule (moment_of q) (verdict_of q x q.policy.run.work) (length (paid_tries q x)) (work (paid_tries q x))
+abbrev pub token_answer : Demands → Terms → List ℕ → Answer
+token_answer demands q x = verify_line demands (moment_of q) (verdict_of q x q.policy.run.work) (length (paid_tries q x)) (work (paid_tries q x))

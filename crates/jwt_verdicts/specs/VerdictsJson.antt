@@ -3,7 +3,6 @@ use Rattle.std.specs.Prelude.{ℕ, List, [], ◌∷◌, ◌++◌, map, Option, S
 use Rattle.json.specs.Json.{Json, object}
 use Rattle.jwt_policy.specs.FaultNames.{sig_fault_name}
 use Rattle.jwt_access.specs.FaultNames.{denial_name}
-use Rattle.jwt_access.specs.Rules.{Rule}
 use Rattle.jwt_access.specs.declared.denial.Denial.{Denial}
 use Rattle.jwt_access.specs.declared.denial.Denial.TheVariants as lack
 use Rattle.jwt_access.specs.declared.moment.Moment.{Moment}
@@ -18,7 +17,7 @@ use Rattle.jwt_verify.specs.declared.report.SigState.TheVariants.{Barred, NoKey,
 use Rattle.jwt_verify.specs.declared.report.Try.{Try}
 use Rattle.jwt_verify.specs.declared.report.Verdict.{Verdict}
 use Rattle.jwt_verify.specs.declared.report.Verdict.TheVariants.{Accepted, Refused}
-use Rattle.jwt_verdicts.specs.Denied.{lacking}
+use Rattle.jwt_verdicts.specs.Denied.{Demands, lacking}
 use Rattle.jwt_printing.specs.Json.{Named, claim_place, count, form_place, json_line, json_value, list, object_of_members, read_failed_json, text}
 use Rattle.jwt_printing.specs.Printed.{Answer, out_of_memory}
 use Rattle.jwt_verdicts.specs.Verdicts.{moment_of, paid_tries}
@@ -33,7 +32,7 @@ place_of (fault.Claim f) = claim_place f
 place_of (fault.CallsExceeded i j) = count (codes "signature") i ∷ count (codes "key") j ∷ []
 place_of _ = []
 
--- what claims lack of an access rule: a scope, or a claim
+-- what claims lack: a scope, or a claim
 abbrev pub lacked : Denial → Named
 lacked (lack.ScopeMissing scope) = text (codes "scope") scope
 lacked (lack.ClaimMissing name) = text (codes "claim") name
@@ -75,34 +74,34 @@ accepted_members None i j payload =
 accepted_members (Some denial) i j payload =
     text (codes "verdict") (codes "denied") ∷ text (codes "denial") (denial_name denial) ∷ lacked denial ∷ count (codes "signature") i ∷ count (codes "key") j ∷ []
 
-abbrev pub verdict_members : Option Rule → Moment → Verdict → List ℕ → List Named
-verdict_members rule moment (Accepted i j claims) payload = accepted_members (lacking rule moment claims) i j payload
-verdict_members rule moment (Refused f) payload = text (codes "verdict") (codes "refused") ∷ text (codes "fault") (fault_name f) ∷ place_of f
+abbrev pub verdict_members : Demands → Moment → Verdict → List ℕ → List Named
+verdict_members demands moment (Accepted i j claims) payload = accepted_members (lacking demands moment claims) i j payload
+verdict_members demands moment (Refused f) payload = text (codes "verdict") (codes "refused") ∷ text (codes "fault") (fault_name f) ∷ place_of f
 
 abbrev pub accepted_status : Option Denial → ℕ
 accepted_status None = 0
 accepted_status (Some denial) = 1
 
-abbrev pub verdict_status : Option Rule → Moment → Verdict → ℕ
-verdict_status rule moment (Accepted i j claims) = accepted_status (lacking rule moment claims)
-verdict_status rule moment (Refused f) = 1
+abbrev pub verdict_status : Demands → Moment → Verdict → ℕ
+verdict_status demands moment (Accepted i j claims) = accepted_status (lacking demands moment claims)
+verdict_status demands moment (Refused f) = 1
 
 -- ---- the answers
 
-abbrev pub said_json : Option Rule → Moment → Verdict → List ℕ → List SigState → List Try → ℕ → Answer
-said_json rule moment v payload sts es octets = json_line (verdict_members rule moment v payload ++ evidence sts es octets) (verdict_status rule moment v)
+abbrev pub said_json : Demands → Moment → Verdict → List ℕ → List SigState → List Try → ℕ → Answer
+said_json demands moment v payload sts es octets = json_line (verdict_members demands moment v payload ++ evidence sts es octets) (verdict_status demands moment v)
 
 -- want of memory is printed as ever
-abbrev pub verdict_json : Option Rule → Moment → Verdict → List ℕ → List SigState → List Try → ℕ → Answer
-verdict_json rule moment (Refused fault.OutOfMemory) payload sts es octets = out_of_memory
-verdict_json rule moment (Refused fault.VerifierMemory) payload sts es octets = out_of_memory
-verdict_json rule moment (Refused (fault.Text Read)) payload sts es octets = read_failed_json
-verdict_json rule moment v payload sts es octets = said_json rule moment v payload sts es octets
+abbrev pub verdict_json : Demands → Moment → Verdict → List ℕ → List SigState → List Try → ℕ → Answer
+verdict_json demands moment (Refused fault.OutOfMemory) payload sts es octets = out_of_memory
+verdict_json demands moment (Refused fault.VerifierMemory) payload sts es octets = out_of_memory
+verdict_json demands moment (Refused (fault.Text Read)) payload sts es octets = read_failed_json
+verdict_json demands moment v payload sts es octets = said_json demands moment v payload sts es octets
 
 -- the payload of the token that x is
 abbrev pub payload_of : Terms → List ℕ → List ℕ
 payload_of q x = (token_or_none (token_of q.policy x)).payload
 
-abbrev pub token_json : Option Rule → Terms → List ℕ → Answer
-token_json rule q x =
-    verdict_json rule (moment_of q) (verdict_of q x q.policy.run.work) (payload_of q x) (states (table q x) q.policy.run.work q.policy.max_calls) (paid_tries q x) (work (paid_tries q x))
+abbrev pub token_json : Demands → Terms → List ℕ → Answer
+token_json demands q x =
+    verdict_json demands (moment_of q) (verdict_of q x q.policy.run.work) (payload_of q x) (states (table q x) q.policy.run.work q.policy.max_calls) (paid_tries q x) (work (paid_tries q x))

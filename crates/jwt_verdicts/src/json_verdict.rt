@@ -11,11 +11,12 @@ ghost use Rattle.jwt_verdicts.specs.VerdictsJson.{accepted_members, accepted_sta
 ghost use Rattle.jwt_printing.specs.Json.{count, list, read_failed_json, text, json_value};
 ghost use Rattle.jwt_printing.specs.JsonTokens.{named_tokens};
 ghost use Rattle.jwt_printing.specs.Views.{reply_view};
-ghost use Rattle.jwt_verdicts.specs.Views.{rule_view};
+ghost use Rattle.jwt_verdicts.specs.Views.{demands_view};
 
+use crate::demands::Demands;
 use crate::denied::lacking;
 use crate::pair::VerifiedPair;
-use jwt_access::{AccessRule, Denial, Moment};
+use jwt_access::Denial;
 use jwt_printing::{JsonOut, Reply, put_claim_place, put_form_place, read_failed_json};
 use jwt_verify::{Fault, InputFault, Report, SigState, Try, Verdict};
 use std::alloc::{AllocError, Global};
@@ -158,7 +159,7 @@ fn put_lacked(out: &mut JsonOut, denial: &Denial<'_>) -> Result<(), AllocError>
     }
 }
 
-/// Puts the members of an acceptance that the access rule denies.
+/// Puts the members of an acceptance whose claims lack something.
 fn put_denied(out: &mut JsonOut, denial: &Denial<'_>, pair: VerifiedPair) -> Result<(), AllocError>
     ensures { OnOk result
         (out.new ≡ out.old ++ named_tokens (text (codes "verdict") (codes "denied")
@@ -204,13 +205,12 @@ fn put_refused(out: &mut JsonOut, fault: &Fault<'_>) -> Result<(), AllocError>
 fn put_verdict(
     alloc: Global,
     out: &mut JsonOut,
-    rule: Option<&AccessRule>,
-    moment: Moment,
+    demands: &Demands<'_>,
     verdict: &Verdict<'_>,
     payload: &[u8],
 ) -> Result<(), AllocError>
     ensures { OnOk result (out.new ≡ out.old
-        ++ named_tokens (verdict_members (rule_view rule.entry) moment verdict.now payload.now)) }
+        ++ named_tokens (verdict_members (demands_view demands.now) demands.now.moment verdict.now payload.now)) }
 {
     match verdict {
         Verdict::Accepted {
@@ -222,13 +222,13 @@ fn put_verdict(
                 signature: *signature,
                 key: *key,
             };
-            put_unless_lacking(alloc, out, &lacking(rule, moment, claims), pair, payload)
+            put_unless_lacking(alloc, out, &lacking(demands, claims), pair, payload)
         }
         Verdict::Refused(fault) => put_refused(out, fault),
     }
 }
 
-/// The status of an acceptance: 0, or 1 where the access rule denies it.
+/// The status of an acceptance: 0, or 1 where its claims lack something.
 fn accepted_status(denial: &Option<Denial<'_>>) -> u8
     ensures { result ≡ accepted_status denial.now }
 {
@@ -239,11 +239,11 @@ fn accepted_status(denial: &Option<Denial<'_>>) -> u8
 }
 
 /// The status of a verdict.
-fn verdict_status(rule: Option<&AccessRule>, moment: Moment, verdict: &Verdict<'_>) -> u8
-    ensures { result ≡ verdict_status (rule_view rule.entry) moment verdict.now }
+fn verdict_status(demands: &Demands<'_>, verdict: &Verdict<'_>) -> u8
+    ensures { result ≡ verdict_status (demands_view demands.now) demands.now.moment verdict.now }
 {
     match verdict {
-        Verdict::Accepted { claims, .. } => accepted_status(&lacking(rule, moment, claims)),
+        Verdict::Accepted { claims, .. } => accepted_status(&lacking(demands, claims)),
         Verdict::Refused(_) => 1,
     }
 }
@@ -252,38 +252,36 @@ fn verdict_status(rule: Option<&AccessRule>, moment: Moment, verdict: &Verdict<'
 fn said(
     alloc: Global,
     report: &Report<'_>,
-    rule: Option<&AccessRule>,
-    moment: Moment,
+    demands: &Demands<'_>,
     payload: &[u8],
     work: u64,
 ) -> Result<Reply, AllocError>
     ensures { IfOk result (λ a. reply_view a
-        ≡ said_json (rule_view rule.entry) moment report.now.verdict payload.now
+        ≡ said_json (demands_view demands.now) demands.now.moment report.now.verdict payload.now
         report.now.states.items report.now.tries.items work) }
 {
     let mut out = JsonOut::object(alloc)?;
-    put_verdict(alloc, &mut out, rule, moment, &report.verdict, payload)?;
+    put_verdict(alloc, &mut out, demands, &report.verdict, payload)?;
     put_evidence(
         &mut out,
         report.states.as_slice(),
         report.tries.as_slice(),
         work,
     )?;
-    out.reply(verdict_status(rule, moment, &report.verdict))
+    out.reply(verdict_status(demands, &report.verdict))
 }
 
-/// The line of a report on a token with this payload, where the claims of an accepted token are held against a rule, if there is one.
+/// The line of a report on a token with this payload, where the claims of an accepted token are held against these demands.
 /// Where memory was refused there is none.
 pub fn report_json(
     alloc: Global,
     report: &Report<'_>,
-    rule: Option<&AccessRule>,
-    moment: Moment,
+    demands: &Demands<'_>,
     payload: &[u8],
     work: u64,
 ) -> Result<Reply, AllocError>
     ensures line { IfOk result (λ a. reply_view a
-        ≡ verdict_json (rule_view rule.entry) moment report.now.verdict payload.now
+        ≡ verdict_json (demands_view demands.now) demands.now.moment report.now.verdict payload.now
         report.now.states.items report.now.tries.items work) }
     ensures memory { IfOk result (λ a. FoundMemory report.now.verdict) }
     ensures failed { IfOk result (λ a. a.status ≡ 3 → report.now.verdict ≡ Refused (Text Read)) }
@@ -299,6 +297,6 @@ pub fn report_json(
             | Fault::CallsExceeded(..)
             | Fault::Signature(..)
             | Fault::Claim(_),
-        ) => said(alloc, report, rule, moment, payload, work),
+        ) => said(alloc, report, demands, payload, work),
     }
 }

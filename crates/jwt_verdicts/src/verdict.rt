@@ -6,12 +6,13 @@ ghost use Rattle.jwt_verify.specs.declared.report.Fault.TheVariants.{Text};
 ghost use Rattle.jwt_verify.specs.declared.report.Verdict.TheVariants.{Refused};
 ghost use Rattle.jwt_verdicts.specs.Verdicts.{accepted_line, denied_line, fault_line, named_line, verify_line};
 ghost use Rattle.jwt_printing.specs.Views.{reply_view};
-ghost use Rattle.jwt_verdicts.specs.Views.{rule_view};
+ghost use Rattle.jwt_verdicts.specs.Views.{demands_view};
 
+use crate::demands::Demands;
 use crate::denied::lacking;
 use crate::faults::fault_text;
 use crate::pair::VerifiedPair;
-use jwt_access::{AccessRule, Denial, Moment};
+use jwt_access::Denial;
 use jwt_printing::{Reply, denial_text};
 use jwt_verify::{Fault, InputFault, Report, Verdict};
 use std::alloc::{AllocError, Global};
@@ -88,17 +89,16 @@ fn denied_line(
     Reply::around(alloc, "denied ", name.as_slice(), counts.as_str(), 1)
 }
 
-/// The line of a report, where the claims of an accepted token are held against a rule at the moment of the verdict, if there is one. Where
-/// memory was refused there is none.
+/// The line of a report, where the claims of an accepted token are held against these demands at the moment of the verdict. Where memory
+/// was refused there is none.
 pub fn report_line(
     alloc: Global,
     report: &Report<'_>,
-    rule: Option<&AccessRule>,
-    moment: Moment,
+    demands: &Demands<'_>,
     work: u64,
 ) -> Result<Reply, AllocError>
     ensures line { IfOk result (λ a. reply_view a
-        ≡ verify_line (rule_view rule.entry) moment report.now.verdict
+        ≡ verify_line (demands_view demands.now) demands.now.moment report.now.verdict
         (length report.now.tries.items) work) }
     ensures memory { IfOk result (λ a. FoundMemory report.now.verdict) }
     ensures failed { IfOk result (λ a. a.status ≡ 3 → report.now.verdict ≡ Refused (Text Read)) }
@@ -114,7 +114,7 @@ pub fn report_line(
                 signature: *signature,
                 key: *key,
             };
-            match lacking(rule, moment, claims) {
+            match lacking(demands, claims) {
                 Some(denial) => denied_line(alloc, &denial, pair, tries, work),
                 None => accepted_line(alloc, pair, tries, work),
             }

@@ -59,7 +59,7 @@ pub empty_key : request_of None (codes "jwt" ∷ codes "mac" ∷ codes "--k=" �
 unfolding clap_on_literals
 empty_key = refl
 
-pub a_moment : request_of None (codes "jwt" ∷ codes "verify" ∷ codes "--now" ∷ codes "1300819379" ∷ []) ≡ Some (Once Lines (Verify 1300819379 false no_files))
+pub a_moment : request_of None (codes "jwt" ∷ codes "verify" ∷ codes "--now" ∷ codes "1300819379" ∷ []) ≡ Some (Once Lines (Verify 1300819379 false None no_files))
 unfolding clap_on_literals
 a_moment = refl
 
@@ -67,11 +67,11 @@ pub too_late : request_of None (codes "jwt" ∷ codes "verify" ∷ codes "--now"
 unfolding clap_on_literals
 too_late = refl
 
-pub public_keys : request_of None (codes "jwt" ∷ codes "verify" ∷ codes "--public-keys" ∷ codes "--now" ∷ codes "1300819379" ∷ []) ≡ Some (Once Lines (Verify 1300819379 true no_files))
+pub public_keys : request_of None (codes "jwt" ∷ codes "verify" ∷ codes "--public-keys" ∷ codes "--now" ∷ codes "1300819379" ∷ []) ≡ Some (Once Lines (Verify 1300819379 true None no_files))
 unfolding clap_on_literals
 public_keys = refl
 
-pub public_keys_behind : request_of None (codes "jwt" ∷ codes "verify" ∷ codes "--now" ∷ codes "1300819379" ∷ codes "--public-keys" ∷ []) ≡ Some (Once Lines (Verify 1300819379 true no_files))
+pub public_keys_behind : request_of None (codes "jwt" ∷ codes "verify" ∷ codes "--now" ∷ codes "1300819379" ∷ codes "--public-keys" ∷ []) ≡ Some (Once Lines (Verify 1300819379 true None no_files))
 unfolding clap_on_literals
 public_keys_behind = refl
 
@@ -95,11 +95,11 @@ pub version_of_a_command : request_of None (codes "jwt" ∷ codes "keys" ∷ cod
 unfolding clap_on_literals
 version_of_a_command = refl
 
-pub clock_alone : request_of (Some 1300819379) (codes "jwt" ∷ codes "verify" ∷ []) ≡ Some (Once Lines (Verify 1300819379 false no_files))
+pub clock_alone : request_of (Some 1300819379) (codes "jwt" ∷ codes "verify" ∷ []) ≡ Some (Once Lines (Verify 1300819379 false None no_files))
 unfolding clap_on_literals
 clock_alone = refl
 
-pub now_before_clock : request_of (Some 7) (codes "jwt" ∷ codes "verify" ∷ codes "--now" ∷ codes "1300819379" ∷ []) ≡ Some (Once Lines (Verify 1300819379 false no_files))
+pub now_before_clock : request_of (Some 7) (codes "jwt" ∷ codes "verify" ∷ codes "--now" ∷ codes "1300819379" ∷ []) ≡ Some (Once Lines (Verify 1300819379 false None no_files))
 unfolding clap_on_literals
 now_before_clock = refl
 
@@ -111,7 +111,7 @@ pub no_moment : request_of None (codes "jwt" ∷ codes "verify" ∷ []) ≡ None
 unfolding clap_on_literals
 no_moment = refl
 
-pub files_named : request_of None (codes "jwt" ∷ codes "verify" ∷ codes "--now" ∷ codes "7" ∷ codes "--policy" ∷ codes "p" ∷ codes "--keys=k" ∷ []) ≡ Some (Once Lines (Verify 7 false (record { policy = Some (codes "p"); keys = Some (codes "k"); access = None; token = None; key = None })))
+pub files_named : request_of None (codes "jwt" ∷ codes "verify" ∷ codes "--now" ∷ codes "7" ∷ codes "--policy" ∷ codes "p" ∷ codes "--keys=k" ∷ []) ≡ Some (Once Lines (Verify 7 false None (record { policy = Some (codes "p"); keys = Some (codes "k"); access = None; token = None; key = None })))
 unfolding clap_on_literals
 files_named = refl
 
@@ -127,7 +127,7 @@ pub file_named_twice : request_of None (codes "jwt" ∷ codes "verify" ∷ codes
 unfolding clap_on_literals
 file_named_twice = refl
 
-pub verify_json : request_of None (codes "jwt" ∷ codes "verify" ∷ codes "--json" ∷ codes "--now" ∷ codes "7" ∷ []) ≡ Some (Once Json (Verify 7 false no_files))
+pub verify_json : request_of None (codes "jwt" ∷ codes "verify" ∷ codes "--json" ∷ codes "--now" ∷ codes "7" ∷ []) ≡ Some (Once Json (Verify 7 false None no_files))
 unfolding clap_on_literals
 verify_json = refl
 
@@ -147,7 +147,7 @@ pub lines_alone : request_of (Some 7) (codes "jwt" ∷ codes "verify" ∷ codes 
 unfolding clap_on_literals
 lines_alone = refl
 
-pub lines_json : request_of (Some 7) (codes "jwt" ∷ codes "verify" ∷ codes "--lines" ∷ codes "--json" ∷ codes "--policy=p" ∷ codes "--keys=k" ∷ []) ≡ Some (EachLine (record { now = None; public_keys = false; printing = Json; files = record { policy = Some (codes "p"); keys = Some (codes "k"); access = None; token = None; key = None } }))
+pub lines_json : request_of (Some 7) (codes "jwt" ∷ codes "verify" ∷ codes "--lines" ∷ codes "--json" ∷ codes "--policy=p" ∷ codes "--keys=k" ∷ []) ≡ Some (EachLine (record { now = None; public_keys = false; printing = Json; expected = None; files = record { policy = Some (codes "p"); keys = Some (codes "k"); access = None; token = None; key = None } }))
 unfolding clap_on_literals
 lines_json = refl
 
@@ -155,7 +155,7 @@ pub lines_token : request_of (Some 7) (codes "jwt" ∷ codes "verify" ∷ codes 
 unfolding clap_on_literals
 lines_token = refl
 
-pub access_named : request_of None (codes "jwt" ∷ codes "verify" ∷ codes "--now" ∷ codes "7" ∷ codes "--access=a" ∷ []) ≡ Some (Once Lines (Verify 7 false (record no_files { access = Some (codes "a") })))
+pub access_named : request_of None (codes "jwt" ∷ codes "verify" ∷ codes "--now" ∷ codes "7" ∷ codes "--access=a" ∷ []) ≡ Some (Once Lines (Verify 7 false None (record no_files { access = Some (codes "a") })))
 unfolding clap_on_literals
 access_named = refl
 
@@ -167,9 +167,25 @@ pub access_of_keys : request_of None (codes "jwt" ∷ codes "keys" ∷ codes "--
 unfolding clap_on_literals
 access_of_keys = refl
 
-pub lines_access : request_of (Some 7) (codes "jwt" ∷ codes "verify" ∷ codes "--lines" ∷ codes "--policy=p" ∷ codes "--keys=k" ∷ codes "--access=a" ∷ []) ≡ Some (EachLine (record { now = None; public_keys = false; printing = Lines; files = record { policy = Some (codes "p"); keys = Some (codes "k"); access = Some (codes "a"); token = None; key = None } }))
+pub lines_access : request_of (Some 7) (codes "jwt" ∷ codes "verify" ∷ codes "--lines" ∷ codes "--policy=p" ∷ codes "--keys=k" ∷ codes "--access=a" ∷ []) ≡ Some (EachLine (record { now = None; public_keys = false; printing = Lines; expected = None; files = record { policy = Some (codes "p"); keys = Some (codes "k"); access = Some (codes "a"); token = None; key = None } }))
 unfolding clap_on_literals
 lines_access = refl
+
+pub expect_named : request_of None (codes "jwt" ∷ codes "verify" ∷ codes "--now" ∷ codes "7" ∷ codes "--expect" ∷ codes "nonce=a=b" ∷ []) ≡ Some (Once Lines (Verify 7 false (Some (record { claim = codes "nonce"; text = codes "a=b" })) no_files))
+unfolding clap_on_literals
+expect_named = refl
+
+pub expect_of_no_text : request_of None (codes "jwt" ∷ codes "verify" ∷ codes "--now" ∷ codes "7" ∷ codes "--expect" ∷ codes "nonce" ∷ []) ≡ None
+unfolding clap_on_literals
+expect_of_no_text = refl
+
+pub expect_twice : request_of None (codes "jwt" ∷ codes "verify" ∷ codes "--now" ∷ codes "7" ∷ codes "--expect=a=b" ∷ codes "--expect=c=d" ∷ []) ≡ None
+unfolding clap_on_literals
+expect_twice = refl
+
+pub lines_expect : request_of (Some 7) (codes "jwt" ∷ codes "verify" ∷ codes "--lines" ∷ codes "--policy=p" ∷ codes "--keys=k" ∷ codes "--expect=a=" ∷ []) ≡ Some (EachLine (record { now = None; public_keys = false; printing = Lines; expected = Some (record { claim = codes "a"; text = [] }); files = record { policy = Some (codes "p"); keys = Some (codes "k"); access = None; token = None; key = None } }))
+unfolding clap_on_literals
+lines_expect = refl
 
 pub jwk_alone : request_of None (codes "jwt" ∷ codes "jwk" ∷ []) ≡ Some (Jwk (record { printing = Lines; der = false; bare = false; kid = NoKid; alg = None; files = no_files }))
 unfolding clap_on_literals

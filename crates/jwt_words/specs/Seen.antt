@@ -1,7 +1,8 @@
 -- The crate's own types as contracts see them.
 use Rattle.std.specs.Prelude.{◌≡◌, ◌≤◌, ℕ, Option, option_map, true}
 use Rattle.jwt_mac.specs.Algorithm.{is_hmac_alg}
-use Rattle.jwt_words.specs.Words.{EachLine, Files, HasLimits, Issue, Jwk, JwkOrder, Keys, KidChoice, KidNamed, KidThumbprint, LinesOrder, Mac, MacFile, NewSecret, NoKid, Once, Order, Policy, PolicyOrder, Pretty, PrettyOrder, Request, SecretOrder, Show, Verify, Version}
+use Rattle.jwt_words.specs.Words.{EachLine, Expectation, Files, HasLimits, Issue, Jwk, JwkOrder, Keys, KidChoice, KidNamed, KidThumbprint, LinesOrder, Mac, MacFile, NewSecret, NoKid, Once, Order, Policy, PolicyOrder, Pretty, PrettyOrder, Request, SecretOrder, Show, Verify, Version}
+use Rattle.jwt_words.specs.declared.expectation.Expectation.{Expectation as CodeExpectation}
 use Rattle.jwt_words.specs.declared.jwk.JwkOrder.{JwkOrder as CodeJwk}
 use Rattle.jwt_words.specs.declared.jwk.KidChoice.{KidChoice as CodeKid}
 use Rattle.jwt_words.specs.declared.jwk.KidChoice.TheVariants as kid
@@ -27,17 +28,20 @@ seconds_of moment = option_map (λ m. m.seconds) moment
 abbrev pub files_view : CodeFiles → Files
 files_view f = record { policy = option_map (λ t. t.now) f.policy; keys = option_map (λ t. t.now) f.keys; access = option_map (λ t. t.now) f.access; token = option_map (λ t. t.now) f.token; key = option_map (λ t. t.now) f.key }
 
+abbrev pub expectation_view : CodeExpectation → Expectation
+expectation_view e = record { claim = e.claim.now; text = e.text.now }
+
 abbrev pub seen : Asked → Order
 seen (asked.Mac key limit) = Mac key.now limit
 seen (asked.MacFile name limit) = MacFile name.now limit
 seen asked.Keys = Keys
 seen (asked.Show limit) = Show limit
-seen (asked.Verify now public_keys files) = Verify now.seconds public_keys (files_view files)
+seen (asked.Verify now public_keys expected files) = Verify now.seconds public_keys (option_map expectation_view expected) (files_view files)
 seen (asked.Issue alg typ form files) = Issue alg (option_map (λ t. t.now) typ) form (files_view files)
 seen asked.Version = Version
 
 abbrev pub lines_view : CodeLines → LinesOrder
-lines_view o = record { now = seconds_of o.now; public_keys = o.public_keys; printing = o.printing; files = files_view o.files }
+lines_view o = record { now = seconds_of o.now; public_keys = o.public_keys; printing = o.printing; expected = option_map expectation_view o.expected; files = files_view o.files }
 
 abbrev pub kid_view : CodeKid → KidChoice
 kid_view kid.Absent = NoKid

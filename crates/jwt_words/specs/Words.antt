@@ -8,6 +8,7 @@ use Rattle.jwt_mac.specs.Algorithm.{alg_named, digest_size, is_hmac_alg}
 use Rattle.jwt_mac.specs.declared.algorithm.Alg.{Alg}
 use Rattle.jwt_jws.specs.declared.fault.Form.{Form}
 use Rattle.jwt_jws.specs.declared.fault.Form.TheVariants.{Compact, Flattened, General}
+use Rattle.clap.specs.Lexer.{name_and_value}
 use Rattle.clap.specs.ValueTests.{accepts}
 use Rattle.clap.specs.declared.builder.action.ArgAction.TheVariants.{SetTrue}
 use Rattle.clap.specs.declared.builder.value_parser.ValueParser.{ValueParser}
@@ -67,6 +68,10 @@ token_rule = option (codes "token")
 -- the file of an access rule
 abbrev pub access_rule : Rule
 access_rule = option (codes "access")
+
+-- what a claim has to be
+abbrev pub expect_rule : Rule
+expect_rule = option (codes "expect")
 
 abbrev pub alg_rule : Rule
 alg_rule = record (option (codes "alg")) { required = true }
@@ -148,8 +153,12 @@ verify_on_files has_clock = with_rule (with_rule (with_rule (verify_on_input has
 abbrev pub verify_with_access : Bool → App
 verify_with_access has_clock = with_rule (verify_on_files has_clock) access_rule
 
+-- with what a claim has to be too
+abbrev pub verify_with_expect : Bool → App
+verify_with_expect has_clock = with_rule (verify_with_access has_clock) expect_rule
+
 abbrev pub verify_app : Bool → App
-verify_app has_clock = with_rule (with_rule (verify_with_access has_clock) lines_rule) json_rule
+verify_app has_clock = with_rule (with_rule (verify_with_expect has_clock) lines_rule) json_rule
 
 abbrev pub issue_app : App
 issue_app = with_rule (with_rule (with_rule (with_rule (new_app (codes "issue")) alg_rule) typ_rule) form_rule) keys_rule
@@ -190,13 +199,18 @@ pub record Files : Type 0 where
 abbrev pub no_files : Files
 no_files = record { policy = None; keys = None; access = None; token = None; key = None }
 
+-- a claim, and the text that it has to be
+pub record Expectation : Type 0 where
+  pub claim : Text
+  pub text : Text
+
 pub data Order : Type 0 where
   Mac : Text → ℕ → Order
   -- the file of the key
   MacFile : Text → ℕ → Order
   Keys : Order
   Show : ℕ → Order
-  Verify : ℕ → Bool → Files → Order
+  Verify : ℕ → Bool → Option Expectation → Files → Order
   Issue : Alg → Option Text → Form → Files → Order
   Version : Order
 
@@ -206,7 +220,7 @@ HasLimits (Mac key limit) = (1 ≤ limit) × (limit ≤ 1048576)
 HasLimits (MacFile name limit) = (1 ≤ limit) × (limit ≤ 1048576)
 HasLimits Keys = Unit {0}
 HasLimits (Show limit) = (1 ≤ limit) × (limit ≤ 1048576)
-HasLimits (Verify now public_keys files) = Unit {0}
+HasLimits (Verify now public_keys expected files) = Unit {0}
 HasLimits (Issue alg typ form files) = Unit {0}
 HasLimits Version = Unit {0}
 
@@ -242,8 +256,23 @@ show_order rows = if is_some (first_of (codes "now") rows) then None else option
 abbrev pub files_in : List Row → Files
 files_in rows = record { policy = first_of (codes "policy") rows; keys = first_of (codes "keys") rows; access = first_of (codes "access") rows; token = first_of (codes "token") rows; key = None }
 
+-- a claim has to be a text, where `=` parts the two; its name ends before the first one
+abbrev pub expectation_from : Text × Option Text → Option Expectation
+expectation_from (claim, text) = option_map (λ t. record { claim = claim; text = t }) text
+
+abbrev pub expectation_of : Text → Option Expectation
+expectation_of word = expectation_from (name_and_value word)
+
+-- what `--expect` says, if anything
+abbrev pub expected_from : Option Text → Option (Option Expectation)
+expected_from None = Some None
+expected_from (Some word) = option_map (λ e. Some e) (expectation_of word)
+
+abbrev pub expected_in : List Row → Option (Option Expectation)
+expected_in rows = expected_from (first_of (codes "expect") rows)
+
 abbrev pub verify_order : Option ℕ → List Row → Option Order
-verify_order clock rows = option_map (λ now. Verify now (is_set (codes "public-keys") rows) (files_in rows)) (moment_in clock rows)
+verify_order clock rows = option_and_then (λ now. option_map (λ expected. Verify now (is_set (codes "public-keys") rows) expected (files_in rows)) (expected_in rows)) (moment_in clock rows)
 
 -- the form of a token that a text names
 abbrev pub form_named : Text → Option Form
@@ -282,6 +311,7 @@ pub record LinesOrder : Type 0 where
   pub now : Option ℕ
   pub public_keys : Bool
   pub printing : Printing
+  pub expected : Option Expectation
   pub files : Files
 
 -- the moment that `--now` names, if any
@@ -297,7 +327,7 @@ lines_order rows =
     if is_named (codes "token") rows then None
     else (if is_named (codes "policy") rows
     then (if is_named (codes "keys") rows
-    then option_map (λ now. record { now = now; public_keys = is_set (codes "public-keys") rows; printing = printing_in rows; files = files_in rows }) (named_moment rows)
+    then option_and_then (λ now. option_map (λ expected. record { now = now; public_keys = is_set (codes "public-keys") rows; printing = printing_in rows; expected = expected; files = files_in rows }) (expected_in rows)) (named_moment rows)
     else None) else None)
 
 -- ---- JWKs
@@ -449,7 +479,7 @@ request_of clock words = if asks_version words then Some (Once Lines Version) el
 -- the files that an order names
 abbrev pub files_in_order : Order → Files
 files_in_order (MacFile name limit) = record no_files { key = Some name }
-files_in_order (Verify now public_keys files) = files
+files_in_order (Verify now public_keys expected files) = files
 files_in_order (Issue alg typ form files) = files
 files_in_order order = no_files
 

@@ -6,11 +6,12 @@ ghost use Rattle.jwt_mac.specs.Algorithm.{is_hmac_alg};
 ghost use Rattle.jwt_words.specs.Seen.{files_view, jwk_view, kid_view, secret_view};
 ghost use Rattle.jwt_words.specs.Words.{asks_of_public_keys, is_public_alg, jwk_app, jwk_of_keys, jwk_on_input, jwk_order, jwk_with_kid, kept_secret_order, key_file_in, kid_chosen, kid_in, public_alg_chosen, secret_alg, secret_alg_in, secret_for, secret_order};
 
+use crate::app::{flag, json_option, option};
+use crate::chosen::{chosen_printing, is_named, is_set};
 use crate::nearest::nearest;
 use crate::printing::Printing;
-use crate::words::{
-    Files, chosen_printing, flag, is_named, is_set, json_option, option, unknown_value,
-};
+use crate::words::Files;
+use crate::wrong::unknown_value;
 use clap::{ArgMatches, Command};
 use jwt_mac::Alg;
 use std::alloc::{AllocError, Global};

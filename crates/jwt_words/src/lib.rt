@@ -4,6 +4,9 @@
 //! [`octets_asked`] is how many octets of the system's random source they ask for.
 #![tactic(auto)]
 
+mod app;
+mod chosen;
+mod expectation;
 mod in_hand;
 mod jwk;
 mod moment;
@@ -12,7 +15,9 @@ mod policy;
 mod pretty;
 mod printing;
 mod words;
+mod wrong;
 
+pub use expectation::Expectation;
 pub use in_hand::{Held, unread};
 pub use jwk::{JwkOrder, KidChoice, SecretOrder};
 pub use moment::Moment;

@@ -5,9 +5,11 @@ ghost use Rattle.clap.specs.declared.builder.command.Command.TheViews.{out-Comma
 ghost use Rattle.jwt_words.specs.Seen.{files_view, policy_view};
 ghost use Rattle.jwt_words.specs.Words.{documents_in, named_policy_rule, policy_app, policy_order};
 
+use crate::app::{json_option, option};
+use crate::chosen::chosen_printing;
 use crate::jwk::value;
 use crate::printing::Printing;
-use crate::words::{Files, chosen_printing, json_option, option};
+use crate::words::Files;
 use clap::{Arg, ArgMatches, Command};
 use std::alloc::{AllocError, Global};
 

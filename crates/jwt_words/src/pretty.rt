@@ -4,8 +4,8 @@ ghost use Rattle.clap.specs.Words.{found_of, rows_of};
 ghost use Rattle.jwt_words.specs.Seen.{pretty_view, seconds_of};
 ghost use Rattle.jwt_words.specs.Words.{pretty_order, shown_moment};
 
+use crate::chosen::{chosen_now, is_set, number};
 use crate::moment::Moment;
-use crate::words::{chosen_now, is_set, number};
 use clap::ArgMatches;
 
 /// What `show --pretty` asks for: a token for a person.

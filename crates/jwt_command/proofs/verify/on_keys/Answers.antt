@@ -4,7 +4,7 @@ use Rattle.jwt_printing.specs.Printed.{Answer}
 use Rattle.jwt_keys.specs.KeySets.{key_set, key_set_of}
 use Rattle.jwt_command.specs.Documents.{document}
 use Rattle.jwt_command.specs.Stops.{behind_keys, token_most}
-use Rattle.jwt_verdicts.specs.Printer.{printer}
+use Rattle.jwt_command.specs.Views.{told_by}
 use Rattle.jwt_words.specs.Seen.{held_view}
 use Rattle.jwt_printing.specs.Views.{reply_view}
 use Rattle.jwt_command.proofs.Verifying.{behind_keys_taken, document_stops, keys_line_too_long}
@@ -14,7 +14,7 @@ pub returns-in-Err-TooLong-clause-line : goal.returns-in-Err-TooLong-clause-line
 returns-in-Err-TooLong-clause-line g c =
     IfSome_then (g.R.Source.remaining c.args.r.now) c.in-Err-TooLong.ensures.fails
     (λ x h. let long = rw c.in-Err-TooLong.field-0-is at h in
-    subst (λ (a : Answer). IfOk c.printed_keys_fault.result (λ r. reply_view r ≡ a)) (keys_line_too_long (printer c.args.options.now.printing) (map (λ b. (goal.Verifier-dyn g (b.vtable, b.value)).meaning b.value) c.args.options.now.verifiers.now) c.args.options.now.moment.seconds (held_view c.args.held) c.args.policy.now x _ long.1 long.0) c.printed_keys_fault.ensures)
+    subst (λ (a : Answer). IfOk c.printed_keys_fault.result (λ r. reply_view r ≡ a)) (keys_line_too_long (told_by c.args.options.now.printing c.args.options.now.expected) (map (λ b. (goal.Verifier-dyn g (b.vtable, b.value)).meaning b.value) c.args.options.now.verifiers.now) c.args.options.now.moment.seconds (held_view c.args.held) c.args.policy.now x _ long.1 long.0) c.printed_keys_fault.ensures)
 
 pub returns-in-Err-TooLong-clause-stops : goal.returns-in-Err-TooLong-clause-stops
 returns-in-Err-TooLong-clause-stops g c = IfSome_then (g.R.Source.remaining c.args.r.now) c.in-Err-TooLong.ensures.taken (λ x h. document_stops 4194304 (behind_keys (token_most (held_view c.args.held) c.args.policy.now) (key_set_of (document (held_view c.args.held).keys x))) (held_view c.args.held).keys x _ _ h)

@@ -1,9 +1,9 @@
-use Rattle.std.proofs.Common.{ap, ◌∙◌, subst}
+use Rattle.std.proofs.Common.{ap₂, ◌∙◌, subst}
 use Rattle.jwt_verify.specs.Reports.{IsReport}
 use Rattle.jwt_verify.specs.TermsTable.{terms_meant}
 use Rattle.jwt_printing.specs.Views.{reply_view}
 use Rattle.jwt_verdicts.specs.VerdictsJson.{verdict_json}
-use Rattle.jwt_verdicts.specs.Views.{rule_view}
+use Rattle.jwt_command.specs.Views.{asked_of}
 use Rattle.jwt_command.proofs.Verifying.{answered_in_json, both_ok, read_payload}
 use Rattle.jwt_command.proofs.verify.on_octets_in_json.Goals as goal
 
@@ -13,11 +13,11 @@ returns-clause-line g c =
     let x = c.args.token.now in
     let r = c.judge_under-judged.result.report in
     both_ok c.report_json.result c.report_json.ensures.line c.report_json.ensures.memory
-    (λ a line found. answered_in_json (rule_view c.args.rule) q x c.payload_in-payload.result.now c.tells_reports.ensures r c.octets.result
+    (λ a line found. answered_in_json (asked_of c.args.telling.now) q x c.payload_in-payload.result.now c.tells_reports.ensures r c.octets.result
     (subst (λ w. IsReport q x w r) (c.new-count.ensures.ceiling ∙ c.work.ensures.value)
     c.judge_under-judged.ensures.report)
     (c.payload_in-payload.ensures ∙ read_payload c.args.terms.now.policy.now x r.verdict c.judge_under-judged.result.token c.tells_tokens.ensures.token found c.judge_under-judged.ensures.token)
-    (c.octets.ensures ∙ c.judge_under-judged.ensures.octets) found (reply_view a) (line ∙ ap (λ m. verdict_json (rule_view c.args.rule) m r.verdict c.payload_in-payload.result.now r.states.items r.tries.items c.octets.result) c.moment_of.ensures))
+    (c.octets.ensures ∙ c.judge_under-judged.ensures.octets) found (reply_view a) (line ∙ ap₂ (λ d m. verdict_json d m r.verdict c.payload_in-payload.result.now r.states.items r.tries.items c.octets.result) c.demands.ensures.asked c.demands.ensures.moment))
 
 pub returns-clause-done : goal.returns-clause-done
 returns-clause-done g c =

@@ -1,9 +1,9 @@
-use Rattle.std.proofs.Common.{length, ap, ◌∙◌, subst}
+use Rattle.std.proofs.Common.{length, ap₂, ◌∙◌, subst}
 use Rattle.jwt_verify.specs.Reports.{IsReport}
 use Rattle.jwt_verify.specs.TermsTable.{terms_meant}
 use Rattle.jwt_printing.specs.Views.{reply_view}
 use Rattle.jwt_verdicts.specs.Verdicts.{verify_line}
-use Rattle.jwt_verdicts.specs.Views.{rule_view}
+use Rattle.jwt_command.specs.Views.{asked_of}
 use Rattle.jwt_command.proofs.Verifying.{answered_in_hand, both_ok}
 use Rattle.jwt_command.proofs.verify.on_octets_in_lines.Goals as goal
 
@@ -13,10 +13,10 @@ returns-clause-line g c =
     let x = c.args.token.now in
     let r = c.judge_under-judged.result.report in
     both_ok c.report_line.result c.report_line.ensures.line c.report_line.ensures.memory
-    (λ a line found. answered_in_hand (rule_view c.args.rule) q x c.tells_reports.ensures r c.octets.result
+    (λ a line found. answered_in_hand (asked_of c.args.telling.now) q x c.tells_reports.ensures r c.octets.result
     (subst (λ w. IsReport q x w r) (c.new-count.ensures.ceiling ∙ c.work.ensures.value)
     c.judge_under-judged.ensures.report)
-    (c.octets.ensures ∙ c.judge_under-judged.ensures.octets) found (reply_view a) (line ∙ ap (λ m. verify_line (rule_view c.args.rule) m r.verdict (length r.tries.items) c.octets.result) c.moment_of.ensures))
+    (c.octets.ensures ∙ c.judge_under-judged.ensures.octets) found (reply_view a) (line ∙ ap₂ (λ d m. verify_line d m r.verdict (length r.tries.items) c.octets.result) c.demands.ensures.asked c.demands.ensures.moment))
 
 pub returns-clause-done : goal.returns-clause-done
 returns-clause-done g c =
