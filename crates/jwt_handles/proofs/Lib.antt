@@ -6,6 +6,8 @@ pub mod Handles
 pub mod Resting
 -- ---- For once_handle.rt
 pub mod OnceHandles
+-- ---- For possession_handle.rt
+pub mod PossessionHandles
 -- ---- For rule_handle.rt
 pub mod RuleHandles
 -- ---- For several files
