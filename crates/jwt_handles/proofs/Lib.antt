@@ -8,6 +8,8 @@ pub mod Resting
 pub mod OnceHandles
 -- ---- For possession_handle.rt
 pub mod PossessionHandles
+-- ---- For possession_state.rt
+pub mod Refusals
 -- ---- For rule_handle.rt
 pub mod RuleHandles
 -- ---- For several files
