@@ -110,13 +110,13 @@ abbrev pub nonce_of : List ℕ → Option (List ℕ)
 nonce_of [] = None
 nonce_of (first ∷ rest) = Some (first ∷ rest)
 
--- this is the request of these parts; with an access token where there are claims of one
-pub record IsRequest (parts : RequestParts) (claims : Option Members) (request : Request) : Type 0 where
+-- this is the request of these parts, with an access token where claims of one were accepted
+pub record IsRequest (parts : RequestParts) (accepted : Option Members) (request : Request) : Type 0 where
   pub method : request.method.now ≡ parts.method
   pub uri : request.uri.now ≡ parts.uri
   pub nonce : option_map (λ n. n.now) request.nonce ≡ nonce_of parts.nonce
-  pub token : option_map (λ a. a.token.now) request.access ≡ option_map (λ _. parts.token) claims
-  pub claims : option_map (λ a. a.claims.now) request.access ≡ claims
+  pub token : option_map (λ a. a.token.now) request.access ≡ option_map (λ _. parts.token) accepted
+  pub claims : option_map (λ a. a.claims.now) request.access ≡ accepted
 
 -- ---- what is answered to a proof
 

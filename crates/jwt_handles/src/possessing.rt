@@ -152,7 +152,7 @@ fn nonce_of(nonce: &str) -> Option<&str>
 
 /// The access token of these octets and claims.
 fn access_of<'a>(token: &'a [u8], claims: Option<&'a Claims>) -> Option<Access<'a>>
-    ensures token { option_map (λ a. a.token.now) result ≡ option_map (λ _. token.now) claims.entry }
+    ensures token { option_map (λ a. a.token.now) result ≡ option_map (λ _. token.now) (option_map (λ c. c.now) claims.entry) }
     ensures claims { option_map (λ a. a.claims.now) result ≡ option_map (λ c. c.now) claims.entry }
 {
     match claims {
@@ -270,7 +270,7 @@ impl PossessionState {
     }
 
     /// What is said of a proof to the request that C says. The validator is asked where an access token came.
-    pub(crate) fn judge(
+    fn judged_by(
         &self,
         alloc: Global,
         validator: &mut Handle,
@@ -288,8 +288,8 @@ impl PossessionState {
             })
             None proof.now result.status result.fault result.kept }
         ensures no_validator { asked.entry.token.now ≢ [] → validator.old.state ≡ None → result.status ≡ FOW_NOT_OPEN }
-        ensures beside { asked.entry.token.now ≢ [] → IfSome validator.old.state (λ d.
-            result.status ≢ FOW_OUT_OF_MEMORY → SaysBeside
+        ensures beside { IfSome validator.old.state (λ d. asked.entry.token.now ≢ []
+            → result.status ≢ FOW_OUT_OF_MEMORY → SaysBeside
             (claims_of_last (token_of (documents d).policy asked.entry.token.now) d.last)
             self.now.policy now (record {
               method = asked.entry.method.now;
@@ -309,6 +309,47 @@ impl PossessionState {
         let judged = self.judged_beside(alloc, &state, proof, asked, now);
         *validator = Handle::of(state);
         judged
+    }
+
+    /// The status and the number of that; what is kept of it is kept from now on.
+    pub(crate) fn judge(
+        &mut self,
+        alloc: Global,
+        validator: &mut Handle,
+        proof: &[u8],
+        asked: Asked<'_>,
+        now: i64,
+    ) -> (u32, u32)
+        ensures same { validator.new.state ≡ validator.old.state }
+        ensures policy { self.new.policy ≡ self.old.policy }
+        ensures alone { asked.entry.token.now ≡ [] → SaysFor self.old.policy now
+            (record {
+              method = asked.entry.method.now;
+              uri = asked.entry.uri.now;
+              nonce = asked.entry.nonce.now;
+              token = asked.entry.token.now;
+            })
+            None proof.now result.0 result.1 self.new.last }
+        ensures no_validator { asked.entry.token.now ≢ [] → validator.old.state ≡ None → result.0 ≡ FOW_NOT_OPEN }
+        ensures beside { IfSome validator.old.state (λ d. asked.entry.token.now ≢ []
+            → result.0 ≢ FOW_OUT_OF_MEMORY → SaysBeside
+            (claims_of_last (token_of (documents d).policy asked.entry.token.now) d.last)
+            self.old.policy now (record {
+              method = asked.entry.method.now;
+              uri = asked.entry.uri.now;
+              nonce = asked.entry.nonce.now;
+              token = asked.entry.token.now;
+            })
+            proof.now result.0 result.1 self.new.last) }
+        ensures unproved { result.0 ≢ FOW_OK → self.new.last ≡ None }
+    {
+        let Judged {
+            status,
+            fault,
+            kept,
+        } = self.judged_by(alloc, validator, proof, asked, now);
+        self.last = kept;
+        (status, fault)
     }
 }
 

@@ -85,11 +85,10 @@ pub fn possession_judge(
         nonce,
         token,
     };
-    let judged = held.judge(alloc, validator, proof, asked, now);
-    *fault = judged.fault;
-    held.last = judged.kept;
+    let (status, number) = held.judge(alloc, validator, proof, asked, now);
+    *fault = number;
     *possession = PossessionHandle::of(held);
-    judged.status
+    status
 }
 
 /// Takes the proof that is kept, where there is one.
