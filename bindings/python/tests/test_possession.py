@@ -118,7 +118,7 @@ class Possession(unittest.TestCase):
         by = Validator({**FIRST["access_policy"], "issuers": ["one"]}, FIRST["access_keys"])
         token = by.issue({"iss": "one", "cnf": {"jkt": "x"}})
         with self.assertRaises(NotHeld):
-            Issuers([by]).validate(token, holder=UNBOUND)
+            Issuers({"one": by}).validate(token, holder=UNBOUND)
 
     def test_a_policy_that_isnt_one_for_proofs_is_refused(self) -> None:
         for change, fault in [({"typ": "at+jwt"}, "Typ"), ({"algs": ["ES256", "HS256"]}, "SharedSecret"), ({"required": ["jti"]}, "Required"), ({"more": 1}, "Member")]:
