@@ -17,9 +17,10 @@ DOCUMENT = TOP / "docs/PROFILES.md"
 # The moment of all tokens, that of the cases of tests/cases, in seconds since 1970-01-01T00:00:00Z.
 NOW = 1300819379
 APPLICATION = "the application: "
-# What the library does behind a verdict: with a token that comes twice, and by what the call knows.
+# What the library does behind a verdict: with a token that comes twice, by what the call knows, and by what its sender shows.
 MEMORY = "a memory of tokens that count once: "
 EXPECTED = "what the call expects: "
+HOLDER = "who holds the key: "
 
 sys.path.insert(0, str(TOP / "tests/cases"))
 

@@ -21,7 +21,7 @@ from dataclasses import dataclass
 from types import TracebackType
 from typing import Any, Dict, List, NoReturn, Optional, SupportsIndex, Tuple, Type, Union
 
-from . import _expected, _library
+from . import _expected, _library, _possession
 from ._access import NO_RULE, Access, Rule, checked
 from ._expected import NOTHING, Expected
 from ._faults import (
@@ -36,6 +36,7 @@ from ._faults import (
     IssueRefused,
     KeysRefused,
     NotExpected,
+    NotHeld,
     NotTaken,
     PolicyRefused,
     SignatureRefused,
@@ -46,6 +47,7 @@ from ._faults import (
     Unreadable,
 )
 from ._once import Once, OnceStore, once_of
+from ._possession import ANYONE, UNBOUND, Certificate, Holder, Proof, Proofs
 from ._seats import SHORT, Seat, Seats, said, written
 from ._texts import Document, Text, document_of, octets_of
 
@@ -54,6 +56,7 @@ __all__ = [
     "AccessRefused",
     "AnotherLibrary",
     "CeilingReached",
+    "Certificate",
     "Claims",
     "ClaimsRefused",
     "Closed",
@@ -63,11 +66,15 @@ __all__ = [
     "FowharimuError",
     "IssueRefused",
     "KeysRefused",
+    "Holder",
     "NotExpected",
+    "NotHeld",
     "NotTaken",
     "Once",
     "OnceStore",
     "PolicyRefused",
+    "Proof",
+    "Proofs",
     "Report",
     "SignatureRefused",
     "SignatureState",
@@ -75,6 +82,7 @@ __all__ = [
     "TooLong",
     "TooManyQuestions",
     "Try",
+    "UNBOUND",
     "Undecided",
     "Unreadable",
     "Validator",
@@ -206,21 +214,29 @@ class Validator:
         self._seats = Seats(documents, (tokens, octets), SHORT if questions == 0 and len(key_octets) <= SHORT else -1)
 
     def validate(
-        self, token: Text, now: Optional[SupportsIndex] = None, access: Rule = NO_RULE, *, expected: Expected = NOTHING
+        self,
+        token: Text,
+        now: Optional[SupportsIndex] = None,
+        access: Rule = NO_RULE,
+        *,
+        expected: Expected = NOTHING,
+        holder: Holder = ANYONE,
     ) -> Claims:
         """The claims of a token that is accepted at a moment, in seconds since 1970-01-01T00:00:00Z; without one, at the clock's. With an
-        access rule, only where they meet it; with what is expected, only where they are that.
+        access rule, only where they meet it; with what is expected, only where they are that; with a Proof or a Certificate, only where the token is bound to its
+        key, and with UNBOUND only where it is bound to none.
 
-        Raises TokenRefused, Denied where the rule isn't met, and then NotExpected, Closed, MemoryError where memory is refused, TypeError for a token that
+        Raises TokenRefused, Denied where the rule isn't met, and then NotExpected and NotHeld, Closed, MemoryError where memory is refused, TypeError for a token that
         is neither str nor bytes-like and for an access rule or an expectation that is none, such as None, and ValueError for a moment that 64 bits don't have.
         """
         octets, moment = octets_of(token, "a token"), _moment(now)
         known = _expected.checked(expected)
-        return _object(self._seats.call(self._payload, octets, moment, checked(access), known), "Claims")
+        sender = _possession.checked(holder)
+        return _object(self._seats.call(self._payload, octets, moment, checked(access), known, sender), "Claims")
 
-    def _payload(self, seat: Seat, octets: bytes, moment: int, access: Rule, expected: Expected) -> str:
-        """The payload of a token that is accepted, and whose claims meet the access rule and are what is expected. Raises TokenRefused, Denied and
-        MemoryError."""
+    def _payload(self, seat: Seat, octets: bytes, moment: int, access: Rule, expected: Expected, holder: Holder) -> str:
+        """The payload of a token that is accepted, whose claims meet the access rule and are what is expected, and whose sender holds its key. Raises TokenRefused, Denied
+        and MemoryError."""
         payload = seat.accepted(octets, moment)
         if payload is None:
             raise self._refusal(seat, seat.report)
@@ -229,6 +245,8 @@ class Validator:
             raise denial
         if expected is not NOTHING:
             expected.hold(seat, octets)
+        if holder is not ANYONE:
+            holder.hold(seat, octets, moment)
         if self._once is not None:
             self._once.take(seat, moment)
         return payload

@@ -144,6 +144,14 @@ class NotExpected(TokenRefused):
         return f"the token isn't what was expected: {self.fault}: {self.claim!r}"
 
 
+class NotHeld(TokenRefused):
+    """The token is accepted, and its sender hasn't shown that the key is theirs that it is bound to. `fault` is why the proof is none for this request, such as `OtherUri`
+    (docs/POSSESSION.md); `OtherCertificate`: it isn't bound to this certificate; `Bound`: it is bound, and came without either."""
+
+    def __str__(self) -> str:
+        return f"the sender of the token doesn't hold its key: {_named(self.fault, {**_meanings.TOKEN, **_meanings.PROOF})}"
+
+
 class TooLong(TokenRefused):
     """The token has more octets than the policy's `limit`."""
 

@@ -38,6 +38,12 @@ class COnce(ctypes.Structure):
     _fields_ = [("at", ctypes.c_void_p), ("held", ctypes.c_bool)]
 
 
+class CPossession(ctypes.Structure):
+    """fow_possession."""
+
+    _fields_ = [("at", ctypes.c_void_p), ("held", ctypes.c_bool)]
+
+
 class COpenssl(ctypes.Structure):
     """fow_openssl."""
 
@@ -122,6 +128,7 @@ _OUT = [ctypes.c_char_p, _SIZE, ctypes.POINTER(_SIZE)]
 _VALIDATOR = ctypes.POINTER(CValidator)
 _ACCESS = ctypes.POINTER(CAccess)
 _ONCE = ctypes.POINTER(COnce)
+_POSSESSION = ctypes.POINTER(CPossession)
 _REPORT = ctypes.POINTER(CReport)
 _RENEWAL = ctypes.POINTER(CRenewal)
 
@@ -156,6 +163,12 @@ _SIGNATURES = {
     "fow_once_take": (_U32, [_ONCE, _VALIDATOR, ctypes.c_int64, ctypes.POINTER(_U32)]),
     "fow_once_entry": (_U32, [_VALIDATOR, ctypes.POINTER(ctypes.c_uint8), _SIZE, ctypes.POINTER(ctypes.c_uint64), ctypes.POINTER(_U32)]),
     "fow_once_close": (None, [_ONCE]),
+    "fow_possession_open": (_U32, [_POSSESSION, *_IN, ctypes.POINTER(_U32)]),
+    "fow_possession_judge": (_U32, [_POSSESSION, _VALIDATOR, *_IN * 5, ctypes.c_int64, ctypes.POINTER(_U32)]),
+    "fow_possession_take": (_U32, [_POSSESSION, _ONCE, ctypes.c_int64, ctypes.POINTER(_U32)]),
+    "fow_possession_close": (None, [_POSSESSION]),
+    "fow_bound": (_U32, [_VALIDATOR, ctypes.POINTER(_U32)]),
+    "fow_certificate_holds": (_U32, [_VALIDATOR, *_IN]),
     "fow_fault_name": (ctypes.c_char_p, [_U32]),
     "fow_issue": (_U32, [_VALIDATOR, _U32, _U32, _U32, *_IN, *_IN, *_OUT, _REPORT]),
     "fow_credentials": (_U32, [*_IN, ctypes.POINTER(_SIZE), ctypes.POINTER(_SIZE)]),

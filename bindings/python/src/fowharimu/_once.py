@@ -6,7 +6,7 @@ import ctypes
 import operator
 import sys
 import threading
-from typing import NoReturn, Optional, Protocol, SupportsIndex, Union, runtime_checkable
+from typing import Callable, NoReturn, Optional, Protocol, SupportsIndex, Tuple, Union, runtime_checkable
 
 from . import _library
 from ._faults import NotTaken
@@ -44,9 +44,17 @@ class Once:
 
     def take(self, seat: Seat, moment: int) -> None:
         """Takes the token that a seat has accepted just now, at that moment. Raises NotTaken, and MemoryError where memory is refused."""
+        self._taken(self._library.fow_once_take, (self._held, seat.held), moment)
+
+    def take_proof(self, possession: _library.CPossession, moment: int) -> None:
+        """Takes the proof that was accepted just now, at that moment. Raises as `take`."""
+        self._taken(self._library.fow_possession_take, (possession, self._held), moment)
+
+    def _taken(self, take: Callable[..., int], held: Tuple[ctypes.Structure, ctypes.Structure], moment: int) -> None:
+        """Takes by this call of the library."""
         taken = ctypes.c_uint32()
         with self._lock:
-            status = self._library.fow_once_take(self._held, seat.held, moment, taken)
+            status = take(*held, moment, taken)
         if status == _library.OK:
             return
         if status != _library.REFUSED:

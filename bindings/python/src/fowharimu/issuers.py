@@ -14,6 +14,7 @@ from typing import Mapping, Optional, SupportsIndex, Type, Union
 from . import Claims, ClaimsRefused, Report, TokenRefused, Validator
 from ._access import NO_RULE, Rule
 from ._expected import NOTHING, Expected
+from ._possession import ANYONE, Holder
 from ._texts import Text, octets_of
 from ._waiting import Waiting
 from .remote import RemoteKeys
@@ -44,14 +45,14 @@ class Issuers:
         self._reader = order[0][1]
 
     def validate(
-        self, token: Text, now: Optional[SupportsIndex] = None, access: Rule = NO_RULE, *, expected: Expected = NOTHING
+        self, token: Text, now: Optional[SupportsIndex] = None, access: Rule = NO_RULE, *, expected: Expected = NOTHING, holder: Holder = ANYONE
     ) -> Claims:
         """As Validator.validate, by the validator of the issuer that the token names. Raises ClaimsRefused with the fault Issuer where there is none."""
         octets = octets_of(token, "a token")
         chosen = self._chosen(octets)
         if chosen is None:
             raise _refused()
-        return chosen.validate(octets, now, access, expected=expected)
+        return chosen.validate(octets, now, access, expected=expected, holder=holder)
 
     def _validate_at_once(self, token: Text, access: Rule) -> Union[Claims, Waiting]:
         """As of RemoteKeys."""

@@ -29,6 +29,7 @@ from ._access import NO_RULE, Rule
 from ._library import load
 from ._expected import NOTHING, Expected
 from ._once import once_of
+from ._possession import ANYONE, Holder
 from ._renewal import Asker, Renewal
 from ._seats import written
 from ._texts import Document, Text, document_of, octets_of
@@ -325,18 +326,18 @@ class RemoteKeys:
         return cls(policy, url, **how)
 
     def validate(
-        self, token: Text, now: Optional[SupportsIndex] = None, access: Rule = NO_RULE, *, expected: Expected = NOTHING
+        self, token: Text, now: Optional[SupportsIndex] = None, access: Rule = NO_RULE, *, expected: Expected = NOTHING, holder: Holder = ANYONE
     ) -> Claims:
         """As Validator.validate. Raises KeysTooOld too, where the keys are too old and none can be fetched."""
         octets = octets_of(token, "a token")
         used = self._current(octets)
         try:
-            return used.validator.validate(octets, now, access, expected=expected)
+            return used.validator.validate(octets, now, access, expected=expected, holder=holder)
         except SignatureRefused as refusal:
             newer = self._newer(used, refusal, octets)
             if newer is None:
                 raise
-        return newer.validate(octets, now, access, expected=expected)
+        return newer.validate(octets, now, access, expected=expected, holder=holder)
 
     def _validate_at_once(self, token: Text, access: Rule) -> Union[Claims, Waiting]:
         """As validate, but for waiting: that is who asks to do."""
