@@ -14,7 +14,9 @@ from signing import HMAC_K, key_text, sign
 NOW = 1_700_000_000
 ALGS = ["ES256", "ES384", "ES512", "RS256", "PS256", "EdDSA"]
 POLICY = {"algs": ALGS, "typ": "dpop+jwt", "required": ["jti", "htm", "htu", "iat"], "max_age": 60, "leeway": 5}
-TOKEN = "the.access.token"
+# By these an access token of a row is accepted, as far as it is a token.
+ACCESS_POLICY = {"algs": ["HS256"]}
+ACCESS_KEYS = {"keys": [{"kty": "oct", "k": HMAC_K}]}
 URI = "https://api.example/things"
 # The proofs of RFC 9449, figures 2 and 12; that of figure 4 is the first. The access token is the one of figure 12.
 FIGURE_2 = (
@@ -49,10 +51,25 @@ def hash_of(token: str) -> str:
     return base64url(hashlib.sha256(token.encode()).digest())
 
 
-def made(alg: str = "ES256", header: dict | None = None, claims: dict | None = None, signed_as: str | None = None, payload: str | None = None, without: tuple = ()) -> str:
-    """A proof by the key of this algorithm: these members are added or take the place of others, those without a name are left out."""
+def bound(alg: str) -> str:
+    """The claims of an access token that is bound to the key of this algorithm."""
+    return compact({"sub": "user", "cnf": {"jkt": thumbprint(alg)}})
+
+
+def access(claims: str, header: dict | None = None) -> str:
+    """The access token of these claims."""
+    signed = base64url(compact(header or {"typ": "at+jwt", "alg": "HS256"}).encode()) + "." + base64url(claims.encode())
+    return signed + "." + base64url(sign("HS256", signed.encode()))
+
+
+# The access token of a row that says no other claims.
+TOKEN = access(bound("ES256"))
+
+
+def made(alg: str = "ES256", header: dict | None = None, claims: dict | None = None, signed_as: str | None = None, payload: str | None = None, without: tuple = (), token: str = TOKEN) -> str:
+    """A proof by the key of this algorithm, beside this access token: these members are added or take the place of others, those without a name are left out."""
     full = {"typ": "dpop+jwt", "alg": alg, "jwk": json.loads(key_text(alg)), **(header or {})}
-    said = {"jti": "e1j3V_bKic8-LAEB", "htm": "GET", "htu": URI, "iat": NOW, "ath": hash_of(TOKEN), **(claims or {})}
+    said = {"jti": "e1j3V_bKic8-LAEB", "htm": "GET", "htu": URI, "iat": NOW, "ath": hash_of(token), **(claims or {})}
     for name in without:
         full.pop(name, None)
         said.pop(name, None)
@@ -73,18 +90,19 @@ class Row:
     nonce: str | None = None
     # the access token, and its claims; no access token where it is None
     token: str | None = TOKEN
-    claims: str = compact({"sub": "user", "cnf": {"jkt": thumbprint("ES256")}})
+    claims: str = bound("ES256")
     now: int = NOW
 
 
-def bound(alg: str) -> str:
-    """The claims of an access token that is bound to the key of this algorithm."""
-    return compact({"sub": "user", "cnf": {"jkt": thumbprint(alg)}})
+def beside(name: str, answer: str, claims: str, alg: str = "ES256") -> Row:
+    """A proof by the key of this algorithm beside the access token of these claims."""
+    token = access(claims)
+    return Row(name, answer, made(alg, token=token), token=token, claims=claims)
 
 
 def good() -> list[Row]:
     """Proofs that hold."""
-    rows = [Row(f"by-{alg}", "held", made(alg), claims=bound(alg)) for alg in ALGS]
+    rows = [beside(f"by-{alg}", "held", bound(alg), alg) for alg in ALGS]
     rows += [
         Row("figure-2-and-4", "held", FIGURE_2, "POST", "https://server.example.com/token", token=None, now=1562262616),
         Row("figure-12", "held", FIGURE_12, "GET", "https://resource.example.org/protectedresource", token=FIGURE_12_TOKEN, claims=compact({"cnf": {"jkt": FIGURE_2_KEY}}), now=1562262618),
@@ -232,7 +250,7 @@ def not_accepted() -> list[Row]:
         Row("alg-absent", "AlgMissing", made(without=("alg",))),
         Row("alg-none", "AlgNone", header_changed({"alg": "none"})),
         Row("alg-unknown", "AlgUnknown", header_changed({"alg": "ES256K"})),
-        Row("alg-not-allowed", "AlgNotAllowed", made("RS384", claims={}), claims=bound("RS384")),
+        beside("alg-not-allowed", "AlgNotAllowed", bound("RS384"), "RS384"),
         Row("alg-hmac", "AlgNotAllowed", made(header={"alg": "HS256"}, signed_as="HS256")),
         Row("alg-of-another-key", "NoKey", made(header={"alg": "RS256"}, signed_as="RS256")),
         Row("signed-by-another-key", "BadSignature", header_changed({"jwk": {**json.loads(key_text("ES256")), **other_point()}})),
@@ -302,6 +320,7 @@ def for_another() -> list[Row]:
         Row("no-hash", "OtherAccessToken", made(without=("ath",))),
         Row("hash-of-another-token", "OtherAccessToken", made(claims={"ath": hash_of("another")})),
         Row("hash-of-the-token-and-more", "OtherAccessToken", made(), token=TOKEN + "."),
+        Row("hash-of-another-token-of-these-claims", "OtherAccessToken", made(), token=access(bound("ES256"), {"alg": "HS256"})),
         Row("hash-padded", "OtherAccessToken", made(claims={"ath": hash_of(TOKEN) + "="})),
         Row("hash-in-hexadecimal", "OtherAccessToken", made(claims={"ath": hashlib.sha256(TOKEN.encode()).hexdigest()})),
         Row("hash-by-another-function", "OtherAccessToken", made(claims={"ath": base64url(hashlib.sha512(TOKEN.encode()).digest())})),
@@ -309,14 +328,14 @@ def for_another() -> list[Row]:
         Row("hash-no-text", "OtherAccessToken", made(claims={"ath": [hash_of(TOKEN)]})),
         Row("hash-before-key", "OtherAccessToken", made("EdDSA", without=("ath",))),
         Row("another-key", "OtherKey", made("EdDSA")),
-        Row("token-not-bound", "OtherKey", made(), claims=compact({"sub": "user"})),
-        Row("confirmation-no-object", "OtherKey", made(), claims=compact({"cnf": thumbprint("ES256")})),
-        Row("thumbprint-beside-confirmation", "OtherKey", made(), claims=compact({"cnf": {}, "jkt": thumbprint("ES256")})),
-        Row("thumbprint-no-text", "OtherKey", made(), claims=compact({"cnf": {"jkt": [thumbprint("ES256")]}})),
-        Row("thumbprint-prefix", "OtherKey", made(), claims=compact({"cnf": {"jkt": thumbprint("ES256")[:-1]}})),
-        Row("thumbprint-padded", "OtherKey", made(), claims=compact({"cnf": {"jkt": thumbprint("ES256") + "="}})),
-        Row("bound-to-a-certificate", "OtherKey", made(), claims=compact({"cnf": {"x5t#S256": thumbprint("ES256")}})),
-        Row("key-itself-in-confirmation", "OtherKey", made(), claims=compact({"cnf": {"jwk": json.loads(key_text("ES256"))}})),
+        beside("token-not-bound", "OtherKey", compact({"sub": "user"})),
+        beside("confirmation-no-object", "OtherKey", compact({"cnf": thumbprint("ES256")})),
+        beside("thumbprint-beside-confirmation", "OtherKey", compact({"cnf": {}, "jkt": thumbprint("ES256")})),
+        beside("thumbprint-no-text", "OtherKey", compact({"cnf": {"jkt": [thumbprint("ES256")]}})),
+        beside("thumbprint-prefix", "OtherKey", compact({"cnf": {"jkt": thumbprint("ES256")[:-1]}})),
+        beside("thumbprint-padded", "OtherKey", compact({"cnf": {"jkt": thumbprint("ES256") + "="}})),
+        beside("bound-to-a-certificate", "OtherKey", compact({"cnf": {"x5t#S256": thumbprint("ES256")}})),
+        beside("key-itself-in-confirmation", "OtherKey", compact({"cnf": {"jwk": json.loads(key_text("ES256"))}})),
     ]
     return rows
 
