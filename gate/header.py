@@ -57,6 +57,7 @@ SENTENCES = {
     "whoever keeps this time beside the keys asks": ["quiet"],
     "between two that are new for one issuer and `jti`": ["taken"],
     "what counts in the memory stays": ["taken"],
+    "the policy for proofs stays": ["held"],
 }
 # No clause can say that an allocation was refused.
 UNSAID = "FOW_OUT_OF_MEMORY"

@@ -25,7 +25,8 @@
  *    call at a time. It isn't copied while it holds something, but may be moved: assigned to another place, after which the old one
  *    isn't used until it is zeroed. Another thread may use it after a lock or a join. Validators
  *    that were opened beside one another (fow_open_beside) may be used by as many threads at once. The same holds of a fow_access
- *    (FOW_ACCESS_INIT), which each thread opens for itself, and of a fow_once (FOW_ONCE_INIT), which threads share under a lock.
+ *    (FOW_ACCESS_INIT) and of a fow_possession (FOW_POSSESSION_INIT), which each thread opens for itself, and of a fow_once
+ *    (FOW_ONCE_INIT), which threads share under a lock.
  *  - A pointer with a length beside it is to so many readable octets (const) or writable octets (else), fewer than 2^63. It
  *    isn't NULL, even where the length is 0: hand in the address of any octet then. Every other pointer is to one readable and
  *    writable value of its type, and isn't NULL.
@@ -86,7 +87,7 @@ enum fow_status {
     FOW_ABSENT = 6,        /* there is no such thing */
     FOW_DENIED = 7,        /* of fow_denied alone: the accepted token may not do this */
     FOW_UNNAMED = 8,       /* of fow_unverified_issuer alone: the token names no issuer */
-    FOW_NOT_EXPECTED = 9   /* of fow_expect_text and fow_expect_half_hash alone: the accepted token hasn't what is expected of it */
+    FOW_NOT_EXPECTED = 9   /* of fow_expect_text, fow_expect_half_hash and fow_certificate_holds alone: the accepted token hasn't what is expected of it */
 };
 
 /* Why something is refused: one number for each name that the program `jwt` prints. fow_fault_name gives the name. */
@@ -187,7 +188,26 @@ enum fow_fault {
     FOW_DENIED_CLAIM_NOT_DATE = 1007,    /* this claim is no date: no whole number */
     FOW_DENIED_CLAIM_LATER = 1008,       /* this claim is a date later than the moment and the leeway */
     FOW_DENIED_CLAIM_TOO_OLD = 1009,     /* this claim is a date that is too long ago */
-    FOW_DENIED_CLAIM_NOT_ASCII = 1010    /* this claim is no text of ASCII, or has too many octets */
+    FOW_DENIED_CLAIM_NOT_ASCII = 1010,   /* this claim is no text of ASCII, or has too many octets */
+
+    /* why a policy isn't one for proofs of possession; why it is no policy is said by the faults of a policy */
+    FOW_PROOF_TYP = 1101,           /* its `typ` isn't `dpop+jwt` */
+    FOW_PROOF_SHARED_SECRET = 1102, /* one of its `algs` is HMAC */
+    FOW_PROOF_REQUIRED = 1103,      /* `jti`, `htm`, `htu` or `iat` isn't in its `required` */
+    FOW_PROOF_MAX_AGE = 1104,       /* it has no `max_age` */
+
+    /* why a token has no key of its own that may prove anything; why it is no token, or isn't accepted by that key, is said by the faults of a token */
+    FOW_PROOF_NOT_COMPACT = 1201,    /* it isn't in compact form */
+    FOW_PROOF_KEY_MISSING = 1202,    /* the protected header has no member `jwk` that is an object */
+    FOW_PROOF_KEY_PRIVATE = 1203,    /* the key in the header has a member of a private or of a shared key */
+    FOW_PROOF_KEY_UNREADABLE = 1204, /* the key in the header can't be read */
+
+    /* why a proof of possession is none for this request */
+    FOW_PROOF_OTHER_METHOD = 1301,       /* `htm` isn't the request's method */
+    FOW_PROOF_OTHER_URI = 1302,          /* `htu` isn't the request's URI, or one of the two is no URI of HTTP */
+    FOW_PROOF_OTHER_NONCE = 1303,        /* `nonce` isn't the one that was asked for */
+    FOW_PROOF_OTHER_ACCESS_TOKEN = 1304, /* `ath` isn't the hash of the access token that came with it */
+    FOW_PROOF_OTHER_KEY = 1305           /* the access token that came with it is bound to another key, or to none */
 };
 
 /* The part of a token that FOW_FORM_BASE64 names. */
@@ -644,6 +664,95 @@ uint32_t fow_once_entry(fow_validator *validator, uint8_t *mark, size_t mark_len
 /* Frees what is held. It may be called twice, and before anything was opened. What was taken is forgotten: a token may come again in the memory that is opened
  * next. Proved: nothing is held. */
 void fow_once_close(fow_once *once);
+
+/* A policy for proofs of possession (DPoP, RFC 9449), and the proof that was accepted last. A token that is bound to a key works only beside a proof by that
+ * key, one for each request. The members are private.
+ *
+ *     fow_possession possession = FOW_POSSESSION_INIT;
+ *     if (fow_possession_open(&possession, policy, policy_len, &fault) != FOW_OK) { ... }
+ *     ... fow_proved_judge accepts the access token; then, with the value of the request's only header `DPoP`:
+ *     if (fow_possession_judge(&possession, &validator, proof, proof_len, method, method_len, uri, uri_len, nonce, nonce_len, token, token_len, now, &fault) != FOW_OK) { ... 401 }
+ *     if (fow_possession_take(&possession, &once, now, &taken) != FOW_OK) { ... 401 }
+ *     fow_possession_close(&possession);
+ *
+ * A fow_possession is used by one call at a time. */
+typedef struct fow_possession {
+    void *at;
+    bool held;
+} fow_possession;
+
+#define FOW_POSSESSION_INIT { NULL, false }
+
+/* Reads a policy for proofs, of at most 65,536 octets, which aren't needed after the call: its `typ` is `dpop+jwt`, it names no HMAC, `jti`, `htm`, `htu` and
+ * `iat` are in `required`, and it has a `max_age` (docs/POSSESSION.md). It is another policy than the one for access tokens.
+ *
+ * Proved: FOW_OK: the policy that these octets say is held from now on, it is one for proofs, and no proof is kept. FOW_REFUSED: *fault says why it is
+ * refused: a fault of a policy, or the first of FOW_PROOF_TYP, FOW_PROOF_SHARED_SECRET, FOW_PROOF_REQUIRED and FOW_PROOF_MAX_AGE. Where the answer isn't
+ * FOW_OK, the fow_possession holds what it held. */
+uint32_t fow_possession_open(fow_possession *possession, const uint8_t *policy, size_t policy_len, uint32_t *fault);
+
+/* Judges a proof to a request by the proved verifiers (RFC 9449, section 4.3), and keeps what it shows until the next one is judged. `proof` is the value of the
+ * request's header `DPoP`: refuse a request that has more than one (step 1). `method` is the request's, by case. `uri` is the one that the client sees, with scheme and
+ * host, which behind a proxy come from your configuration and never from a header that a stranger can write; its query and fragment aren't looked at. `nonce` is the
+ * one that you asked for, and where nonce_len is 0 none was. `token` is the access token that came with the proof, once more, and the claims that it is
+ * bound by are those that `validator` accepted last, so judge the access token before. Where token_len is 0 none came, as in a request for one
+ * (section 5): then `ath` and `cnf` aren't looked at, nor is the validator, which may hold nothing.
+ *
+ * A proof that is accepted may come again: let the request through only where fow_possession_take answers FOW_OK as well. A service answers 401 to
+ * FOW_REFUSED, with `DPoP error="use_dpop_nonce"` to FOW_PROOF_OTHER_NONCE (section 9), else `error="invalid_dpop_proof"`.
+ *
+ * Proved: FOW_OK: the octets are a proof to this request at this moment, of the key that the access token is bound to, and it is kept. FOW_REFUSED: they aren't, and
+ * *fault is the first cause: a fault of a token, FOW_PROOF_NOT_COMPACT to FOW_PROOF_KEY_UNREADABLE, a fault of a token again, where the policy doesn't
+ * accept it by the key in its own header, FOW_PROOF_OTHER_METHOD to FOW_PROOF_OTHER_KEY; ahead of these, where the method, the URI or the nonce isn't in UTF-8,
+ * FOW_PROOF_OTHER_METHOD, FOW_PROOF_OTHER_URI or FOW_PROOF_OTHER_NONCE. FOW_ABSENT: the last verdict was no acceptance, or this token has another payload than the
+ * one that was accepted. FOW_NOT_OPEN: the fow_possession holds nothing, or a token came and the validator does. With any status but FOW_OK no proof is kept. The
+ * policy for proofs stays. The validator holds what it held. */
+uint32_t fow_possession_judge(fow_possession *possession, fow_validator *validator, const uint8_t *proof, size_t proof_len, const uint8_t *method,
+    size_t method_len, const uint8_t *uri, size_t uri_len, const uint8_t *nonce, size_t nonce_len, const uint8_t *token, size_t token_len, int64_t now,
+    uint32_t *fault);
+
+/* Takes the proof that was accepted last (RFC 9449, section 11.1). `now` is the moment of that verdict, and no other, as with fow_once_take. Proofs have a fow_once of
+ * their own, or one that they share with tokens: a proof is known by the thumbprint of its key and its `jti`, so a stranger can't use up the `jti` of another's.
+ *
+ * Proved: FOW_OK: it wasn't taken before, and is held from now on until its `iat`, the policy's `max_age` and its leeway; *taken is FOW_TAKEN_NEW. FOW_REFUSED: *taken
+ * says why it isn't taken, FOW_TAKEN_SEEN, FOW_TAKEN_LATE or FOW_TAKEN_FULL, and nothing new is held. FOW_ABSENT: no proof is kept. FOW_NOT_OPEN: the
+ * fow_possession or the memory holds nothing. What counts in the memory stays. The fow_possession holds what it held. */
+uint32_t fow_possession_take(fow_possession *possession, fow_once *once, int64_t now, uint32_t *taken);
+
+/* How many octets the thumbprint of a key has. */
+#define FOW_THUMBPRINT_LEN 43
+
+/* Writes the thumbprint of the key of the proof that was accepted last (RFC 7638), by SHA-256 as base64url, of FOW_THUMBPRINT_LEN octets: what a token endpoint
+ * writes as `jkt` into the `cnf` of the token that it binds (RFC 9449, section 6.1).
+ *
+ * Proved: FOW_OK: `out` begins with that thumbprint, which has *written octets. FOW_ABSENT: no proof is kept. FOW_NOT_OPEN: nothing is held. The fow_possession
+ * holds what it held. */
+uint32_t fow_possession_thumbprint(fow_possession *possession, uint8_t *out, size_t out_len, size_t *written);
+
+/* Frees what is held. It may be called twice, and before anything was opened. Proved: nothing is held. */
+void fow_possession_close(fow_possession *possession);
+
+/* How a token is bound, by its claim `cnf` (RFC 7800): the sum of those that hold. */
+enum fow_binding {
+    FOW_BOUND_NOT = 0,        /* there is no `cnf`: whoever has the token may use it */
+    FOW_BOUND = 1,            /* there is a `cnf`; alone, it is bound in a way that isn't known here */
+    FOW_BOUND_KEY = 2,        /* with the thumbprint of a key, `jkt`: a proof by that key has to come with it */
+    FOW_BOUND_CERTIFICATE = 4 /* with the digest of a certificate, `x5t#S256`: see fow_certificate_holds */
+};
+
+/* Tells how the token that was accepted last is bound. A service that takes tokens of bearers refuses one that is bound: else whoever stole it can use
+ * it (RFC 9449, section 7.2; RFC 8705, section 3).
+ *
+ * Proved: FOW_OK: *how is the sum of enum fow_binding. FOW_ABSENT: the last verdict was no acceptance. FOW_NOT_OPEN: nothing is held. With any status but
+ * FOW_OK *how is FOW_BOUND. The validator holds what it held. */
+uint32_t fow_bound(fow_validator *validator, uint32_t *how);
+
+/* Whether the token that was accepted last is bound to the certificate of the client, whose DER `der` is, as whoever ended TLS has it (RFC 8705, section 3). That the
+ * client holds its key is shown by TLS, and not asked here.
+ *
+ * Proved: FOW_OK: `x5t#S256` in `cnf` is base64url of the SHA-256 digest of these octets. FOW_NOT_EXPECTED: it isn't, or there is none. FOW_ABSENT: the last
+ * verdict was no acceptance. FOW_NOT_OPEN: nothing is held. The validator holds what it held. */
+uint32_t fow_certificate_holds(fow_validator *validator, const uint8_t *der, size_t der_len);
 
 /* Issues the claims as a token signed by HMAC: `alg` is FOW_HS256, FOW_HS384 or FOW_HS512, `form` is enum fow_form, and `typ` the
  * protected header's `typ` in UTF-8, such as `at+jwt`; where typ_len is 0, it has none. In compact and flattened form key `key` of

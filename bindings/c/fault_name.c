@@ -155,6 +155,32 @@ const char *fow_fault_name(uint32_t fault)
         return "ClaimTooOld";
     case FOW_DENIED_CLAIM_NOT_ASCII:
         return "ClaimNotAscii";
+    case FOW_PROOF_TYP:
+        return "Typ";
+    case FOW_PROOF_SHARED_SECRET:
+        return "SharedSecret";
+    case FOW_PROOF_REQUIRED:
+        return "Required";
+    case FOW_PROOF_MAX_AGE:
+        return "MaxAge";
+    case FOW_PROOF_NOT_COMPACT:
+        return "NotCompact";
+    case FOW_PROOF_KEY_MISSING:
+        return "KeyMissing";
+    case FOW_PROOF_KEY_PRIVATE:
+        return "KeyPrivate";
+    case FOW_PROOF_KEY_UNREADABLE:
+        return "KeyUnreadable";
+    case FOW_PROOF_OTHER_METHOD:
+        return "OtherMethod";
+    case FOW_PROOF_OTHER_URI:
+        return "OtherUri";
+    case FOW_PROOF_OTHER_NONCE:
+        return "OtherNonce";
+    case FOW_PROOF_OTHER_ACCESS_TOKEN:
+        return "OtherAccessToken";
+    case FOW_PROOF_OTHER_KEY:
+        return "OtherKey";
     default:
         return "";
     }

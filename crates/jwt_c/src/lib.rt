@@ -9,6 +9,7 @@ pub mod expect_exports;
 pub mod exports;
 pub mod issuer_exports;
 pub mod once_exports;
+pub mod possession_exports;
 pub mod renewal_exports;
 pub mod request_exports;
 pub mod rule_exports;

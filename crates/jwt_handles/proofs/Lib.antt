@@ -6,6 +6,10 @@ pub mod Handles
 pub mod Resting
 -- ---- For once_handle.rt
 pub mod OnceHandles
+-- ---- For possession_handle.rt
+pub mod PossessionHandles
+-- ---- For possession_state.rt
+pub mod Refusals
 -- ---- For rule_handle.rt
 pub mod RuleHandles
 -- ---- For several files

@@ -13,11 +13,11 @@ use Rattle.jwt_handles.specs.declared.status.TheConstants.{FOW_OK}
 use Rattle.jwt_handles.specs.Faults.{form_numbers, claim_numbers, verdict_numbers}
 use Rattle.jwt_handles.specs.Payloads.{KeepsPayload}
 
-form_refused : (f : FormFault) → (form_numbers f).verdict ≡ FOW_OK → ⊥
+pub form_refused : (f : FormFault) → (form_numbers f).verdict ≡ FOW_OK → ⊥
 form_refused form.OutOfMemory h = cc
 form_refused _ h = cc
 
-claim_refused : (f : ClaimFault) → (claim_numbers f).verdict ≡ FOW_OK → ⊥
+pub claim_refused : (f : ClaimFault) → (claim_numbers f).verdict ≡ FOW_OK → ⊥
 claim_refused claim.OutOfMemory h = cc
 claim_refused _ h = cc
 

@@ -16,6 +16,8 @@ pub mod Reports
 pub mod Payloads
 -- what a judging adds to the memories of a validator
 pub mod Keeping
+-- how the token that was accepted last is bound
+pub mod Bound
 -- the octets that are written for the caller, by the status
 pub mod Written
 -- access rules that are held, and what they say of the claims of the last acceptance
@@ -40,6 +42,10 @@ pub mod Taking
 pub mod Entries
 -- the ownership of the handle of such a memory
 pub mod OnceHandles
+-- the policy for proofs of possession that is held, and what is answered to a proof
+pub mod Possessing
+-- the ownership of the handle of such a policy
+pub mod PossessionHandles
 -- the ownership of the handle of an access rule
 pub mod RuleHandles
 -- how the parts of a renewal of keys cross to C

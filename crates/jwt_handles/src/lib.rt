@@ -2,13 +2,15 @@
 //!
 //! A validator is a [`handle::Handle`], which holds a [`state::State`] or nothing. Contracts see what it holds. Each function on one takes that
 //! out, works on it in safe code, and puts it back. So does each on an access rule, which is a [`rule_handle::RuleHandle`] with a
-//! [`rule_state::RuleState`], and each on a memory of tokens that count once, which is a [`once_handle::OnceHandle`] with a
-//! [`once_state::OnceState`].
+//! [`rule_state::RuleState`], each on a memory of tokens that count once, which is a [`once_handle::OnceHandle`] with a
+//! [`once_state::OnceState`], and each on a policy for proofs of possession, which is a [`possession_handle::PossessionHandle`] with a
+//! [`possession_state::PossessionState`].
 #![tactic(auto)]
 
 mod access;
 pub mod answering;
 mod asking;
+pub mod bound;
 pub mod entries;
 pub mod expecting;
 mod faults;
@@ -24,6 +26,10 @@ pub mod once_handle;
 pub mod once_state;
 pub mod onces;
 pub mod opening;
+mod possessing;
+pub mod possession_handle;
+pub mod possession_state;
+pub mod possessions;
 mod proving;
 mod raw_box;
 mod remembering;

@@ -14,7 +14,7 @@ use std::alloc::Global;
 use std::num::NonZeroUsize;
 
 /// The status and the number of an answer.
-fn numbers_of(answer: Result<Taken, Lack>) -> (u32, u32)
+pub(crate) fn numbers_of(answer: Result<Taken, Lack>) -> (u32, u32)
     ensures { SaysTaken answer result.0 result.1 }
 {
     match answer {

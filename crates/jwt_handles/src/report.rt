@@ -98,7 +98,7 @@ impl FowReport {
     }
 
     /// A refusal.
-    fn refusal(fault: u32, part: u32, signature: u32, key: u32, claim: u32) -> FowReport
+    pub(crate) fn refusal(fault: u32, part: u32, signature: u32, key: u32, claim: u32) -> FowReport
         ensures { report_numbers result ≡ refusal fault part signature key claim }
     {
         FowReport {
@@ -166,7 +166,7 @@ impl FowReport {
     }
 
     /// Why a token is refused.
-    fn of_fault(fault: &Fault<'_>) -> FowReport
+    pub(crate) fn of_fault(fault: &Fault<'_>) -> FowReport
         ensures { report_numbers result ≡ fault_numbers fault.now }
     {
         match fault {

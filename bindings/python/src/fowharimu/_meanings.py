@@ -88,3 +88,18 @@ DENIED = {
     "ClaimTooOld": "this claim is a date that is too long ago",
     "ClaimNotAscii": "this claim is no text of ASCII, or has too many bytes",
 }
+PROOF = {
+    "Typ": "its `typ` isn't `dpop+jwt`",
+    "SharedSecret": "one of its `algs` is HMAC",
+    "Required": "`jti`, `htm`, `htu` or `iat` isn't in its `required`",
+    "MaxAge": "it has no `max_age`",
+    "NotCompact": "it isn't in compact form",
+    "KeyMissing": "the protected header has no member `jwk` that is an object",
+    "KeyPrivate": "the key in the header has a member of a private or of a shared key",
+    "KeyUnreadable": "the key in the header can't be read",
+    "OtherMethod": "`htm` isn't the request's method",
+    "OtherUri": "`htu` isn't the request's URI, or one of the two is no URI of HTTP",
+    "OtherNonce": "`nonce` isn't the one that was asked for",
+    "OtherAccessToken": "`ath` isn't the hash of the access token that came with it",
+    "OtherKey": "the access token that came with it is bound to another key, or to none",
+}

@@ -1,0 +1,129 @@
+//! The functions on proofs of possession that C calls.
+
+ghost use Rattle.jwt_handles.specs.declared.status.TheConstants.{FOW_NOT_OPEN, FOW_OK, FOW_OUT_OF_MEMORY};
+ghost use Rattle.std.specs.Prelude.{◌≡◌, ◌≢◌, [], IfSome, None, option_map};
+ghost use Rattle.jwt_verify.specs.Verdict.{token_of};
+ghost use Rattle.jwt_possession.specs.Possessions.{proved};
+ghost use Rattle.jwt_handles.specs.Bound.{SaysCertificate, TellsBound};
+ghost use Rattle.jwt_handles.specs.Documents.{documents};
+ghost use Rattle.jwt_handles.specs.Evidence.{claims_kept};
+ghost use Rattle.jwt_handles.specs.Possessing.{HoldsOn, HoldsPolicy, IsPolicyRefused, SaysBeside, SaysFor, TakesKept, claims_of_last, kept_in};
+ghost use Rattle.jwt_handles.specs.Written.{PutsHeld};
+
+use jwt_handles::handle::Handle;
+use jwt_handles::once_handle::OnceHandle;
+use jwt_handles::possession_handle::PossessionHandle;
+use jwt_handles::{bound, possessions};
+use std::alloc::Global;
+
+/// [`possessions::possession_open`] by its name in C.
+#[unsafe(no_mangle)]
+pub extern "C" fn fow_possession_open(
+    possession: &mut PossessionHandle,
+    alloc: Global,
+    policy: &[u8],
+    fault: &mut u32,
+) -> u32
+    ensures opened { result ≡ FOW_OK → HoldsPolicy policy.now possession.new.state }
+    ensures refused { result ≢ FOW_OK → IsPolicyRefused policy.now result fault.new }
+    ensures same { result ≢ FOW_OK → possession.new.state ≡ possession.old.state }
+{
+    possessions::possession_open(possession, alloc, policy, fault)
+}
+
+/// [`possessions::possession_judge`] by its name in C.
+#[unsafe(no_mangle)]
+pub extern "C" fn fow_possession_judge(
+    possession: &mut PossessionHandle,
+    alloc: Global,
+    validator: &mut Handle,
+    proof: &[u8],
+    method: &[u8],
+    uri: &[u8],
+    nonce: &[u8],
+    token: &[u8],
+    now: i64,
+    fault: &mut u32,
+) -> u32
+    ensures same { validator.new.state ≡ validator.old.state }
+    ensures none { possession.old.state ≡ None → (result ≡ FOW_NOT_OPEN) × (possession.new.state ≡ None) }
+    ensures held { IfSome possession.old.state (λ p. HoldsOn p possession.new.state) }
+    ensures unproved { result ≢ FOW_OK → kept_in possession.new.state ≡ None }
+    ensures alone { IfSome possession.old.state (λ p. token.now ≡ [] → SaysFor p.policy now
+        (record { method = method.now; uri = uri.now; nonce = nonce.now; token = token.now })
+        None proof.now result fault.new (kept_in possession.new.state)) }
+    ensures no_validator { token.now ≢ [] → validator.old.state ≡ None → result ≡ FOW_NOT_OPEN }
+    ensures beside { IfSome possession.old.state (λ p. IfSome validator.old.state (λ d.
+        token.now ≢ [] → result ≢ FOW_OUT_OF_MEMORY → SaysBeside
+        (claims_of_last (token_of (documents d).policy token.now) d.last) p.policy now
+        (record { method = method.now; uri = uri.now; nonce = nonce.now; token = token.now })
+        proof.now result fault.new (kept_in possession.new.state))) }
+{
+    possessions::possession_judge(
+        possession, alloc, validator, proof, method, uri, nonce, token, now, fault,
+    )
+}
+
+/// [`possessions::possession_take`] by its name in C.
+#[unsafe(no_mangle)]
+pub extern "C" fn fow_possession_take(
+    possession: &mut PossessionHandle,
+    alloc: Global,
+    once: &mut OnceHandle,
+    now: i64,
+    taken: &mut u32,
+) -> u32
+    ensures same { possession.new.state ≡ possession.old.state }
+    ensures none { possession.old.state ≡ None → (result ≡ FOW_NOT_OPEN) × (once.new.state ≡ once.old.state) }
+    ensures no_memory { once.old.state ≡ None → (result ≡ FOW_NOT_OPEN) × (once.new.state ≡ None) }
+    ensures taken { IfSome possession.old.state (λ p. IfSome once.old.state (λ o.
+        TakesKept p.last now o result taken.new once.new.state)) }
+{
+    possessions::possession_take(possession, alloc, once, now, taken)
+}
+
+/// [`possessions::possession_thumbprint`] by its name in C.
+#[unsafe(no_mangle)]
+pub extern "C" fn fow_possession_thumbprint(
+    possession: &mut PossessionHandle,
+    alloc: Global,
+    out: &mut [u8],
+    written: &mut usize,
+) -> u32
+    ensures same { possession.new.state ≡ possession.old.state }
+    ensures none { possession.old.state ≡ None → result ≡ FOW_NOT_OPEN }
+    ensures thumbprint { IfSome possession.old.state (λ p. PutsHeld
+        (option_map (λ it. (proved it).thumbprint) p.last) result written.new out.old out.new) }
+    ensures unwritten { result ≢ FOW_OK → (out.new ≡ out.old) × (written.new ≡ written.old) }
+{
+    possessions::possession_thumbprint(possession, alloc, out, written)
+}
+
+/// [`possessions::possession_close`] by its name in C.
+#[unsafe(no_mangle)]
+pub extern "C" fn fow_possession_close(possession: &mut PossessionHandle, alloc: Global)
+    ensures closed { possession.new.state ≡ None }
+{
+    possessions::possession_close(possession, alloc);
+}
+
+/// [`bound::bound`] by its name in C.
+#[unsafe(no_mangle)]
+pub extern "C" fn fow_bound(validator: &mut Handle, alloc: Global, how: &mut u32) -> u32
+    ensures same { validator.new.state ≡ validator.old.state }
+    ensures none { validator.old.state ≡ None → result ≡ FOW_NOT_OPEN }
+    ensures bound { IfSome validator.old.state (λ d. TellsBound (claims_kept d.last) result how.new) }
+    ensures unknown { result ≢ FOW_OK → how.new ≡ 1 }
+{
+    bound::bound(validator, alloc, how)
+}
+
+/// [`bound::certificate_holds`] by its name in C.
+#[unsafe(no_mangle)]
+pub extern "C" fn fow_certificate_holds(validator: &mut Handle, alloc: Global, der: &[u8]) -> u32
+    ensures same { validator.new.state ≡ validator.old.state }
+    ensures none { validator.old.state ≡ None → result ≡ FOW_NOT_OPEN }
+    ensures holds { IfSome validator.old.state (λ d. SaysCertificate der.now (claims_kept d.last) result) }
+{
+    bound::certificate_holds(validator, alloc, der)
+}

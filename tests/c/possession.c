@@ -1,0 +1,363 @@
+/* possession CASES HMAC: proofs of possession, and how a token is bound. CASES is tests/possession/cases.jsonl, whose access tokens are accepted by the key of
+ * HMAC, the name of a token with its key set: that of RFC 7515, appendix A.1. Linked with --wrap=malloc,--wrap=realloc. */
+#include <fowharimu.h>
+#include <string.h>
+
+#include "octets.h"
+
+enum { LINE = 65536, MOMENT = 1700000000, LIFE = 65 };
+
+static const char policy[] = "{\"algs\":[\"ES256\",\"ES384\",\"ES512\",\"RS256\",\"PS256\",\"EdDSA\"],\"typ\":\"dpop+jwt\",\"required\":[\"jti\",\"htm\",\"htu\",\"iat\"],"
+                             "\"max_age\":60,\"leeway\":5}";
+static const char access_policy[] = "{\"algs\":[\"HS256\"]}";
+static octets keys;
+static fow_validator validator = FOW_VALIDATOR_INIT;
+static fow_possession possession = FOW_POSSESSION_INIT;
+static fow_once once = FOW_ONCE_INIT;
+
+/* How many allocations are still granted; none where negative is no limit. */
+static long granted = -1;
+
+void *__real_malloc(size_t size);
+void *__real_realloc(void *block, size_t size);
+
+static int is_granted(void)
+{
+    if (granted < 0)
+        return 1;
+    if (granted == 0)
+        return 0;
+    granted--;
+    return 1;
+}
+
+void *__wrap_malloc(size_t size)
+{
+    return is_granted() ? __real_malloc(size) : NULL;
+}
+
+void *__wrap_realloc(void *block, size_t size)
+{
+    return is_granted() ? __real_realloc(block, size) : NULL;
+}
+
+static const uint8_t *at(const char *text)
+{
+    return (const uint8_t *)text;
+}
+
+/* A row of the cases. */
+typedef struct row {
+    char name[64], answer[64], proof[LINE], method[64], uri[256], nonce[64], token[1024], claims[512];
+    int64_t now;
+} row;
+
+/* A text of a line, none where it is null. */
+static void text_in(const char *line, const char *name, char *text, size_t room)
+{
+    size_t written = 0;
+    uint32_t status = fow_text_member(at(line), strlen(line), at(name), strlen(name), (uint8_t *)text, room - 1, &written);
+    CHECK(status == FOW_OK || status == FOW_ABSENT);
+    text[status == FOW_OK ? written : 0] = 0;
+}
+
+static void row_in(const char *line, row *it)
+{
+    text_in(line, "name", it->name, sizeof it->name);
+    text_in(line, "answer", it->answer, sizeof it->answer);
+    text_in(line, "proof", it->proof, sizeof it->proof);
+    text_in(line, "method", it->method, sizeof it->method);
+    text_in(line, "uri", it->uri, sizeof it->uri);
+    text_in(line, "nonce", it->nonce, sizeof it->nonce);
+    text_in(line, "token", it->token, sizeof it->token);
+    text_in(line, "claims", it->claims, sizeof it->claims);
+    const char *now = strstr(line, "\"now\": ");
+    CHECK(now != NULL);
+    it->now = strtoll(now + strlen("\"now\": "), NULL, 10);
+}
+
+static uint32_t judge_access(const char *token, int64_t now)
+{
+    fow_report report;
+    return fow_proved_judge(&validator, at(token), strlen(token), now, &report);
+}
+
+/* Judges the proof of a row: the status, and the fault at its place. */
+static uint32_t judge(const row *it, fow_validator *by, int64_t now, uint32_t *fault)
+{
+    return fow_possession_judge(&possession, by, at(it->proof), strlen(it->proof), at(it->method), strlen(it->method), at(it->uri), strlen(it->uri),
+        at(it->nonce), strlen(it->nonce), at(it->token), strlen(it->token), now, fault);
+}
+
+static uint32_t thumbprint(char *text)
+{
+    size_t written = 0;
+    uint32_t status = fow_possession_thumbprint(&possession, (uint8_t *)text, FOW_THUMBPRINT_LEN, &written);
+    CHECK(status != FOW_OK || written == FOW_THUMBPRINT_LEN);
+    text[status == FOW_OK ? FOW_THUMBPRINT_LEN : 0] = 0;
+    return status;
+}
+
+/* A row is answered as it says; where its access token is none that can be accepted, there is none to stand beside. */
+static void check_row(const row *it)
+{
+    char text[FOW_THUMBPRINT_LEN + 1];
+    uint32_t fault = 77;
+    bool is_accepted = *it->token == 0 || judge_access(it->token, it->now) == FOW_OK;
+    uint32_t status = judge(it, &validator, it->now, &fault);
+    bool is_held = strcmp(it->answer, "held") == 0;
+    if (!is_accepted) {
+        CHECK(status == FOW_ABSENT && fault == FOW_NO_FAULT);
+    } else if (is_held) {
+        CHECK(status == FOW_OK && fault == FOW_NO_FAULT);
+        CHECK(thumbprint(text) == FOW_OK);
+        CHECK(*it->token == 0 || strstr(it->claims, text) != NULL);
+    } else {
+        if (status != FOW_REFUSED || strcmp(fow_fault_name(fault), it->answer) != 0)
+            fprintf(stderr, "%s: %s, and not %s\n", it->name, fow_fault_name(fault), it->answer);
+        CHECK(status == FOW_REFUSED && strcmp(fow_fault_name(fault), it->answer) == 0);
+    }
+    CHECK(status == FOW_OK || thumbprint(text) == FOW_ABSENT);
+}
+
+/* All rows; the first is given back. */
+static void check_rows(const char *path, row *first)
+{
+    static char line[LINE];
+    static row it;
+    int rows = 0, apart = 0;
+    FILE *cases = fopen(path, "r");
+    CHECK(cases != NULL && fgets(line, sizeof line, cases) != NULL);
+    for (; fgets(line, sizeof line, cases) != NULL; rows++) {
+        row_in(line, &it);
+        if (rows == 0)
+            *first = it;
+        check_row(&it);
+        apart += *it.token != 0 && judge_access(it.token, it.now) != FOW_OK;
+    }
+    fclose(cases);
+    CHECK(rows > 150 && apart == 2);
+    printf("%d proofs\n", rows);
+}
+
+/* Documents that are no policy for proofs. */
+static void check_policies(void)
+{
+    static const struct {
+        const char *document;
+        uint32_t fault;
+    } rows[] = {
+        { "{", FOW_POLICY_JSON },
+        { "{\"algs\":[]}", FOW_POLICY_NO_ALGORITHM },
+        { "{\"algs\":[\"ES256\"],\"required\":[\"jti\",\"htm\",\"htu\",\"iat\"],\"max_age\":60}", FOW_PROOF_TYP },
+        { "{\"algs\":[\"ES256\",\"HS256\"],\"typ\":\"dpop+jwt\",\"required\":[\"jti\",\"htm\",\"htu\",\"iat\"],\"max_age\":60}", FOW_PROOF_SHARED_SECRET },
+        { "{\"algs\":[\"ES256\"],\"typ\":\"dpop+jwt\",\"required\":[\"jti\",\"htm\",\"iat\"],\"max_age\":60}", FOW_PROOF_REQUIRED },
+        { "{\"algs\":[\"ES256\"],\"typ\":\"dpop+jwt\",\"required\":[\"jti\",\"htm\",\"htu\",\"iat\"]}", FOW_PROOF_MAX_AGE },
+    };
+    for (size_t i = 0; i < sizeof rows / sizeof *rows; i++) {
+        uint32_t fault = 77;
+        CHECK(fow_possession_open(&possession, at(rows[i].document), strlen(rows[i].document), &fault) == FOW_REFUSED && fault == rows[i].fault);
+    }
+}
+
+/* Handles that hold nothing, and a validator that has accepted nothing. */
+static void check_none(const row *it)
+{
+    fow_validator none = FOW_VALIDATOR_INIT;
+    char text[FOW_THUMBPRINT_LEN + 1];
+    uint32_t fault = 77, taken = 77, how = 77;
+    CHECK(judge(it, &validator, MOMENT, &fault) == FOW_NOT_OPEN && fault == FOW_NO_FAULT);
+    CHECK(fow_possession_take(&possession, &once, MOMENT, &taken) == FOW_NOT_OPEN && taken == FOW_TAKEN_NOTHING);
+    CHECK(thumbprint(text) == FOW_NOT_OPEN);
+    check_policies();
+    CHECK(thumbprint(text) == FOW_NOT_OPEN);
+    CHECK(fow_possession_open(&possession, at(policy), sizeof policy - 1, &fault) == FOW_OK && fault == FOW_NO_FAULT);
+    CHECK(thumbprint(text) == FOW_ABSENT);
+    CHECK(judge(it, &none, MOMENT, &fault) == FOW_NOT_OPEN);
+    CHECK(judge(it, &validator, MOMENT, &fault) == FOW_ABSENT);
+    CHECK(fow_possession_take(&possession, &once, MOMENT, &taken) == FOW_NOT_OPEN);
+    CHECK(fow_once_open(&once, 2) == FOW_OK);
+    CHECK(fow_possession_take(&possession, &once, MOMENT, &taken) == FOW_ABSENT && taken == FOW_TAKEN_NOTHING);
+    CHECK(fow_bound(&none, &how) == FOW_NOT_OPEN && how == FOW_BOUND);
+    how = 77;
+    CHECK(fow_bound(&validator, &how) == FOW_ABSENT && how == FOW_BOUND);
+    CHECK(fow_certificate_holds(&none, at("a"), 1) == FOW_NOT_OPEN);
+    CHECK(fow_certificate_holds(&validator, at("a"), 1) == FOW_ABSENT);
+}
+
+/* A proof beside the wrong token, and after it nothing is kept. */
+static void check_tokens(const row *good)
+{
+    static row it;
+    fow_validator none = FOW_VALIDATOR_INIT;
+    char text[FOW_THUMBPRINT_LEN + 1];
+    uint32_t fault, taken;
+    it = *good;
+    CHECK(judge_access(it.token, MOMENT) == FOW_OK);
+    CHECK(judge(&it, &validator, MOMENT, &fault) == FOW_OK && thumbprint(text) == FOW_OK);
+    /* (a refused policy leaves what is held) */
+    check_policies();
+    CHECK(thumbprint(text) == FOW_OK);
+    CHECK(judge(&it, &none, MOMENT, &fault) == FOW_NOT_OPEN && thumbprint(text) == FOW_ABSENT);
+    CHECK(judge(&it, &validator, MOMENT, &fault) == FOW_OK);
+    CHECK(judge_access("a.b.c", MOMENT) == FOW_REFUSED);
+    CHECK(judge(&it, &validator, MOMENT, &fault) == FOW_ABSENT && thumbprint(text) == FOW_ABSENT);
+    CHECK(fow_possession_take(&possession, &once, MOMENT, &taken) == FOW_ABSENT);
+    /* (another token than the one that was accepted, by its payload) */
+    CHECK(judge_access(it.token, MOMENT) == FOW_OK);
+    memset(strchr(it.token, '.') + 1, 'A', 4);
+    CHECK(judge(&it, &validator, MOMENT, &fault) == FOW_ABSENT);
+    strcpy(it.token, "a");
+    CHECK(judge(&it, &validator, MOMENT, &fault) == FOW_ABSENT);
+    /* (no token, and no validator) */
+    *it.token = 0;
+    CHECK(judge(&it, &none, MOMENT, &fault) == FOW_OK && thumbprint(text) == FOW_OK);
+    CHECK(strstr(it.claims, text) != NULL);
+    size_t written = 7;
+    CHECK(fow_possession_thumbprint(&possession, (uint8_t *)text, FOW_THUMBPRINT_LEN - 1, &written) == FOW_TOO_SHORT && written == 7);
+}
+
+/* Octets that aren't UTF-8. */
+static void check_octets(const row *good)
+{
+    static row it;
+    uint32_t fault = 77;
+    it = *good;
+    *it.token = 0;
+    strcpy(it.nonce, "\xff");
+    CHECK(judge(&it, &validator, MOMENT, &fault) == FOW_REFUSED && fault == FOW_PROOF_OTHER_NONCE);
+    strcpy(it.uri, "https://\xc3");
+    CHECK(judge(&it, &validator, MOMENT, &fault) == FOW_REFUSED && fault == FOW_PROOF_OTHER_URI);
+    strcpy(it.method, "\x80");
+    CHECK(judge(&it, &validator, MOMENT, &fault) == FOW_REFUSED && fault == FOW_PROOF_OTHER_METHOD);
+}
+
+/* A proof counts once, until it is too old. */
+static void check_once(const row *good)
+{
+    uint32_t fault, taken = 77;
+    CHECK(judge_access(good->token, MOMENT) == FOW_OK);
+    CHECK(judge(good, &validator, MOMENT, &fault) == FOW_OK);
+    CHECK(fow_possession_take(&possession, &once, MOMENT, &taken) == FOW_OK && taken == FOW_TAKEN_NEW);
+    CHECK(fow_possession_take(&possession, &once, MOMENT, &taken) == FOW_REFUSED && taken == FOW_TAKEN_SEEN);
+    CHECK(judge(good, &validator, MOMENT + LIFE, &fault) == FOW_OK);
+    CHECK(fow_possession_take(&possession, &once, MOMENT + LIFE, &taken) == FOW_REFUSED && taken == FOW_TAKEN_SEEN);
+    CHECK(judge(good, &validator, MOMENT + LIFE + 1, &fault) == FOW_REFUSED && fault == FOW_CLAIM_TOO_OLD);
+    CHECK(fow_possession_take(&possession, &once, MOMENT + LIFE + 1, &taken) == FOW_ABSENT);
+    CHECK(judge(good, &validator, MOMENT, &fault) == FOW_OK);
+    CHECK(fow_possession_take(&possession, &once, MOMENT + LIFE + 1, &taken) == FOW_REFUSED && taken == FOW_TAKEN_LATE);
+}
+
+/* How tokens of these claims are bound. The certificate is the DER `0\x03\x02\x01\x00`, whose digest OpenSSL gives. */
+static void check_bound(void)
+{
+#define DIGEST "tWCDPW94evRhE7lqrU3VtdGuANzMac8wzJK-1lHFZhc"
+    static const uint8_t der[] = { 0x30, 3, 2, 1, 0 }, other[] = { 0x30, 3, 2, 1, 1 };
+    static const struct {
+        const char *claims;
+        uint32_t how, holds;
+    } rows[] = {
+        { "{\"jkt\":\"a\",\"x5t#S256\":\"" DIGEST "\"}", FOW_BOUND_NOT, FOW_NOT_EXPECTED },
+        { "{\"cnf\":{\"kid\":\"a\"}}", FOW_BOUND, FOW_NOT_EXPECTED },
+        { "{\"cnf\":\"a\"}", FOW_BOUND, FOW_NOT_EXPECTED },
+        { "{\"cnf\":null}", FOW_BOUND, FOW_NOT_EXPECTED },
+        { "{\"cnf\":{\"jkt\":\"a\"}}", FOW_BOUND + FOW_BOUND_KEY, FOW_NOT_EXPECTED },
+        { "{\"cnf\":{\"jkt\":7,\"x5t#S256\":[\"" DIGEST "\"]}}", FOW_BOUND, FOW_NOT_EXPECTED },
+        { "{\"cnf\":{\"x5t#S256\":\"" DIGEST "\"}}", FOW_BOUND + FOW_BOUND_CERTIFICATE, FOW_OK },
+        { "{\"cnf\":{\"x5t#S256\":\"" DIGEST "=\"}}", FOW_BOUND + FOW_BOUND_CERTIFICATE, FOW_NOT_EXPECTED },
+        { "{\"cnf\":{\"jkt\":\"a\",\"x5t#S256\":\"" DIGEST "\"}}", FOW_BOUND + FOW_BOUND_KEY + FOW_BOUND_CERTIFICATE, FOW_OK },
+    };
+    static uint8_t token[1024];
+    for (size_t i = 0; i < sizeof rows / sizeof *rows; i++) {
+        size_t written;
+        uint32_t how = 77;
+        fow_report report;
+        CHECK(fow_issue(&validator, FOW_HS256, FOW_COMPACT, 0, at(""), 0, at(rows[i].claims), strlen(rows[i].claims), token, sizeof token, &written, &report) == FOW_OK);
+        CHECK(fow_proved_judge(&validator, token, written, MOMENT, &report) == FOW_OK);
+        CHECK(fow_bound(&validator, &how) == FOW_OK && how == rows[i].how);
+        CHECK(fow_certificate_holds(&validator, der, sizeof der) == rows[i].holds);
+        CHECK(fow_certificate_holds(&validator, other, sizeof other) == FOW_NOT_EXPECTED);
+        CHECK(fow_certificate_holds(&validator, der, 0) == FOW_NOT_EXPECTED);
+    }
+}
+
+/* The calls that take memory, on a row. */
+static const row *asked;
+
+static uint32_t open_it(void)
+{
+    uint32_t fault;
+    return fow_possession_open(&possession, at(policy), sizeof policy - 1, &fault);
+}
+
+static uint32_t judge_it(void)
+{
+    uint32_t fault;
+    return judge(asked, &validator, MOMENT, &fault);
+}
+
+static uint32_t take_it(void)
+{
+    uint32_t taken;
+    return fow_possession_take(&possession, &once, MOMENT, &taken);
+}
+
+static uint32_t holds_it(void)
+{
+    return fow_certificate_holds(&validator, at("a"), 1);
+}
+
+/* Refuses each allocation of a call in turn, and then all after it, until the call needs no more. */
+static void refuse_each(const char *name, uint32_t (*call)(void), uint32_t right)
+{
+    long refused = 0;
+    for (bool was_enough = false; !was_enough; refused++) {
+        granted = refused;
+        uint32_t status = call();
+        was_enough = status == right;
+        granted = -1;
+        CHECK(status == right || status == FOW_OUT_OF_MEMORY);
+        CHECK(refused < 10000);
+    }
+    printf("%s: %ld allocations refused in turn\n", name, refused - 1);
+}
+
+static void check_memory(const row *good)
+{
+    asked = good;
+    CHECK(judge_access(good->token, MOMENT) == FOW_OK);
+    refuse_each("fow_possession_open", open_it, FOW_OK);
+    refuse_each("fow_possession_judge", judge_it, FOW_OK);
+    CHECK(fow_once_open(&once, 2) == FOW_OK);
+    refuse_each("fow_possession_take", take_it, FOW_OK);
+    CHECK(take_it() == FOW_REFUSED);
+    static const char bound[] = "{\"cnf\":{\"x5t#S256\":\"a\"}}";
+    static uint8_t token[256];
+    size_t written;
+    fow_report report;
+    CHECK(fow_issue(&validator, FOW_HS256, FOW_COMPACT, 0, at(""), 0, at(bound), sizeof bound - 1, token, sizeof token, &written, &report) == FOW_OK);
+    CHECK(fow_proved_judge(&validator, token, written, MOMENT, &report) == FOW_OK);
+    refuse_each("fow_certificate_holds", holds_it, FOW_NOT_EXPECTED);
+}
+
+int main(int argc, char **argv)
+{
+    static row first;
+    uint32_t fault;
+    CHECK(argc == 3);
+    read_named(&keys, argv[2], "keys");
+    CHECK(fow_open(&validator, at(access_policy), sizeof access_policy - 1, keys.at, keys.len, &fault) == FOW_OK);
+    strcpy(first.token, "a");
+    check_none(&first);
+    check_rows(argv[1], &first);
+    check_tokens(&first);
+    check_octets(&first);
+    check_once(&first);
+    check_bound();
+    check_memory(&first);
+    fow_once_close(&once);
+    fow_possession_close(&possession);
+    fow_possession_close(&possession);
+    fow_close(&validator);
+    return 0;
+}
