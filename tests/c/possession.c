@@ -331,7 +331,12 @@ static void check_memory(const row *good)
     CHECK(fow_once_open(&once, 2) == FOW_OK);
     refuse_each("fow_possession_take", take_it, FOW_OK);
     CHECK(take_it() == FOW_REFUSED);
-    CHECK(judge_access(good->token, MOMENT) == FOW_OK);
+    static const char bound[] = "{\"cnf\":{\"x5t#S256\":\"a\"}}";
+    static uint8_t token[256];
+    size_t written;
+    fow_report report;
+    CHECK(fow_issue(&validator, FOW_HS256, FOW_COMPACT, 0, at(""), 0, at(bound), sizeof bound - 1, token, sizeof token, &written, &report) == FOW_OK);
+    CHECK(fow_proved_judge(&validator, token, written, MOMENT, &report) == FOW_OK);
     refuse_each("fow_certificate_holds", holds_it, FOW_NOT_EXPECTED);
 }
 

@@ -20,8 +20,6 @@ mod once;
 #[cfg(test)]
 mod possession;
 #[cfg(test)]
-mod possession_cases;
-#[cfg(test)]
 mod renewal;
 #[cfg(test)]
 mod request;
