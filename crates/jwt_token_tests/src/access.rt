@@ -672,8 +672,9 @@ fn a_rule_tells_its_scopes(rt: HostRuntime) -> Result<(), Fail> {
     let plain = rule_of(alloc, "{}")?;
     assert!(rt; plain.scopes().is_empty() && plain.scope_claim() == "scope");
     let rule = rule_of(alloc, r#"{"scopes":["b","a"],"scope_claim":"/x/scp"}"#)?;
-    assert_eq!(rt; rule.scopes().len(), 2);
-    assert_eq!(rt; rule.scopes()[0].as_str(), "b");
+    let scopes = rule.scopes();
+    assert_eq!(rt; scopes.len(), 2);
+    assert_eq!(rt; scopes[0].as_str(), "b");
     assert_eq!(rt; rule.scope_claim(), "/x/scp");
     Ok(())
 }
