@@ -67,7 +67,7 @@ class PolicyRefused(FowharimuError):
         self.member = member
 
     def __str__(self) -> str:
-        return f"the policy is refused: {_named(self.fault, _meanings.POLICY)}" + (f": {self.member!r}" if self.member is not None else "")
+        return f"the policy is refused: {_named(self.fault, {**_meanings.POLICY, **_meanings.PROOF})}" + (f": {self.member!r}" if self.member is not None else "")
 
 
 class KeysRefused(FowharimuError):

@@ -13,11 +13,19 @@ from ._texts import Document, Text, document_of, octets_of
 
 
 class Holder:
-    """What a call asks of the sender of its token, beside the token: that of this class itself is nothing, as of a token that counts for whoever has it. Of one that
-    is bound to a key or to a certificate nothing is asked either: UNBOUND refuses it."""
+    """What a call asks of the sender of its token, beside the token: a Proof, a Certificate, or UNBOUND. Where it is left out, nothing is asked, of a token that is bound
+    to a key or to a certificate neither."""
 
     def hold(self, seat: Seat, token: bytes, moment: int) -> None:
         """Holds it against the token that a seat has accepted just now. Raises NotHeld or NotTaken, and MemoryError where memory is refused."""
+        raise NotImplementedError
+
+
+class _Anyone(Holder):
+    """Nothing is asked."""
+
+    def hold(self, seat: Seat, token: bytes, moment: int) -> None:
+        pass
 
 
 class _Unbound(Holder):
@@ -83,16 +91,21 @@ class Proofs:
             opened = self._free.pop()
         except IndexError:
             opened = _Opened(self._policy)
+        try:
+            self._hold(opened, proof, seat, token, moment)
+        finally:
+            self._free.append(opened)
+
+    def _hold(self, opened: _Opened, proof: "Proof", seat: Seat, token: bytes, moment: int) -> None:
+        """The same by a policy that no other call has."""
         fault = ctypes.c_uint32()
         given = (it for octets in (*proof.octets, token) for it in (octets, len(octets)))
         status = opened.library.fow_possession_judge(opened.held, seat.held, *given, moment, fault)
         if status == _library.REFUSED:
-            self._free.append(opened)
             raise NotHeld(opened.library.fow_fault_name(fault.value).decode())
         if status != _library.OK:
             raise MemoryError
         self._once.take_proof(opened.held, moment)
-        self._free.append(opened)
 
 
 class Proof(Holder):
@@ -115,7 +128,7 @@ class Proof(Holder):
         self._proofs.hold(self, seat, token, moment)
 
 
-ANYONE, UNBOUND = Holder(), _Unbound()
+ANYONE, UNBOUND = _Anyone(), _Unbound()
 
 
 def checked(holder: Holder) -> Holder:
