@@ -3,7 +3,6 @@ package org.example.fowharimu;
 import java.io.ByteArrayOutputStream;
 import java.io.IOException;
 import java.io.InterruptedIOException;
-import java.io.UncheckedIOException;
 import java.lang.ref.WeakReference;
 import java.net.URI;
 import java.net.http.HttpClient;
@@ -150,9 +149,10 @@ final class Fetch {
                 .header("Accept", "application/jwk-set+json, application/json")
                 .header("Accept-Encoding", "identity")
                 .build();
+        Untaken untaken = new Untaken();
         CompletableFuture<HttpResponse<byte[]>> begun = client.sendAsync(request, it -> {
             Urls.Next next = Urls.next(asked, it.statusCode(), followed);
-            return next.step() == Urls.Step.TAKE ? new Octets(next.most()) : nothing();
+            return next.step() == Urls.Step.TAKE ? new Octets(next.most()) : untaken;
         });
         answer = begun;
         if (isDropped) {
@@ -171,18 +171,55 @@ final class Fetch {
             throw new IOException("it was dropped", e);
         } catch (ExecutionException e) {
             throw e.getCause() instanceof IOException why ? why : new IOException(e.getCause());
+        } finally {
+            untaken.letGo();
         }
     }
 
-    /** Takes nothing of a body, which may be of any length: its connection is let go. */
-    private static HttpResponse.BodySubscriber<byte[]> nothing() {
-        return HttpResponse.BodySubscribers.mapping(HttpResponse.BodySubscribers.ofInputStream(), body -> {
-            try (body) {
-                return new byte[0];
-            } catch (IOException e) {
-                throw new UncheckedIOException(e);
+    /**
+     * Takes nothing of a body, which may be of any length. Its connection is let go when the answer is complete, and not before: the client
+     * may else say that the answer failed.
+     */
+    private static final class Untaken implements HttpResponse.BodySubscriber<byte[]> {
+        private Flow.Subscription subscription;
+        private boolean isLetGo;
+
+        @Override
+        public CompletableFuture<byte[]> getBody() {
+            return CompletableFuture.completedFuture(new byte[0]);
+        }
+
+        @Override
+        public void onSubscribe(Flow.Subscription subscription) {
+            synchronized (this) {
+                this.subscription = subscription;
+                if (!isLetGo) {
+                    return;
+                }
             }
-        });
+            subscription.cancel();
+        }
+
+        /** Lets the connection go, where there is a body, or once there is one. */
+        void letGo() {
+            Flow.Subscription held;
+            synchronized (this) {
+                isLetGo = true;
+                held = subscription;
+            }
+            if (held != null) {
+                held.cancel();
+            }
+        }
+
+        @Override
+        public void onNext(List<ByteBuffer> parts) {}
+
+        @Override
+        public void onError(Throwable error) {}
+
+        @Override
+        public void onComplete() {}
     }
 
     /** Keeps octets as they come, and no more than are taken. */
