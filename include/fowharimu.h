@@ -53,7 +53,7 @@ extern "C" {
 
 /* The number of this interface. It grows with each change of a struct, of a number, or of what a call means, and with each call that goes: so a
  * program that was compiled with this header asks whether the library that it loaded has the same. */
-#define FOW_ABI 3
+#define FOW_ABI 4
 
 /* The number of the interface that the library has: FOW_ABI of the header that it was built with. It needs no validator. It is C, and tested. */
 uint32_t fow_abi(void);
@@ -87,7 +87,7 @@ enum fow_status {
     FOW_ABSENT = 6,        /* there is no such thing */
     FOW_DENIED = 7,        /* of fow_denied alone: the accepted token may not do this */
     FOW_UNNAMED = 8,       /* of fow_unverified_issuer alone: the token names no issuer */
-    FOW_NOT_EXPECTED = 9   /* of fow_expect_text, fow_expect_half_hash and fow_certificate_holds alone: the accepted token hasn't what is expected of it */
+    FOW_NOT_EXPECTED = 9   /* of fow_expect_text, fow_expect_half_hash, fow_certificate_holds and fow_possession_fresh alone: the accepted token, or proof, hasn't what is expected of it */
 };
 
 /* Why something is refused: one number for each name that the program `jwt` prints. fow_fault_name gives the name. */
@@ -698,8 +698,9 @@ uint32_t fow_possession_open(fow_possession *possession, const uint8_t *policy, 
  * bound by are those that `validator` accepted last, so judge the access token before. Where token_len is 0 none came, as in a request for one
  * (section 5): then `ath` and `cnf` aren't looked at, nor is the validator, which may hold nothing.
  *
- * A proof that is accepted may come again: let the request through only where fow_possession_take answers FOW_OK as well. A service answers 401 to
- * FOW_REFUSED, with `DPoP error="use_dpop_nonce"` to FOW_PROOF_OTHER_NONCE (section 9), else `error="invalid_dpop_proof"`.
+ * A proof that is accepted may come again: let the request through only where fow_possession_take answers FOW_OK as well. What a service answers to another status says
+ * fow_proof_outcome: 401 to FOW_REFUSED, with `DPoP error="use_dpop_nonce"` to FOW_PROOF_OTHER_NONCE (section 9), `error="invalid_token"` to FOW_PROOF_OTHER_KEY, else
+ * `error="invalid_dpop_proof"`.
  *
  * Proved: FOW_OK: the octets are a proof to this request at this moment, of the key that the access token is bound to, and it is kept. FOW_REFUSED: they aren't, and
  * *fault is the first cause: a fault of a token, FOW_PROOF_NOT_COMPACT to FOW_PROOF_KEY_UNREADABLE, a fault of a token again, where the policy doesn't
@@ -728,6 +729,41 @@ uint32_t fow_possession_take(fow_possession *possession, fow_once *once, int64_t
  * Proved: FOW_OK: `out` begins with that thumbprint, which has *written octets. FOW_ABSENT: no proof is kept. FOW_NOT_OPEN: nothing is held. The fow_possession
  * holds what it held. */
 uint32_t fow_possession_thumbprint(fow_possession *possession, uint8_t *out, size_t out_len, size_t *written);
+
+/* Tells how the proof that was accepted last is held, for a store that several processes share, and takes nothing: `mark` begins with the digest of the thumbprint of
+ * its key and its `jti`, of FOW_MARK_LEN octets, and *until is the last moment at which it counts: its `iat`, the policy's `max_age` and its leeway. The store says in
+ * one step that the mark is new, and holds it until then, as with fow_once_entry. *lacks is FOW_TAKEN_NOTHING: each proof has a `jti` and a last moment.
+ *
+ * Proved: FOW_OK: they are those by which fow_possession_take holds it. FOW_TOO_SHORT: mark_len is less than FOW_MARK_LEN. FOW_ABSENT: no proof is kept.
+ * FOW_NOT_OPEN: nothing is held. The fow_possession holds what it held, and *mark and *until aren't written unless the answer is FOW_OK. */
+uint32_t fow_possession_entry(fow_possession *possession, uint8_t *mark, size_t mark_len, uint64_t *until, uint32_t *lacks);
+
+/* Writes the names of the algorithms of the policy for proofs, with a space between two: what a challenge says as `algs` (RFC 9449, section 7.1). It takes no memory.
+ *
+ * Proved: FOW_OK: `out` begins with those names, which have *written octets. FOW_TOO_SHORT: out_len is less than they have. FOW_NOT_OPEN: nothing is held. The
+ * fow_possession holds what it held. */
+uint32_t fow_possession_algs(fow_possession *possession, uint8_t *out, size_t out_len, size_t *written);
+
+/* How many octets a nonce has, and how many the secret has at least that it is made of. */
+#define FOW_NONCE_LEN 43
+#define FOW_NONCE_SECRET_LEN 32
+
+/* Writes the nonce that a service asks for at this moment, for its header `DPoP-Nonce` (RFC 9449, sections 8 and 9), of FOW_NONCE_LEN octets. Nonces come of a secret and of the time,
+ * and nothing is kept of them: each period of `period` seconds from 1970 on has one, base64url of HMAC-SHA-256, under the secret, of the period's number as 8 octets, the most
+ * significant first. A moment before 1970 falls in the first period. Processes that share a secret ask for the same nonces. The secret is random, serves for nothing else, and is
+ * replaced with care: the nonces of another secret are wrong from then on, and clients ask once more. It needs no fow_possession, and takes no memory.
+ *
+ * Proved: FOW_OK: `out` begins with that nonce, and *written is FOW_NONCE_LEN. FOW_REFUSED: secret_len is less than FOW_NONCE_SECRET_LEN, or `period` is 0.
+ * FOW_TOO_SHORT: out_len is less than FOW_NONCE_LEN. */
+uint32_t fow_nonce(const uint8_t *secret, size_t secret_len, uint32_t period, int64_t now, uint8_t *out, size_t out_len, size_t *written);
+
+/* Whether the `nonce` of the proof that was accepted last is that of the period of `now`, or of the one before: so a nonce is good for one period at least, and for less than two. A
+ * service asks behind fow_possession_judge, to which it hands in no nonce, and ahead of fow_possession_take: the proof stays kept, and isn't taken yet. It answers 401 with
+ * `DPoP error="use_dpop_nonce"` and the header `DPoP-Nonce` to FOW_NOT_EXPECTED (section 9). It takes no memory.
+ *
+ * Proved: FOW_OK: it is. FOW_NOT_EXPECTED: the proof has another one, or none. FOW_REFUSED: secret_len is less than FOW_NONCE_SECRET_LEN, or `period` is 0; this is said
+ * ahead of FOW_ABSENT. FOW_ABSENT: no proof is kept. FOW_NOT_OPEN: nothing is held. The fow_possession holds what it held. */
+uint32_t fow_possession_fresh(fow_possession *possession, const uint8_t *secret, size_t secret_len, uint32_t period, int64_t now);
 
 /* Frees what is held. It may be called twice, and before anything was opened. Proved: nothing is held. */
 void fow_possession_close(fow_possession *possession);
@@ -764,55 +800,79 @@ uint32_t fow_certificate_holds(fow_validator *validator, const uint8_t *der, siz
 uint32_t fow_issue(fow_validator *validator, uint32_t alg, uint32_t form, uint32_t key, const uint8_t *typ, size_t typ_len,
     const uint8_t *claims, size_t claims_len, uint8_t *out, size_t out_len, size_t *written, fow_report *report);
 
-/* The token of a request (RFC 6750, section 2.1), in the value of its one header `Authorization`. Of several such headers nothing is read: the outcome
- * is FOW_SEVERAL.
- *
- * Proved: FOW_OK: the value carries a token, from the octet *from up to the octet *to. FOW_ABSENT: its scheme isn't Bearer. FOW_REFUSED: its
- * scheme is Bearer, and it carries no token in any way. */
-uint32_t fow_credentials(const uint8_t *value, size_t value_len, size_t *from, size_t *to);
+/* The schemes of the header `Authorization`. Which ones a service takes is the sum of those that it takes; any other number takes none. */
+enum fow_scheme {
+    FOW_NO_SCHEME = 0,
+    FOW_BEARER = 1, /* RFC 6750 */
+    FOW_DPOP = 2    /* RFC 9449, section 7.1: beside the token the request has a proof, see fow_possession_judge */
+};
 
-/* What is known of the token of a request. Any other number is FOW_UNANSWERED. */
+/* The token of a request (RFC 6750, section 2.1; RFC 9449, section 7.1), in the value of its one header `Authorization`, by the schemes that the service
+ * takes. Of several such headers nothing is read: the outcome is FOW_SEVERAL. *from and *to are written for FOW_OK alone.
+ *
+ * Proved: FOW_OK: the value carries a token of the taken scheme *scheme, from the octet *from up to the octet *to. FOW_ABSENT: its scheme is none of
+ * `schemes`, and *scheme is FOW_NO_SCHEME. FOW_REFUSED: its scheme is *scheme, which is taken, and it carries no token in any way. */
+uint32_t fow_credentials(uint32_t schemes, const uint8_t *value, size_t value_len, uint32_t *scheme, size_t *from, size_t *to);
+
+/* What is known of a request and its token. Any other number is FOW_UNANSWERED. */
 enum fow_outcome {
     FOW_UNANSWERED = 0,    /* nothing can be said of the token */
-    FOW_ADMITTED = 1,      /* it is accepted, and its claims meet the access rule, where there is one */
+    FOW_ADMITTED = 1,      /* it is accepted, its claims meet the access rule, where there is one, and so does its proof, where there is one */
     FOW_SEVERAL = 2,       /* there is more than one header `Authorization` */
-    FOW_NO_BEARER = 3,     /* there is none, or its scheme isn't Bearer */
+    FOW_NO_TOKEN = 3,      /* there is none, or its scheme is none that is taken */
     FOW_MALFORMED = 4,     /* what stands behind the scheme is no b64token */
-    FOW_NOT_ACCEPTED = 5,  /* it is refused */
+    FOW_NOT_ACCEPTED = 5,  /* it is refused, is bound to another key or certificate, or is bound and came as a bearer's */
     FOW_SCOPE_MISSING = 6, /* a scope that the access rule asks for is missing */
     FOW_NOT_GRANTED = 7,   /* the claims don't meet the access rule otherwise */
-    FOW_KEYS_TOO_OLD = 8   /* the keys are too old */
+    FOW_KEYS_TOO_OLD = 8,  /* the keys are too old */
+    FOW_PROOF_REFUSED = 9, /* there is no header `DPoP`, or several, or its proof isn't one for this request, or was taken before */
+    FOW_NONCE_WANTED = 10  /* the proof has no nonce, or another than the one that is asked for */
 };
 
 /* The challenge that is sent in `WWW-Authenticate`. Any other number is FOW_NO_CHALLENGE. */
 enum fow_challenge_kind {
     FOW_NO_CHALLENGE = 0,       /* no such header is sent */
-    FOW_REALM = 1,              /* Bearer realm="..", and no error, since no token was shown */
-    FOW_INVALID_REQUEST = 2,    /* Bearer error="invalid_request" */
-    FOW_INVALID_TOKEN = 3,      /* Bearer error="invalid_token" */
-    FOW_INSUFFICIENT_SCOPE = 4, /* Bearer error="insufficient_scope" */
-    FOW_SCOPES = 5              /* the same, with scope=".." */
+    FOW_REALM = 1,              /* Bearer realm="..", DPoP algs="..", and no error, since no token was shown */
+    FOW_INVALID_REQUEST = 2,    /* Bearer error="invalid_request", DPoP algs="..", error="invalid_request" */
+    FOW_INVALID_TOKEN = 3,      /* error="invalid_token" */
+    FOW_INSUFFICIENT_SCOPE = 4, /* error="insufficient_scope" */
+    FOW_SCOPES = 5,             /* the same, with scope=".." */
+    FOW_INVALID_DPOP_PROOF = 6, /* error="invalid_dpop_proof" */
+    FOW_USE_DPOP_NONCE = 7      /* error="use_dpop_nonce"; the answer has a header `DPoP-Nonce` as well (fow_nonce) */
 };
 
 /* What is answered to a request. */
 typedef struct fow_reply {
-    uint32_t status;    /* of HTTP; 200 where the request is let through */
-    uint32_t challenge; /* enum fow_challenge_kind */
+    uint32_t status; /* of HTTP; 200 where the request is let through */
+    uint32_t bearer; /* the challenge of the scheme Bearer: enum fow_challenge_kind */
+    uint32_t dpop;   /* the challenge of the scheme DPoP, in a header `WWW-Authenticate` of its own, behind that of Bearer */
 } fow_reply;
 
-/* What is answered to a request, where this is known of its token (enum fow_outcome). Proved: the status and the challenge are those of the outcome
- * (RFC 6750, section 3.1), and 200 comes for FOW_ADMITTED alone. */
-void fow_reply_to(uint32_t outcome, fow_reply *reply);
+/* What is answered to a request, where this is known of it (enum fow_outcome). `schemes` are those that the service takes, and `shown` is the one that
+ * fow_credentials found, FOW_NO_SCHEME where it found none.
+ *
+ * Proved: the status and the challenge of each scheme are those of the outcome (RFC 6750, section 3.1; RFC 9449, section 7.1), 200 comes for FOW_ADMITTED
+ * alone, a scheme that isn't taken has no challenge, and an error of a token or a proof stands in the challenge of the scheme that was shown. */
+void fow_reply_to(uint32_t schemes, uint32_t shown, uint32_t outcome, fow_reply *reply);
 
-/* Whether a realm or a scope can stand in a challenge as it is. A service asks when it is set up. Proved: true exactly where each octet is a printable
- * one of ASCII, and neither a quotation mark nor a backslash (RFC 9110, section 5.6.4). */
+/* The outcome of a request by what fow_possession_judge, fow_possession_fresh or fow_possession_take answered of its proof; `fault` is that of
+ * fow_possession_judge, else 0. A request whose proof is no cause to refuse it is FOW_ADMITTED so far: ask each of the three calls that you make.
+ *
+ * Proved: it is FOW_ADMITTED exactly where the status is FOW_OK. Of FOW_NOT_EXPECTED it is FOW_NONCE_WANTED. Of FOW_REFUSED it is FOW_NONCE_WANTED where the
+ * fault is FOW_PROOF_OTHER_NONCE, FOW_NOT_ACCEPTED where it is FOW_PROOF_OTHER_KEY, else FOW_PROOF_REFUSED. Of any other status it is FOW_UNANSWERED. */
+uint32_t fow_proof_outcome(uint32_t status, uint32_t fault);
+
+/* Whether a realm, a scope or the names of algorithms can stand in a challenge as they are. A service asks when it is set up. Proved: true exactly where
+ * each octet is a printable one of ASCII, and neither a quotation mark nor a backslash (RFC 9110, section 5.6.4). */
 bool fow_quotable(const uint8_t *text, size_t text_len);
 
-/* Writes a challenge (enum fow_challenge_kind). `realm` is that of the service, and `scope` what a token needs, with a space between two.
+/* Writes a challenge (enum fow_challenge_kind) of the scheme FOW_BEARER or FOW_DPOP; of any other number there is none, and its text is empty. `realm` is
+ * that of the service, which stands in a challenge of Bearer alone. `scope` is what a token needs, with a space between two. `algs` is what
+ * fow_possession_algs wrote, for each challenge of DPoP, and empty for Bearer.
  *
- * Proved: FOW_OK: `out` begins with the challenge's text, which has *written octets. FOW_REFUSED: the realm or the scope can't be quoted. */
-uint32_t fow_challenge(uint32_t challenge, const uint8_t *realm, size_t realm_len, const uint8_t *scope, size_t scope_len,
-    uint8_t *out, size_t out_len, size_t *written);
+ * Proved: FOW_OK: `out` begins with the challenge's text, which has *written octets. FOW_REFUSED: the realm, the scope or the algorithms can't be quoted. */
+uint32_t fow_challenge(uint32_t scheme, uint32_t challenge, const uint8_t *realm, size_t realm_len, const uint8_t *scope, size_t scope_len,
+    const uint8_t *algs, size_t algs_len, uint8_t *out, size_t out_len, size_t *written);
 
 /* Keys by URL: when they are fetched, until when they are used, and who waits for a fetch. Nothing here opens a socket, reads a clock, takes memory or a
  * lock. The struct is the caller's, who makes one call on it at a time, and reads the clock under the lock that it holds for that: moments out of order make

@@ -1,4 +1,5 @@
-/* around: the token of a request, what is answered to it, and when keys by URL are fetched, and from where. The rows are by RFC 6750, sections 2.1 and 3. */
+/* around: the token of a request, what is answered to it, and when keys by URL are fetched, and from where. The rows are by RFC 6750,
+ * sections 2.1 and 3, and RFC 9449, section 7. */
 #include <fowharimu.h>
 #include <string.h>
 
@@ -9,62 +10,115 @@ static const uint8_t *at(const char *text)
     return (const uint8_t *)text;
 }
 
-/* What values of `Authorization` carry. */
+/* What values of `Authorization` carry, by the schemes that are taken. */
 static void check_credentials(void)
 {
     static const struct {
+        uint32_t schemes;
         const char *value;
-        uint32_t status;
+        uint32_t status, scheme;
         size_t from, to;
     } rows[] = {
-        { "Bearer a.b.c", FOW_OK, 7, 12 },
-        { "  bEARER   a.b.c=\t", FOW_OK, 11, 17 },
-        { "", FOW_ABSENT, 1, 2 },
-        { "Basic YW5uOmFubg==", FOW_ABSENT, 1, 2 },
-        { "Bearer\ta.b.c", FOW_ABSENT, 1, 2 },
-        { "Bearer", FOW_REFUSED, 1, 2 },
-        { "Bearer a.b.c, Bearer a.b.c", FOW_REFUSED, 1, 2 },
+        { FOW_BEARER, "Bearer a.b.c", FOW_OK, FOW_BEARER, 7, 12 },
+        { FOW_BEARER, "  bEARER   a.b.c=\t", FOW_OK, FOW_BEARER, 11, 17 },
+        { FOW_BEARER, "", FOW_ABSENT, FOW_NO_SCHEME, 1, 2 },
+        { FOW_BEARER, "Basic YW5uOmFubg==", FOW_ABSENT, FOW_NO_SCHEME, 1, 2 },
+        { FOW_BEARER, "Bearer\ta.b.c", FOW_ABSENT, FOW_NO_SCHEME, 1, 2 },
+        { FOW_BEARER, "DPoP a.b.c", FOW_ABSENT, FOW_NO_SCHEME, 1, 2 },
+        { FOW_BEARER, "Bearer", FOW_REFUSED, FOW_BEARER, 1, 2 },
+        { FOW_BEARER, "Bearer a.b.c, Bearer a.b.c", FOW_REFUSED, FOW_BEARER, 1, 2 },
+        { FOW_DPOP, "DPoP a.b.c", FOW_OK, FOW_DPOP, 5, 10 },
+        { FOW_DPOP, " dpop  a.b.c= ", FOW_OK, FOW_DPOP, 7, 13 },
+        { FOW_DPOP, "DPoP a.b.c, DPoP a.b.c", FOW_REFUSED, FOW_DPOP, 1, 2 },
+        { FOW_DPOP, "Bearer a.b.c", FOW_ABSENT, FOW_NO_SCHEME, 1, 2 },
+        { FOW_BEARER | FOW_DPOP, "Bearer a.b.c", FOW_OK, FOW_BEARER, 7, 12 },
+        { FOW_BEARER | FOW_DPOP, "DPoP a.b.c", FOW_OK, FOW_DPOP, 5, 10 },
+        { FOW_BEARER | FOW_DPOP, "DPoP", FOW_REFUSED, FOW_DPOP, 1, 2 },
+        { FOW_NO_SCHEME, "Bearer a.b.c", FOW_ABSENT, FOW_NO_SCHEME, 1, 2 },
+        { 4, "Bearer a.b.c", FOW_ABSENT, FOW_NO_SCHEME, 1, 2 },
+        { UINT32_MAX, "DPoP a.b.c", FOW_ABSENT, FOW_NO_SCHEME, 1, 2 },
     };
     for (size_t row = 0; row < sizeof rows / sizeof *rows; row++) {
+        uint32_t scheme = 7;
         size_t from = 1, to = 2;
-        CHECK(fow_credentials(at(rows[row].value), strlen(rows[row].value), &from, &to) == rows[row].status);
-        CHECK(from == rows[row].from && to == rows[row].to);
+        CHECK(fow_credentials(rows[row].schemes, at(rows[row].value), strlen(rows[row].value), &scheme, &from, &to) == rows[row].status);
+        CHECK(scheme == rows[row].scheme && from == rows[row].from && to == rows[row].to);
     }
 }
 
-/* What each outcome is answered with. */
+/* Whether a challenge has this text, and is written only where there is room for all of it. */
+static void check_challenge(uint32_t scheme, uint32_t challenge, const char *text)
+{
+    uint8_t out[MOST];
+    size_t written = 7, wanted = strlen(text);
+    CHECK(fow_challenge(scheme, challenge, at("a realm"), 7, at("read write"), 10, at("ES256"), 5, out, wanted, &written) == FOW_OK);
+    CHECK(written == wanted && memcmp(out, text, wanted) == 0);
+    if (wanted > 0) {
+        written = 7;
+        memset(out, '.', wanted);
+        CHECK(fow_challenge(scheme, challenge, at("a realm"), 7, at("read write"), 10, at("ES256"), 5, out, wanted - 1, &written) == FOW_TOO_SHORT);
+        CHECK(written == 7 && out[0] == '.');
+    }
+}
+
+/* What each outcome is answered with: where only Bearer is taken, and where both are, and the token came by DPoP. */
 static void check_replies(void)
 {
     static const struct {
         uint32_t outcome, status;
-        const char *challenge;
+        const char *alone, *bearer, *dpop;
     } rows[] = {
-        { FOW_UNANSWERED, 500, "" },
-        { FOW_ADMITTED, 200, "" },
-        { FOW_SEVERAL, 400, "Bearer error=\"invalid_request\"" },
-        { FOW_NO_BEARER, 401, "Bearer realm=\"a realm\"" },
-        { FOW_MALFORMED, 401, "Bearer error=\"invalid_token\"" },
-        { FOW_NOT_ACCEPTED, 401, "Bearer error=\"invalid_token\"" },
-        { FOW_SCOPE_MISSING, 403, "Bearer error=\"insufficient_scope\", scope=\"read write\"" },
-        { FOW_NOT_GRANTED, 403, "Bearer error=\"insufficient_scope\"" },
-        { FOW_KEYS_TOO_OLD, 503, "" },
-        { 9, 500, "" },
-        { UINT32_MAX, 500, "" },
+        { FOW_UNANSWERED, 500, "", "", "" },
+        { FOW_ADMITTED, 200, "", "", "" },
+        { FOW_SEVERAL, 400, "Bearer error=\"invalid_request\"", "Bearer error=\"invalid_request\"", "DPoP algs=\"ES256\", error=\"invalid_request\"" },
+        { FOW_NO_TOKEN, 401, "Bearer realm=\"a realm\"", "Bearer realm=\"a realm\"", "DPoP algs=\"ES256\"" },
+        { FOW_MALFORMED, 401, "Bearer error=\"invalid_token\"", "Bearer realm=\"a realm\"", "DPoP algs=\"ES256\", error=\"invalid_token\"" },
+        { FOW_NOT_ACCEPTED, 401, "Bearer error=\"invalid_token\"", "Bearer realm=\"a realm\"", "DPoP algs=\"ES256\", error=\"invalid_token\"" },
+        { FOW_SCOPE_MISSING, 403, "Bearer error=\"insufficient_scope\", scope=\"read write\"", "",
+            "DPoP algs=\"ES256\", error=\"insufficient_scope\", scope=\"read write\"" },
+        { FOW_NOT_GRANTED, 403, "Bearer error=\"insufficient_scope\"", "", "DPoP algs=\"ES256\", error=\"insufficient_scope\"" },
+        { FOW_KEYS_TOO_OLD, 503, "", "", "" },
+        { FOW_PROOF_REFUSED, 401, "Bearer error=\"invalid_dpop_proof\"", "Bearer realm=\"a realm\"", "DPoP algs=\"ES256\", error=\"invalid_dpop_proof\"" },
+        { FOW_NONCE_WANTED, 401, "Bearer error=\"use_dpop_nonce\"", "Bearer realm=\"a realm\"", "DPoP algs=\"ES256\", error=\"use_dpop_nonce\"" },
+        { 11, 500, "", "", "" },
+        { UINT32_MAX, 500, "", "", "" },
     };
     for (size_t row = 0; row < sizeof rows / sizeof *rows; row++) {
-        fow_reply reply = { 7, 7 };
-        uint8_t out[MOST];
-        size_t written = 0, wanted = strlen(rows[row].challenge);
-        fow_reply_to(rows[row].outcome, &reply);
-        CHECK(reply.status == rows[row].status);
-        CHECK(fow_challenge(reply.challenge, at("a realm"), 7, at("read write"), 10, out, wanted, &written) == FOW_OK);
-        CHECK(written == wanted && memcmp(out, rows[row].challenge, wanted) == 0);
-        if (wanted > 0) {
-            written = 7;
-            memset(out, '.', wanted);
-            CHECK(fow_challenge(reply.challenge, at("a realm"), 7, at("read write"), 10, out, wanted - 1, &written) == FOW_TOO_SHORT);
-            CHECK(written == 7 && out[0] == '.');
-        }
+        fow_reply alone = { 7, 7, 7 }, both = { 7, 7, 7 };
+        fow_reply_to(FOW_BEARER, FOW_BEARER, rows[row].outcome, &alone);
+        fow_reply_to(FOW_BEARER | FOW_DPOP, FOW_DPOP, rows[row].outcome, &both);
+        CHECK(alone.status == rows[row].status && alone.dpop == FOW_NO_CHALLENGE && both.status == rows[row].status);
+        check_challenge(FOW_BEARER, alone.bearer, rows[row].alone);
+        check_challenge(FOW_BEARER, both.bearer, rows[row].bearer);
+        check_challenge(FOW_DPOP, both.dpop, rows[row].dpop);
+    }
+    /* of no scheme there is no challenge, and of an unknown number none */
+    check_challenge(FOW_NO_SCHEME, FOW_REALM, "");
+    check_challenge(3, FOW_INVALID_TOKEN, "");
+    check_challenge(FOW_DPOP, 8, "");
+}
+
+/* What an answer on a proof makes of its request. */
+static void check_proof_outcomes(void)
+{
+    static const struct {
+        uint32_t status, fault, outcome;
+    } rows[] = {
+        { FOW_OK, 0, FOW_ADMITTED },
+        { FOW_OK, FOW_PROOF_OTHER_KEY, FOW_ADMITTED },
+        { FOW_NOT_EXPECTED, 0, FOW_NONCE_WANTED },
+        { FOW_REFUSED, FOW_PROOF_OTHER_NONCE, FOW_NONCE_WANTED },
+        { FOW_REFUSED, FOW_PROOF_OTHER_KEY, FOW_NOT_ACCEPTED },
+        { FOW_REFUSED, FOW_PROOF_OTHER_URI, FOW_PROOF_REFUSED },
+        { FOW_REFUSED, 0, FOW_PROOF_REFUSED },
+        { FOW_REFUSED, UINT32_MAX, FOW_PROOF_REFUSED },
+        { FOW_ABSENT, FOW_PROOF_OTHER_NONCE, FOW_UNANSWERED },
+        { FOW_NOT_OPEN, 0, FOW_UNANSWERED },
+        { FOW_OUT_OF_MEMORY, 0, FOW_UNANSWERED },
+        { UINT32_MAX, 0, FOW_UNANSWERED },
+    };
+    for (size_t row = 0; row < sizeof rows / sizeof *rows; row++) {
+        CHECK(fow_proof_outcome(rows[row].status, rows[row].fault) == rows[row].outcome);
     }
 }
 
@@ -74,11 +128,12 @@ static void check_quoting(void)
     static const char *const hostile[] = { "a\"b", "a\\b", "a\r\nSet-Cookie: b", "\x7f", "\xc3\xa9", "a\tb" };
     for (size_t row = 0; row < sizeof hostile / sizeof *hostile; row++) {
         uint8_t out[MOST] = { '.' };
-        size_t written = 7;
-        const char *text = hostile[row];
-        CHECK(!fow_quotable(at(text), strlen(text)));
-        CHECK(fow_challenge(FOW_REALM, at(text), strlen(text), at(""), 0, out, MOST, &written) == FOW_REFUSED);
-        CHECK(fow_challenge(FOW_SCOPES, at(""), 0, at(text), strlen(text), out, MOST, &written) == FOW_REFUSED);
+        size_t written = 7, len = strlen(hostile[row]);
+        const uint8_t *text = at(hostile[row]), *none = at("");
+        CHECK(!fow_quotable(text, len));
+        CHECK(fow_challenge(FOW_BEARER, FOW_REALM, text, len, none, 0, none, 0, out, MOST, &written) == FOW_REFUSED);
+        CHECK(fow_challenge(FOW_BEARER, FOW_SCOPES, none, 0, text, len, none, 0, out, MOST, &written) == FOW_REFUSED);
+        CHECK(fow_challenge(FOW_DPOP, FOW_REALM, none, 0, none, 0, text, len, out, MOST, &written) == FOW_REFUSED);
         CHECK(written == 7 && out[0] == '.');
     }
     CHECK(fow_quotable(at(""), 0) && fow_quotable(at("a realm, with ~!"), 16));
@@ -230,6 +285,7 @@ int main(void)
 {
     check_credentials();
     check_replies();
+    check_proof_outcomes();
     check_quoting();
     check_renewal();
     check_any_numbers();

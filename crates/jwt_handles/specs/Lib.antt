@@ -38,12 +38,14 @@ pub mod MostQuestions
 pub mod Proving
 -- memories of tokens that count once, and what they answer of the token that was accepted last
 pub mod Taking
--- how the token that was accepted last is held by a store of tokens that count once
+-- how the token, or the proof, that was accepted last is held by a store of those that count once
 pub mod Entries
 -- the ownership of the handle of such a memory
 pub mod OnceHandles
 -- the policy for proofs of possession that is held, and what is answered to a proof
 pub mod Possessing
+-- nonces by time, and what is said of the one of the proof that was accepted last
+pub mod Nonces
 -- the ownership of the handle of such a policy
 pub mod PossessionHandles
 -- the ownership of the handle of an access rule

@@ -10,13 +10,12 @@ use Rattle.jwt_policy.specs.Document.{policy_of}
 use Rattle.jwt_policy.specs.declared.policy_fault.PolicyFault.{PolicyFault}
 use Rattle.jwt_verify.specs.declared.report.Fault.{Fault}
 use Rattle.jwt_once.specs.Accepted.{seconds}
-use Rattle.jwt_once.specs.Marks.{mark_of}
 use Rattle.jwt_once.specs.Steps.{IsTaken}
 use Rattle.jwt_once.specs.declared.once.Once.{Once}
 use Rattle.jwt_once.specs.declared.once.Taken.{Taken}
 use Rattle.jwt_possession.specs.ProofPolicies.{policy_rows}
 use Rattle.jwt_possession.specs.Proofs.{IsProof, IsProofFault}
-use Rattle.jwt_possession.specs.Possessions.{proved, id_of, last_moment}
+use Rattle.jwt_possession.specs.Possessions.{proved, proof_mark, last_moment}
 use Rattle.jwt_possession.specs.declared.own_key.KeyFault.{KeyFault}
 use Rattle.jwt_possession.specs.declared.own_key.KeyFault.TheVariants as key
 use Rattle.jwt_possession.specs.declared.policy.PolicyLack.{PolicyLack}
@@ -166,7 +165,7 @@ SaysBeside (Some claims) policy now parts octets status number kept = SaysFor po
 abbrev pub TakesProof : Option Possession → ℤ → Once → ℕ → ℕ → Once → Type 0
 TakesProof None now old status taken new = (status ≡ FOW_ABSENT) × (taken ≡ 0) × (new ≡ old)
 TakesProof (Some it) now old status taken new =
-    (answer : Taken) × IsTaken old (mark_of (proved it).thumbprint (id_of (proved it).claims)) (proved it).until (seconds now) answer new × SaysTaken (Ok answer) status taken
+    (answer : Taken) × IsTaken old (proof_mark (proved it)) (proved it).until (seconds now) answer new × SaysTaken (Ok answer) status taken
 
 -- the same of a memory that is held on
 abbrev pub TakesKept : Option Possession → ℤ → OnceState → ℕ → ℕ → Option OnceState → Type 0

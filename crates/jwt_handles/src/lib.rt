@@ -23,6 +23,7 @@ mod judging;
 pub mod key_sources;
 mod last;
 mod most_questions;
+pub mod nonces;
 pub mod once_handle;
 pub mod once_state;
 pub mod onces;

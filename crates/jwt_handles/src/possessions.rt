@@ -3,20 +3,21 @@
 ghost use Rattle.jwt_handles.specs.declared.status.TheConstants.{FOW_NOT_OPEN, FOW_OK, FOW_OUT_OF_MEMORY};
 ghost use Rattle.std.specs.Prelude.{◌≡◌, ◌≢◌, [], IfSome, None, option_map};
 ghost use Rattle.jwt_verify.specs.Verdict.{token_of};
+ghost use Rattle.jwt_possession.specs.AlgNames.{algs_text};
 ghost use Rattle.jwt_possession.specs.Possessions.{proved};
 ghost use Rattle.jwt_handles.specs.Documents.{documents};
 ghost use Rattle.jwt_handles.specs.Possessing.{HoldsOn, HoldsPolicy, IsPolicyRefused, SaysBeside, SaysFor, TakesKept, TakesProof, claims_of_last, kept_in};
-ghost use Rattle.jwt_handles.specs.Written.{PutsHeld};
+ghost use Rattle.jwt_handles.specs.Written.{Puts, PutsHeld};
 
 use crate::handle::Handle;
 use crate::once_handle::{OnceHandle, take_once};
 use crate::onces::numbers_of;
 use crate::possessing::{Asked, policy_of};
 use crate::possession_handle::{PossessionHandle, take_possession};
-use crate::status::{FOW_ABSENT, FOW_NOT_OPEN, FOW_OK};
+use crate::status::{FOW_ABSENT, FOW_NOT_OPEN, FOW_OK, FOW_TOO_SHORT};
 use crate::writing::put;
 use jwt_once::Once;
-use jwt_possession::Possession;
+use jwt_possession::{Possession, ProofPolicy};
 use std::alloc::Global;
 
 /// Reads a policy for proofs. `FOW_OK`: it is held from now on; `FOW_REFUSED`: it is refused, for the fault; `FOW_OUT_OF_MEMORY`: memory was
@@ -162,6 +163,41 @@ pub fn possession_thumbprint(
         return FOW_NOT_OPEN;
     };
     let status = put_thumbprint(state.last.as_ref(), out, written);
+    *possession = PossessionHandle::of(state);
+    status
+}
+
+/// Puts the names of the algorithms of a policy for proofs at the front of `out`, with a space between two. `FOW_OK`; `FOW_TOO_SHORT`: it is too short.
+fn put_algs(policy: &ProofPolicy, out: &mut [u8], written: &mut usize) -> u32
+    ensures written { Puts (algs_text policy.now.run.algs) result written.new out.old out.new }
+    ensures unwritten { result ≢ FOW_OK → (out.new ≡ out.old) × (written.new ≡ written.old) }
+{
+    match policy.write_algs(out) {
+        Some(size) => {
+            *written = size;
+            FOW_OK
+        }
+        None => FOW_TOO_SHORT,
+    }
+}
+
+/// Writes the names of the algorithms of the policy at the front of `out`, with a space between two (RFC 9449, section 7.1). `FOW_OK`; `FOW_TOO_SHORT`: `out`
+/// is too short; `FOW_NOT_OPEN`: nothing is held.
+pub fn possession_algs(
+    possession: &mut PossessionHandle,
+    alloc: Global,
+    out: &mut [u8],
+    written: &mut usize,
+) -> u32
+    ensures same { possession.new.state ≡ possession.old.state }
+    ensures none { possession.old.state ≡ None → result ≡ FOW_NOT_OPEN }
+    ensures algs { IfSome possession.old.state (λ p. Puts (algs_text p.policy.run.algs) result written.new out.old out.new) }
+    ensures unwritten { result ≢ FOW_OK → (out.new ≡ out.old) × (written.new ≡ written.old) }
+{
+    let Some(state) = take_possession(possession, alloc) else {
+        return FOW_NOT_OPEN;
+    };
+    let status = put_algs(&state.policy, out, written);
     *possession = PossessionHandle::of(state);
     status
 }

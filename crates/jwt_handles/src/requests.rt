@@ -1,17 +1,17 @@
-//! The bearer token of a request, and what is answered to it.
+//! The token of a request, by the schemes Bearer and DPoP, and what is answered to it.
 
 ghost use Rattle.jwt_handles.specs.declared.status.TheConstants.{FOW_ABSENT, FOW_OK, FOW_REFUSED};
-ghost use Rattle.std.specs.Prelude.{◌≡◌, ◌≢◌, ◌↔◌, IsTrue};
+ghost use Rattle.std.specs.Prelude.{◌≡◌, ◌≢◌, ◌≤◌, ◌↔◌, IsTrue, Some};
 ghost use Rattle.std.specs.List.{All};
-ghost use Rattle.jwt_request.specs.declared.credentials.Credentials.TheVariants.{Absent, Malformed, Token};
-ghost use Rattle.jwt_request.specs.Spelled.{IsFound};
 ghost use Rattle.jwt_request.specs.Replies.{IsReply};
-ghost use Rattle.jwt_request.specs.Challenges.{IsQuotable, challenge_text};
-ghost use Rattle.jwt_handles.specs.Requests.{challenge_of, outcome_of, reply_of};
+ghost use Rattle.jwt_request.specs.Challenges.{IsQuotable};
+ghost use Rattle.jwt_handles.specs.Requests.{IsAbsentBy, IsMalformedBy, IsOutcomeOfProof, IsTokenBy, challenge_of, outcome_of, reply_of, scheme_of, schemes_of, text_by};
 ghost use Rattle.jwt_handles.specs.Written.{Puts};
 
-use crate::status::{FOW_ABSENT, FOW_OK, FOW_REFUSED, FOW_TOO_SHORT};
-use jwt_request::{Challenge, Credentials, Outcome, credentials_of, is_quotable, reply_to};
+use crate::status::{FOW_ABSENT, FOW_NOT_EXPECTED, FOW_OK, FOW_REFUSED, FOW_TOO_SHORT};
+use jwt_request::{
+    Challenge, Credentials, Outcome, Scheme, Schemes, Texts, credentials_of, is_quotable, reply_to,
+};
 
 /// What is answered to a request. In C `fow_reply`.
 #[repr(C)]
@@ -19,23 +19,38 @@ use jwt_request::{Challenge, Credentials, Outcome, credentials_of, is_quotable, 
 pub struct FowReply {
     /// The status; 200 where the request is let through.
     pub status: u32,
-    /// The challenge beside it, as `fow_challenge_kind` numbers it.
-    pub challenge: u32,
+    /// The challenge of the scheme Bearer, as `fow_challenge_kind` numbers it.
+    pub bearer: u32,
+    /// That of the scheme DPoP.
+    pub dpop: u32,
 }
 
-/// Where the token stands in the value of the one header `Authorization`. `FOW_OK`; `FOW_ABSENT`: its scheme isn't Bearer; `FOW_REFUSED`: what
-/// stands behind the scheme is no b64token.
-pub fn credentials(value: &[u8], from: &mut usize, to: &mut usize) -> u32
-    ensures token { result ≡ FOW_OK → IsFound value.now (Token from.new to.new) }
-    ensures absent { result ≡ FOW_ABSENT → IsFound value.now Absent }
-    ensures malformed { result ≡ FOW_REFUSED → IsFound value.now Malformed }
+/// The token in the value of the one header `Authorization`, by the schemes whose sum this is: its scheme, and where it stands. `FOW_OK`; `FOW_ABSENT`: its
+/// scheme is none of these; `FOW_REFUSED`: what stands behind the scheme is no b64token.
+pub fn credentials(
+    schemes: u32,
+    value: &[u8],
+    scheme: &mut u32,
+    from: &mut usize,
+    to: &mut usize,
+) -> u32
+    ensures token { result ≡ FOW_OK → IsTokenBy (schemes_of schemes) value.now scheme.new from.new to.new }
+    ensures absent { result ≡ FOW_ABSENT → IsAbsentBy (schemes_of schemes) value.now scheme.new }
+    ensures malformed { result ≡ FOW_REFUSED → IsMalformedBy (schemes_of schemes) value.now scheme.new }
     ensures said { result ≢ FOW_OK → result ≢ FOW_ABSENT → result ≡ FOW_REFUSED }
     ensures unwritten { result ≢ FOW_OK → (from.new ≡ from.old) × (to.new ≡ to.old) }
 {
-    match credentials_of(value) {
-        Credentials::Absent => FOW_ABSENT,
-        Credentials::Malformed => FOW_REFUSED,
-        Credentials::Token(first, end) => {
+    match credentials_of(schemes_at(schemes), value) {
+        Credentials::Absent => {
+            *scheme = 0;
+            FOW_ABSENT
+        }
+        Credentials::Malformed(found) => {
+            *scheme = scheme_number(found);
+            FOW_REFUSED
+        }
+        Credentials::Token(found, first, end) => {
+            *scheme = scheme_number(found);
             *from = first;
             *to = end;
             FOW_OK
@@ -43,48 +58,118 @@ pub fn credentials(value: &[u8], from: &mut usize, to: &mut usize) -> u32
     }
 }
 
-/// What is answered, where this is known of the token.
-pub fn reply(outcome: u32, reply: &mut FowReply)
-    ensures reply { IsReply (outcome_of outcome) (reply_of reply.new) }
+/// What is answered, where this is known of the request: by the schemes whose sum this is, and the one that was shown.
+pub fn reply(schemes: u32, shown: u32, outcome: u32, reply: &mut FowReply)
+    ensures reply { IsReply (schemes_of schemes) (scheme_of shown) (outcome_of outcome) (reply_of reply.new) }
 {
-    let said = reply_to(outcome_at(outcome));
+    let said = reply_to(schemes_at(schemes), scheme_at(shown), outcome_at(outcome));
     *reply = FowReply {
         status: said.status as u32,
-        challenge: challenge_number(said.challenge),
+        bearer: challenge_number(said.bearer),
+        dpop: challenge_number(said.dpop),
     };
 }
 
-/// Whether a realm or a scope can be quoted as it is.
+/// What an answer on the proof of a request makes of it: the outcome's number.
+pub fn proof_outcome(status: u32, fault: u32) -> u32
+    ensures outcome { IsOutcomeOfProof status fault (outcome_of result) }
+    ensures known { result ≤ 10 }
+{
+    outcome_number(outcome_of_proof(status, fault))
+}
+
+/// Whether a realm, a scope or the names of algorithms can be quoted as they are.
 pub fn quotable(text: &[u8]) -> bool
     ensures quotable { IsTrue result ↔ All IsQuotable text.now }
 {
     is_quotable(text)
 }
 
-/// Writes the challenge of this number at the front of `out`. `FOW_OK`; `FOW_TOO_SHORT`: `out` is too short; `FOW_REFUSED`: the realm or the scope can't be
-/// quoted.
+/// Writes the challenge of this number, of the scheme of that number, at the front of `out`. `FOW_OK`; `FOW_TOO_SHORT`: `out` is too short; `FOW_REFUSED`: the
+/// realm, the scope or the algorithms can't be quoted.
 pub fn challenge(
+    scheme: u32,
     number: u32,
     realm: &[u8],
     scope: &[u8],
+    algs: &[u8],
     out: &mut [u8],
     written: &mut usize,
 ) -> u32
-    ensures text { All IsQuotable realm.now → All IsQuotable scope.now
-        → Puts (challenge_text (challenge_of number) realm.now scope.now) result written.new out.old out.new }
-    ensures quotable { result ≢ FOW_REFUSED → All IsQuotable realm.now × All IsQuotable scope.now }
-    ensures refused { result ≡ FOW_REFUSED → ¬ (All IsQuotable realm.now × All IsQuotable scope.now) }
+    ensures text { All IsQuotable realm.now → All IsQuotable scope.now → All IsQuotable algs.now
+        → Puts (text_by (scheme_of scheme) (challenge_of number) realm.now scope.now algs.now) result written.new out.old out.new }
+    ensures quotable { result ≢ FOW_REFUSED → All IsQuotable realm.now × All IsQuotable scope.now × All IsQuotable algs.now }
+    ensures refused { result ≡ FOW_REFUSED → ¬ (All IsQuotable realm.now × All IsQuotable scope.now × All IsQuotable algs.now) }
     ensures unwritten { result ≢ FOW_OK → (out.new ≡ out.old) × (written.new ≡ written.old) }
 {
-    if !is_quotable(realm) || !is_quotable(scope) {
+    if !is_quotable(realm) || !is_quotable(scope) || !is_quotable(algs) {
         return FOW_REFUSED;
     }
-    match challenge_at(number).write(realm, scope, out) {
+    let texts = Texts { realm, scope, algs };
+    let Some(scheme) = scheme_at(scheme) else {
+        *written = 0;
+        return FOW_OK;
+    };
+    match challenge_at(number).write(scheme, &texts, out) {
         Some(size) => {
             *written = size;
             FOW_OK
         }
         None => FOW_TOO_SHORT,
+    }
+}
+
+/// The numbers of two faults of a proof: its nonce, or the key that its token is bound to, is another.
+const OTHER_NONCE: u32 = 1303;
+
+const OTHER_KEY: u32 = 1305;
+
+fn outcome_of_proof(status: u32, fault: u32) -> Outcome
+    ensures { IsOutcomeOfProof status fault result }
+{
+    if status == FOW_OK {
+        return Outcome::Accepted;
+    }
+    if status == FOW_NOT_EXPECTED {
+        return Outcome::NonceWanted;
+    }
+    if status != FOW_REFUSED {
+        return Outcome::Unanswered;
+    }
+    if fault == OTHER_NONCE {
+        return Outcome::NonceWanted;
+    }
+    if fault == OTHER_KEY {
+        return Outcome::Refused;
+    }
+    Outcome::ProofRefused
+}
+
+fn scheme_at(number: u32) -> Option<Scheme>
+    ensures { result ≡ scheme_of number }
+{
+    match number {
+        1 => Some(Scheme::Bearer),
+        2 => Some(Scheme::Dpop),
+        _ => None,
+    }
+}
+
+fn scheme_number(scheme: Scheme) -> u32
+    ensures { scheme_of result ≡ Some scheme }
+{
+    match scheme {
+        Scheme::Bearer => 1,
+        Scheme::Dpop => 2,
+    }
+}
+
+fn schemes_at(sum: u32) -> Schemes
+    ensures { result ≡ schemes_of sum }
+{
+    Schemes {
+        bearer: sum == 1 || sum == 3,
+        dpop: sum == 2 || sum == 3,
     }
 }
 
@@ -100,7 +185,28 @@ fn outcome_at(number: u32) -> Outcome
         6 => Outcome::ScopeMissing,
         7 => Outcome::Denied,
         8 => Outcome::KeysTooOld,
+        9 => Outcome::ProofRefused,
+        10 => Outcome::NonceWanted,
         _ => Outcome::Unanswered,
+    }
+}
+
+fn outcome_number(outcome: Outcome) -> u32
+    ensures outcome { outcome_of result ≡ outcome }
+    ensures known { result ≤ 10 }
+{
+    match outcome {
+        Outcome::Unanswered => 0,
+        Outcome::Accepted => 1,
+        Outcome::Several => 2,
+        Outcome::Absent => 3,
+        Outcome::Malformed => 4,
+        Outcome::Refused => 5,
+        Outcome::ScopeMissing => 6,
+        Outcome::Denied => 7,
+        Outcome::KeysTooOld => 8,
+        Outcome::ProofRefused => 9,
+        Outcome::NonceWanted => 10,
     }
 }
 
@@ -113,6 +219,8 @@ fn challenge_at(number: u32) -> Challenge
         3 => Challenge::InvalidToken,
         4 => Challenge::InsufficientScope,
         5 => Challenge::Scopes,
+        6 => Challenge::InvalidProof,
+        7 => Challenge::UseNonce,
         _ => Challenge::Silent,
     }
 }
@@ -127,5 +235,7 @@ fn challenge_number(challenge: Challenge) -> u32
         Challenge::InvalidToken => 3,
         Challenge::InsufficientScope => 4,
         Challenge::Scopes => 5,
+        Challenge::InvalidProof => 6,
+        Challenge::UseNonce => 7,
     }
 }

@@ -1,6 +1,7 @@
 //! The call for a token that was accepted.
 
 ghost use Rattle.std.specs.Prelude.{◌≡◌, ◌≤◌, ◌<◌, ◌+ℤ◌, ◌<ℤ◌, pos, negsuc};
+ghost use Rattle.jwt_once.specs.Marks.{mark_of};
 ghost use Rattle.jwt_once.specs.Accepted.{seconds, end_of, IsEntryOf, IsTakenFor};
 
 use crate::mark::mark;
@@ -23,6 +24,19 @@ pub struct Entry {
     pub mark: [u8; 32],
     /// The last moment at which it counts, in seconds since 1970-01-01T00:00:00Z.
     pub until: u64,
+}
+
+impl Entry {
+    /// How what has this issuer and this `jti` is held, until this moment: by the mark by which [`Once::take`] holds it.
+    pub fn of(issuer: &[u8], jti: &[u8], until: u64) -> Entry
+        ensures mark { result.mark ≡ mark_of issuer.now jti.now }
+        ensures until { result.until ≡ until }
+    {
+        Entry {
+            mark: mark(issuer, jti),
+            until,
+        }
+    }
 }
 
 /// A moment as the memory counts.
@@ -54,10 +68,7 @@ pub fn entry_of(policy: &Policy, claims: &Claims) -> Result<Entry, Lack>
         return Err(Lack::NoEnd);
     };
     let issuer = claims.iss().unwrap_or("");
-    Ok(Entry {
-        mark: mark(issuer.as_bytes(), jti.as_bytes()),
-        until: end_of(policy, exp),
-    })
+    Ok(Entry::of(issuer.as_bytes(), jti.as_bytes(), end_of(policy, exp)))
 }
 
 impl Once {

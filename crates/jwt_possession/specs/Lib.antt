@@ -14,5 +14,13 @@ pub mod Requests
 pub mod Proofs
 -- what an accepted proof says
 pub mod Possessions
+-- the names of a policy's algorithms as one text
+pub mod AlgNames
+-- nonces by time
+pub mod Nonces
 -- the names of faults
 pub mod FaultNames
+-- ---- What laws alone cite
+
+-- that a proof has no fault
+pub mod Laws

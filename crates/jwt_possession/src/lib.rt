@@ -2,7 +2,8 @@
 //!
 //! A [`ProofPolicy`] says what is asked of proofs. [`judge_proof`] judges one beside a [`Request`] and the access token that came with it,
 //! and answers a [`Possession`], or the first [`ProofFault`] in the order of RFC 9449, section 4.3. A [`Possession`] is taken once, by
-//! [`Possession::take`]. [`Binding::of`] says how an access token is bound, and [`certificate_holds`] whether a client's certificate is the
+//! [`Possession::take`], or by a store that several processes share, to which [`Possession::entry`] says how it is held. [`Nonces`] are nonces by
+//! time, and [`ProofPolicy::write_algs`] has the text of the policy's algorithms. [`Binding::of`] says how an access token is bound, and [`certificate_holds`] whether a client's certificate is the
 //! one that it is bound to.
 //!
 //! ```rust
@@ -23,7 +24,10 @@
 //! proof holds it; that it is the right one is said by the access token's `cnf`.
 #![tactic(auto)]
 
+mod alg_names;
 mod binding;
+pub mod laws;
+mod nonces;
 mod own_key;
 mod policy;
 mod possession;
@@ -32,6 +36,7 @@ mod request;
 mod uri;
 
 pub use binding::{Binding, certificate_holds};
+pub use nonces::{NONCE_LEN, NONCE_SECRET_LEN, Nonces};
 pub use own_key::KeyFault;
 pub use policy::{PolicyLack, ProofPolicy, ProofPolicyFault};
 pub use possession::Possession;

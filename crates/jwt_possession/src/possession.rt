@@ -2,12 +2,11 @@
 
 ghost use Rattle.std.specs.Prelude.{◌≡◌, IfOk};
 ghost use Rattle.jwt_once.specs.Accepted.{seconds};
-ghost use Rattle.jwt_once.specs.Marks.{mark_of};
 ghost use Rattle.jwt_once.specs.Steps.{IsTaken};
 ghost use Rattle.jwt_possession.specs.Possessions.{last_moment};
 
 use crate::policy::ProofPolicy;
-use jwt_once::{Once, Taken};
+use jwt_once::{Entry, Once, Taken};
 use jwt_policy::Claims;
 use std::alloc::{AllocError, Global};
 
@@ -32,14 +31,14 @@ fn last_moment(policy: &ProofPolicy, claims: &Claims) -> u64
 }
 
 /// A moment as the memory counts.
-fn seconds(moment: i64) -> u64
+pub(crate) fn seconds(moment: i64) -> u64
     ensures { result ≡ seconds moment }
 {
     u64::try_from(moment).unwrap_or(0)
 }
 
 impl Possession {
-    ghost use Rattle.jwt_possession.specs.Possessions.{proved, id_of};
+    ghost use Rattle.jwt_possession.specs.Possessions.{proved, id_of, proof_mark};
 
     /// The possession of the key of this thumbprint, by a proof with these claims.
     pub(crate) fn of(
@@ -93,8 +92,7 @@ impl Possession {
     /// Takes the proof, unless it was taken before (RFC 9449, section 11.1): by the thumbprint of its key and its `jti`, until its last
     /// moment. `now` is the moment at which it was judged.
     pub fn take(&self, once: &mut Once, now: i64) -> Taken
-        ensures { IsTaken once.old (mark_of (proved self.now).thumbprint (id_of (proved self.now).claims))
-            (proved self.now).until (seconds now) result once.new }
+        ensures { IsTaken once.old (proof_mark (proved self.now)) (proved self.now).until (seconds now) result once.new }
     {
         once.take(
             self.thumbprint().as_bytes(),
@@ -102,5 +100,15 @@ impl Possession {
             self.until(),
             seconds(now),
         )
+    }
+
+    /// How the proof is held, for a store that several processes share: by the very mark by which [`Possession::take`] holds it, until the same
+    /// moment. The store says in one step that the mark is new, and holds it until then.
+    pub fn entry(&self) -> Entry
+        ensures mark { result.mark ≡ proof_mark (proved self.now) }
+        ensures until { result.until ≡ (proved self.now).until }
+    {
+        let thumbprint = self.thumbprint().as_bytes();
+        Entry::of(thumbprint, self.id().as_bytes(), self.until())
     }
 }

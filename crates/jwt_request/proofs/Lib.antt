@@ -1,2 +1,4 @@
 -- ---- For credentials.rt
 pub mod Places
+-- ---- For challenge.rt
+pub mod Pieces

@@ -1,33 +1,61 @@
 -- What is answered to a request, and when.
-use Rattle.std.specs.Prelude.{◌≡◌, ◌⊎◌, ◌<◌, ◌↔◌, ℕ, List, Option, Some, None}
+use Rattle.std.specs.Prelude.{◌≡◌, ◌⊎◌, ◌<◌, ◌↔◌, ℕ, List, Bool, true, false, Option, Some, None}
+use Rattle.jwt_request.specs.declared.scheme.Scheme.{Scheme}
+use Rattle.jwt_request.specs.declared.scheme.Scheme.TheVariants.{Bearer, Dpop}
+use Rattle.jwt_request.specs.declared.scheme.Schemes.{Schemes}
 use Rattle.jwt_request.specs.declared.credentials.Credentials.{Credentials}
-use Rattle.jwt_request.specs.declared.credentials.Credentials.TheVariants.{Absent as NoBearer}
+use Rattle.jwt_request.specs.declared.credentials.Credentials.TheVariants.{Absent as NoScheme}
 use Rattle.jwt_request.specs.declared.replies.Reply.{Reply}
-use Rattle.jwt_request.specs.declared.challenge.Challenge.TheVariants.{Realm, InvalidRequest, InvalidToken, InsufficientScope, Scopes}
+use Rattle.jwt_request.specs.declared.challenge.Challenge.{Challenge}
+use Rattle.jwt_request.specs.declared.challenge.Challenge.TheVariants.{Realm, InvalidRequest, InvalidToken, InsufficientScope, Scopes, InvalidProof, UseNonce}
 use Rattle.jwt_request.specs.declared.replies.Outcome.{Outcome}
-use Rattle.jwt_request.specs.declared.replies.Outcome.TheVariants.{Several, Absent, Malformed, Accepted, Refused, ScopeMissing, Denied, KeysTooOld, Unanswered}
+use Rattle.jwt_request.specs.declared.replies.Outcome.TheVariants.{Several, Absent, Malformed, Accepted, Refused, ScopeMissing, Denied, ProofRefused, NonceWanted, KeysTooOld, Unanswered}
 use Rattle.jwt_request.specs.Spelled.{IsFound}
 
 -- of several headers nothing is read
-abbrev pub IsAsked : ℕ → List ℕ → Option Credentials → Type 0
-IsAsked count value None = 1 < count
-IsAsked count value (Some found) = ((count ≡ 0) × (found ≡ NoBearer)) ⊎ ((count ≡ 1) × IsFound value found)
+abbrev pub IsAsked : Schemes → ℕ → List ℕ → Option Credentials → Type 0
+IsAsked schemes count value None = 1 < count
+IsAsked schemes count value (Some found) = ((count ≡ 0) × (found ≡ NoScheme)) ⊎ ((count ≡ 1) × IsFound schemes value found)
 
--- the status, in the standards' terms (RFC 6750, section 3.1; RFC 9110, section 15)
-pub record IsReply (outcome : Outcome) (reply : Reply) : Type 0 where
+-- a token was shown by a scheme that is taken, and it, or the proof beside it, is refused: another one may be let through
+abbrev pub IsRefusal : Outcome → Type 0
+IsRefusal outcome = (outcome ≡ Malformed) ⊎ (outcome ≡ Refused) ⊎ (outcome ≡ ProofRefused) ⊎ (outcome ≡ NonceWanted)
+
+-- the status, in the standards' terms (RFC 6750, section 3.1; RFC 9449, section 7.1; RFC 9110, section 15)
+pub record IsStatus (outcome : Outcome) (status : ℕ) : Type 0 where
   -- a request is let through where its token is accepted, and else never
-  pub through : (reply.status ≡ 200) ↔ (outcome ≡ Accepted)
-  -- who may get on by another token is told so: none was shown, or it is refused
-  pub unauthorized : (reply.status ≡ 401) ↔ ((outcome ≡ Absent) ⊎ (outcome ≡ Malformed) ⊎ (outcome ≡ Refused))
+  pub through : (status ≡ 200) ↔ (outcome ≡ Accepted)
+  -- who may get on by another token or proof is told so: none was shown, or it is refused
+  pub unauthorized : (status ≡ 401) ↔ ((outcome ≡ Absent) ⊎ IsRefusal outcome)
   -- the token is accepted, and grants too little
-  pub forbidden : (reply.status ≡ 403) ↔ ((outcome ≡ ScopeMissing) ⊎ (outcome ≡ Denied))
-  pub bad : (reply.status ≡ 400) ↔ (outcome ≡ Several)
+  pub forbidden : (status ≡ 403) ↔ ((outcome ≡ ScopeMissing) ⊎ (outcome ≡ Denied))
+  pub bad : (status ≡ 400) ↔ (outcome ≡ Several)
   -- nothing is said of the token
-  pub unavailable : (reply.status ≡ 503) ↔ (outcome ≡ KeysTooOld)
-  pub failed : (reply.status ≡ 500) ↔ (outcome ≡ Unanswered)
-  -- no error is named where no token was shown
-  pub realm : (reply.challenge ≡ Realm) ↔ (outcome ≡ Absent)
-  pub request : (reply.challenge ≡ InvalidRequest) ↔ (outcome ≡ Several)
-  pub token : (reply.challenge ≡ InvalidToken) ↔ ((outcome ≡ Malformed) ⊎ (outcome ≡ Refused))
-  pub scopes : (reply.challenge ≡ Scopes) ↔ (outcome ≡ ScopeMissing)
-  pub scope : (reply.challenge ≡ InsufficientScope) ↔ (outcome ≡ Denied)
+  pub unavailable : (status ≡ 503) ↔ (outcome ≡ KeysTooOld)
+  pub failed : (status ≡ 500) ↔ (outcome ≡ Unanswered)
+
+-- the challenge of a scheme, by whether the service takes it, and whether the request showed it
+pub record IsChallenge (taken shown : Bool) (outcome : Outcome) (challenge : Challenge) : Type 0 where
+  -- no error is named where no token was shown by this scheme, and a token of it may help
+  pub realm : (challenge ≡ Realm) ↔ ((taken ≡ true) × ((outcome ≡ Absent) ⊎ ((shown ≡ false) × IsRefusal outcome)))
+  -- of several headers nothing was read, so the error is that of each scheme
+  pub request : (challenge ≡ InvalidRequest) ↔ ((taken ≡ true) × (outcome ≡ Several))
+  -- an error of a token or a proof is told to the scheme by which it came alone
+  pub token : (challenge ≡ InvalidToken) ↔ ((taken ≡ true) × (shown ≡ true) × ((outcome ≡ Malformed) ⊎ (outcome ≡ Refused)))
+  pub scopes : (challenge ≡ Scopes) ↔ ((taken ≡ true) × (shown ≡ true) × (outcome ≡ ScopeMissing))
+  pub scope : (challenge ≡ InsufficientScope) ↔ ((taken ≡ true) × (shown ≡ true) × (outcome ≡ Denied))
+  -- RFC 9449, sections 7.1 and 9
+  pub proof : (challenge ≡ InvalidProof) ↔ ((taken ≡ true) × (shown ≡ true) × (outcome ≡ ProofRefused))
+  pub nonce : (challenge ≡ UseNonce) ↔ ((taken ≡ true) × (shown ≡ true) × (outcome ≡ NonceWanted))
+
+-- whether the request showed this scheme
+abbrev pub is_shown : Option Scheme → Scheme → Bool
+is_shown (Some Bearer) Bearer = true
+is_shown (Some Dpop) Dpop = true
+is_shown _ _ = false
+
+-- the status, and each scheme's challenge (RFC 9449, section 7.2)
+pub record IsReply (schemes : Schemes) (shown : Option Scheme) (outcome : Outcome) (reply : Reply) : Type 0 where
+  pub status : IsStatus outcome reply.status
+  pub bearer : IsChallenge schemes.bearer (is_shown shown Bearer) outcome reply.bearer
+  pub dpop : IsChallenge schemes.dpop (is_shown shown Dpop) outcome reply.dpop

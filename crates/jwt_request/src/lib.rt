@@ -1,4 +1,4 @@
-//! The bearer token of a request (RFC 6750), and what is answered to it.
+//! The token of a request, by the schemes Bearer (RFC 6750) and DPoP (RFC 9449, section 7), and what is answered to it.
 //!
 //! Nothing here allocates.
 #![tactic(auto)]
@@ -7,7 +7,9 @@ mod challenge;
 mod credentials;
 mod kind;
 mod replies;
+mod scheme;
 
-pub use challenge::{Challenge, is_quotable};
+pub use challenge::{Challenge, Texts, is_quotable};
 pub use credentials::{Credentials, credentials_of};
 pub use replies::{Outcome, Reply, credentials_in, reply_to};
+pub use scheme::{Scheme, Schemes};

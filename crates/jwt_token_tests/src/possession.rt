@@ -1,6 +1,7 @@
 //! Proofs of possession, and certificates.
 use jwt_policy::Claims;
-use jwt_possession::{Binding, ProofPolicy, certificate_holds, normal_uri};
+use jwt_possession::laws::proofs_have_no_fault;
+use jwt_possession::{Binding, Nonces, ProofPolicy, certificate_holds, normal_uri};
 use std::alloc::Global;
 use std::test::Fail;
 
@@ -111,5 +112,146 @@ fn a_uri_has_one_form(rt: HostRuntime) -> Result<(), Fail> {
             "{uri}"
         );
     }
+    Ok(())
+}
+
+/// The secret of nonces: the octets 0 to 31.
+const SECRET: &[u8] =
+    b"\x00\x01\x02\x03\x04\x05\x06\x07\x08\t\n\x0b\x0c\r\x0e\x0f\x10\x11\x12\x13\x14\x15\x16\x17\x18\x19\x1a\x1b\x1c\x1d\x1e\x1f";
+
+/// A secret that is longer than a block of the hash.
+const LONG: &[u8] =
+    b"01234567890123456789012345678901234567890123456789012345678901234567890123456789";
+
+/// Secrets, periods, moments and nonces, which are from Python's hmac.
+static NONCES: [(&[u8], u32, i64, &[u8]); 9] = [
+    (
+        SECRET,
+        300,
+        0,
+        b"nwzZuUCX_kkpkY0riUKzRDlXQmGjXcUBY_BsZ9TkiJk",
+    ),
+    (
+        SECRET,
+        300,
+        299,
+        b"nwzZuUCX_kkpkY0riUKzRDlXQmGjXcUBY_BsZ9TkiJk",
+    ),
+    (
+        SECRET,
+        300,
+        -1,
+        b"nwzZuUCX_kkpkY0riUKzRDlXQmGjXcUBY_BsZ9TkiJk",
+    ),
+    (
+        SECRET,
+        300,
+        i64::MIN,
+        b"nwzZuUCX_kkpkY0riUKzRDlXQmGjXcUBY_BsZ9TkiJk",
+    ),
+    (
+        SECRET,
+        300,
+        300,
+        b"xDLgWcN47vf-LxGBpAUINvUeCFb9dJN76BeE-g76ehw",
+    ),
+    (
+        SECRET,
+        300,
+        1_700_000_000,
+        b"fdsa7SV0-mwnIO2JHyjPzqPl9f-EmyECOeNtXhUDeWk",
+    ),
+    (
+        SECRET,
+        1,
+        i64::MAX,
+        b"I60pAzZyU4s8N5IdW3x52VgJN8dgGKu8eKwa-6IKAY0",
+    ),
+    (
+        SECRET,
+        u32::MAX,
+        i64::MAX,
+        b"l6L_HiRaa0fIY78b3UqbSafsQKY91RP-96-nvN_ZUTY",
+    ),
+    (
+        LONG,
+        300,
+        1_700_000_000,
+        b"PCnl3lU87noV2xz8OEiB2EhQfTeqb9tGk6Od7Zl1nWI",
+    ),
+];
+
+/// A period has the nonce that Python's hmac makes.
+#[test]
+fn a_period_has_a_nonce(rt: HostRuntime) -> Result<(), Fail> {
+    for &(secret, period, now, wanted) in &NONCES {
+        let Some(nonces) = Nonces::of(secret, period) else {
+            return Err(Fail::from("no nonces"));
+        };
+        assert_eq!(rt; nonces.at(now).as_slice(), wanted);
+    }
+    assert!(rt; Nonces::of(&SECRET[..31], 300).is_none());
+    assert!(rt; Nonces::of(b"", 300).is_none());
+    assert!(rt; Nonces::of(SECRET, 0).is_none());
+    Ok(())
+}
+
+/// Moments, and whether the nonce of the period from 1699999800 on is taken then.
+static MOMENTS: [(i64, bool); 8] = [
+    (i64::MIN, false),
+    (0, false),
+    (1_699_999_799, false),
+    (1_699_999_800, true),
+    (1_700_000_099, true),
+    (1_700_000_399, true),
+    (1_700_000_400, false),
+    (i64::MAX, false),
+];
+
+/// A nonce is good in its period and in the next.
+#[test]
+fn a_nonce_is_good_for_two_periods(rt: HostRuntime) -> Result<(), Fail> {
+    let alloc = rt.alloc();
+    let timely = claims_of(
+        alloc,
+        r#"{"nonce":"fdsa7SV0-mwnIO2JHyjPzqPl9f-EmyECOeNtXhUDeWk"}"#,
+    )?;
+    let first = claims_of(
+        alloc,
+        r#"{"nonce":"nwzZuUCX_kkpkY0riUKzRDlXQmGjXcUBY_BsZ9TkiJk"}"#,
+    )?;
+    let listed = claims_of(
+        alloc,
+        r#"{"nonce":["nwzZuUCX_kkpkY0riUKzRDlXQmGjXcUBY_BsZ9TkiJk"]}"#,
+    )?;
+    let none = claims_of(alloc, "{}")?;
+    let Some(nonces) = Nonces::of(SECRET, 300) else {
+        return Err(Fail::from("no nonces"));
+    };
+    for &(now, wanted) in &MOMENTS {
+        assert_eq!(rt; nonces.accepts(&timely, now), wanted, "{now}");
+    }
+    assert!(rt; nonces.accepts(&first, -1) && nonces.accepts(&first, 599));
+    assert!(rt;
+        !nonces.accepts(&first, 600) && !nonces.accepts(&listed, 0) && !nonces.accepts(&none, 0)
+    );
+    proofs_have_no_fault();
+    Ok(())
+}
+
+/// The names of a policy's algorithms, in a room that is too small by one and in one that is larger.
+#[test]
+fn algorithms_are_named_with_spaces(rt: HostRuntime) -> Result<(), Fail> {
+    let Ok(policy) = ProofPolicy::read(rt.alloc(), POLICY.as_bytes()) else {
+        return Err(Fail::from("no policy"));
+    };
+    let mut room = [b'!'; 40];
+    assert_eq!(rt; policy.write_algs(&mut room[..34]), None);
+    assert_eq!(rt; &room[..], [b'!'; 40].as_slice());
+    assert_eq!(rt; policy.write_algs(&mut room), Some(35));
+    assert_eq!(rt;
+        &room[..],
+        b"ES256 ES384 ES512 RS256 PS256 EdDSA!!!!!".as_slice()
+    );
     Ok(())
 }
