@@ -1,6 +1,7 @@
 """Proofs of possession and requests: one that is accepted by each kind of key, and what is wrong with each other, one step of RFC 9449, section 4.3, at a time."""
 import dataclasses
 import hashlib
+import hmac
 import json
 import pathlib
 import sys
@@ -49,6 +50,12 @@ def thumbprint(alg: str) -> str:
 def hash_of(token: str) -> str:
     """What `ath` is of an access token (section 4.2)."""
     return base64url(hashlib.sha256(token.encode()).digest())
+
+
+def nonce_of(moment: int) -> str:
+    """The nonce of periods of 300 seconds by the secret of the octets 0 to 31, as tests/c/possession.c asks for."""
+    number = (moment // 300).to_bytes(8, "big")
+    return base64url(hmac.digest(bytes(range(32)), number, "sha256"))
 
 
 def bound(alg: str) -> str:
@@ -101,15 +108,18 @@ def beside(name: str, answer: str, claims: str, alg: str = "ES256") -> Row:
 
 
 def good() -> list[Row]:
-    """Proofs that hold."""
+    """Proofs that hold. (The access token of figure 12 is none of ours, so that its proof is judged alone too: its hash is compared here.)"""
+    assert json.loads(octets_of(FIGURE_12.split(".")[1]))["ath"] == hash_of(FIGURE_12_TOKEN)
     rows = [beside(f"by-{alg}", "held", bound(alg), alg) for alg in ALGS]
     rows += [
         Row("figure-2-and-4", "held", FIGURE_2, "POST", "https://server.example.com/token", token=None, now=1562262616),
         Row("figure-12", "held", FIGURE_12, "GET", "https://resource.example.org/protectedresource", token=FIGURE_12_TOKEN, claims=compact({"cnf": {"jkt": FIGURE_2_KEY}}), now=1562262618),
+        Row("figure-12-alone", "held", FIGURE_12, "GET", "https://resource.example.org/protectedresource", token=None, now=1562262618),
         Row("no-access-token", "held", made(without=("ath",)), token=None),
         Row("hash-without-access-token", "held", made(), token=None),
         Row("nonce-is-the-one", "held", made(claims={"nonce": "n-0S6"}), nonce="n-0S6"),
         Row("nonce-unasked", "held", made(claims={"nonce": "n-0S6"})),
+        Row("nonce-by-time", "held", made(claims={"nonce": nonce_of(NOW)})),
         Row("further-claims", "held", made(claims={"more": {"deep": [1]}, "exp": NOW + 9})),
         Row("key-says-what-it-is-for", "held", made(header={"jwk": {**json.loads(key_text("ES256")), "use": "sig", "key_ops": ["verify"], "alg": "ES256"}})),
         Row("key-and-header-of-one-kid", "held", made(header={"kid": "one", "jwk": {**json.loads(key_text("ES256")), "kid": "one"}})),
@@ -341,10 +351,5 @@ def for_another() -> list[Row]:
 
 
 def all_rows() -> list[Row]:
-    """Every row, each name once."""
-    rows = good() + uris() + not_signed() + not_accepted() + for_another()
-    names = [row.name for row in rows]
-    twice = {name for name in names if names.count(name) > 1}
-    if twice:
-        raise ValueError(f"names that stand twice: {sorted(twice)}")
-    return rows
+    """Every row of this file."""
+    return good() + uris() + not_signed() + not_accepted() + for_another()
