@@ -6,7 +6,7 @@ import asyncio
 import unittest
 from typing import Any, Dict, List, Optional
 
-from fowharimu import Denied, SignatureRefused, TokenRefused, Undecided
+from fowharimu import Denied, DPoP, Proofs, SignatureRefused, TokenRefused, Undecided
 from fowharimu import asgi, wsgi
 from fowharimu.remote import KeysTooOld
 
@@ -109,6 +109,80 @@ class Wsgi(unittest.TestCase):
         for realm in ('a"b', "a\\b", "a\nb", "\u00e9"):
             with self.subTest(realm), self.assertRaises(ValueError):
                 wsgi.Guard(lambda *_: [], Stand(), realm=realm)  # type: ignore[arg-type]
+
+
+PROOFS = {"version": 2, "algs": ["ES256"], "typ": "dpop+jwt", "required": ["jti", "htm", "htu", "iat"], "max_age": 60, "max_signatures": 1, "max_calls": 1}
+
+
+class Uris(unittest.TestCase):
+    """The URI that a proof is held against."""
+
+    def through(self, guard: Any, ask: Any) -> str:
+        """The URI that a guard has its validator hold a proof against."""
+        held: List[bytes] = []
+
+        class Holding(Stand):
+            def validate(self, token: str, now: Any = None, access: Any = None, holder: Any = None) -> Dict[str, Any]:
+                held.append(holder.octets[2])
+                return CLAIMS
+
+        ask(guard(behind if guard is asgi.Guard else lambda *_: [], Holding(), dpop=DPoP(Proofs(PROOFS, 1), "https://api.example")))
+        return held[0].decode("latin-1")
+
+    def test_of_wsgi(self) -> None:
+        def said(**environ: str) -> str:
+            asked = {"HTTP_AUTHORIZATION": "DPoP good", "HTTP_DPOP": "x", "REQUEST_METHOD": "GET", **environ}
+            return self.through(wsgi.Guard, lambda guard: guard(asked, lambda *_: None))
+
+        for environ, path in (
+            ({"PATH_INFO": "/a"}, "/a"),
+            ({"SCRIPT_NAME": "/in", "PATH_INFO": "/a"}, "/in/a"),
+            ({"PATH_INFO": "/items:all;a=1,2/@ann+(b)!$&'*"}, "/items:all;a=1,2/@ann+(b)!$&'*"),
+            ({"PATH_INFO": "/a b?c#d%\xe9"}, "/a%20b%3Fc%23d%25%E9"),
+            ({"PATH_INFO": "/a/b:c", "REQUEST_URI": "/a%2Fb%3ac?d"}, "/a%2Fb%3ac"),
+            ({"SCRIPT_NAME": "/in", "PATH_INFO": "/a/b", "RAW_URI": "/in/a%2Fb"}, "/in/a%2Fb"),
+            ({"PATH_INFO": "/a", "REQUEST_URI": "/b", "RAW_URI": "/%61"}, "/%61"),
+            ({"PATH_INFO": "/a", "REQUEST_URI": "http://evil.example/a"}, "/a"),
+            ({"PATH_INFO": "/a", "REQUEST_URI": "/a#b"}, "/a"),
+            ({"PATH_INFO": "/a#b", "REQUEST_URI": "/a#b"}, "/a%23b"),
+            ({"PATH_INFO": "*", "REQUEST_URI": "*"}, "/*"),
+            ({}, "/"),
+        ):
+            with self.subTest(environ):
+                self.assertEqual(said(**environ), f"https://api.example{path}")
+
+    def test_of_asgi(self) -> None:
+        def said(**scope: Any) -> str:
+            async def unasked(*_: Any) -> Dict[str, Any]:
+                return {}
+
+            whole = {"type": "http", "method": "GET", "headers": [(b"authorization", b"DPoP good"), (b"dpop", b"x")], **scope}
+            return self.through(asgi.Guard, lambda guard: asyncio.run(guard(whole, unasked, unasked)))
+
+        for scope, path in (
+            ({"path": "/a/b:c", "raw_path": b"/a%2Fb%3ac?d"}, "/a%2Fb%3ac"),
+            ({"path": "/a#b", "raw_path": b"/a#b"}, "/a%23b"),
+            ({"path": "/in/a", "root_path": "/in", "raw_path": b"/in/a"}, "/in/a"),
+            ({"path": "/items:all@a;b"}, "/items:all@a;b"),
+            ({"path": "/a?b#c%\xe9", "raw_path": None}, "/a%3Fb%23c%25%C3%A9"),
+            ({"path": "/in/a", "root_path": "/in"}, "/in/a"),
+            ({"path": "/a", "root_path": "/in"}, "/in/a"),
+            ({"path": "/inner", "root_path": "/in/"}, "/in/inner"),
+            ({"path": "/in", "root_path": "/in"}, "/in"),
+            ({"path": "*"}, "/*"),
+        ):
+            with self.subTest(scope):
+                self.assertEqual(said(**scope), f"https://api.example{path}")
+
+    def test_options_of_another_kind_are_refused(self) -> None:
+        proofs, nothing = Proofs(PROOFS, 1), {}.get("option")  # type: Proofs, Any
+        for options in ({"nonces": nothing}, {"only": nothing}, {"only": 0}, {"nonces": "x" * 32}):
+            with self.subTest(options), self.assertRaises(TypeError):
+                DPoP(proofs, "https://api.example", **options)
+        for guard in (wsgi.Guard, asgi.Guard):
+            for options in ({"refuses_bound": nothing}, {"refuses_bound": 0}, {"dpop": nothing}, {"dpop": proofs}):
+                with self.subTest(guard, options=options), self.assertRaises(TypeError):
+                    guard(behind, Stand(), **options)  # type: ignore[arg-type]
 
 
 if __name__ == "__main__":

@@ -2,13 +2,14 @@
 
 import base64
 import hashlib
+import hmac
 import json
 import pathlib
 import threading
 import unittest
 from typing import Any, Dict, List, Optional
 
-from fowharimu import UNBOUND, Certificate, Expected, NotExpected, NotHeld, NotTaken, Once, PolicyRefused, Proof, Proofs, TokenRefused, Validator
+from fowharimu import UNBOUND, Certificate, DPoP, Expected, Nonces, NotExpected, NotHeld, NotTaken, Once, PolicyRefused, Proof, Proofs, TokenRefused, Validator
 from fowharimu.issuers import Issuers
 
 TOP = pathlib.Path(__file__).resolve().parents[3]
@@ -46,7 +47,7 @@ class Possession(unittest.TestCase):
                 count += 1
                 with self.subTest(row["name"]):
                     self.assertEqual(self.answer(row, by), row["answer"])
-        self.assertGreater(count, 180)
+        self.assertGreater(count, 500)
 
     def test_a_proof_counts_once(self) -> None:
         once = Once(2)
@@ -140,6 +141,65 @@ class Possession(unittest.TestCase):
                 Proof(proofs, value, method, "https://a/", nonce)  # type: ignore[arg-type]
         with self.assertRaises(TypeError):
             Certificate("text")  # type: ignore[arg-type]
+
+    def test_a_nonce_is_of_its_period(self) -> None:
+        secret = bytes(range(32))
+        nonces = Nonces(secret, 60)
+        for moment, number in [(0, 0), (59, 0), (60, 1), (-1, 0), (1_700_000_000, 28_333_333)]:
+            digest = hmac.new(secret, number.to_bytes(8, "big"), "sha256").digest()
+            self.assertEqual(nonces.now(moment), base64.urlsafe_b64encode(digest).rstrip(b"=").decode())
+        self.assertNotIn(repr(secret), repr(nonces))
+        nothing: Optional[Any] = None
+        for one, period, error in [(secret[1:], 60, ValueError), (secret, 0, ValueError), (secret, 2**32, ValueError), ("a" * 32, 60, TypeError), (nothing, 60, TypeError), (secret, "60", TypeError)]:
+            with self.assertRaises(error):
+                Nonces(one, period)  # type: ignore[arg-type]
+
+    def test_a_proof_has_a_nonce_of_this_period_or_the_one_before(self) -> None:
+        row = next(it for it in ROWS if it["name"] == "nonce-unasked")
+        with validator() as by:
+            nonces = Nonces(bytes(32), 60)
+            with self.assertRaises(NotHeld) as caught:
+                by.validate(row["token"], row["now"], holder=Proof(Proofs(FIRST["policy"], 1), row["proof"], row["method"], row["uri"], nonces))
+            self.assertEqual((caught.exception.fault, caught.exception._outcome), ("OtherNonce", 10))
+            with self.assertRaises(NotHeld) as caught:
+                by.validate(row["token"], row["now"], holder=Proof(Proofs(FIRST["policy"], 1), row["proof"], "POST", row["uri"], nonces))
+            self.assertEqual((caught.exception.fault, caught.exception._outcome), ("OtherMethod", 9))
+
+    def test_a_store_that_is_shared_takes_proofs(self) -> None:
+        taken: Dict[bytes, int] = {}
+
+        class Store:
+            def take(self, mark: bytes, until: int) -> bool:
+                return taken.setdefault(mark, until) == until and list(taken) == [mark] and not seen
+
+        seen: List[int] = []
+        with validator() as by:
+            proofs = Proofs(FIRST["policy"], Store())
+            by.validate(GOOD["token"], GOOD["now"], holder=proof_of(GOOD, proofs))
+            thumbprint, jti = json.loads(GOOD["claims"])["cnf"]["jkt"], "e1j3V_bKic8-LAEB"
+            digest = hashlib.sha256(b"".join(hashlib.sha256(it.encode()).digest() for it in (thumbprint, jti))).digest()
+            self.assertEqual(taken, {digest: GOOD["now"] + 65})
+            seen.append(1)
+            with self.assertRaises(NotTaken) as caught:
+                by.validate(GOOD["token"], GOOD["now"], holder=proof_of(GOOD, proofs))
+            self.assertEqual((caught.exception.fault, caught.exception._outcome), ("Seen", 9))
+
+    def test_the_names_of_the_algorithms(self) -> None:
+        self.assertEqual(Proofs(FIRST["policy"], 1).algs, " ".join(FIRST["policy"]["algs"]))
+        self.assertEqual(Proofs({**FIRST["policy"], "algs": ["EdDSA"]}, 1).algs, "EdDSA")
+
+    def test_a_guard_is_made_of_proofs_and_an_origin(self) -> None:
+        proofs, nothing = Proofs(FIRST["policy"], 1), None  # type: Proofs, Optional[Any]
+        for origin in ("https://api.example", "HTTP://[::1]:8080", "https://api.example:8443"):
+            DPoP(proofs, origin, only=True, nonces=Nonces(bytes(32)))
+        for one, origin, words, error in [
+            *((proofs, it, {}, ValueError) for it in ("", "api.example", "https://", "https://api.example/", "https://a@b", "https://a?b", "https://a#b", "ftp://a", "https://a b")),
+            (nothing, "https://api.example", {}, TypeError),
+            (proofs, "https://api.example", {"nonces": b"nonces"}, TypeError),
+            (proofs, "https://api.example", {"nonces": nothing}, TypeError),
+        ]:
+            with self.assertRaises(error):
+                DPoP(one, origin, **words)  # type: ignore[arg-type]
 
 
 if __name__ == "__main__":

@@ -19,6 +19,7 @@ from typing import Any, Callable, List
 from fowharimu import asgi
 from fowharimu._access import NO_RULE
 from fowharimu.issuers import Issuers
+from fowharimu._possession import ANYONE
 from fowharimu._renewal import Asker
 from fowharimu.remote import KeysTooOld, KeysUnavailable, RemoteKeys
 
@@ -84,7 +85,7 @@ class Waiting(unittest.TestCase):
     def test_keys_that_are_too_old(self) -> None:
         known = (TOP / "tests/tokens/RS256.jwt").read_text().strip()
         self.keys._renewal._state.max_age, self.keys._quiet = 0, None
-        for ask in (self.keys.validate, lambda token: self.keys._validate_at_once(token, NO_RULE)):
+        for ask in (self.keys.validate, lambda token: self.keys._validate_at_once(token, NO_RULE, ANYONE)):
             with self.assertRaises(KeysTooOld):
                 ask(known)
         time.sleep(1.6)

@@ -23,6 +23,7 @@ from typing import Any, Dict, List, NoReturn, Optional, SupportsIndex, Tuple, Ty
 
 from . import _expected, _library, _possession
 from ._access import NO_RULE, Access, Rule, checked
+from ._dpop import DPoP
 from ._expected import NOTHING, Expected
 from ._faults import (
     AccessRefused,
@@ -47,7 +48,7 @@ from ._faults import (
     Unreadable,
 )
 from ._once import Once, OnceStore, once_of
-from ._possession import ANYONE, UNBOUND, Certificate, Holder, Proof, Proofs
+from ._possession import ANYONE, UNBOUND, Certificate, Holder, Nonces, Proof, Proofs
 from ._seats import SHORT, Seat, Seats, said, written
 from ._texts import Document, Text, document_of, octets_of
 
@@ -60,6 +61,7 @@ __all__ = [
     "Claims",
     "ClaimsRefused",
     "Closed",
+    "DPoP",
     "Denied",
     "Expected",
     "FormRefused",
@@ -70,6 +72,7 @@ __all__ = [
     "NotExpected",
     "NotHeld",
     "NotTaken",
+    "Nonces",
     "Once",
     "OnceStore",
     "PolicyRefused",

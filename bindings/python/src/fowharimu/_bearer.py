@@ -1,13 +1,15 @@
-"""The token of a request, and what is answered where it isn't accepted (RFC 6750, sections 2.1 and 3)."""
+"""The token of a request, and what is answered where it isn't accepted (RFC 6750, sections 2.1 and 3; RFC 9449, section 7)."""
 
 from __future__ import annotations
 
 import logging
-from typing import Any, Callable, Dict, List, Optional, Protocol, TypeVar, Union
+from typing import Any, Callable, Dict, List, NamedTuple, Protocol, Tuple, TypeVar, Union
 
 from . import Claims, Denied, TokenRefused, Undecided, Validator
 from ._access import NO_RULE, Rule, checked
-from ._replies import NoToken, Outcome, checked_realm, reply_to, token_in
+from ._dpop import DPoP
+from ._possession import ANYONE, UNBOUND, Holder
+from ._replies import NoToken, Outcome, Quoted, Scheme, Shown, checked_realm, reply_to, token_in
 from ._waiting import Waiting
 
 _LOG = logging.getLogger("fowharimu")
@@ -20,48 +22,86 @@ class Validates(Protocol):
     def validate(self, token: str, now: None = None, access: Rule = NO_RULE) -> Claims: ...
 
 
-class Challenged(Exception):
-    """The request isn't let through: it is answered with this status and this `WWW-Authenticate`, if any."""
+class Sent(NamedTuple):
+    """What a request sends, each character an octet: the values of its headers `Authorization` and `DPoP`, its method, and its path as the client wrote it."""
 
-    def __init__(self, status: int, challenge: Optional[str] = None) -> None:
-        super().__init__(status, challenge)
+    authorizations: List[str]
+    proofs: List[str]
+    method: str
+    path: str
+
+
+class Challenged(Exception):
+    """The request isn't let through: it is answered with this status and these headers."""
+
+    def __init__(self, status: int, headers: List[Tuple[str, str]]) -> None:
+        super().__init__(status, headers)
         self.status = status
-        self.challenge = challenge
+        self.headers = headers
+
+
+class NoDPoP:
+    """That a guard takes no proofs: another thing than None, which somebody may have looked up and not found."""
+
+
+NO_DPOP = NoDPoP()
+
+
+class Asking(NamedTuple):
+    """A token that is shown, and what is asked of who sends it."""
+
+    shown: Shown
+    holder: Holder
+
+    @property
+    def words(self) -> Dict[str, Any]:
+        """What validate is handed beside the token (what stands for a validator may know no holders)."""
+        return {} if self.holder is ANYONE else {"holder": self.holder}
 
 
 class Bearer:
-    """Asks a validator, and an access rule where there is one, for the token behind the scheme Bearer."""
+    """Asks a validator, and an access rule where there is one, for the token of a request, and where proofs are taken, for its proof."""
 
-    def __init__(self, validator: Validates, access: Rule, realm: str) -> None:
+    def __init__(self, validator: Validates, access: Rule, realm: str, dpop: Union[DPoP, NoDPoP], refuses_bound: bool) -> None:
+        if not isinstance(dpop, (DPoP, NoDPoP)):
+            raise TypeError("dpop has to be a DPoP: where no proofs are taken, it is left out")
+        if not isinstance(refuses_bound, bool):
+            raise TypeError("refuses_bound has to be a bool")
         self._validator = validator
         self._access = checked(access)
         # (what stands for a validator may know no rules)
         self._words: Dict[str, Any] = {} if access is NO_RULE else {"access": access}
-        self._realm = checked_realm(realm)
+        self._dpop = dpop if isinstance(dpop, DPoP) else None
+        self._schemes = Scheme.BEARER if self._dpop is None else self._dpop.schemes
+        self._bearers = UNBOUND if refuses_bound or self._dpop is not None else ANYONE
+        self._quoted = Quoted(checked_realm(realm), algs=b"" if self._dpop is None else self._dpop.algs)
 
-    def claims(self, values: List[str]) -> Claims:
-        """The claims of the request whose headers Authorization have these values. Raises Challenged, and MemoryError, Closed and Undecided where
-        nothing is said of the token: a server answers these by 500."""
-        token = self._token(values)
-        return self._told(lambda: self._validator.validate(token, **self._words))
+    def claims(self, sent: Sent) -> Claims:
+        """The claims of the token of a request. Raises Challenged, and MemoryError, Closed and Undecided where nothing is said of the token: a server answers
+        these by 500."""
+        asking = self._asking(sent)
+        return self._told(asking, lambda: self._validator.validate(asking.shown.token.decode(), **self._words, **asking.words))
 
-    def claims_at_once(self, values: List[str]) -> Union[Claims, Waiting, None]:
+    def claims_at_once(self, sent: Sent) -> Union[Claims, Tuple[Asking, Waiting], None]:
         """The same, but for waiting: a token that waits for a fetch of keys, and None for what may have to be waited for in a thread."""
-        token = self._token(values)
-        return self._told(lambda: self._at_once(token))
+        asking = self._asking(sent)
+        said = self._told(asking, lambda: self._at_once(asking))
+        return (asking, said) if isinstance(said, Waiting) else said
 
-    def claims_at_last(self, waiting: Waiting) -> Claims:
+    def claims_at_last(self, asking: Asking, waiting: Waiting) -> Claims:
         """The claims of a token that waited, when its fetch is over. Raises as `claims` does."""
-        return self._told(waiting.claims)
+        return self._told(asking, waiting.claims)
 
-    def _at_once(self, token: str) -> Union[Claims, Waiting, None]:
+    def _at_once(self, asking: Asking) -> Union[Claims, Waiting, None]:
+        token = asking.shown.token.decode()
         if isinstance(self._validator, Validator):
-            return self._validator.validate(token, **self._words)
+            return self._validator.validate(token, **self._words, **asking.words)
         judge = getattr(self._validator, "_validate_at_once", None)
-        return None if judge is None else judge(token, self._access)
+        return None if judge is None else judge(token, self._access, asking.holder)
 
-    def _told(self, judge: Callable[[], _Said]) -> _Said:
+    def _told(self, asking: Asking, judge: Callable[[], _Said]) -> _Said:
         """What is said of a token; where it isn't accepted, the answer."""
+        shown = asking.shown.scheme
         try:
             return judge()
         except Undecided:
@@ -69,22 +109,36 @@ class Bearer:
         except Denied as denial:
             _LOG.info("%s", denial)
             outcome = Outcome.NOT_GRANTED if denial.scope is None else Outcome.SCOPE_MISSING
-            raise self._challenged(outcome, " ".join(denial.scopes)) from denial
+            raise self._challenged(shown, outcome, " ".join(denial.scopes)) from denial
         except TokenRefused as refusal:
             _LOG.info("%s", refusal)
-            outcome = Outcome.KEYS_TOO_OLD if refusal.fault == "KeysTooOld" else Outcome.NOT_ACCEPTED
-            raise self._challenged(outcome) from refusal
+            outcome = Outcome.KEYS_TOO_OLD if refusal.fault == "KeysTooOld" else Outcome(refusal._outcome)
+            raise self._challenged(shown, outcome) from refusal
 
-    def _challenged(self, outcome: Outcome, scopes: str = "") -> Challenged:
-        """The answer to a request of whose token this is known."""
-        return Challenged(*reply_to(outcome, self._realm, scopes.encode()))
+    def _challenged(self, shown: Scheme, outcome: Outcome, scopes: str = "") -> Challenged:
+        """The answer to a request of which this is known."""
+        reply = reply_to(self._schemes, shown, outcome, self._quoted._replace(scopes=scopes.encode()))
+        headers = [("WWW-Authenticate", it) for it in reply.challenges]
+        nonces = None if self._dpop is None else self._dpop.nonces
+        if reply.wants_nonce and nonces is not None:
+            headers += [("DPoP-Nonce", nonces.now()), ("Cache-Control", "no-store")]
+        return Challenged(reply.status, headers)
 
-    def _token(self, values: List[str]) -> str:
-        """The token of the one header. Raises Challenged."""
-        if len(values) > 1:
-            raise self._challenged(Outcome.SEVERAL)
+    def _asking(self, sent: Sent) -> Asking:
+        """The token of a request, and what is asked of who sends it. Raises Challenged."""
+        if len(sent.authorizations) > 1:
+            raise self._challenged(Scheme.NONE, Outcome.SEVERAL)
         try:
             # (as WSGI has it, each character an octet)
-            return token_in("".join(values).encode("latin-1", "replace")).decode()
+            shown = token_in(self._schemes, "".join(sent.authorizations).encode("latin-1", "replace"))
         except NoToken as lacking:
-            raise self._challenged(lacking.outcome) from None
+            raise self._challenged(lacking.scheme, lacking.outcome) from None
+        return Asking(shown, self._holder(shown, sent))
+
+    def _holder(self, shown: Shown, sent: Sent) -> Holder:
+        """What is asked of who sends a token that is shown. Raises Challenged where it takes a proof, and there isn't one."""
+        if self._dpop is None or shown.scheme != Scheme.DPOP:
+            return self._bearers
+        if len(sent.proofs) != 1:
+            raise self._challenged(shown.scheme, Outcome.PROOF_REFUSED)
+        return self._dpop.proof(sent.proofs[0], sent.method, sent.path)

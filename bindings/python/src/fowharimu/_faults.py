@@ -116,6 +116,9 @@ class Denied(FowharimuError):
 class TokenRefused(FowharimuError):
     """The token is refused. `fault` is the name that the program `jwt` prints, such as `Expired`."""
 
+    # by what a guard answers, the number of enum fow_outcome: FOW_NOT_ACCEPTED, where the library doesn't say another of a proof
+    _outcome = 5
+
     def __init__(self, fault: str, *others: object) -> None:
         super().__init__(fault, *others)
         self.fault = fault

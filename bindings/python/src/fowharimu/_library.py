@@ -15,9 +15,9 @@ from ._faults import AnotherLibrary
 
 # The number of the interface that this package is made for, and the most questions of one token that are taken as a rule: FOW_ABI and
 # FOW_MOST_QUESTIONS of fowharimu.h.
-ABI, MOST_QUESTIONS = 3, 64
+ABI, MOST_QUESTIONS = 4, 64
 
-OK, REFUSED, ASKS, OUT_OF_MEMORY, NOT_OPEN, TOO_SHORT, ABSENT, DENIED, UNNAMED = range(9)
+OK, REFUSED, ASKS, OUT_OF_MEMORY, NOT_OPEN, TOO_SHORT, ABSENT, DENIED, UNNAMED, NOT_EXPECTED = range(10)
 
 
 class CValidator(ctypes.Structure):
@@ -85,7 +85,7 @@ class CTry(ctypes.Structure):
 class CReply(ctypes.Structure):
     """fow_reply."""
 
-    _fields_ = [("status", ctypes.c_uint32), ("challenge", ctypes.c_uint32)]
+    _fields_ = [("status", ctypes.c_uint32), ("bearer", ctypes.c_uint32), ("dpop", ctypes.c_uint32)]
 
 
 class CRenewal(ctypes.Structure):
@@ -166,15 +166,20 @@ _SIGNATURES = {
     "fow_possession_open": (_U32, [_POSSESSION, *_IN, ctypes.POINTER(_U32)]),
     "fow_possession_judge": (_U32, [_POSSESSION, _VALIDATOR, *_IN * 5, ctypes.c_int64, ctypes.POINTER(_U32)]),
     "fow_possession_take": (_U32, [_POSSESSION, _ONCE, ctypes.c_int64, ctypes.POINTER(_U32)]),
+    "fow_possession_entry": (_U32, [_POSSESSION, ctypes.POINTER(ctypes.c_uint8), _SIZE, ctypes.POINTER(ctypes.c_uint64), ctypes.POINTER(_U32)]),
+    "fow_possession_algs": (_U32, [_POSSESSION, *_OUT]),
+    "fow_possession_fresh": (_U32, [_POSSESSION, *_IN, _U32, ctypes.c_int64]),
     "fow_possession_close": (None, [_POSSESSION]),
+    "fow_nonce": (_U32, [*_IN, _U32, ctypes.c_int64, *_OUT]),
+    "fow_proof_outcome": (_U32, [_U32, _U32]),
     "fow_bound": (_U32, [_VALIDATOR, ctypes.POINTER(_U32)]),
     "fow_certificate_holds": (_U32, [_VALIDATOR, *_IN]),
     "fow_fault_name": (ctypes.c_char_p, [_U32]),
     "fow_issue": (_U32, [_VALIDATOR, _U32, _U32, _U32, *_IN, *_IN, *_OUT, _REPORT]),
-    "fow_credentials": (_U32, [*_IN, ctypes.POINTER(_SIZE), ctypes.POINTER(_SIZE)]),
-    "fow_reply_to": (None, [_U32, ctypes.POINTER(CReply)]),
+    "fow_credentials": (_U32, [_U32, *_IN, ctypes.POINTER(_U32), ctypes.POINTER(_SIZE), ctypes.POINTER(_SIZE)]),
+    "fow_reply_to": (None, [_U32, _U32, _U32, ctypes.POINTER(CReply)]),
     "fow_quotable": (ctypes.c_bool, _IN),
-    "fow_challenge": (_U32, [_U32, *_IN, *_IN, *_OUT]),
+    "fow_challenge": (_U32, [_U32, _U32, *_IN * 3, *_OUT]),
     "fow_url_of": (_U32, [*_IN, ctypes.c_bool, ctypes.POINTER(CUrl)]),
     "fow_redirected": (_U32, [*_IN, *_IN, *_OUT]),
     "fow_metadata_url": (_U32, [_U32, *_IN, *_OUT]),

@@ -2,11 +2,12 @@
 
 from __future__ import annotations
 
+import contextlib
 import ctypes
 import operator
 import sys
 import threading
-from typing import Callable, NoReturn, Optional, Protocol, SupportsIndex, Tuple, Union, runtime_checkable
+from typing import Callable, Iterator, NoReturn, Optional, Protocol, SupportsIndex, Tuple, Union, runtime_checkable
 
 from . import _library
 from ._faults import NotTaken
@@ -16,6 +17,16 @@ from ._seats import Seat
 _WHY = {2: "Seen", 3: "Late", 4: "Full", 5: "NoId", 6: "NoEnd"}
 # FOW_MARK_LEN.
 MARK = 32
+
+
+@contextlib.contextmanager
+def of_proof() -> Iterator[None]:
+    """Has a guard answer that a proof is refused, where what is taken is one."""
+    try:
+        yield
+    except NotTaken as refusal:
+        refusal._outcome = _library.load().fow_proof_outcome(_library.REFUSED, 0)
+        raise
 
 
 class Once:
@@ -48,7 +59,8 @@ class Once:
 
     def take_proof(self, possession: _library.CPossession, moment: int) -> None:
         """Takes the proof that was accepted just now, at that moment. Raises as `take`."""
-        self._taken(self._library.fow_possession_take, (possession, self._held), moment)
+        with of_proof():
+            self._taken(self._library.fow_possession_take, (possession, self._held), moment)
 
     def _taken(self, take: Callable[..., int], held: Tuple[ctypes.Structure, ctypes.Structure], moment: int) -> None:
         """Takes by this call of the library."""
@@ -79,8 +91,17 @@ class _Stored:
 
     def take(self, seat: Seat, moment: int) -> None:
         """As Once.take. Raises what the store raises too."""
+        self._take(self._library.fow_once_entry, seat.held)
+
+    def take_proof(self, possession: _library.CPossession, moment: int) -> None:
+        """As Once.take_proof. Raises what the store raises too."""
+        with of_proof():
+            self._take(self._library.fow_possession_entry, possession)
+
+    def _take(self, entry: Callable[..., int], held: ctypes.Structure) -> None:
+        """Takes what this call of the library tells."""
         mark, until, lacks = (ctypes.c_uint8 * MARK)(), ctypes.c_uint64(), ctypes.c_uint32()
-        status = self._library.fow_once_entry(seat.held, mark, MARK, until, lacks)
+        status = entry(held, mark, MARK, until, lacks)
         if status == _library.REFUSED:
             raise NotTaken(_WHY[lacks.value])
         if status != _library.OK:

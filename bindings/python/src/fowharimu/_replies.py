@@ -4,7 +4,7 @@ from __future__ import annotations
 
 import ctypes
 import enum
-from typing import NamedTuple, Optional
+from typing import List, NamedTuple
 
 from ._library import ABSENT, OK, CReply, load_holding
 
@@ -13,35 +13,63 @@ from ._library import ABSENT, OK, CReply, load_holding
 _MOST_BESIDE = 64
 
 
-class Outcome(enum.IntEnum):
-    """What is known of the token of a request: enum fow_outcome."""
+class Scheme(enum.IntFlag):
+    """The schemes of `Authorization`: enum fow_scheme."""
 
-    UNANSWERED, ADMITTED, SEVERAL, NO_BEARER, MALFORMED = range(5)
+    NONE, BEARER, DPOP = 0, 1, 2
+
+
+class Outcome(enum.IntEnum):
+    """What is known of a request and its token: enum fow_outcome."""
+
+    UNANSWERED, ADMITTED, SEVERAL, NO_TOKEN, MALFORMED = range(5)
     NOT_ACCEPTED, SCOPE_MISSING, NOT_GRANTED, KEYS_TOO_OLD = range(5, 9)
+    PROOF_REFUSED, NONCE_WANTED = 9, 10
+
+
+class Shown(NamedTuple):
+    """The token that a request shows, and by which scheme."""
+
+    scheme: Scheme
+    token: bytes
+
+
+class Quoted(NamedTuple):
+    """What stands in challenges between quotation marks, as it is: the realm of the service, the scopes that a token needs, the algorithms of proofs."""
+
+    realm: bytes
+    scopes: bytes = b""
+    algs: bytes = b""
 
 
 class Reply(NamedTuple):
-    """A status of HTTP, and the value of `WWW-Authenticate` beside it, if any."""
+    """A status of HTTP, and the values of `WWW-Authenticate` beside it."""
 
     status: int
-    challenge: Optional[str]
+    challenges: List[str]
+    wants_nonce: bool
 
 
 class NoToken(Exception):
     """A request has no token that could be judged."""
 
-    def __init__(self, outcome: Outcome) -> None:
-        super().__init__(outcome)
+    def __init__(self, outcome: Outcome, scheme: Scheme) -> None:
+        super().__init__(outcome, scheme)
         self.outcome = outcome
+        self.scheme = scheme
 
 
-def token_in(value: bytes) -> bytes:
-    """The token in the value of the one header Authorization. Raises NoToken."""
-    begin, end = ctypes.c_size_t(), ctypes.c_size_t()
-    status = load_holding().fow_credentials(value, len(value), ctypes.byref(begin), ctypes.byref(end))
+# enum fow_challenge_kind: no challenge, and that which asks for a nonce.
+_NO_CHALLENGE, _USE_DPOP_NONCE = 0, 7
+
+
+def token_in(schemes: Scheme, value: bytes) -> Shown:
+    """The token in the value of the one header Authorization, by a scheme that is taken. Raises NoToken."""
+    scheme, begin, end = ctypes.c_uint32(), ctypes.c_size_t(), ctypes.c_size_t()
+    status = load_holding().fow_credentials(schemes, value, len(value), scheme, begin, end)
     if status != OK:
-        raise NoToken(Outcome.NO_BEARER if status == ABSENT else Outcome.MALFORMED)
-    return value[begin.value : end.value]
+        raise NoToken(Outcome.NO_TOKEN if status == ABSENT else Outcome.MALFORMED, Scheme(scheme.value))
+    return Shown(Scheme(scheme.value), value[begin.value : end.value])
 
 
 def checked_realm(realm: str) -> bytes:
@@ -52,12 +80,20 @@ def checked_realm(realm: str) -> bytes:
     return octets
 
 
-def reply_to(outcome: Outcome, realm: bytes, scopes: bytes = b"") -> Reply:
-    """What a request is answered of whose token this is known. The realm can be quoted, and so can scopes of an access rule."""
+def reply_to(schemes: Scheme, shown: Scheme, outcome: Outcome, quoted: Quoted) -> Reply:
+    """What a request is answered of which this is known, whose token was shown by that scheme."""
     library, reply = load_holding(), CReply()
-    library.fow_reply_to(outcome, ctypes.byref(reply))
-    room, written = ctypes.create_string_buffer(len(realm) + len(scopes) + _MOST_BESIDE), ctypes.c_size_t()
-    quoted = (realm, len(realm), scopes, len(scopes))
-    status = library.fow_challenge(reply.challenge, *quoted, room, len(room), ctypes.byref(written))
-    challenge = room.raw[: written.value].decode() if status == OK else ""
-    return Reply(reply.status, challenge or None)
+    library.fow_reply_to(schemes, shown, outcome, ctypes.byref(reply))
+    kinds = ((Scheme.BEARER, reply.bearer), (Scheme.DPOP, reply.dpop))
+    challenges = [_challenge(scheme, kind, quoted) for scheme, kind in kinds if kind != _NO_CHALLENGE]
+    return Reply(reply.status, challenges, reply.dpop == _USE_DPOP_NONCE)
+
+
+def _challenge(scheme: Scheme, kind: int, quoted: Quoted) -> str:
+    """The text of a challenge, whose parts can be quoted."""
+    parts = [it for octets in quoted for it in (octets, len(octets))]
+    room, written = ctypes.create_string_buffer(sum(map(len, quoted)) + _MOST_BESIDE), ctypes.c_size_t()
+    status = load_holding().fow_challenge(scheme, kind, *parts, room, len(room), written)
+    if status != OK:
+        raise ValueError("a challenge quotes what can't be quoted")
+    return room.raw[: written.value].decode()

@@ -9,12 +9,13 @@ that waits for a fetch of keys by URL holds no thread, and the others don't wait
 from __future__ import annotations
 
 import asyncio
-from typing import Any, Awaitable, Callable, Dict, List
+from typing import Any, Awaitable, Callable, Dict, Union
 
 from . import Claims
 from ._access import NO_RULE, Rule
-from ._bearer import Bearer, Challenged, Validates
-from ._waiting import Fetching, Waiting
+from ._bearer import NO_DPOP, Bearer, Challenged, NoDPoP, Sent, Validates
+from ._dpop import DPoP, spelled
+from ._waiting import Fetching
 
 Message = Dict[str, Any]
 Receive = Callable[[], Awaitable[Message]]
@@ -30,9 +31,13 @@ class Guard:
 
     Else the answer is 400, 401 or 403, with `WWW-Authenticate` (RFC 6750, section 3), or 503 where keys by URL are too old; a WebSocket is closed before it
     is open. Where nothing is said of a token, for want of memory, the exception is the server's, which answers 500. With `hides_token` the application
-    isn't shown `Authorization`.
+    isn't shown `Authorization`, nor `DPoP`.
 
-    Raises TypeError for an access rule that is none, such as None: where no rule is meant, it is left out.
+    With `dpop` tokens that are bound to a key are taken too, with a proof in each request (RFC 9449, section 7), or alone. With `refuses_bound`, and wherever proofs
+    are taken, a bearer's token that is bound is refused. The path of a proof's URI is `raw_path`, where the server tells it, else `path` behind
+    `root_path`, encoded.
+
+    Raises TypeError for an access rule or a dpop that is none, such as None: where none is meant, it is left out.
     """
 
     def __init__(
@@ -43,32 +48,51 @@ class Guard:
         *,
         realm: str = "jwt",
         hides_token: bool = False,
+        dpop: Union[DPoP, NoDPoP] = NO_DPOP,
+        refuses_bound: bool = False,
     ) -> None:
         self._app = app
-        self._bearer = Bearer(validator, access, realm)
+        self._bearer = Bearer(validator, access, realm, dpop, refuses_bound)
         self._hides_token = hides_token
 
     async def __call__(self, scope: Message, receive: Receive, send: Send) -> None:
         if scope["type"] == "lifespan":
             await self._app(scope, receive, send)
             return
-        values = [value.decode("latin-1") for name, value in scope["headers"] if name.lower() == b"authorization"]
         try:
-            claims = await self._claims(values)
+            claims = await self._claims(_sent(scope))
         except Challenged as why:
             await _refuse(scope, send, why)
             return
-        shown = [it for it in scope["headers"] if not (self._hides_token and it[0].lower() == b"authorization")]
+        shown = [it for it in scope["headers"] if not (self._hides_token and it[0].lower() in (b"authorization", b"dpop"))]
         await self._app({**scope, "headers": shown, "state": {**scope.get("state", {}), "claims": claims}}, receive, send)
 
-
-    async def _claims(self, values: List[str]) -> Claims:
-        said = self._bearer.claims_at_once(values)
-        if isinstance(said, Waiting):
-            await _over(said.fetch)
-            return self._bearer.claims_at_last(said)
+    async def _claims(self, sent: Sent) -> Claims:
+        said = self._bearer.claims_at_once(sent)
+        if isinstance(said, tuple):
+            asking, waiting = said
+            await _over(waiting.fetch)
+            return self._bearer.claims_at_last(asking, waiting)
         # (what stands for a validator may wait for anything)
-        return await asyncio.to_thread(self._bearer.claims, values) if said is None else said
+        return await asyncio.to_thread(self._bearer.claims, sent) if said is None else said
+
+
+def _sent(scope: Message) -> Sent:
+    """What a request sends. A WebSocket is asked for by GET (RFC 6455, section 4.1)."""
+    authorizations, proofs = (
+        [value.decode("latin-1") for name, value in scope["headers"] if name.lower() == wanted] for wanted in (b"authorization", b"dpop")
+    )
+    return Sent(authorizations, proofs, scope.get("method", "GET"), _path(scope))
+
+
+def _path(scope: Message) -> str:
+    """The path that the client wrote."""
+    if scope.get("raw_path"):
+        # (some servers have the query behind it)
+        return str(scope["raw_path"].split(b"?")[0].decode("latin-1"))
+    # (in an application that is mounted, some frameworks leave what it is mounted at out of the path)
+    root, path = scope.get("root_path", "").rstrip("/"), scope.get("path", "")
+    return spelled(path if f"{path}/".startswith(f"{root}/") else root + path)
 
 
 async def _over(fetch: Fetching) -> None:
@@ -95,7 +119,6 @@ async def _refuse(scope: Message, send: Send, why: Challenged) -> None:
     if scope["type"] == "websocket":
         await send({"type": "websocket.close", "code": _POLICY_VIOLATION})
         return
-    challenge = [] if why.challenge is None else [(b"www-authenticate", why.challenge.encode())]
-    headers = [*challenge, (b"content-length", b"0")]
+    headers = [*((name.lower().encode(), value.encode()) for name, value in why.headers), (b"content-length", b"0")]
     await send({"type": "http.response.start", "status": why.status, "headers": headers})
     await send({"type": "http.response.body", "body": b""})

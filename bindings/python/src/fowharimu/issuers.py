@@ -54,15 +54,15 @@ class Issuers:
             raise _refused()
         return chosen.validate(octets, now, access, expected=expected, holder=holder)
 
-    def _validate_at_once(self, token: Text, access: Rule) -> Union[Claims, Waiting]:
+    def _validate_at_once(self, token: Text, access: Rule, holder: Holder) -> Union[Claims, Waiting]:
         """As of RemoteKeys."""
         octets = octets_of(token, "a token")
         chosen = self._chosen(octets)
         if isinstance(chosen, RemoteKeys):
-            return chosen._validate_at_once(octets, access)
+            return chosen._validate_at_once(octets, access, holder)
         if chosen is None:
             raise _refused()
-        return chosen.validate(octets, None, access)
+        return chosen.validate(octets, None, access, holder=holder)
 
     def judge(self, token: Text, now: Optional[SupportsIndex] = None) -> Report:
         """As Validator.judge. Where there is no validator of the issuer that the token names, the report has that refusal and nothing else."""

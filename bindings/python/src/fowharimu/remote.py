@@ -339,15 +339,15 @@ class RemoteKeys:
                 raise
         return newer.validate(octets, now, access, expected=expected, holder=holder)
 
-    def _validate_at_once(self, token: Text, access: Rule) -> Union[Claims, Waiting]:
+    def _validate_at_once(self, token: Text, access: Rule, holder: Holder) -> Union[Claims, Waiting]:
         """As validate, but for waiting: that is who asks to do."""
         octets = octets_of(token, "a token")
         used = self._used()
         if used is None:
             fetch = self._admitted(Asker.TOKEN, 0, octets)
-            return self._at_last(fetch, lambda: self._fresh().validator.validate(octets, None, access))
+            return self._at_last(fetch, lambda: self._fresh().validator.validate(octets, None, access, holder=holder))
         try:
-            return used.validator.validate(octets, None, access)
+            return used.validator.validate(octets, None, access, holder=holder)
         except SignatureRefused as refusal:
             if not _asks_for_keys(refusal):
                 raise
@@ -357,7 +357,7 @@ class RemoteKeys:
             newer = self._other(by)
             if newer is None:
                 raise why
-            return newer.validate(octets, None, access)
+            return newer.validate(octets, None, access, holder=holder)
 
         return self._at_last(self._admitted(Asker.REFUSED, by.keys, octets), judge)
 

@@ -2,15 +2,17 @@
 
     app.wsgi_app = Guard(app.wsgi_app, Validator(policy, keys))
 
-The claims are `request.environ["fowharimu.claims"]`. A server joins two headers Authorization by a comma, which no token has.
+The claims are `request.environ["fowharimu.claims"]`. A server joins two headers Authorization by a comma, which no token has, and so it does two headers DPoP.
 """
 
 from __future__ import annotations
 
-from typing import Any, Callable, Dict, Iterable
+from typing import Any, Callable, Dict, Iterable, List, Union
+from urllib.parse import unquote_to_bytes
 
 from ._access import NO_RULE, Rule
-from ._bearer import Bearer, Challenged, Validates
+from ._bearer import NO_DPOP, Bearer, Challenged, NoDPoP, Sent, Validates
+from ._dpop import DPoP, spelled
 
 Environ = Dict[str, Any]
 StartResponse = Callable[..., Any]
@@ -23,9 +25,13 @@ class Guard:
     """An application before another, which is asked only where the request's token is accepted now, and its claims meet the access rule.
 
     Else the answer is 400, 401 or 403, with `WWW-Authenticate` (RFC 6750, section 3), or 503 where keys by URL are too old. Where nothing is said of a
-    token, for want of memory, the exception is the server's, which answers 500. With `hides_token` the application isn't shown `Authorization`.
+    token, for want of memory, the exception is the server's, which answers 500. With `hides_token` the application isn't shown `Authorization`, nor `DPoP`.
 
-    Raises TypeError for an access rule that is none, such as None: where no rule is meant, it is left out.
+    With `dpop` tokens that are bound to a key are taken too, with a proof in each request (RFC 9449, section 7), or alone. With `refuses_bound`, and wherever proofs
+    are taken, a bearer's token that is bound is refused. The path of a proof's URI is `SCRIPT_NAME` and `PATH_INFO`, as the client wrote it where
+    the server tells that in `REQUEST_URI` or `RAW_URI`, else encoded.
+
+    Raises TypeError for an access rule or a dpop that is none, such as None: where none is meant, it is left out.
     """
 
     def __init__(
@@ -36,18 +42,38 @@ class Guard:
         *,
         realm: str = "jwt",
         hides_token: bool = False,
+        dpop: Union[DPoP, NoDPoP] = NO_DPOP,
+        refuses_bound: bool = False,
     ) -> None:
         self._application = application
-        self._bearer = Bearer(validator, access, realm)
+        self._bearer = Bearer(validator, access, realm, dpop, refuses_bound)
         self._hides_token = hides_token
 
     def __call__(self, environ: Environ, start_response: StartResponse) -> Iterable[bytes]:
-        value = environ.get("HTTP_AUTHORIZATION")
         try:
-            claims = self._bearer.claims([] if value is None else [value])
+            claims = self._bearer.claims(_sent(environ))
         except Challenged as why:
-            challenge = [] if why.challenge is None else [("WWW-Authenticate", why.challenge)]
-            start_response(_STATUS[why.status], [*challenge, ("Content-Length", "0")])
+            start_response(_STATUS[why.status], [*why.headers, ("Content-Length", "0")])
             return []
-        shown = {name: it for name, it in environ.items() if not (self._hides_token and name == "HTTP_AUTHORIZATION")}
+        shown = {name: it for name, it in environ.items() if not (self._hides_token and name in _HIDDEN)}
         return self._application({**shown, "fowharimu.claims": claims}, start_response)
+
+
+# What the application isn't shown, where the token is hidden.
+_HIDDEN = ("HTTP_AUTHORIZATION", "HTTP_DPOP")
+
+
+def _sent(environ: Environ) -> Sent:
+    """What a request sends."""
+    authorizations, proofs = ([environ[name]] if name in environ else [] for name in _HIDDEN)  # type: List[str], List[str]
+    return Sent(authorizations, proofs, environ.get("REQUEST_METHOD", ""), _path(environ))
+
+
+def _path(environ: Environ) -> str:
+    """The path that the application sees, in the client's spelling of it where that is known."""
+    seen = (environ.get("SCRIPT_NAME", "") + environ.get("PATH_INFO", "")).encode("latin-1", "replace")
+    for name in ("REQUEST_URI", "RAW_URI"):
+        written = environ.get(name, "").split("?")[0]  # type: str
+        if unquote_to_bytes(written.encode("latin-1", "replace")) == seen:
+            return written
+    return spelled(seen)
