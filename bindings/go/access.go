@@ -3,8 +3,6 @@ package fowharimu
 import (
 	"fmt"
 	"runtime"
-	"sync"
-	"sync/atomic"
 )
 
 // Access is an access rule: which scopes and which values of claims an accepted token has to have. Goroutines may share it: the library's rule is
@@ -13,16 +11,7 @@ import (
 type Access struct {
 	scopes   []string
 	document []byte
-	free     sync.Pool
-	mutex    sync.Mutex // guards what is below; a call takes it where the pool has no rule
-	places   []*place
-	closed   bool
-}
-
-// place is a rule of the library that one call at a time holds against claims. Its states are those of a seat.
-type place struct {
-	rule  rule
-	state atomic.Int32
+	rules    places[*rule]
 }
 
 // AccessError says why an access rule is refused.
@@ -61,13 +50,14 @@ func OpenAccess(document []byte) (*Access, error) {
 	if err := compare(); err != nil {
 		return nil, err
 	}
-	a := &Access{document: append([]byte(nil), document...)}
-	first := new(place)
-	if err := a.open(&first.rule); err != nil {
-		first.rule.close()
+	document = append([]byte(nil), document...)
+	a := &Access{document: document}
+	first := new(rule)
+	if err := a.open(first); err != nil {
+		first.close()
 		return nil, err
 	}
-	a.places = append(a.places, first)
+	a.rules.begin(first, func() (*rule, error) { return anotherRule(document) })
 	runtime.SetFinalizer(a, (*Access).Close)
 	return a, nil
 }
@@ -97,44 +87,14 @@ func (a *Access) open(r *rule) error {
 	}
 }
 
-// take gives a rule that no other call has. The error is ErrOutOfMemory or ErrClosed.
-func (a *Access) take() (*place, error) {
-	if p, is := a.free.Get().(*place); is && p.state.CompareAndSwap(seatFree, seatTaken) {
-		return p, nil
-	}
-	return a.takeAny()
-}
-
-// takeAny gives a free rule among all, since the pool forgets what the garbage collector finds in it, or else a new one.
-func (a *Access) takeAny() (*place, error) {
-	a.mutex.Lock()
-	defer a.mutex.Unlock()
-	// An Access that OpenAccess didn't make holds no rule.
-	if a.closed || len(a.places) == 0 {
-		return nil, ErrClosed
-	}
-	for _, p := range a.places {
-		if p.state.CompareAndSwap(seatFree, seatTaken) {
-			return p, nil
-		}
-	}
-	p := new(place)
-	if status, _ := p.rule.open(a.document); status != statusOK {
-		p.rule.close()
+// anotherRule gives one more rule of a document that was read before. The error is ErrOutOfMemory.
+func anotherRule(document []byte) (*rule, error) {
+	r := new(rule)
+	if status, _ := r.open(document); status != statusOK {
+		r.close()
 		return nil, ErrOutOfMemory
 	}
-	p.state.Store(seatTaken)
-	a.places = append(a.places, p)
-	return p, nil
-}
-
-// give gives a rule back. Where all was closed meanwhile, the call was the last to hold it, and frees it.
-func (a *Access) give(p *place) {
-	if p.state.CompareAndSwap(seatTaken, seatFree) {
-		a.free.Put(p)
-		return
-	}
-	p.rule.close()
+	return r, nil
 }
 
 // Scopes are the scopes that have to be granted, in the order of the rule.
@@ -144,15 +104,7 @@ func (a *Access) Scopes() []string {
 
 // Close frees what is held, and what calls under way have when they end. It may be called twice. The error is nil.
 func (a *Access) Close() error {
-	a.mutex.Lock()
-	defer a.mutex.Unlock()
-	a.closed = true
-	for _, p := range a.places {
-		if p.state.Swap(seatGone) == seatFree {
-			p.rule.close()
-		}
-	}
-	a.places = nil
+	a.rules.close()
 	return nil
 }
 
@@ -162,19 +114,20 @@ func (a *Access) check(s *seat) error {
 	if a == nil {
 		return ErrClosed
 	}
-	p, err := a.take()
+	p, err := a.rules.take()
 	if err != nil {
 		return err
 	}
-	defer a.give(p)
-	status, denial := p.rule.denied(&s.held)
+	defer a.rules.give(p)
+	rule := p.held
+	status, denial := rule.denied(&s.held)
 	if status == statusOK {
 		return nil
 	}
 	if status != statusDenied {
 		return ErrOutOfMemory
 	}
-	name, status := p.rule.deniedName(&s.held)
+	name, status := rule.deniedName(&s.held)
 	if status != statusOK {
 		return ErrOutOfMemory
 	}

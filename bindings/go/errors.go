@@ -5,7 +5,7 @@ import (
 	"fmt"
 )
 
-// ErrClosed says that the validator, its access rule or its memory of tokens that count once was closed, or was never opened.
+// ErrClosed says that the validator, its access rule, its memory of tokens that count once or a policy for proofs was closed, or was never opened.
 var ErrClosed = errors.New("fowharimu: the validator is closed")
 
 // ErrOutOfMemory says that the library was refused an allocation, and that nothing is said of the token.
@@ -56,7 +56,8 @@ func (e *KeysError) Error() string {
 }
 
 // Refusal is the error of a token that isn't accepted: a *TooLongError, *FormError, *CeilingError, *SignatureError, *ClaimsError or
-// *UndecidedError; a *NotExpectedError where the call expects something else, a *NotTakenError where it counts once, and a *TooOldError of keys by URL.
+// *UndecidedError; a *NotExpectedError where the call expects something else, a *NotHeldError where its sender hasn't shown the key that it is bound to, a
+// *NotTakenError where it, or its proof, counts once, and a *TooOldError of keys by URL.
 // errors.As finds it. Another error says nothing of the token.
 type Refusal interface {
 	error

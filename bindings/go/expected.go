@@ -51,6 +51,9 @@ type call struct {
 	now      time.Time
 	rules    []*Access
 	expected []expectation
+	bindings []binding
+	proof    *shown // the proof that came with the token; nil where none is asked for
+	err      error  // why this is no call
 }
 
 // expectation holds what is expected of a claim against the token that a seat has accepted just now, and answers the status and what isn't met.
@@ -100,8 +103,8 @@ func callOf(how []Asked) *call {
 	return c
 }
 
-// check holds the rules, and then what is expected, in its order, against the token that a seat has accepted just now. The error is a *DeniedError, a
-// *NotExpectedError, ErrExpectation, ErrClosed or ErrOutOfMemory.
+// check holds the rules, and then what is expected, in its order, against the token that a seat has accepted just now, and then who sent it. The error is a
+// *DeniedError, a *NotExpectedError, a *NotHeldError, ErrExpectation, ErrClosed or ErrOutOfMemory.
 func (c *call) check(s *seat, token string, signature int) error {
 	for _, rule := range c.rules {
 		if err := rule.check(s); err != nil {
@@ -114,7 +117,7 @@ func (c *call) check(s *seat, token string, signature int) error {
 			return err
 		}
 	}
-	return nil
+	return c.checkSender(s, token)
 }
 
 // failed says why it isn't met, and gives nil where it is.

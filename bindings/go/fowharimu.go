@@ -116,7 +116,7 @@ func (v *Validator) Validate(token string) (Claims, error) {
 
 // ValidateAt is Validate at another moment, of which a fraction of a second is left out.
 func (v *Validator) ValidateAt(token string, now time.Time) (Claims, error) {
-	return v.validate(token, now, func(*seat, int) error { return nil })
+	return v.validate(token, now, func(*seat, int) error { return nil }, takeNothing)
 }
 
 // ValidateFor is Validate where the claims have to meet an access rule too. The error is a *DeniedError where they don't, a Refusal,
@@ -127,19 +127,28 @@ func (v *Validator) ValidateFor(token string, access *Access) (Claims, error) {
 
 // ValidateForAt is ValidateFor at another moment, of which a fraction of a second is left out.
 func (v *Validator) ValidateForAt(token string, now time.Time, access *Access) (Claims, error) {
-	return v.validate(token, now, func(s *seat, _ int) error { return access.check(s) })
+	return v.validate(token, now, func(s *seat, _ int) error { return access.check(s) }, takeNothing)
 }
 
-// ValidateWith is Validate with what the call asks beside: an access rule (For), what it expects of claims (ExpectText, ExpectHalfHash), another moment (At).
-// They are held in that order, expectations in the order in which they stand, and before a token is taken that counts once. The error is a *DeniedError
-// or a *NotExpectedError for the first that isn't met, ErrExpectation, a Refusal, ErrOutOfMemory or ErrClosed.
+// ValidateWith is Validate with what the call asks beside: an access rule (For), what it expects of claims (ExpectText, ExpectHalfHash), what it asks of the
+// sender (ByProof, ByCertificate, Unbound), another moment (At). They are held in that order, expectations in the order in which they stand, and before a proof
+// is taken, and a token that counts once. The error is a *DeniedError, a *NotExpectedError or a *NotHeldError for the first that isn't met, ErrExpectation, ErrProof,
+// a Refusal, ErrOutOfMemory or ErrClosed.
 func (v *Validator) ValidateWith(token string, how ...Asked) (Claims, error) {
 	asked := callOf(how)
-	return v.validate(token, asked.now, func(s *seat, signature int) error { return asked.check(s, token, signature) })
+	if asked.err != nil {
+		return Claims{}, asked.err
+	}
+	defer asked.end()
+	return v.validate(token, asked.now, func(s *seat, signature int) error { return asked.check(s, token, signature) }, asked.take)
 }
 
-// validate gives the claims of a token that is accepted, where nothing speaks against it then. The check has the number of the signature that was verified.
-func (v *Validator) validate(token string, now time.Time, check func(s *seat, signature int) error) (Claims, error) {
+// takeNothing is of a call that takes nothing beside a token that counts once.
+func takeNothing() error { return nil }
+
+// validate gives the claims of a token that is accepted, where nothing speaks against it then. The check has the number of the signature that was verified, and
+// what else is taken is taken behind it.
+func (v *Validator) validate(token string, now time.Time, check func(s *seat, signature int) error, take func() error) (Claims, error) {
 	s, err := v.take()
 	if err != nil {
 		return Claims{}, err
@@ -159,7 +168,10 @@ func (v *Validator) validate(token string, now time.Time, check func(s *seat, si
 	if status != statusOK {
 		return Claims{}, ErrOutOfMemory
 	}
-	// (last, so that nothing which fails has used the token up)
+	// (last, so that nothing which fails has used them up; a client makes another proof, and no other token)
+	if err := take(); err != nil {
+		return Claims{}, err
+	}
 	if v.once != nil {
 		if err := v.once.take(s, now); err != nil {
 			return Claims{}, err

@@ -38,6 +38,8 @@ type Once struct {
 // jti, or no exp.
 type NotTakenError struct {
 	Fault string
+	// Outcome is what a service answers a request with this token, or with this proof.
+	Outcome Outcome
 }
 
 func (e *NotTakenError) Error() string {
@@ -89,18 +91,32 @@ func Taking(once *Once) Option {
 
 // take takes the token that a seat has accepted just now, at that moment. The error is a *NotTakenError, ErrOutOfMemory, or ErrClosed.
 func (o *Once) take(s *seat, now time.Time) error {
+	return o.takeBy(NotAccepted, func(taken *C.uint32_t) C.uint32_t {
+		return C.fow_once_take(o.at, &s.held.at.validator, C.int64_t(now.Unix()), taken)
+	})
+}
+
+// takeProof takes the proof that was accepted just now, at that moment. The errors are those of take.
+func (o *Once) takeProof(p *possession, now time.Time) error {
+	return o.takeBy(Outcome(C.fow_proof_outcome(C.FOW_REFUSED, C.FOW_NO_FAULT)), func(taken *C.uint32_t) C.uint32_t {
+		return C.fow_possession_take(p.at, o.at, C.int64_t(now.Unix()), taken)
+	})
+}
+
+// takeBy takes by this call of the library. The outcome is that of what isn't taken.
+func (o *Once) takeBy(outcome Outcome, call func(taken *C.uint32_t) C.uint32_t) error {
 	o.mutex.Lock()
 	defer o.mutex.Unlock()
 	if o.at == nil {
 		return ErrClosed
 	}
 	var taken C.uint32_t
-	status := C.fow_once_take(o.at, &s.held.at.validator, C.int64_t(now.Unix()), &taken)
+	status := call(&taken)
 	if status == statusOK && taken == C.FOW_TAKEN_NEW {
 		return nil
 	}
 	if why, found := whyNotTaken[taken]; found && status == statusRefused {
-		return &NotTakenError{why}
+		return &NotTakenError{why, outcome}
 	}
 	return ErrOutOfMemory
 }

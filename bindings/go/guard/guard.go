@@ -1,4 +1,4 @@
-// Package guard lets HTTP requests through where their token is accepted (RFC 6750).
+// Package guard lets HTTP requests through where their token is accepted (RFC 6750), and where the service asks for it, whoever sends it holds its key (RFC 9449).
 //
 //	http.Handle("/api/", guard.Bearer(validator)(api))
 //
@@ -9,6 +9,8 @@ import (
 	"context"
 	"errors"
 	"net/http"
+	"net/url"
+	"regexp"
 	"strings"
 
 	"example.org/fowharimu"
@@ -17,10 +19,12 @@ import (
 // ErrForm says that what stands behind the scheme is no b64token (RFC 6750, section 2.1).
 var ErrForm = errors.New("guard: the credentials are no b64token")
 
+// ErrProof says that a request whose token stands behind the scheme DPoP hasn't one header DPoP (RFC 9449, section 4.3).
+var ErrProof = errors.New("guard: there has to be one header DPoP")
+
 // Validator is what a guard asks: a *fowharimu.Validator, *fowharimu.RemoteKeys, or *fowharimu.Issuers.
 type Validator interface {
-	Validate(token string) (fowharimu.Claims, error)
-	ValidateFor(token string, access *fowharimu.Access) (fowharimu.Claims, error)
+	ValidateWith(token string, how ...fowharimu.Asked) (fowharimu.Claims, error)
 }
 
 // Option says how requests are guarded.
@@ -28,8 +32,11 @@ type Option func(*guard)
 
 type guard struct {
 	validator Validator
-	access    *fowharimu.Access
-	asks      bool // there is an access rule
+	schemes   fowharimu.Scheme
+	asked     []fowharimu.Asked // of each request
+	ofBearers []fowharimu.Asked // of one whose token is a bearer's
+	proofs    *Proofs
+	algs      string // of proofs
 	realm     string
 	hides     bool
 	tell      func(*http.Request, error)
@@ -38,7 +45,50 @@ type guard struct {
 
 // Access has the claims meet an access rule too; where they don't, the answer is 403. Where the rule is nil, since it was refused, it is 500.
 func Access(rule *fowharimu.Access) Option {
-	return func(g *guard) { g.access, g.asks = rule, true }
+	return func(g *guard) { g.asked = append(g.asked, fowharimu.For(rule)) }
+}
+
+// Proofs is how a guard takes tokens that are bound to a key, with a proof in each request (DPoP, RFC 9449).
+type Proofs struct {
+	// Of is the policy for proofs, with the memory in which they are taken.
+	Of *fowharimu.Proofs
+	// Origin is the scheme and the host that clients see, as https://api.example, with no path. Nothing of a request is taken for it, Host and X-Forwarded-Host neither. The path is
+	// that of the request's RequestURI, which the client wrote.
+	Origin string
+	// Only says that no bearer's token is taken. Else one is, unless it is bound.
+	Only bool
+	// Nonces are those that each proof has to have one of. Where it is nil, none is asked for.
+	Nonces *fowharimu.Nonces
+}
+
+// DPoP takes tokens of the scheme DPoP, with proofs. It panics for an origin that isn't a scheme and a host, and where there is no policy for proofs, or a closed one.
+func DPoP(proofs Proofs) Option {
+	if !origin.MatchString(proofs.Origin) {
+		panic("guard: an origin is a scheme and a host, as https://api.example, and has no path")
+	}
+	if proofs.Of == nil {
+		panic("guard: there is no policy for proofs")
+	}
+	algs, err := proofs.Of.Algs()
+	if err != nil {
+		panic("guard: the policy for proofs can't be asked: " + err.Error())
+	}
+	return func(g *guard) {
+		g.algs = algs
+		g.schemes = fowharimu.DPoP
+		if !proofs.Only {
+			g.schemes |= fowharimu.Bearer
+		}
+		g.proofs = &proofs
+		g.ofBearers = []fowharimu.Asked{fowharimu.Unbound()}
+	}
+}
+
+var origin = regexp.MustCompile(`^(?i:https?)://[A-Za-z0-9._~!$&'()*+,;=:\[\]%-]+$`)
+
+// RefuseBound refuses a token that is bound: else whoever stole it could use it (RFC 9449, section 7.2). With DPoP it is so in any case.
+func RefuseBound() Option {
+	return func(g *guard) { g.ofBearers = []fowharimu.Asked{fowharimu.Unbound()} }
 }
 
 // Realm is the realm that a request without a token is told: jwt without this. It panics for one that a quoted string can't have: a realm has printable
@@ -50,7 +100,7 @@ func Realm(realm string) Option {
 	return func(g *guard) { g.realm = realm }
 }
 
-// HideToken keeps the header Authorization from the handler behind.
+// HideToken keeps the headers Authorization and DPoP from the handler behind.
 func HideToken() Option {
 	return func(g *guard) { g.hides = true }
 }
@@ -70,10 +120,10 @@ func ClaimsOf(c context.Context) (fowharimu.Claims, bool) {
 	return claims, found
 }
 
-// Bearer lets a request through where the token behind the scheme Bearer is accepted now. Else it answers 400, 401 or 403, with WWW-Authenticate
-// (RFC 6750, section 3), 503 where keys by URL are too old, and 500 where nothing can be said of the token.
+// Bearer lets a request through where the token behind the scheme Bearer is accepted now; with DPoP one behind the scheme DPoP too, with its proof. Else it answers 400, 401 or 403, with
+// WWW-Authenticate (RFC 6750, section 3; RFC 9449, section 7.1), 503 where keys by URL are too old, and 500 where nothing can be said of the token.
 func Bearer(validator Validator, how ...Option) func(http.Handler) http.Handler {
-	chosen := guard{validator: validator, realm: "jwt", tell: func(*http.Request, error) {}}
+	chosen := guard{validator: validator, schemes: fowharimu.Bearer, realm: "jwt", tell: func(*http.Request, error) {}}
 	for _, choose := range how {
 		choose(&chosen)
 	}
@@ -88,33 +138,62 @@ func Bearer(validator Validator, how ...Option) func(http.Handler) http.Handler 
 func (g *guard) ServeHTTP(w http.ResponseWriter, r *http.Request) {
 	values := r.Header.Values("Authorization")
 	if len(values) > 1 {
-		g.answer(w, fowharimu.Several, "")
+		g.answer(w, fowharimu.NoScheme, fowharimu.Several, "")
 		return
 	}
-	token, outcome := fowharimu.BearerToken(strings.Join(values, ""))
-	if outcome == fowharimu.NoBearer {
-		g.answer(w, outcome, "")
+	token, scheme, outcome := fowharimu.TokenIn(g.schemes, strings.Join(values, ""))
+	if outcome == fowharimu.NoToken {
+		g.answer(w, scheme, outcome, "")
 		return
 	}
-	claims, err := g.validate(token, outcome)
+	claims, err := g.validate(r, token, scheme, outcome)
 	if err != nil {
 		g.tell(r, err)
 		outcome, scopes := outcomeOf(err)
-		g.answer(w, outcome, scopes)
+		g.answer(w, scheme, outcome, scopes)
 		return
 	}
 	g.next.ServeHTTP(w, g.shown(r.WithContext(context.WithValue(r.Context(), claimsKey{}, claims))))
 }
 
-// validate gives the claims of an accepted token that meet the rule.
-func (g *guard) validate(token string, outcome fowharimu.Outcome) (fowharimu.Claims, error) {
+// validate gives the claims of an accepted token that meet the rule, and whose sender holds its key where that is asked.
+func (g *guard) validate(r *http.Request, token string, scheme fowharimu.Scheme, outcome fowharimu.Outcome) (fowharimu.Claims, error) {
 	if outcome == fowharimu.Malformed {
 		return fowharimu.Claims{}, ErrForm
 	}
-	if !g.asks {
-		return g.validator.Validate(token)
+	if scheme != fowharimu.DPoP {
+		return g.validator.ValidateWith(token, append(g.ofBearers[:len(g.ofBearers):len(g.ofBearers)], g.asked...)...)
 	}
-	return g.validator.ValidateFor(token, g.access)
+	proof, err := g.proofs.of(r)
+	if err != nil {
+		return fowharimu.Claims{}, err
+	}
+	return g.validator.ValidateWith(token, append([]fowharimu.Asked{proof}, g.asked...)...)
+}
+
+// of is what is asked by the one proof of a request.
+func (p *Proofs) of(r *http.Request) (fowharimu.Asked, error) {
+	values := r.Header.Values("Dpop")
+	if len(values) != 1 {
+		return nil, ErrProof
+	}
+	uri := p.Origin + pathOf(r)
+	if p.Nonces == nil {
+		return fowharimu.ByProof(p.Of, values[0], r.Method, uri), nil
+	}
+	return fowharimu.ByProofWithNonces(p.Of, values[0], r.Method, uri, p.Nonces), nil
+}
+
+// pathOf is the path that the client wrote, whatever became of r.URL since, as behind http.StripPrefix. One that isn't there, or is "*", would go on with the host's name.
+func pathOf(r *http.Request) string {
+	asked := r.URL
+	if sent, err := url.ParseRequestURI(r.RequestURI); err == nil {
+		asked = sent
+	}
+	if path := asked.EscapedPath(); strings.HasPrefix(path, "/") {
+		return path
+	}
+	return "/" + asked.EscapedPath()
 }
 
 // shown is the request as the handler behind sees it. It is a copy already, and its headers are copied where they change.
@@ -122,6 +201,7 @@ func (g *guard) shown(r *http.Request) *http.Request {
 	if g.hides {
 		r.Header = r.Header.Clone()
 		r.Header.Del("Authorization")
+		r.Header.Del("Dpop")
 	}
 	return r
 }
@@ -131,6 +211,8 @@ func outcomeOf(err error) (fowharimu.Outcome, string) {
 	var denied *fowharimu.DeniedError
 	var undecided *fowharimu.UndecidedError
 	var tooOld *fowharimu.TooOldError
+	var notHeld *fowharimu.NotHeldError
+	var notTaken *fowharimu.NotTakenError
 	var refusal fowharimu.Refusal
 	switch {
 	case errors.As(err, &tooOld):
@@ -143,6 +225,12 @@ func outcomeOf(err error) (fowharimu.Outcome, string) {
 		return fowharimu.Unanswered, ""
 	case errors.Is(err, ErrForm):
 		return fowharimu.Malformed, ""
+	case errors.Is(err, ErrProof):
+		return fowharimu.ProofRefused, ""
+	case errors.As(err, &notHeld):
+		return notHeld.Outcome, ""
+	case errors.As(err, &notTaken):
+		return notTaken.Outcome, ""
 	case errors.As(err, &refusal):
 		return fowharimu.NotAccepted, ""
 	default:
@@ -151,14 +239,20 @@ func outcomeOf(err error) (fowharimu.Outcome, string) {
 }
 
 // answer answers a request that isn't let through.
-func (g *guard) answer(w http.ResponseWriter, outcome fowharimu.Outcome, scopes string) {
-	status, challenge := fowharimu.ReplyTo(outcome, g.realm, scopes)
-	if challenge != "" {
-		w.Header().Set("WWW-Authenticate", challenge)
-		w.WriteHeader(status)
+func (g *guard) answer(w http.ResponseWriter, scheme fowharimu.Scheme, outcome fowharimu.Outcome, scopes string) {
+	reply := fowharimu.ReplyTo(g.schemes, scheme, outcome, fowharimu.Quoted{Realm: g.realm, Scopes: scopes, Algs: g.algs})
+	for _, challenge := range reply.Challenges {
+		w.Header().Add("WWW-Authenticate", challenge)
+	}
+	if reply.WantsNonce && g.proofs.Nonces != nil {
+		w.Header().Set("DPoP-Nonce", g.proofs.Nonces.Now())
+		w.Header().Set("Cache-Control", "no-store")
+	}
+	if len(reply.Challenges) > 0 {
+		w.WriteHeader(reply.Status)
 		return
 	}
-	http.Error(w, unsaid[outcome], status)
+	http.Error(w, unsaid[outcome], reply.Status)
 }
 
 // unsaid has what a body says where nothing is said of the token.

@@ -83,11 +83,7 @@ func TestNoRule(t *testing.T) {
 // old stands for keys by URL that are too old.
 type old struct{}
 
-func (old) Validate(string) (fowharimu.Claims, error) {
-	return fowharimu.Claims{}, new(fowharimu.TooOldError)
-}
-
-func (old) ValidateFor(string, *fowharimu.Access) (fowharimu.Claims, error) {
+func (old) ValidateWith(string, ...fowharimu.Asked) (fowharimu.Claims, error) {
 	return fowharimu.Claims{}, new(fowharimu.TooOldError)
 }
 
@@ -111,6 +107,42 @@ func TestB64tokens(t *testing.T) {
 		if got, outcome := fowharimu.BearerToken("Bearer " + token); (outcome == fowharimu.Admitted) != wanted || wanted && got != token {
 			t.Errorf("%q is %t", token, !wanted)
 		}
+	}
+}
+
+// TestPathOf has the path that a proof is held against: the client's, whatever handlers before the guard made of it.
+func TestPathOf(t *testing.T) {
+	var path string
+	handler := http.Handler(http.HandlerFunc(func(_ http.ResponseWriter, r *http.Request) { path = pathOf(r) }))
+	for target, wanted := range map[string]string{
+		"/":                     "/",
+		"/things/a?b=/c":        "/things/a",
+		"/a%2Fb%3a:@c":          "/a%2Fb%3a:@c",
+		"//evil.example/a":      "//evil.example/a",
+		"http://evil.example/a": "/a",
+		"http://evil.example":   "/",
+		"*":                     "/*",
+	} {
+		request := httptest.NewRequest("GET", target, nil)
+		handler.ServeHTTP(nil, request)
+		if path != wanted {
+			t.Errorf("%s: %s", target, path)
+		}
+	}
+	http.StripPrefix("/api", handler).ServeHTTP(nil, httptest.NewRequest("GET", "/api/things%2F1", nil))
+	if path != "/api/things%2F1" {
+		t.Error("behind StripPrefix:", path)
+	}
+	handler.ServeHTTP(nil, httptest.NewRequest("CONNECT", "evil.example:443", nil))
+	if path != "/" {
+		t.Error("CONNECT:", path)
+	}
+	made, err := http.NewRequest("GET", "https://api.example/made/%2F", nil)
+	if err != nil {
+		t.Fatal(err)
+	}
+	if handler.ServeHTTP(nil, made); path != "/made/%2F" {
+		t.Error("without RequestURI:", path)
 	}
 }
 
