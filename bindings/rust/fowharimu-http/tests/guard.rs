@@ -51,7 +51,7 @@ fn keys_that_are_too_old_are_no_fault_of_the_token() {
     let refusal = guard.admit(&mut request()).unwrap_err();
     assert_eq!(refusal.status, 503);
     assert_eq!(
-        (refusal.challenge, refusal.error),
-        (None, Some(Error::KeysTooOld))
+        (refusal.challenges, refusal.error),
+        (Vec::new(), Some(Error::KeysTooOld))
     );
 }

@@ -4,7 +4,7 @@
 use std::os::raw::{c_char, c_void};
 
 /// The number of the interface that stands here.
-pub const FOW_ABI: u32 = 3;
+pub const FOW_ABI: u32 = 4;
 pub const FOW_MOST_QUESTIONS: u32 = 64;
 
 pub const FOW_OK: u32 = 0;
@@ -49,6 +49,13 @@ pub const FOW_TAKEN_FULL: u32 = 4;
 pub const FOW_TAKEN_NO_ID: u32 = 5;
 pub const FOW_TAKEN_NO_END: u32 = 6;
 
+pub const FOW_BOUND_NOT: u32 = 0;
+pub const FOW_BOUND: u32 = 1;
+pub const FOW_BOUND_KEY: u32 = 2;
+pub const FOW_BOUND_CERTIFICATE: u32 = 4;
+
+pub const FOW_THUMBPRINT_LEN: usize = 43;
+
 /// A policy, a key set, what was told of signatures, and the last report.
 #[repr(C)]
 #[derive(Debug)]
@@ -73,6 +80,14 @@ pub struct fow_once {
     pub held: bool,
 }
 
+/// A policy for proofs of possession, and the proof that was accepted last.
+#[repr(C)]
+#[derive(Debug)]
+pub struct fow_possession {
+    pub at: *mut c_void,
+    pub held: bool,
+}
+
 /// What is said of a token.
 #[repr(C)]
 #[derive(Clone, Copy, Debug, Default)]
@@ -92,8 +107,19 @@ pub struct fow_report {
 #[derive(Clone, Copy, Debug, Default)]
 pub struct fow_reply {
     pub status: u32,
-    pub challenge: u32,
+    pub bearer: u32,
+    pub dpop: u32,
 }
+
+pub const FOW_NO_SCHEME: u32 = 0;
+pub const FOW_BEARER: u32 = 1;
+pub const FOW_DPOP: u32 = 2;
+
+pub const FOW_USE_DPOP_NONCE: u32 = 7;
+
+pub const FOW_PROOF_OTHER_NONCE: u32 = 1303;
+
+pub const FOW_NONCE_LEN: usize = 43;
 
 /// What stands of the fetches of keys by URL. A caller hands it to the calls, and looks at none of it.
 #[repr(C)]
@@ -318,22 +344,39 @@ extern "C" {
     ) -> u32;
 
     pub fn fow_credentials(
+        schemes: u32,
         value: *const u8,
         value_len: usize,
+        scheme: *mut u32,
         from: *mut usize,
         to: *mut usize,
     ) -> u32;
 
-    pub fn fow_reply_to(outcome: u32, reply: *mut fow_reply);
+    pub fn fow_reply_to(schemes: u32, shown: u32, outcome: u32, reply: *mut fow_reply);
+
+    pub fn fow_proof_outcome(status: u32, fault: u32) -> u32;
+
+    pub fn fow_nonce(
+        secret: *const u8,
+        secret_len: usize,
+        period: u32,
+        now: i64,
+        out: *mut u8,
+        out_len: usize,
+        written: *mut usize,
+    ) -> u32;
 
     pub fn fow_quotable(text: *const u8, text_len: usize) -> bool;
 
     pub fn fow_challenge(
+        scheme: u32,
         challenge: u32,
         realm: *const u8,
         realm_len: usize,
         scope: *const u8,
         scope_len: usize,
+        algs: *const u8,
+        algs_len: usize,
         out: *mut u8,
         out_len: usize,
         written: *mut usize,
@@ -409,6 +452,69 @@ extern "C" {
     ) -> u32;
 
     pub fn fow_once_close(once: *mut fow_once);
+
+    pub fn fow_possession_open(
+        possession: *mut fow_possession,
+        policy: *const u8,
+        policy_len: usize,
+        fault: *mut u32,
+    ) -> u32;
+
+    pub fn fow_possession_judge(
+        possession: *mut fow_possession,
+        validator: *mut fow_validator,
+        proof: *const u8,
+        proof_len: usize,
+        method: *const u8,
+        method_len: usize,
+        uri: *const u8,
+        uri_len: usize,
+        nonce: *const u8,
+        nonce_len: usize,
+        token: *const u8,
+        token_len: usize,
+        now: i64,
+        fault: *mut u32,
+    ) -> u32;
+
+    pub fn fow_possession_take(
+        possession: *mut fow_possession,
+        once: *mut fow_once,
+        now: i64,
+        taken: *mut u32,
+    ) -> u32;
+
+    pub fn fow_possession_thumbprint(
+        possession: *mut fow_possession,
+        out: *mut u8,
+        out_len: usize,
+        written: *mut usize,
+    ) -> u32;
+
+    pub fn fow_possession_algs(
+        possession: *mut fow_possession,
+        out: *mut u8,
+        out_len: usize,
+        written: *mut usize,
+    ) -> u32;
+
+    pub fn fow_possession_fresh(
+        possession: *mut fow_possession,
+        secret: *const u8,
+        secret_len: usize,
+        period: u32,
+        now: i64,
+    ) -> u32;
+
+    pub fn fow_possession_close(possession: *mut fow_possession);
+
+    pub fn fow_bound(validator: *mut fow_validator, how: *mut u32) -> u32;
+
+    pub fn fow_certificate_holds(
+        validator: *mut fow_validator,
+        der: *const u8,
+        der_len: usize,
+    ) -> u32;
 
     pub fn fow_fault_name(fault: u32) -> *const c_char;
 

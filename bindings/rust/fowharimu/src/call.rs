@@ -1,6 +1,7 @@
 //! What one call asks of a token beside its validator.
 
-use crate::{clock, Access, Error};
+use crate::possession::{certificate_holds, is_unbound, Shown};
+use crate::{clock, Access, Error, Proof};
 use fowharimu_sys as sys;
 
 /// Why a claim isn't what is expected of it.
@@ -13,9 +14,9 @@ pub enum Unmet {
     Other,
 }
 
-/// What one call asks of a token beside its validator: an access rule, what this login or this request knows of its claims, another moment than the
-/// clock's. Claims are named as in an access rule: by their name, or by a JSON Pointer (RFC 6901), which begins with `/`. The rule is held first, then
-/// the expectations in their order, and a token that counts once is taken last.
+/// What one call asks of a token beside its validator: an access rule, what this login or this request knows of its claims, that its sender holds the key that it is
+/// bound to, another moment than the clock's. Claims are named as in an access rule: by their name, or by a JSON Pointer (RFC 6901), which begins with `/`. The rule is
+/// held first, then the expectations in their order, then the sender; a proof and a token that counts once are taken last.
 ///
 /// ```no_run
 /// # use fowharimu::{Call, Error, Validator};
@@ -30,6 +31,9 @@ pub struct Call<'a> {
     now: Option<i64>,
     access: Option<&'a Access>,
     expected: Vec<Expectation<'a>>,
+    unbound: bool,
+    certificate: Option<&'a [u8]>,
+    proof: Option<Proof<'a>>,
 }
 
 #[derive(Clone, Debug)]
@@ -83,6 +87,35 @@ impl<'a> Call<'a> {
         self.expecting(claim, Expected::HalfHash(of))
     }
 
+    /// Asks that the sender holds the key that the token is bound to, by this proof of possession (DPoP, RFC 9449).
+    #[must_use]
+    pub fn proof(self, proof: Proof<'a>) -> Call<'a> {
+        Call {
+            proof: Some(proof),
+            ..self
+        }
+    }
+
+    /// Asks that the token is bound to the certificate of the client, whose DER this is, as whoever ended TLS has it (RFC 8705, section 3): it is
+    /// [`NotHeld`](Error::NotHeld) as `OtherCertificate` where it isn't.
+    #[must_use]
+    pub fn certificate(self, der: &'a [u8]) -> Call<'a> {
+        Call {
+            certificate: Some(der),
+            ..self
+        }
+    }
+
+    /// Asks that the token is bound to nothing, as a service does that takes tokens of bearers: else whoever stole it could use it (RFC 9449, section 7.2). It is
+    /// [`NotHeld`](Error::NotHeld) as `Bound` where it is bound. Without this, and without a proof or a certificate, nothing is asked of the sender.
+    #[must_use]
+    pub fn unbound(self) -> Call<'a> {
+        Call {
+            unbound: true,
+            ..self
+        }
+    }
+
     fn expecting(mut self, claim: &'a str, what: Expected<'a>) -> Call<'a> {
         self.expected.push(Expectation { claim, what });
         self
@@ -96,7 +129,7 @@ impl<'a> Call<'a> {
     /// Whether the token that a validator accepted just now, by the signature of this number, is as the call asks.
     ///
     /// # Errors
-    /// `Denied`, `NotExpected`, and `OutOfMemory` where nothing is known.
+    /// `Denied`, `NotExpected`, `NotHeld`, and `OutOfMemory` where nothing is known.
     pub(crate) fn check(
         &self,
         validator: &mut sys::fow_validator,
@@ -108,7 +141,28 @@ impl<'a> Call<'a> {
         }
         self.expected
             .iter()
-            .try_for_each(|it| it.check(validator, token, signature))
+            .try_for_each(|it| it.check(validator, token, signature))?;
+        if self.unbound {
+            is_unbound(validator)?;
+        }
+        match self.certificate {
+            Some(der) => certificate_holds(validator, der),
+            None => Ok(()),
+        }
+    }
+
+    /// The proof that came with the token that a validator accepted just now, where one is asked for: it is accepted, and is to be taken.
+    ///
+    /// # Errors
+    /// `NotHeld`, and `OutOfMemory` where nothing is known.
+    pub(crate) fn shown(
+        &self,
+        validator: &mut sys::fow_validator,
+        token: &[u8],
+        now: i64,
+    ) -> Result<Option<Shown<'a>>, Error> {
+        let proof = self.proof.as_ref();
+        proof.map(|it| it.judge(validator, token, now)).transpose()
     }
 }
 

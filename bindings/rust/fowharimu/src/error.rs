@@ -1,5 +1,6 @@
 //! Why something is refused.
 
+use crate::request::Outcome;
 use crate::{NotTaken, Unmet};
 use std::error;
 use std::fmt;
@@ -57,8 +58,17 @@ pub enum Error {
     Denied { fault: String, name: String },
     /// The token is accepted, and isn't the one that the call expected: this is the first claim that isn't as it has to be. A service answers 401 to this.
     NotExpected { why: Unmet, claim: String },
-    /// The token is accepted, and isn't taken by the memory of tokens that count once. A service answers 401 to this.
-    NotTaken { why: NotTaken },
+    /// The token is accepted, and its sender hasn't shown that the key is theirs that it is bound to: why the proof is none for this request, such as `OtherUri`
+    /// (docs/POSSESSION.md); `OtherCertificate`, where it isn't bound to this certificate; `Bound`, where it is bound, and came as a bearer's. A service answers 401 to
+    /// this, by the outcome.
+    NotHeld { fault: String, outcome: Outcome },
+    /// A secret of nonces has less than 32 octets, or their period isn't from 1 to 2^32 - 1 whole seconds.
+    Nonces,
+    /// A proof's nonce is empty: where none was asked for, it is left out.
+    EmptyNonce,
+    /// The token is accepted, and isn't taken by the memory of tokens that count once, or its proof isn't. A service answers 401 to this, by the
+    /// outcome.
+    NotTaken { why: NotTaken, outcome: Outcome },
     /// The token has more octets than the policy's `limit`.
     TooLong,
     /// The octets are no signed token.
@@ -130,7 +140,20 @@ impl fmt::Display for Error {
             Error::NotExpected { why, claim } => {
                 write!(f, "the token isn't what was expected: {why:?} {claim:?}")
             }
-            Error::NotTaken { why } => write!(f, "the token counts once, and isn't taken: {why:?}"),
+            Error::NotHeld { fault, .. } => {
+                write!(f, "the sender of the token doesn't hold its key: {fault}")
+            }
+            Error::Nonces => write!(
+                f,
+                "a secret of nonces has at least 32 octets, and their period is from 1 to 4294967295 whole seconds"
+            ),
+            Error::EmptyNonce => write!(
+                f,
+                "a nonce isn't empty: where none was asked for, it is left out"
+            ),
+            Error::NotTaken { why, .. } => {
+                write!(f, "the token counts once, and isn't taken: {why:?}")
+            }
             Error::TooLong => write!(f, "the token is refused: TooLong"),
             Error::Form { fault, .. } => write!(f, "the token is refused: {fault}"),
             Error::Ceiling {

@@ -133,7 +133,7 @@ impl Issuers {
     /// The claims of a token that is accepted, where they are as this call asks.
     ///
     /// # Errors
-    /// `Denied` and `NotExpected` where they aren't, and those of [`validate`](Issuers::validate).
+    /// `Denied`, `NotExpected` and `NotHeld` where they aren't, and those of [`validate`](Issuers::validate); `NotTaken` also where a proof was taken before.
     pub fn validate_with(&self, token: &[u8], call: &Call<'_>) -> Result<Claims, Error> {
         self.chosen(token)?.claims(token, call)
     }

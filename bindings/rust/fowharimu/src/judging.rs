@@ -1,6 +1,6 @@
 //! What judges tokens.
 
-use crate::{Access, Claims, Error, Issuers, RemoteKeys, Validator};
+use crate::{Access, Call, Claims, Error, Issuers, RemoteKeys, Validator};
 use std::fmt;
 use std::sync::Arc;
 
@@ -17,6 +17,12 @@ pub trait Judging: fmt::Debug + Send + Sync {
     /// # Errors
     /// Those of the call of the same name.
     fn validate_for(&self, token: &[u8], access: &Access) -> Result<Claims, Error>;
+
+    /// The claims of a token that is accepted and is as a call asks.
+    ///
+    /// # Errors
+    /// Those of the call of the same name.
+    fn validate_with(&self, token: &[u8], call: &Call<'_>) -> Result<Claims, Error>;
 }
 
 impl Judging for Validator {
@@ -26,6 +32,10 @@ impl Judging for Validator {
 
     fn validate_for(&self, token: &[u8], access: &Access) -> Result<Claims, Error> {
         Validator::validate_for(self, token, access)
+    }
+
+    fn validate_with(&self, token: &[u8], call: &Call<'_>) -> Result<Claims, Error> {
+        Validator::validate_with(self, token, call)
     }
 }
 
@@ -37,6 +47,10 @@ impl Judging for RemoteKeys {
     fn validate_for(&self, token: &[u8], access: &Access) -> Result<Claims, Error> {
         RemoteKeys::validate_for(self, token, access)
     }
+
+    fn validate_with(&self, token: &[u8], call: &Call<'_>) -> Result<Claims, Error> {
+        RemoteKeys::validate_with(self, token, call)
+    }
 }
 
 impl Judging for Issuers {
@@ -47,6 +61,10 @@ impl Judging for Issuers {
     fn validate_for(&self, token: &[u8], access: &Access) -> Result<Claims, Error> {
         Issuers::validate_for(self, token, access)
     }
+
+    fn validate_with(&self, token: &[u8], call: &Call<'_>) -> Result<Claims, Error> {
+        Issuers::validate_with(self, token, call)
+    }
 }
 
 impl<J: Judging + ?Sized> Judging for Arc<J> {
@@ -56,5 +74,9 @@ impl<J: Judging + ?Sized> Judging for Arc<J> {
 
     fn validate_for(&self, token: &[u8], access: &Access) -> Result<Claims, Error> {
         (**self).validate_for(token, access)
+    }
+
+    fn validate_with(&self, token: &[u8], call: &Call<'_>) -> Result<Claims, Error> {
+        (**self).validate_with(token, call)
     }
 }

@@ -19,7 +19,9 @@ mod error;
 mod fetch;
 mod issuers;
 mod judging;
+mod nonces;
 mod once;
+mod possession;
 mod remote;
 mod remote_keys;
 mod renewal;
@@ -36,7 +38,9 @@ pub use error::{Error, Part};
 pub use fetch::{Answer, Fetch, Get};
 pub use issuers::{Issuers, Judge};
 pub use judging::Judging;
+pub use nonces::Nonces;
 pub use once::{NotTaken, Once};
+pub use possession::{Proof, Proofs};
 pub use remote::{Fetched, Remote};
 pub use remote_keys::RemoteKeys;
 
@@ -166,7 +170,7 @@ impl Validator {
     /// The claims of a token that is accepted at the clock's moment.
     ///
     /// # Errors
-    /// Each but `Policy`, `Keys`, `Access`, `Denied` and `NotExpected`; `NotTaken` only where tokens count once ([`taking`](Validator::taking)).
+    /// Each but `Policy`, `Keys`, `Access`, `Denied`, `NotExpected` and `NotHeld`; `NotTaken` only where tokens count once ([`taking`](Validator::taking)).
     pub fn validate(&self, token: &[u8]) -> Result<Claims, Error> {
         self.validate_at(token, clock())
     }
@@ -203,7 +207,7 @@ impl Validator {
     /// The claims of a token that is accepted, where they are as this call asks.
     ///
     /// # Errors
-    /// `Denied` and `NotExpected` where they aren't, and those of [`validate`](Validator::validate).
+    /// `Denied`, `NotExpected` and `NotHeld` where they aren't, and those of [`validate`](Validator::validate); `NotTaken` also where a proof was taken before.
     pub fn validate_with(&self, token: &[u8], call: &Call<'_>) -> Result<Claims, Error> {
         let once = self.once.as_deref();
         self.seats.call(|seat| seat.claims(token, call, once))?

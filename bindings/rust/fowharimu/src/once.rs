@@ -1,11 +1,13 @@
 //! A memory of tokens that count once.
 
+use crate::request::Outcome;
 use crate::seat::compare;
+use crate::seats::locked;
 use crate::Error;
 use fowharimu_sys as sys;
 use std::num::NonZeroUsize;
 use std::ptr;
-use std::sync::{Mutex, PoisonError};
+use std::sync::Mutex;
 
 /// Why an accepted token isn't taken.
 #[derive(Clone, Copy, Debug, PartialEq, Eq)]
@@ -72,17 +74,36 @@ impl Once {
     /// # Errors
     /// `NotTaken`, and `OutOfMemory` where nothing is known.
     pub(crate) fn take(&self, validator: &mut sys::fow_validator, now: i64) -> Result<(), Error> {
-        // Nothing that is done under the lock leaves the memory half written.
-        let mut memory = self.memory.lock().unwrap_or_else(PoisonError::into_inner);
-        memory.take(validator, now)
-    }
-}
-
-impl Memory {
-    fn take(&mut self, validator: &mut sys::fow_validator, now: i64) -> Result<(), Error> {
-        let mut taken = sys::FOW_TAKEN_NOTHING;
         // SAFETY: both are those that the other calls had, and this one has them to itself.
-        let status = unsafe { sys::fow_once_take(&mut self.held, validator, now, &mut taken) };
+        self.take_by(Outcome::NotAccepted, |memory, taken| unsafe {
+            sys::fow_once_take(memory, validator, now, taken)
+        })
+    }
+
+    /// Takes the proof that was accepted last, at the moment of that verdict.
+    ///
+    /// # Errors
+    /// `NotTaken`, and `OutOfMemory` where nothing is known.
+    pub(crate) fn take_proof(
+        &self,
+        possession: &mut sys::fow_possession,
+        now: i64,
+    ) -> Result<(), Error> {
+        let outcome = Outcome::of_proof(sys::FOW_REFUSED, 0);
+        // SAFETY: as above.
+        self.take_by(outcome, |memory, taken| unsafe {
+            sys::fow_possession_take(possession, memory, now, taken)
+        })
+    }
+
+    /// Takes by this call of the library. The outcome is that of what isn't taken.
+    fn take_by(
+        &self,
+        outcome: Outcome,
+        call: impl FnOnce(&mut sys::fow_once, &mut u32) -> u32,
+    ) -> Result<(), Error> {
+        let mut taken = sys::FOW_TAKEN_NOTHING;
+        let status = call(&mut locked(&self.memory).held, &mut taken);
         let why = match (status, taken) {
             (sys::FOW_OK, sys::FOW_TAKEN_NEW) => return Ok(()),
             (sys::FOW_REFUSED, sys::FOW_TAKEN_SEEN) => NotTaken::Seen,
@@ -92,7 +113,7 @@ impl Memory {
             (sys::FOW_REFUSED, sys::FOW_TAKEN_NO_END) => NotTaken::NoEnd,
             _ => return Err(Error::OutOfMemory),
         };
-        Err(Error::NotTaken { why })
+        Err(Error::NotTaken { why, outcome })
     }
 }
 

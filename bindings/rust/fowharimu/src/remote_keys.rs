@@ -190,7 +190,7 @@ impl RemoteKeys {
     /// The claims of a token that is accepted by the keys, or by newer ones where these may change that and can be had, where they are as this call asks.
     ///
     /// # Errors
-    /// `Denied` and `NotExpected` where they aren't, and those of [`validate`](RemoteKeys::validate).
+    /// `Denied`, `NotExpected` and `NotHeld` where they aren't, and those of [`validate`](RemoteKeys::validate); `NotTaken` also where a proof was taken before.
     pub fn validate_with(&self, token: &[u8], call: &Call<'_>) -> Result<Claims, Error> {
         let shared = &self.shared;
         shared.find_keys(token)?;

@@ -188,6 +188,7 @@ impl Seat {
             return Err(self.refusal(&report));
         }
         call.check(&mut self.held, token, report.signature)?;
+        let shown = call.shown(&mut self.held, token, now)?;
         let held = &mut self.held;
         // SAFETY: it is the one that judged.
         let remembered = unsafe { sys::fow_remembered(held) };
@@ -197,7 +198,10 @@ impl Seat {
         })?;
         // An accepted token has a payload: where there is none, nothing is known.
         let json = payload.ok_or(Error::OutOfMemory)?;
-        // (last, so that no token is taken whose claims aren't handed out)
+        // (last, so that none is taken whose claims aren't handed out; a client makes another proof, and no other token)
+        if let Some(shown) = shown {
+            shown.take(now)?;
+        }
         if let Some(once) = once {
             once.take(&mut self.held, now)?;
         }
@@ -299,7 +303,7 @@ pub(crate) fn fault_name(fault: u32) -> String {
     name.to_string_lossy().into_owned()
 }
 
-fn document_refused(number: u32, policy: &[u8]) -> Error {
+pub(crate) fn document_refused(number: u32, policy: &[u8]) -> Error {
     let fault = fault_name(number);
     if number / 100 == 2 {
         return Error::Keys { fault };

@@ -1,5 +1,6 @@
 //! What one call expects of the claims of an accepted token.
 
+use fowharimu::request::Outcome;
 use fowharimu::{Access, Call, Claims, Error, Issuers, NotTaken, Once, Unmet, Validator};
 use std::fs;
 use std::num::NonZeroUsize;
@@ -118,7 +119,8 @@ fn a_token_that_is_not_expected_is_not_taken() {
     assert_eq!(
         validator.validate_with(&token, &call.text("nonce", NONCE)),
         Err(Error::NotTaken {
-            why: NotTaken::NoId
+            why: NotTaken::NoId,
+            outcome: Outcome::NotAccepted,
         })
     );
 }

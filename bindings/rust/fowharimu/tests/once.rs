@@ -1,5 +1,6 @@
 //! Tokens that count once: one is let in by one call, whichever thread makes it.
 
+use fowharimu::request::Outcome;
 use fowharimu::{Access, Answer, Error, Get, NotTaken, Once, Remote, Validator};
 use std::fs;
 use std::num::NonZeroUsize;
@@ -36,7 +37,10 @@ fn good(profile: &str) -> Vec<u8> {
 
 /// Why a token isn't taken.
 fn refused(why: NotTaken) -> Error {
-    Error::NotTaken { why }
+    Error::NotTaken {
+        why,
+        outcome: Outcome::NotAccepted,
+    }
 }
 
 #[test]
