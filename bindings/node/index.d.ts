@@ -74,7 +74,7 @@ export interface Opening {
 
 /** Texts, or octets, under the names of claims. A name that begins with `/` is a JSON Pointer (RFC 6901), as in an access rule. */
 export type ByClaim = { readonly [claim: string]: string | Uint8Array };
-/** What a call may ask of a token. The rule is held first, then `expected` and `hashes`, each in its order. */
+/** What a call may ask of a token. The rule is held first, then `expected` and `hashes`, each in its order, then `holder`. */
 interface Asked {
   /** The moment at which the token is judged: the clock's without it. */
   now?: Moment;
@@ -87,9 +87,49 @@ interface Asked {
    * token, `c_hash` of the code (OpenID Connect Core 1.0, sections 3.1.3.8 and 3.3.2.11).
    */
   hashes?: ByClaim;
+  /**
+   * What is asked of the token's sender (docs/POSSESSION.md): a proof of the key that it is bound to, or that it is bound to a certificate, or to nothing. Without it nothing is
+   * asked, of a token that is bound neither. A proof is taken last.
+   */
+  holder?: Holder;
 }
-/** What a call asks of a token: at least a rule or an expectation, and what is named is there. Else it throws TypeError, so that none is left out by mistake. */
-export type Asking = Asked & (Required<Pick<Asked, 'access'>> | Required<Pick<Asked, 'expected'>> | Required<Pick<Asked, 'hashes'>>);
+/** What a call asks of a token: at least a rule, an expectation or a holder, and what is named is there. Else it throws TypeError, so that none is left out by mistake. */
+export type Asking = Asked &
+  (Required<Pick<Asked, 'access'>> | Required<Pick<Asked, 'expected'>> | Required<Pick<Asked, 'hashes'>> | Required<Pick<Asked, 'holder'>>);
+
+/** The request that a proof comes with: a plain object, as all options are, with no other member. */
+export interface Showing {
+  /** The value of the request's only header `DPoP`. (Where a request has several, `headers.dpop` of Node has all of them, with commas: that is no proof.) */
+  dpop: string | Uint8Array;
+  /** The request's method, by case. */
+  method: string | Uint8Array;
+  /** What the client sees, with scheme and host, which behind a proxy come from the configuration. Query and fragment aren't looked at. */
+  uri: string | Uint8Array;
+  /** The nonce that was asked for. One that is empty throws RangeError, and one that is undefined TypeError: where none was asked for, it is left out. */
+  nonce?: string | Uint8Array;
+  /** Those of which the proof has to have one, in place of `nonce`. One that has none is `OtherNonce`. */
+  nonces?: Nonces;
+}
+/** A proof of possession (DPoP, RFC 9449): the token's sender holds the key that the token is bound to. */
+export class Proof {
+  #private;
+  /** Throws TypeError and RangeError for what isn't there or is of another kind. What is handed in is copied. */
+  constructor(proofs: Proofs, request: Showing);
+}
+/** The certificate of the client, in DER, as whoever ended TLS has it: the token is bound to it, by `x5t#S256` in its `cnf` (RFC 8705, section 3). */
+export class Certificate {
+  #private;
+  /** Throws TypeError for what isn't octets. They are copied. */
+  constructor(der: Uint8Array);
+}
+declare const unbound: unique symbol;
+/** The kind of UNBOUND. */
+export interface Unbound {
+  readonly [unbound]: never;
+}
+/** The token is bound to nothing, as a service asks that takes tokens of bearers: else whoever stole it could use it (RFC 9449, section 7.2). */
+export const UNBOUND: Unbound;
+export type Holder = Proof | Certificate | Unbound;
 
 /** What this package throws of its own. */
 export class FowharimuError extends Error {}
@@ -176,7 +216,12 @@ export class NotExpected extends TokenRefused {
   readonly claim: string;
 }
 /**
- * The token is accepted, and counts once. `Seen`: it was taken before; `Late`: its `exp` and the leeway have passed by the greatest moment that was judged at;
+ * The token is accepted, and its sender hasn't shown that the key is theirs that it is bound to. `fault` is why the proof is none for this request, such as `OtherUri`
+ * (docs/POSSESSION.md); `OtherCertificate`: it isn't bound to this certificate; `Bound`: it is bound, and came as a bearer's.
+ */
+export class NotHeld extends TokenRefused {}
+/**
+ * The token is accepted, and it, or its proof, counts once. `Seen`: it was taken before; `Late`: its `exp` and the leeway have passed by the greatest moment that was judged at;
  * `Full`: as many tokens are held as there is room for; `NoId`, `NoEnd`: it has no `jti`, or no `exp`.
  */
 export class NotTaken extends TokenRefused {
@@ -211,6 +256,30 @@ export class Once {
 }
 
 /**
+ * The nonces that a service asks of proofs (RFC 9449, section 8), by a secret and the time: each is good for the period in which it is given and for the next one. Nothing is kept of
+ * them, and processes that share a secret ask for the same.
+ */
+export class Nonces {
+  /** Of at least 32 random bytes, with a period in seconds: 60 where none is said. Throws RangeError for a shorter secret and for no period, and TypeError for what is no Uint8Array. */
+  constructor(secret: Uint8Array, period?: number);
+  /** The nonce of a moment, in seconds since 1970-01-01T00:00:00Z, or of now: the value of a header `DPoP-Nonce`. */
+  at(now?: number | bigint): string;
+}
+/**
+ * A policy for proofs of possession (docs/POSSESSION.md), and the memory in which each is taken that is accepted, since it counts once (RFC 9449, section 11.1). Validators of the
+ * same worker may share it. What is never closed is freed with the object.
+ */
+export class Proofs {
+  /**
+   * The policy is a JSON text, or what is written as it. The memory is for so many proofs, as many as are accepted within `max_age` and the leeway; or it is an Once, which
+   * others may share. Throws PolicyRefused, AnotherLibrary, TypeError and RangeError for what is no Document or no memory, and an Error where memory is refused.
+   */
+  constructor(policy: Document, once: Once | number);
+  /** Frees what is held. It may be called twice. A later `validate` with a proof throws Closed. What was taken stays in the memory. */
+  close(): void;
+}
+
+/**
  * A policy and a key set, by which tokens are judged. A call takes microseconds, and blocks: `max_calls` in the policy bounds it. Each worker
  * opens its own. What is never closed is freed with the object.
  */
@@ -222,9 +291,10 @@ export class Validator {
   constructor(policy: Document, keys: Document, how?: Opening);
   /**
    * The claims of a token that is accepted at a moment; without one, at the clock's. Whole numbers past 2^53 lose digits by JSON.parse:
-   * `validateText` has them. With an access rule, only claims that meet it are given, and with
-   * expectations those that are as expected. Throws TokenRefused, NotExpected and NotTaken among them, Denied, Closed, TypeError also for an object that asks
-   * for neither, or names what isn't there, and for more arguments, RangeError for a moment that isn't one, and an Error where memory is refused.
+   * `validateText` has them. With an access rule, only claims that meet it are given, with
+   * expectations those that are as expected, and with a holder those whose sender holds the key. Throws TokenRefused, NotExpected, NotHeld and NotTaken among them, Denied,
+   * Closed, TypeError also for an object that asks for none of these, or names what isn't there, and for more arguments, RangeError for a moment that isn't one, and an Error
+   * where memory is refused.
    */
   validate(token: Token, how?: Moment | Asking): Claims;
   /** The same claims as the JSON text that the token has. */

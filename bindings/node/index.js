@@ -1,22 +1,25 @@
 'use strict';
 /** Validates JSON Web Tokens (RFC 7519) by a library that is proved correct, public-key signatures too. index.d.ts says what each call does. */
 
+const { types } = require('node:util');
 const meanings = require('./meanings.js');
 const { isPlain, ofKind, own } = require('./options.js');
 
 const OK = 0, REFUSED = 1, OUT_OF_MEMORY = 3;
 /** FOW_NO_FAULT and FOW_DENIED_SCOPE_MISSING of fowharimu.h. */
 const NO_FAULT = 0, SCOPE_MISSING = 1001;
-/** FOW_TAKEN_NEW, and the names of the other answers of enum fow_taken. */
-const TAKEN_NEW = 1, NOT_TAKEN = { 2: 'Seen', 3: 'Late', 4: 'Full', 5: 'NoId', 6: 'NoEnd' };
+/** FOW_NOT_EXPECTED, FOW_PROOF_OTHER_NONCE, FOW_TAKEN_NEW, and the names of the other answers of enum fow_taken. */
+const NOT_EXPECTED = 9, OTHER_NONCE = 1303, TAKEN_NEW = 1, NOT_TAKEN = { 2: 'Seen', 3: 'Late', 4: 'Full', 5: 'NoId', 6: 'NoEnd' };
 /** The names of enum fow_unmet, from FOW_UNMET_ABSENT on. */
 const UNMET = { 1: 'Absent', 2: 'Other' };
+/** FOW_BOUND_NOT of fowharimu.h. */
+const NOT_BOUND = 0;
 /** FOW_MOST_QUESTIONS of fowharimu.h. */
 const MOST_QUESTIONS = 64;
 const NOTHING_REMEMBERED = { tokens: 0, octets: 0 };
 /** The names of options. */
 const OPENING = ['mostQuestions', 'remember', 'once'], REMEMBER = ['tokens', 'octets'], ISSUING = ['key', 'alg', 'form', 'typ'];
-const ASKING = ['access', 'expected', 'hashes', 'now'];
+const ASKING = ['access', 'expected', 'hashes', 'holder', 'now'], SHOWING = ['dpop', 'method', 'uri', 'nonce', 'nonces'];
 const GREATEST_NUMBER = 2 ** 32 - 1;
 const PARTS = { 1: 'payload', 2: 'protected', 3: 'signature' };
 const STATES = { 1: 'barred', 2: 'no key', 3: 'bad signature', 4: 'verified', 5: 'not reached', 6: 'stopped' };
@@ -47,10 +50,11 @@ class CeilingReached extends TokenRefused {}
 class SignatureRefused extends TokenRefused {}
 class ClaimsRefused extends TokenRefused {}
 class NotExpected extends TokenRefused {}
+class NotHeld extends TokenRefused {}
 class NotTaken extends TokenRefused {}
 const ERRORS = {
   FowharimuError, AnotherLibrary, Closed, TooManyQuestions, PolicyRefused, KeysRefused, IssueRefused, AccessRefused, Denied, TokenRefused,
-  TooLong, FormRefused, CeilingReached, SignatureRefused, ClaimsRefused, NotExpected, NotTaken,
+  TooLong, FormRefused, CeilingReached, SignatureRefused, ClaimsRefused, NotExpected, NotHeld, NotTaken,
 };
 for (const [name, kind] of Object.entries(ERRORS)) named(kind, name);
 
@@ -95,7 +99,7 @@ function documentRefused(number, policy) {
   const fault = native.faultName(number);
   if (Math.trunc(number / 100) === 2) return new KeysRefused(`the key set is refused: ${told(fault, meanings.keys[fault])}`, { fault });
   const member = native.refusedMember(policy);
-  return new PolicyRefused(`the policy is refused: ${told(fault, meanings.policy[fault], member)}`, { fault, member });
+  return new PolicyRefused(`the policy is refused: ${told(fault, meanings.policy[fault] ?? meanings.proof[fault], member)}`, { fault, member });
 }
 
 function accessRefused(number, rule) {
@@ -151,7 +155,10 @@ class Access {
   }
 }
 
-/** What a Validator may do with an Once, and nobody else: take the token that was accepted just now, at that moment. Throws NotTaken, and Closed. */
+/**
+ * What a Validator may do with an Once, and nobody else: take what was accepted just now, at that moment, by a call of addon.c: the token of a validator, or the proof of a policy
+ * for proofs. Throws NotTaken, and Closed.
+ */
 let take;
 /** Whether something is an Once. */
 let isOnce;
@@ -162,9 +169,9 @@ class Once {
 
   static {
     isOnce = (it) => typeof it === 'object' && it !== null && #held in it;
-    take = (once, validator, now) => {
+    take = (once, call, held, now) => {
       if (once.#isClosed) throw new Closed('the memory of tokens that count once is closed');
-      const taken = native.taken(once.#held, validator, now);
+      const taken = call(once.#held, held, now);
       if (taken === TAKEN_NEW) return;
       const fault = NOT_TAKEN[taken];
       throw new NotTaken(`the token counts once, and isn't taken: ${fault}`, { fault });
@@ -191,9 +198,143 @@ function onceOf(members) {
   return new Once(members.once);
 }
 
+/** What a guard answers to an error that speaks of a proof: the number of enum fow_outcome, which the library gives. */
+const outcomes = new WeakMap();
+
+/** A token that is accepted, and whose sender hasn't shown that the key is theirs. */
+function notHeld(fault) {
+  return new NotHeld(`the sender of the token doesn't hold its key: ${told(fault, meanings.proof[fault] ?? meanings.token[fault])}`, { fault });
+}
+
+/** The same, where a proof isn't one for its request. */
+function notProved(status, number) {
+  const refusal = notHeld(native.faultName(number));
+  outcomes.set(refusal, native.proofOutcome(status, number));
+  return refusal;
+}
+
+/** What Proofs may do with Nonces, and nobody else: tell whether something is such, and what the library says of the nonce of the proof that was accepted just now. */
+let isNonces, freshness;
+
+class Nonces {
+  #secret;
+  #period;
+
+  static {
+    isNonces = (it) => typeof it === 'object' && it !== null && #secret in it;
+    freshness = (nonces, held, now) => native.proofFresh(held, nonces.#secret, nonces.#period, now);
+  }
+
+  constructor(secret, period = 60, ...others) {
+    if (others.length > 0) throw new TypeError('a secret and a period are taken, and nothing more');
+    if (!types.isUint8Array(secret)) throw new TypeError('a secret is a Uint8Array');
+    compareLibrary();
+    this.#secret = new Uint8Array(secret);
+    this.#period = whole(period, 'a period');
+    if (this.#period > 0xffffffff || native.nonce(this.#secret, this.#period, 0) === undefined) {
+      throw new RangeError('a secret of nonces has at least 32 bytes, and their period is from 1 to 4294967295 seconds');
+    }
+  }
+
+  at(now) {
+    return native.nonce(this.#secret, this.#period, moment(now));
+  }
+}
+
+/** What a Proof may do with Proofs, and nobody else: tell whether something is Proofs, judge a proof beside the token that was accepted just now, and take it. */
+let isProofs, judgeProof, takeProof, algsOf;
+
+class Proofs {
+  #held;
+  #isClosed = false;
+  #once;
+  #room;
+
+  static {
+    isProofs = (it) => typeof it === 'object' && it !== null && #held in it;
+    judgeProof = (proofs, validator, texts, nonces, now) => {
+      if (proofs.#isClosed) throw new Closed('the policy for proofs is closed');
+      const number = native.proofFault(proofs.#held, validator, ...texts, now);
+      if (number !== NO_FAULT) return notProved(REFUSED, number);
+      const fresh = nonces === undefined ? OK : freshness(nonces, proofs.#held, now);
+      if (fresh === OK) return null;
+      if (fresh === NOT_EXPECTED) return notProved(NOT_EXPECTED, OTHER_NONCE);
+      throw new Error('an allocation was refused');
+    };
+    takeProof = (proofs, now) => {
+      try {
+        take(proofs.#once, native.proofTaken, proofs.#held, now);
+      } catch (error) {
+        if (error instanceof NotTaken) outcomes.set(error, native.proofOutcome(REFUSED, NO_FAULT));
+        throw error;
+      }
+    };
+    algsOf = (proofs) => native.proofAlgs(proofs.#held, proofs.#room);
+  }
+
+  constructor(policy, once, ...others) {
+    if (others.length > 0) throw new TypeError('a policy for proofs and a memory are taken, and nothing more');
+    compareLibrary();
+    this.#once = onceOf({ once });
+    const text = octets(policy), held = native.openProofs(text);
+    if (typeof held === 'number') throw documentRefused(held, text);
+    this.#held = held;
+    this.#room = Buffer.byteLength(text);
+  }
+
+  close() {
+    this.#isClosed = true;
+    native.closeProofs(this.#held);
+  }
+}
+
+/** A text, or a copy of octets. */
+function copied(it, what) {
+  if (typeof it === 'string') return it;
+  if (types.isUint8Array(it)) return new Uint8Array(it);
+  throw new TypeError(`${what} has to be a string or a Uint8Array`);
+}
+
+/**
+ * What is asked of the sender, by its object, for a Validator alone: `refusal` says why the token that was accepted just now isn't held, and null where it is; `take` comes
+ * last.
+ */
+const holders = new WeakMap();
+const takeNothing = () => {};
+
+class Proof {
+  constructor(proofs, request) {
+    if (!isProofs(proofs)) throw new TypeError('a proof is judged by Proofs');
+    const members = own(request, SHOWING, 'a proof');
+    const texts = ['dpop', 'method', 'uri'].map((name) => copied(members[name], name));
+    texts.push('nonce' in members ? copied(members.nonce, 'nonce') : '');
+    if ('nonce' in members && texts.at(-1).length === 0) throw new RangeError("a nonce isn't empty: where none was asked for, it is left out");
+    if ('nonces' in members && !isNonces(members.nonces)) throw new TypeError('nonces has to be Nonces: where none is asked for, it is left out');
+    if ('nonces' in members && 'nonce' in members) throw new TypeError('a proof has to have one nonce, or one of Nonces');
+    holders.set(this, { refusal: (validator, now) => judgeProof(proofs, validator, texts, members.nonces, now), take: (now) => takeProof(proofs, now) });
+  }
+}
+
+class Certificate {
+  constructor(der) {
+    if (!types.isUint8Array(der)) throw new TypeError('a certificate is a Uint8Array');
+    const copy = copied(der);
+    holders.set(this, { refusal: (validator) => (native.certificateHolds(validator, copy) ? null : notHeld('OtherCertificate')), take: takeNothing });
+  }
+}
+
+const UNBOUND = Object.freeze(Object.create(null));
+holders.set(UNBOUND, { refusal: (validator) => (native.bound(validator) === NOT_BOUND ? null : notHeld('Bound')), take: takeNothing });
+
+function holderOf(it) {
+  const holder = holders.get(it);
+  if (holder === undefined) throw new TypeError('holder has to be a Proof, a Certificate or UNBOUND: where nothing is asked of the sender, it is left out');
+  return holder;
+}
+
 /** Refuses more than a token and one word beside it: an access rule behind a moment would go unheard. */
 function takeNoMore(others) {
-  if (others.length > 0) throw new TypeError('beside the token one argument is taken: a moment, or for claims { access, expected, hashes, now }');
+  if (others.length > 0) throw new TypeError('beside the token one argument is taken: a moment, or for claims { access, expected, hashes, holder, now }');
 }
 
 /** What is expected of claims, in the object's order: of each its name, the octets, and the call of addon.c that holds them against it. */
@@ -207,18 +348,19 @@ function expectations(texts, what, hold) {
 }
 
 /**
- * What a token is asked for: the moment, the access rule, and what is expected of its claims. An object always has a rule or an expectation, and what it names
- * is there: so neither is left out by mistake.
+ * What a token is asked for: the moment, the access rule, what is expected of its claims, and who sent it. An object always has a rule, an expectation or a holder, and
+ * what it names is there: so none is left out by mistake.
  */
 function asked(how, others) {
   takeNoMore(others);
-  if (typeof how !== 'object' || how === null) return { now: moment(how) };
-  const members = own(how, ASKING, 'a call'), asks = { now: moment(members.now) };
-  if (!('expected' in members || 'hashes' in members)) return { ...asks, rule: ruleOf(members.access) };
+  if (typeof how !== 'object' || how === null) return { __proto__: null, now: moment(how) };
+  const members = own(how, ASKING, 'a call'), asks = { __proto__: null, now: moment(members.now) };
+  if (!('expected' in members || 'hashes' in members || 'holder' in members)) return { __proto__: null, ...asks, rule: ruleOf(members.access) };
   if ('access' in members) asks.rule = ruleOf(members.access);
+  if ('holder' in members) asks.holder = holderOf(members.holder);
   const texts = 'expected' in members ? expectations(members.expected, 'expected', native.expectText) : [];
   const hashes = 'hashes' in members ? expectations(members.hashes, 'hashes', native.expectHalfHash) : [];
-  return { ...asks, expected: [...texts, ...hashes] };
+  return { __proto__: null, ...asks, expected: [...texts, ...hashes] };
 }
 
 class Validator {
@@ -310,12 +452,14 @@ class Validator {
     return this.#held;
   }
 
-  /** The payload of a token that is accepted and is as it is asked for, as it is to be read. It is taken last, so that nothing which fails has used it up. */
-  #accepted(token, { now, rule, expected }, reading) {
-    const refusal = this.#judge(token, now) ?? (rule && this.#denial(rule)) ?? (expected && this.#unexpected(expected));
+  /** The payload of a token that is accepted and is as it is asked for, as it is to be read. It and its proof are taken last, so that nothing which fails has used them up. */
+  #accepted(token, { now, rule, expected, holder }, reading) {
+    const refusal = this.#judge(token, now) ?? (rule && this.#denial(rule)) ?? (expected && this.#unexpected(expected)) ?? holder?.refusal(this.#held, now);
     if (refusal) throw refusal;
     const claims = reading(native.payload(this.#held));
-    if (this.#once !== undefined) take(this.#once, this.#held, now);
+    // (a client makes another proof, and no other token)
+    holder?.take(now);
+    if (this.#once !== undefined) take(this.#once, native.taken, this.#held, now);
     return claims;
   }
 
@@ -378,16 +522,18 @@ class Validator {
     });
   }
 }
-if (Symbol.dispose) for (const it of [Validator, Access, Once]) it.prototype[Symbol.dispose] = it.prototype.close;
+if (Symbol.dispose) for (const it of [Validator, Access, Once, Proofs]) it.prototype[Symbol.dispose] = it.prototype.close;
 
 /** The text of a member of a JSON object, as the library reads it; undefined where there is none. */
 const textMember = (document, name) => native.textMember(document, name);
 
 // (each by its name: so that `import { Validator } from 'fowharimu'` finds them)
 module.exports = {
-  Validator, Access, Once, FowharimuError, AnotherLibrary, Closed, TooManyQuestions, PolicyRefused, KeysRefused, IssueRefused, AccessRefused,
-  Denied, TokenRefused, TooLong, FormRefused, CeilingReached, SignatureRefused, ClaimsRefused, NotExpected, NotTaken, textMember,
+  Validator, Access, Once, Nonces, Proofs, Proof, Certificate, UNBOUND, FowharimuError, AnotherLibrary, Closed, TooManyQuestions, PolicyRefused, KeysRefused, IssueRefused, AccessRefused,
+  Denied, TokenRefused, TooLong, FormRefused, CeilingReached, SignatureRefused, ClaimsRefused, NotExpected, NotHeld, NotTaken, textMember,
 };
 // (for renewal.js, requests.js and remote.js alone)
 Object.defineProperty(module.exports, 'native', { value: native });
 Object.defineProperty(module.exports, 'onceOf', { value: onceOf });
+Object.defineProperty(module.exports, 'algsOf', { value: algsOf });
+Object.defineProperty(module.exports, 'outcomeOfSender', { value: (error) => outcomes.get(error) });

@@ -1,5 +1,5 @@
 // What a caller in TypeScript writes; it is compiled, and not run.
-import { Access, AccessRefused, AnotherLibrary, ClaimsRefused, Denied, FormRefused, KeysRefused, NotExpected, NotTaken, Once, PolicyRefused, Report, TokenRefused, Validator, textMember } from '.';
+import { Access, AccessRefused, AnotherLibrary, Certificate, ClaimsRefused, Denied, FormRefused, Holder, KeysRefused, NotExpected, NotHeld, NotTaken, Nonces, Once, PolicyRefused, Proof, Proofs, Report, TokenRefused, UNBOUND, Validator, textMember } from '.';
 import { Issuers } from './issuers';
 import { RemoteKeys } from './remote';
 
@@ -34,7 +34,25 @@ if (denied instanceof NotTaken && denied.fault === 'Seen') once.close();
 const login: unknown = validator.validate('a.b.c', { expected: { nonce: 'n' }, hashes: { at_hash: new Uint8Array(3) } }).nonce;
 void issuers.validate('a.b.c', { access, expected: { '/a/b': 'c' }, now: 7 }).then((it: unknown) => console.log(it, login));
 if (denied instanceof NotExpected && denied.fault === 'Absent') console.log(denied.claim.length);
+const proofs: Proofs = new Proofs({ typ: 'dpop+jwt' }, once);
+const holders: Holder[] = [new Proof(proofs, { dpop: 'a.b.c', method: 'GET', uri: 'https://a/', nonce: 'n' }), new Certificate(new Uint8Array(3)), UNBOUND];
+for (const holder of holders) void issuers.validate('a.b.c', { holder }).then(() => validator.validate('a.b.c', { holder, expected: {}, access, now: 7 }));
+if (denied instanceof NotHeld) console.log(denied.fault);
+new Proofs('{}', 1000).close();
+const nonces: Nonces = new Nonces(new Uint8Array(32), 60);
+const nonce: string = nonces.at() + new Nonces(new Uint8Array(32)).at(0);
+new Proof(proofs, { dpop: 'a.b.c', method: 'GET', uri: 'https://a/', nonces });
 validator.close();
+// @ts-expect-error: a proof is no Proofs
+validator.validate('a.b.c', { holder: proofs });
+// @ts-expect-error: no holder
+validator.validate('a.b.c', { holder: undefined });
+// @ts-expect-error: a certificate is octets
+new Certificate('a');
+// @ts-expect-error: no memory
+new Proofs('{}');
+// @ts-expect-error: the URI is lacking
+new Proof(proofs, { dpop: 'a.b.c', method: 'GET' });
 // @ts-expect-error: what is expected is a text
 validator.validate('a.b.c', { expected: { nonce: undefined } });
 // @ts-expect-error: no number of tokens

@@ -22,6 +22,12 @@ typedef struct rule {
     int64_t told;
 } rule;
 
+/* A policy for proofs of possession, and the proof that was accepted last. */
+typedef struct proofs {
+    fow_possession possession;
+    int64_t told;
+} proofs;
+
 /* Octets at an address that isn't NULL, which are to be freed. */
 typedef struct octets {
     uint8_t *at;
@@ -65,6 +71,16 @@ static void finalize_once(napi_env env, void *at, void *hint)
     (void)hint;
     fow_once_close(at);
     free(at);
+}
+
+static void finalize_proofs(napi_env env, void *at, void *hint)
+{
+    proofs *it = at;
+    int64_t now = 0;
+    (void)hint;
+    napi_adjust_external_memory(env, -it->told, &now);
+    fow_possession_close(&it->possession);
+    free(it);
 }
 
 static napi_value fail(napi_env env, const char *code, const char *what)
@@ -207,6 +223,19 @@ static bool read_octets(napi_env env, napi_value value, octets *out)
     return true;
 }
 
+/* The octets of so many texts or Uint8Arrays. Where that can't be, it is thrown, and nothing is to be freed. */
+static bool read_each(napi_env env, const napi_value *values, octets *out, size_t count)
+{
+    for (size_t i = 0; i < count; i++) {
+        if (read_octets(env, values[i], &out[i]))
+            continue;
+        while (i-- > 0)
+            free(out[i].at);
+        return false;
+    }
+    return true;
+}
+
 static held *held_of(napi_env env, napi_value value)
 {
     void *at = NULL;
@@ -228,6 +257,14 @@ static fow_once *once_of(napi_env env, napi_value value)
     void *at = NULL;
     if (napi_get_value_external(env, value, &at) != napi_ok)
         mistake(env, "a memory of tokens is wanted");
+    return at;
+}
+
+static proofs *proofs_of(napi_env env, napi_value value)
+{
+    void *at = NULL;
+    if (napi_get_value_external(env, value, &at) != napi_ok)
+        mistake(env, "a policy for proofs is wanted");
     return at;
 }
 
@@ -793,6 +830,172 @@ static napi_value close_once(napi_env env, napi_callback_info info)
     return NULL;
 }
 
+/* openProofs(policy): a policy for proofs of possession, or the number of a fault. */
+static napi_value open_proofs(napi_env env, napi_callback_info info)
+{
+    napi_value given[1], result = NULL;
+    size_t count = 1;
+    octets policy;
+    uint32_t fault = FOW_NO_FAULT;
+    int64_t now = 0;
+    napi_get_cb_info(env, info, &count, given, NULL, NULL);
+    if (count < 1)
+        return mistake(env, "an argument is missing");
+    if (!read_octets(env, given[0], &policy))
+        return NULL;
+    proofs *it = calloc(1, sizeof *it);
+    uint32_t status = it == NULL ? FOW_OUT_OF_MEMORY : fow_possession_open(&it->possession, policy.at, policy.len, &fault);
+    free(policy.at);
+    if (status == FOW_OK && napi_create_external(env, it, finalize_proofs, NULL, &result) == napi_ok) {
+        it->told = (int64_t)(8 * policy.len + 1024);
+        napi_adjust_external_memory(env, it->told, &now);
+        return result;
+    }
+    if (it != NULL)
+        fow_possession_close(&it->possession);
+    free(it);
+    return status == FOW_REFUSED ? number(env, fault) : lack_memory(env);
+}
+
+/* proofFault(proofs, validator, proof, method, uri, nonce, now): why the proof is none for this request with the token that was accepted last, at the moment of that verdict;
+ * 0 where it is one. An empty nonce is none. Everything else is thrown. */
+static napi_value proof_fault(napi_env env, napi_callback_info info)
+{
+    enum { PROOF, METHOD, URI, NONCE, TEXTS };
+    napi_value given[TEXTS + 3];
+    octets it[TEXTS];
+    uint32_t fault = FOW_NO_FAULT;
+    int64_t now = 0;
+    size_t count = TEXTS + 3;
+    proofs *by;
+    held *beside;
+    napi_get_cb_info(env, info, &count, given, NULL, NULL);
+    if (count < TEXTS + 3)
+        return mistake(env, "an argument is missing");
+    if ((by = proofs_of(env, given[0])) == NULL || (beside = held_of(env, given[1])) == NULL)
+        return NULL;
+    if (!read_moment(env, given[TEXTS + 2], &now))
+        return mistake(env, "a moment is wanted");
+    if (!read_each(env, given + 2, it, TEXTS))
+        return NULL;
+    uint32_t status = fow_possession_judge(&by->possession, &beside->validator, it[PROOF].at, it[PROOF].len, it[METHOD].at, it[METHOD].len, it[URI].at,
+        it[URI].len, it[NONCE].at, it[NONCE].len, beside->token, beside->len, now, &fault);
+    for (size_t i = 0; i < TEXTS; i++)
+        free(it[i].at);
+    if (status == FOW_OK)
+        return number(env, FOW_NO_FAULT);
+    if (status == FOW_REFUSED)
+        return number(env, fault);
+    return status == FOW_OUT_OF_MEMORY ? lack_memory(env) : fail(env, NULL, "no token is accepted, or no policy for proofs is open");
+}
+
+/* proofFresh(proofs, secret, period, now): what is said of the nonce of the proof that was accepted last. */
+static napi_value proof_fresh(napi_env env, napi_callback_info info)
+{
+    napi_value given[4];
+    size_t count = 4, len = 0;
+    void *secret = NULL;
+    uint32_t period = 0;
+    int64_t now = 0;
+    proofs *it;
+    napi_get_cb_info(env, info, &count, given, NULL, NULL);
+    if (count < 4)
+        return mistake(env, "an argument is missing");
+    if ((it = proofs_of(env, given[0])) == NULL)
+        return NULL;
+    if (napi_get_typedarray_info(env, given[1], NULL, &len, &secret, NULL, NULL) != napi_ok || !read_moment(env, given[3], &now))
+        return mistake(env, "a secret and a moment are wanted");
+    napi_get_value_uint32(env, given[2], &period);
+    return number(env, fow_possession_fresh(&it->possession, len == 0 ? (const uint8_t *)"" : secret, len, period, now));
+}
+
+/* proofAlgs(proofs, room): the names of the algorithms of the policy, which have fewer octets than its document. */
+static napi_value proof_algs(napi_env env, napi_callback_info info)
+{
+    napi_value given[2], result = NULL;
+    size_t count = 2, written = 0;
+    uint32_t room = 0;
+    proofs *it;
+    napi_get_cb_info(env, info, &count, given, NULL, NULL);
+    if (count < 2)
+        return mistake(env, "an argument is missing");
+    if ((it = proofs_of(env, given[0])) == NULL)
+        return NULL;
+    napi_get_value_uint32(env, given[1], &room);
+    uint8_t *out = malloc((size_t)room + 1);
+    if (out == NULL)
+        return lack_memory(env);
+    if (fow_possession_algs(&it->possession, out, room, &written) == FOW_OK)
+        napi_create_string_latin1(env, (const char *)out, written, &result);
+    else
+        fail(env, NULL, "no policy for proofs is open");
+    free(out);
+    return result;
+}
+
+/* proofTaken(once, proofs, now): what became of the proof that was accepted last, as taken. */
+static napi_value proof_taken(napi_env env, napi_callback_info info)
+{
+    napi_value given[3];
+    uint32_t said = FOW_TAKEN_NOTHING;
+    int64_t now = 0;
+    size_t count = 3;
+    fow_once *once;
+    proofs *it;
+    napi_get_cb_info(env, info, &count, given, NULL, NULL);
+    if (count < 3)
+        return mistake(env, "an argument is missing");
+    if ((once = once_of(env, given[0])) == NULL || (it = proofs_of(env, given[1])) == NULL)
+        return NULL;
+    if (!read_moment(env, given[2], &now))
+        return mistake(env, "a moment is wanted");
+    uint32_t status = fow_possession_take(&it->possession, once, now, &said);
+    if (status == FOW_OK || status == FOW_REFUSED)
+        return number(env, said);
+    return status == FOW_OUT_OF_MEMORY ? lack_memory(env) : fail(env, NULL, "no proof is accepted, or no memory of tokens is open");
+}
+
+static napi_value close_proofs(napi_env env, napi_callback_info info)
+{
+    napi_value given[1];
+    size_t count = 1;
+    proofs *it;
+    napi_get_cb_info(env, info, &count, given, NULL, NULL);
+    if (count == 1 && (it = proofs_of(env, given[0])) != NULL)
+        fow_possession_close(&it->possession);
+    return NULL;
+}
+
+/* bound(validator): how the token that was accepted last is bound, by the sum of enum fow_binding. Everything else is thrown. */
+static napi_value bound(napi_env env, napi_callback_info info)
+{
+    napi_value given[1];
+    uint32_t how = FOW_BOUND;
+    held *it = arguments(env, info, 1, given);
+    if (it == NULL)
+        return NULL;
+    uint32_t status = fow_bound(&it->validator, &how);
+    if (status == FOW_OK)
+        return number(env, how);
+    return status == FOW_OUT_OF_MEMORY ? lack_memory(env) : fail(env, NULL, "no token is accepted");
+}
+
+/* certificateHolds(validator, der): whether the token that was accepted last is bound to this certificate. Everything else is thrown. */
+static napi_value certificate_holds(napi_env env, napi_callback_info info)
+{
+    napi_value given[2], result = NULL;
+    octets der;
+    held *it = arguments(env, info, 2, given);
+    if (it == NULL || !read_octets(env, given[1], &der))
+        return NULL;
+    uint32_t status = fow_certificate_holds(&it->validator, der.at, der.len);
+    free(der.at);
+    if (status != FOW_OK && status != FOW_NOT_EXPECTED)
+        return status == FOW_OUT_OF_MEMORY ? lack_memory(env) : fail(env, NULL, "no token is accepted");
+    napi_get_boolean(env, status == FOW_OK, &result);
+    return result;
+}
+
 static napi_value fault_name(napi_env env, napi_callback_info info)
 {
     napi_value given[1], result = NULL;
@@ -842,6 +1045,8 @@ NAPI_MODULE_INIT()
         { "expectText", expect_text }, { "expectHalfHash", expect_half_hash },
         { "named", named }, { "soleIssuer", sole_issuer }, { "tokenLimit", token_limit }, { "isPublic", is_public }, { "textMember", text_member },
         { "openOnce", open_once }, { "taken", taken }, { "closeOnce", close_once },
+        { "openProofs", open_proofs }, { "proofFault", proof_fault }, { "proofTaken", proof_taken }, { "proofFresh", proof_fresh }, { "proofAlgs", proof_algs }, { "closeProofs", close_proofs },
+        { "bound", bound }, { "certificateHolds", certificate_holds },
     };
     for (size_t i = 0; i < sizeof all / sizeof *all; i++)
         put(env, exports, &all[i]);

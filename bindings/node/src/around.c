@@ -85,58 +85,100 @@ static bool arguments(napi_env env, napi_callback_info info, size_t wanted, napi
     return count >= wanted;
 }
 
-/* credentials(value): the token in the value of the one header Authorization; else the status of fow_credentials. */
+/* credentials(schemes, value): the status of fow_credentials, the scheme, and the token's places in the value of the one header Authorization. */
 static napi_value credentials(napi_env env, napi_callback_info info)
 {
     napi_value given[MOST_ARGUMENTS];
+    uint32_t schemes = FOW_NO_SCHEME, scheme = FOW_NO_SCHEME;
     size_t len = 0, from = 0, to = 0;
     uint8_t *value;
-    if (!arguments(env, info, 1, given) || (value = octets_of(env, given[0], &len)) == NULL)
+    if (!arguments(env, info, 2, given) || (value = octets_of(env, given[1], &len)) == NULL)
         return NULL;
-    uint32_t status = fow_credentials(value, len, &from, &to);
-    napi_value result = status == FOW_OK ? text_of(env, value + from, to - from) : number(env, status);
+    napi_get_value_uint32(env, given[0], &schemes);
+    uint32_t status = fow_credentials(schemes, value, len, &scheme, &from, &to);
     free(value);
-    return result;
+    const uint64_t said[] = { status, scheme, from, to };
+    return numbers(env, said, sizeof said / sizeof *said);
 }
 
-/* statusOf(outcome): the status that a request is answered with. */
-static napi_value status_of(napi_env env, napi_callback_info info)
+/* replyTo(schemes, shown, outcome): the status that a request is answered with, and the challenges of Bearer and of DPoP. */
+static napi_value reply_to(napi_env env, napi_callback_info info)
 {
     napi_value given[MOST_ARGUMENTS];
-    uint32_t outcome = FOW_UNANSWERED;
-    fow_reply reply;
-    if (!arguments(env, info, 1, given))
-        return NULL;
-    napi_get_value_uint32(env, given[0], &outcome);
-    fow_reply_to(outcome, &reply);
-    return number(env, reply.status);
-}
-
-/* challengeOf(outcome, realm, scopes): the challenge that is sent; an empty text where none is. Both can be quoted. */
-static napi_value challenge_of(napi_env env, napi_callback_info info)
-{
-    napi_value given[MOST_ARGUMENTS], result = NULL;
-    uint32_t outcome = FOW_UNANSWERED;
-    size_t realm_len = 0, scopes_len = 0, written = 0;
+    uint32_t schemes = FOW_NO_SCHEME, shown = FOW_NO_SCHEME, outcome = FOW_UNANSWERED;
     fow_reply reply;
     if (!arguments(env, info, 3, given))
         return NULL;
-    napi_get_value_uint32(env, given[0], &outcome);
-    fow_reply_to(outcome, &reply);
-    uint8_t *realm = octets_of(env, given[1], &realm_len);
-    uint8_t *scopes = realm == NULL ? NULL : octets_of(env, given[2], &scopes_len);
-    size_t room = realm_len + scopes_len + MOST_BESIDE;
-    uint8_t *out = scopes == NULL ? NULL : malloc(room);
-    if (out != NULL) {
-        bool is_written = fow_challenge(reply.challenge, realm, realm_len, scopes, scopes_len, out, room, &written) == FOW_OK;
-        result = is_written ? text_of(env, out, written) : mistake(env, "a realm or a scope can't be quoted");
-    } else if (scopes != NULL) {
+    napi_get_value_uint32(env, given[0], &schemes);
+    napi_get_value_uint32(env, given[1], &shown);
+    napi_get_value_uint32(env, given[2], &outcome);
+    fow_reply_to(schemes, shown, outcome, &reply);
+    const uint64_t said[] = { reply.status, reply.bearer, reply.dpop };
+    return numbers(env, said, sizeof said / sizeof *said);
+}
+
+/* challenge(scheme, kind, realm, scopes, algs): the text of a challenge; an empty text where there is none. All three can be quoted. */
+static napi_value challenge(napi_env env, napi_callback_info info)
+{
+    enum { REALM, SCOPES, ALGS, TEXTS };
+    napi_value given[MOST_ARGUMENTS], result = NULL;
+    uint32_t scheme = FOW_NO_SCHEME, kind = FOW_NO_CHALLENGE;
+    uint8_t *texts[TEXTS] = { NULL }, *out = NULL;
+    size_t lengths[TEXTS] = { 0 }, room = MOST_BESIDE, written = 0, read = 0;
+    if (!arguments(env, info, 2 + TEXTS, given))
+        return NULL;
+    napi_get_value_uint32(env, given[0], &scheme);
+    napi_get_value_uint32(env, given[1], &kind);
+    for (; read < TEXTS && (texts[read] = octets_of(env, given[2 + read], &lengths[read])) != NULL; read++)
+        room += lengths[read];
+    if (read == TEXTS && (out = malloc(room)) == NULL)
         lack_memory(env);
+    if (out != NULL) {
+        uint32_t status = fow_challenge(
+            scheme, kind, texts[REALM], lengths[REALM], texts[SCOPES], lengths[SCOPES], texts[ALGS], lengths[ALGS], out, room, &written);
+        result = status == FOW_OK ? text_of(env, out, written) : mistake(env, "a realm, a scope or an algorithm can't be quoted");
     }
-    free(realm);
-    free(scopes);
+    for (size_t i = 0; i < TEXTS; i++)
+        free(texts[i]);
     free(out);
     return result;
+}
+
+/* nonce(secret, period, now): the nonce of a moment; undefined where the secret is too short or the period is 0. */
+static napi_value nonce(napi_env env, napi_callback_info info)
+{
+    napi_value given[MOST_ARGUMENTS], result = NULL;
+    void *secret = NULL;
+    size_t len = 0, written = 0;
+    uint32_t period = 0;
+    int64_t now = 0;
+    uint8_t out[FOW_NONCE_LEN];
+    if (!arguments(env, info, 3, given))
+        return NULL;
+    if (napi_get_typedarray_info(env, given[0], NULL, &len, &secret, NULL, NULL) != napi_ok)
+        return mistake(env, "a secret is needed");
+    napi_get_value_uint32(env, given[1], &period);
+    /* (a moment is a number, or a bigint) */
+    bool is_whole = false;
+    if (napi_get_value_int64(env, given[2], &now) != napi_ok)
+        napi_get_value_bigint_int64(env, given[2], &now, &is_whole);
+    const uint8_t *octets = len == 0 ? (const uint8_t *)"" : secret;
+    if (fow_nonce(octets, len, period, now, out, sizeof out, &written) == FOW_OK)
+        return text_of(env, out, written);
+    napi_get_undefined(env, &result);
+    return result;
+}
+
+/* proofOutcome(status, fault): the number of enum fow_outcome of what was said of a proof. */
+static napi_value proof_outcome(napi_env env, napi_callback_info info)
+{
+    napi_value given[MOST_ARGUMENTS];
+    uint32_t status = FOW_NOT_OPEN, fault = FOW_NO_FAULT;
+    if (!arguments(env, info, 2, given))
+        return NULL;
+    napi_get_value_uint32(env, given[0], &status);
+    napi_get_value_uint32(env, given[1], &fault);
+    return number(env, fow_proof_outcome(status, fault));
 }
 
 /* quotable(text): whether a realm or scopes can be quoted as they are. */
@@ -334,7 +376,8 @@ static napi_value next_step(napi_env env, napi_callback_info info)
 }
 
 const named_call around[] = {
-    { "credentials", credentials }, { "statusOf", status_of }, { "challengeOf", challenge_of }, { "quotable", quotable },
+    { "credentials", credentials }, { "replyTo", reply_to }, { "challenge", challenge }, { "quotable", quotable },
+    { "nonce", nonce }, { "proofOutcome", proof_outcome },
     { "renewalBegin", renewal_begin }, { "renewalAsk", renewal_ask }, { "renewalTook", renewal_took }, { "renewalFailed", renewal_failed },
     { "renewalWait", renewal_wait }, { "urlOf", url_of }, { "redirected", redirected }, { "keysUrl", keys_url },
     { "metadataUrl", metadata_url }, { "nextStep", next_step }, { NULL, NULL },

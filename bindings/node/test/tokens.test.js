@@ -817,7 +817,7 @@ async function testWorkers() {
 
 async function testImport() {
   const { Validator, TokenRefused, ...others } = await import('../index.js');
-  for (const it of ['Access', 'AccessRefused', 'Denied', 'NotExpected', 'NotTaken', 'Once']) assert.ok(others[it] && others[it] === fow[it], it);
+  for (const it of ['Access', 'AccessRefused', 'Certificate', 'Denied', 'NotExpected', 'NotHeld', 'NotTaken', 'Once', 'Proof', 'Proofs', 'UNBOUND']) assert.ok(others[it] && others[it] === fow[it], it);
   assert.strictEqual(Validator, fow.Validator);
   assert.strictEqual(TokenRefused, fow.TokenRefused);
 }
@@ -831,7 +831,7 @@ function testTypes(t) {
 /** FOWHARIMU_ANOTHER is the number of the interface that the library has which FOWHARIMU_NODE was linked with, where it isn't this package's. */
 function testAnotherLibrary() {
   const loaded = Number(process.env.FOWHARIMU_ANOTHER);
-  for (const call of [() => validatorOf(HMAC), () => new fow.Access({}), () => new fow.Once(1)]) {
+  for (const call of [() => validatorOf(HMAC), () => new fow.Access({}), () => new fow.Once(1), () => new fow.Proofs({}, 1)]) {
     assert.throws(call, { name: 'AnotherLibrary', loaded, madeFor: loaded - 1, version: 'another' });
   }
 }
@@ -892,4 +892,5 @@ if (!isMainThread) {
   test('workers judge at once', testWorkers);
   test('import finds each name', testImport);
   test('types', testTypes);
+  require('./possession.js')(test);
 }
