@@ -32,51 +32,89 @@ static uint8_t *copied(JNIEnv *env, jbyteArray from, size_t *len)
     return to;
 }
 
-static jintArray JNICALL credentials(JNIEnv *env, jclass class, jbyteArray given)
+/* An array of numbers; NULL where memory is refused, and an exception is thrown. */
+static jintArray numbers_of(JNIEnv *env, const jint *said, jsize count)
+{
+    jintArray out = (*env)->NewIntArray(env, count);
+    if (out != NULL)
+        (*env)->SetIntArrayRegion(env, out, 0, count, said);
+    return out;
+}
+
+/* An array of octets; NULL as above. */
+static jbyteArray octets_of(JNIEnv *env, const uint8_t *octets, size_t len)
+{
+    jbyteArray out = (*env)->NewByteArray(env, (jsize)len);
+    if (out != NULL)
+        (*env)->SetByteArrayRegion(env, out, 0, (jsize)len, (const jbyte *)octets);
+    return out;
+}
+
+static jintArray JNICALL credentials(JNIEnv *env, jclass class, jint schemes, jbyteArray given)
 {
     (void)class;
+    uint32_t scheme = FOW_NO_SCHEME;
     size_t len, from = 0, to = 0;
     uint8_t *value = copied(env, given, &len);
     if (value == NULL)
         return NULL;
-    uint32_t status = fow_credentials(value, len, &from, &to);
+    uint32_t status = fow_credentials((uint32_t)schemes, value, len, &scheme, &from, &to);
     free(value);
-    const jint said[3] = { (jint)status, (jint)from, (jint)to };
-    jintArray out = (*env)->NewIntArray(env, 3);
-    if (out != NULL)
-        (*env)->SetIntArrayRegion(env, out, 0, 3, said);
-    return out;
+    const jint said[] = { (jint)status, (jint)scheme, (jint)from, (jint)to };
+    return numbers_of(env, said, sizeof said / sizeof *said);
 }
 
-static jint JNICALL status_of(JNIEnv *env, jclass class, jint outcome)
+static jintArray JNICALL reply_to(JNIEnv *env, jclass class, jint schemes, jint shown, jint outcome)
+{
+    (void)class;
+    fow_reply reply;
+    fow_reply_to((uint32_t)schemes, (uint32_t)shown, (uint32_t)outcome, &reply);
+    const jint said[] = { (jint)reply.status, (jint)reply.bearer, (jint)reply.dpop };
+    return numbers_of(env, said, sizeof said / sizeof *said);
+}
+
+static jbyteArray JNICALL challenge(
+    JNIEnv *env, jclass class, jint scheme, jint kind, jbyteArray given_realm, jbyteArray given_scopes, jbyteArray given_algs)
+{
+    enum { REALM, SCOPES, ALGS, TEXTS };
+    (void)class;
+    const jbyteArray given[TEXTS] = { given_realm, given_scopes, given_algs };
+    uint8_t *texts[TEXTS] = { NULL }, *out = NULL;
+    size_t lengths[TEXTS] = { 0 }, room = MOST_BESIDE, written = 0, read = 0;
+    jbyteArray result = NULL;
+    for (; read < TEXTS && (texts[read] = copied(env, given[read], &lengths[read])) != NULL; read++)
+        room += lengths[read];
+    if (read == TEXTS && (out = malloc(room)) == NULL)
+        lack_memory(env);
+    if (out != NULL
+        && fow_challenge((uint32_t)scheme, (uint32_t)kind, texts[REALM], lengths[REALM], texts[SCOPES], lengths[SCOPES], texts[ALGS], lengths[ALGS], out,
+               room, &written)
+            == FOW_OK)
+        result = octets_of(env, out, written);
+    for (size_t i = 0; i < TEXTS; i++)
+        free(texts[i]);
+    free(out);
+    return result;
+}
+
+static jbyteArray JNICALL nonce(JNIEnv *env, jclass class, jbyteArray given, jint period, jlong now)
+{
+    (void)class;
+    size_t len, written = 0;
+    uint8_t out[FOW_NONCE_LEN];
+    uint8_t *secret = copied(env, given, &len);
+    if (secret == NULL)
+        return NULL;
+    uint32_t status = fow_nonce(secret, len, (uint32_t)period, (int64_t)now, out, sizeof out, &written);
+    free(secret);
+    return status == FOW_OK ? octets_of(env, out, written) : NULL;
+}
+
+static jint JNICALL proof_outcome(JNIEnv *env, jclass class, jint status, jint fault)
 {
     (void)env;
     (void)class;
-    fow_reply reply;
-    fow_reply_to((uint32_t)outcome, &reply);
-    return (jint)reply.status;
-}
-
-static jbyteArray JNICALL challenge_of(JNIEnv *env, jclass class, jint outcome, jbyteArray given_realm, jbyteArray given_scopes)
-{
-    (void)class;
-    size_t realm_len = 0, scopes_len = 0, written = 0;
-    fow_reply reply;
-    jbyteArray result = NULL;
-    fow_reply_to((uint32_t)outcome, &reply);
-    uint8_t *realm = copied(env, given_realm, &realm_len);
-    uint8_t *scopes = realm == NULL ? NULL : copied(env, given_scopes, &scopes_len);
-    size_t room = realm_len + scopes_len + MOST_BESIDE;
-    uint8_t *out = scopes == NULL ? NULL : malloc(room);
-    if (scopes != NULL && out == NULL)
-        lack_memory(env);
-    bool is_written = out != NULL && fow_challenge(reply.challenge, realm, realm_len, scopes, scopes_len, out, room, &written) == FOW_OK;
-    if (is_written && (result = (*env)->NewByteArray(env, (jsize)written)) != NULL)
-        (*env)->SetByteArrayRegion(env, result, 0, (jsize)written, (const jbyte *)out);
-    free(realm);
-    free(scopes);
-    free(out);
-    return result;
+    return (jint)fow_proof_outcome((uint32_t)status, (uint32_t)fault);
 }
 
 static jboolean JNICALL quotable(JNIEnv *env, jclass class, jbyteArray given)
@@ -235,9 +273,11 @@ static jintArray JNICALL next_step(JNIEnv *env, jclass class, jint asked, jint s
 jint register_around(JNIEnv *env, jclass class)
 {
     const JNINativeMethod all[] = {
-        ROW("credentials", "([B)[I", credentials),
-        ROW("statusOf", "(I)I", status_of),
-        ROW("challengeOf", "(I[B[B)[B", challenge_of),
+        ROW("credentials", "(I[B)[I", credentials),
+        ROW("replyTo", "(III)[I", reply_to),
+        ROW("challenge", "(II[B[B[B)[B", challenge),
+        ROW("nonce", "([BIJ)[B", nonce),
+        ROW("proofOutcome", "(II)I", proof_outcome),
         ROW("isQuotable", "([B)Z", quotable),
         ROW("renewalBegin", "([JJJJJJ)V", renewal_begin),
         ROW("renewalAsk", "([JJIJ[J)V", renewal_ask),

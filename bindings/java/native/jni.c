@@ -468,6 +468,119 @@ static void JNICALL close_once(JNIEnv *env, jclass class, jlong once)
     free(once_at(once));
 }
 
+static fow_possession *proofs_at(jlong proofs)
+{
+    return (fow_possession *)(intptr_t)proofs;
+}
+
+static jlong JNICALL open_proofs(JNIEnv *env, jclass class, jbyteArray policy, jintArray out)
+{
+    (void)class;
+    uint32_t fault = FOW_NO_FAULT, status = FOW_OUT_OF_MEMORY;
+    octets from = copied(env, policy);
+    fow_possession *proofs = calloc(1, sizeof *proofs);
+    if (from.at != NULL && proofs != NULL)
+        status = fow_possession_open(proofs, from.at, from.len, &fault);
+    free(from.at);
+    if (status == FOW_OK)
+        return (jlong)(intptr_t)proofs;
+    free(proofs);
+    jint said = status == FOW_REFUSED ? (jint)fault : 0;
+    (*env)->SetIntArrayRegion(env, out, 0, 1, &said);
+    return 0;
+}
+
+/* A proof and its request, each to be freed. */
+typedef struct shown {
+    octets proof, method, uri, nonce;
+} shown;
+
+static uint32_t judge_shown(fow_possession *proofs, held *it, const shown *by, int64_t now, uint32_t *fault)
+{
+    if (by->proof.at == NULL || by->method.at == NULL || by->uri.at == NULL || by->nonce.at == NULL)
+        return FOW_OUT_OF_MEMORY;
+    return fow_possession_judge(proofs, &it->validator, by->proof.at, by->proof.len, by->method.at, by->method.len, by->uri.at, by->uri.len,
+        by->nonce.at, by->nonce.len, it->token, it->len, now, fault);
+}
+
+static jint JNICALL judge_proof(JNIEnv *env, jclass class, jlong proofs, jlong it, jbyteArray proof, jbyteArray method, jbyteArray uri, jbyteArray nonce,
+    jlong now, jintArray out)
+{
+    (void)class;
+    uint32_t fault = FOW_NO_FAULT;
+    shown by = { copied(env, proof), copied(env, method), copied(env, uri), copied(env, nonce) };
+    uint32_t status = judge_shown(proofs_at(proofs), at(it), &by, now, &fault);
+    free(by.proof.at);
+    free(by.method.at);
+    free(by.uri.at);
+    free(by.nonce.at);
+    jint said = (jint)fault;
+    (*env)->SetIntArrayRegion(env, out, 0, 1, &said);
+    return (jint)status;
+}
+
+static jint JNICALL take_proof(JNIEnv *env, jclass class, jlong once, jlong proofs, jlong now, jintArray out)
+{
+    (void)class;
+    uint32_t taken = FOW_TAKEN_NOTHING;
+    uint32_t status = fow_possession_take(proofs_at(proofs), once_at(once), now, &taken);
+    jint said = (jint)taken;
+    (*env)->SetIntArrayRegion(env, out, 0, 1, &said);
+    return (jint)status;
+}
+
+static jint JNICALL fresh_proof(JNIEnv *env, jclass class, jlong proofs, jbyteArray given, jint period, jlong now)
+{
+    (void)class;
+    octets secret = copied(env, given);
+    uint32_t status = FOW_OUT_OF_MEMORY;
+    if (secret.at != NULL)
+        status = fow_possession_fresh(proofs_at(proofs), secret.at, secret.len, (uint32_t)period, now);
+    free(secret.at);
+    return (jint)status;
+}
+
+static jbyteArray JNICALL proof_algs(JNIEnv *env, jclass class, jlong proofs, jint room)
+{
+    (void)class;
+    size_t written = 0;
+    jbyteArray result = NULL;
+    uint8_t *out = malloc((size_t)room + 1);
+    if (out != NULL && fow_possession_algs(proofs_at(proofs), out, (size_t)room, &written) == FOW_OK)
+        result = (*env)->NewByteArray(env, (jsize)written);
+    if (result != NULL)
+        (*env)->SetByteArrayRegion(env, result, 0, (jsize)written, (const jbyte *)out);
+    free(out);
+    return result;
+}
+
+static void JNICALL close_proofs(JNIEnv *env, jclass class, jlong proofs)
+{
+    (void)env;
+    (void)class;
+    fow_possession_close(proofs_at(proofs));
+    free(proofs_at(proofs));
+}
+
+static jint JNICALL bound(JNIEnv *env, jclass class, jlong it, jintArray out)
+{
+    (void)class;
+    uint32_t how = FOW_BOUND;
+    uint32_t status = fow_bound(&at(it)->validator, &how);
+    jint said = (jint)how;
+    (*env)->SetIntArrayRegion(env, out, 0, 1, &said);
+    return (jint)status;
+}
+
+static jint JNICALL certificate_holds(JNIEnv *env, jclass class, jlong it, jbyteArray der)
+{
+    (void)class;
+    octets from = copied(env, der);
+    uint32_t status = from.at == NULL ? FOW_OUT_OF_MEMORY : fow_certificate_holds(&at(it)->validator, from.at, from.len);
+    free(from.at);
+    return (jint)status;
+}
+
 static jstring JNICALL fault_name(JNIEnv *env, jclass class, jint fault)
 {
     (void)class;
@@ -505,6 +618,14 @@ JNIEXPORT jint JNICALL JNI_OnLoad(JavaVM *vm, void *reserved)
         ROW("openOnce", "(I)J", open_once),
         ROW("takeOnce", "(JJJ[I)I", take_once),
         ROW("closeOnce", "(J)V", close_once),
+        ROW("openProofs", "([B[I)J", open_proofs),
+        ROW("judgeProof", "(JJ[B[B[B[BJ[I)I", judge_proof),
+        ROW("takeProof", "(JJJ[I)I", take_proof),
+        ROW("freshProof", "(J[BIJ)I", fresh_proof),
+        ROW("proofAlgs", "(JI)[B", proof_algs),
+        ROW("closeProofs", "(J)V", close_proofs),
+        ROW("bound", "(J[I)I", bound),
+        ROW("certificateHolds", "(J[B)I", certificate_holds),
         ROW("faultName", "(I)Ljava/lang/String;", fault_name),
         ROW("named", "(J[B[I)[B", named),
         ROW("soleIssuer", "(J)[B", sole_issuer),

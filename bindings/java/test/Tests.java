@@ -71,7 +71,7 @@ final class Tests {
         System.out.println("Java: " + tests.passed + " tests passed");
     }
 
-    private interface Test {
+    interface Test {
         void run() throws Exception;
     }
 
@@ -171,7 +171,7 @@ final class Tests {
         return new Validator(octets("{\"algs\":[\"HS256\"],\"leeway\":60}"), read(hmac, "keys"), once);
     }
 
-    private static byte[] issued(Validator it, String claims) throws Exception {
+    static byte[] issued(Validator it, String claims) throws Exception {
         return octets(it.issue(claims, new Issuing()));
     }
 
@@ -330,9 +330,15 @@ final class Tests {
     }
 
     /** A server on the loopback that has these keys under /keys. */
-    private static HttpServer serving(byte[] keys) throws Exception {
+    static HttpServer serving(byte[] keys) throws Exception {
+        return serving(keys, new AtomicInteger());
+    }
+
+    /** The same, which counts how often they are fetched. */
+    static HttpServer serving(byte[] keys, AtomicInteger count) throws Exception {
         HttpServer server = HttpServer.create(new InetSocketAddress(InetAddress.getLoopbackAddress(), 0), 0);
         server.createContext("/keys", exchange -> {
+            count.incrementAndGet();
             exchange.sendResponseHeaders(200, keys.length);
             exchange.getResponseBody().write(keys);
             exchange.close();
@@ -374,7 +380,7 @@ final class Tests {
         }
     }
 
-    private static Fetching fetching(List<Duration> times) {
+    static Fetching fetching(List<Duration> times) {
         return new Fetching(times.get(0), times.get(1), times.get(2), times.get(3), true, Optional.empty(), (url, octets, error) -> {});
     }
 
@@ -834,6 +840,7 @@ final class Tests {
             String message = "fowharimu: the library another has interface " + loaded + ", and this package was made for " + (loaded - 1);
             equal(error.getMessage(), message);
             equal(thrown(UnsatisfiedLinkError.class, () -> new Access("{}")).getMessage(), message);
+            equal(thrown(UnsatisfiedLinkError.class, () -> new Once(1)).getMessage(), message);
         }
         passed++;
     }
@@ -877,7 +884,7 @@ final class Tests {
         return count;
     }
 
-    private static <T> List<T> together(int threads, Callable<T> call) throws Exception {
+    static <T> List<T> together(int threads, Callable<T> call) throws Exception {
         ExecutorService pool = Executors.newFixedThreadPool(threads);
         try {
             List<T> all = new ArrayList<>();
@@ -891,14 +898,14 @@ final class Tests {
     }
 
     /** The resident memory of this process, in KiB. */
-    private static long resident() throws Exception {
+    static long resident() throws Exception {
         try (Stream<String> lines = Files.lines(Path.of("/proc/self/status"))) {
             String line = lines.filter(it -> it.startsWith("VmRSS:")).collect(Collectors.toList()).get(0);
             return Long.parseLong(line.replaceAll("[^0-9]", ""));
         }
     }
 
-    private static Refused refused(Callable<?> call) throws Exception {
+    static Refused refused(Callable<?> call) throws Exception {
         try {
             call.call();
         } catch (Refused e) {
@@ -916,7 +923,7 @@ final class Tests {
         throw new AssertionError("it isn't denied");
     }
 
-    private static Throwable thrown(Class<? extends Throwable> kind, Callable<?> call) throws Exception {
+    static Throwable thrown(Class<? extends Throwable> kind, Callable<?> call) throws Exception {
         try {
             call.call();
         } catch (Throwable e) {
@@ -938,15 +945,15 @@ final class Tests {
         return new String(read(name, "jwt"), StandardCharsets.UTF_8);
     }
 
-    private static byte[] octets(String text) {
+    static byte[] octets(String text) {
         return text.getBytes(StandardCharsets.UTF_8);
     }
 
-    private static void equal(Object one, Object other) {
+    static void equal(Object one, Object other) {
         check(one.equals(other), one + " and not " + other);
     }
 
-    private static void check(boolean holds, String what) {
+    static void check(boolean holds, String what) {
         if (!holds) {
             throw new AssertionError(what);
         }

@@ -6,9 +6,9 @@ import java.util.List;
 import java.util.Objects;
 
 /**
- * What one call asks of a token beside its validator: an access rule, what this login or this request knows of its claims, another moment than the clock's. Each
- * method gives another object, and leaves this one as it is. The rule is held first, then the expectations in their order, and a token that counts once is
- * taken last ({@link Once}).
+ * What one call asks of a token beside its validator: an access rule, what this login or this request knows of its claims, that its sender holds the key that it is bound to,
+ * another moment than the clock's. Each method gives another object, and leaves this one as it is. The rule is held first, then the expectations in their order, then the
+ * sender; a proof and a token that counts once are taken last ({@link Proofs}, {@link Once}).
  *
  * <pre>{@code
  * String claims = validator.validate(token, new Asking().text("nonce", sent).halfHash("at_hash", accessToken));
@@ -23,16 +23,18 @@ public final class Asking {
     private final Instant now;
     private final Access access;
     private final List<Expectation> expected;
+    private final Sender sender;
 
     /** Asks for nothing beside. */
     public Asking() {
-        this(null, null, List.of());
+        this(null, null, List.of(), new Sender(false, null, null));
     }
 
-    private Asking(Instant now, Access access, List<Expectation> expected) {
+    private Asking(Instant now, Access access, List<Expectation> expected, Sender sender) {
         this.now = now;
         this.access = access;
         this.expected = expected;
+        this.sender = sender;
     }
 
     /**
@@ -42,7 +44,7 @@ public final class Asking {
      * @return what is asked then
      */
     public Asking at(Instant now) {
-        return new Asking(Objects.requireNonNull(now, "now"), access, expected);
+        return new Asking(Objects.requireNonNull(now, "now"), access, expected, sender);
     }
 
     /**
@@ -52,7 +54,7 @@ public final class Asking {
      * @return what is asked then
      */
     public Asking access(Access access) {
-        return new Asking(now, Objects.requireNonNull(access, "access"), expected);
+        return new Asking(now, Objects.requireNonNull(access, "access"), expected, sender);
     }
 
     /**
@@ -82,7 +84,39 @@ public final class Asking {
     private Asking expecting(Expectation one) {
         List<Expectation> all = new ArrayList<>(expected);
         all.add(one);
-        return new Asking(now, access, List.copyOf(all));
+        return new Asking(now, access, List.copyOf(all), sender);
+    }
+
+    /**
+     * Asks that the sender holds the key that the token is bound to, by a proof of possession (DPoP, RFC 9449). Where that isn't shown, the token is refused by the kind
+     * {@link Refused.Kind#NOT_HELD}, and where the proof was taken before by {@link Refused.Kind#NOT_TAKEN}.
+     *
+     * @param proof the proof, and the request that it comes with
+     * @return what is asked then
+     */
+    public Asking proof(Proof proof) {
+        return new Asking(now, access, expected, new Sender(sender.unbound, sender.der, Objects.requireNonNull(proof, "proof")));
+    }
+
+    /**
+     * Asks that the token is bound to the certificate of the client, by {@code x5t#S256} in its {@code cnf} (RFC 8705, section 3). Where it isn't, it is refused by the kind
+     * {@link Refused.Kind#NOT_HELD}, as {@code OtherCertificate}.
+     *
+     * @param der the certificate in DER, as whoever ended TLS has it
+     * @return what is asked then
+     */
+    public Asking certificate(byte[] der) {
+        return new Asking(now, access, expected, new Sender(sender.unbound, der.clone(), sender.proof));
+    }
+
+    /**
+     * Asks that the token is bound to nothing, as a service does that takes tokens of bearers: else whoever stole it could use it (RFC 9449, section 7.2). Where it is bound, it
+     * is refused by the kind {@link Refused.Kind#NOT_HELD}, as {@code Bound}. Without this, and without a proof or a certificate, nothing is asked of the sender.
+     *
+     * @return what is asked then
+     */
+    public Asking unbound() {
+        return new Asking(now, access, expected, new Sender(true, sender.der, sender.proof));
     }
 
     /** The moment at which a token is judged, in seconds since 1970-01-01T00:00:00Z. */
@@ -97,6 +131,35 @@ public final class Asking {
         }
         for (Expectation it : expected) {
             it.hold(accepted);
+        }
+        sender.hold(accepted);
+    }
+
+    /** The proof that was accepted beside that token, at the moment of its verdict, and is to be taken; null where none is asked for. */
+    Proof.Shown shown(Seats.Seat accepted, long moment) throws Refused {
+        return sender.proof == null ? null : sender.proof.judge(accepted, moment);
+    }
+
+    /** What is asked of the sender: that the token isn't bound, that it is bound to a certificate, or null, and a proof, or null. */
+    private record Sender(boolean unbound, byte[] der, Proof proof) {
+        void hold(Seats.Seat accepted) throws Refused {
+            if (unbound) {
+                int[] how = new int[1];
+                hold(Native.bound(accepted.at, how) == Native.OK, how[0] == 0, "Bound");
+            }
+            if (der != null) {
+                int status = Native.certificateHolds(accepted.at, der);
+                hold(status == Native.OK || status == Native.NOT_EXPECTED, status == Native.OK, "OtherCertificate");
+            }
+        }
+
+        private static void hold(boolean isKnown, boolean holds, String fault) throws Refused {
+            if (!isKnown) {
+                throw new OutOfMemoryError("fowharimu: an allocation was refused");
+            }
+            if (!holds) {
+                throw new Refused(Refused.Kind.NOT_HELD, fault, null, 0, 0);
+            }
         }
     }
 

@@ -81,9 +81,10 @@ public sealed interface Judging extends AutoCloseable permits Validator, RemoteK
      * The claims of a token that is accepted, where they are as this call asks.
      *
      * @param token the token
-     * @param asking the moment, the access rule, and what is expected of claims
+     * @param asking the moment, the access rule, what is expected of claims, and what is asked of the sender
      * @return the payload: a JSON text
-     * @throws Refused where the token isn't accepted; of {@link Refused.Kind#NOT_EXPECTED} where it is, and isn't the one that was expected
+     * @throws Refused where the token isn't accepted; of {@link Refused.Kind#NOT_EXPECTED} where it is, and isn't the one that was expected, and of
+     *     {@link Refused.Kind#NOT_HELD} where its sender hasn't shown the key that it is bound to
      * @throws Denied where it is accepted, and its claims don't meet the rule
      * @throws IllegalArgumentException where a surrogate stands alone in the name of a claim, or in the text that is expected of it
      */
@@ -95,9 +96,10 @@ public sealed interface Judging extends AutoCloseable permits Validator, RemoteK
      * The claims of a token that is accepted, where they are as this call asks.
      *
      * @param token the token's octets
-     * @param asking the moment, the access rule, and what is expected of claims
+     * @param asking the moment, the access rule, what is expected of claims, and what is asked of the sender
      * @return the payload: a JSON text
-     * @throws Refused where the token isn't accepted; of {@link Refused.Kind#NOT_EXPECTED} where it is, and isn't the one that was expected
+     * @throws Refused where the token isn't accepted; of {@link Refused.Kind#NOT_EXPECTED} where it is, and isn't the one that was expected, and of
+     *     {@link Refused.Kind#NOT_HELD} where its sender hasn't shown the key that it is bound to
      * @throws Denied where it is accepted, and its claims don't meet the rule
      * @throws IllegalArgumentException where a surrogate stands alone in the name of a claim, or in the text that is expected of it
      */

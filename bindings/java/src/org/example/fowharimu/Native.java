@@ -5,8 +5,8 @@ import java.io.InputStream;
 import java.nio.file.Files;
 import java.nio.file.Path;
 
-/** The functions of fowharimu.h: those of jni.c. An address is that of a validator, of an access rule, or of a memory of tokens that count once, of each of which one
- * call at a time is made. */
+/** The functions of fowharimu.h: those of jni.c. An address is that of a validator, of an access rule, of a policy for proofs, or of a memory of tokens that count once, of
+ * each of which one call at a time is made. */
 final class Native {
     static final int OK = 0;
     static final int REFUSED = 1;
@@ -158,6 +158,32 @@ final class Native {
 
     static native void closeOnce(long once);
 
+    /** The address of a policy for proofs of possession; 0 where it is refused, for {@code fault[0]}, or for memory where that is 0. */
+    static native long openProofs(byte[] policy, int[] fault);
+
+    /**
+     * Judges a proof beside the token that was accepted last, at the moment of that verdict; an empty nonce is none. Gives the status, and writes the fault of
+     * {@link #REFUSED}.
+     */
+    static native int judgeProof(long proofs, long validator, byte[] proof, byte[] method, byte[] uri, byte[] nonce, long now, int[] fault);
+
+    /** Takes the proof that was accepted last, as {@link #takeOnce}. */
+    static native int takeProof(long once, long proofs, long now, int[] taken);
+
+    /** What is said of the nonce of the proof that was accepted last: {@link #OK}, or {@link #NOT_EXPECTED}. */
+    static native int freshProof(long proofs, byte[] secret, int period, long now);
+
+    /** The names of the algorithms of the policy, which have fewer octets than its document. */
+    static native byte[] proofAlgs(long proofs, int room);
+
+    static native void closeProofs(long proofs);
+
+    /** Gives the status, and writes how the token that was accepted last is bound, by the sum of enum fow_binding; 0 is not at all. */
+    static native int bound(long it, int[] how);
+
+    /** Whether the token that was accepted last is bound to this certificate: {@link #OK}, or {@link #NOT_EXPECTED}. */
+    static native int certificateHolds(long it, byte[] der);
+
     static native String faultName(int fault);
 
     /** The issuer that a token names; null where there is none, as {@code status[0]} says. It throws OutOfMemoryError. */
@@ -175,14 +201,20 @@ final class Native {
     /** The text of a member of a JSON object; null where there is none. It throws OutOfMemoryError. */
     static native byte[] textMember(byte[] document, byte[] name);
 
-    /** What {@code fow_credentials} answers, and the places of the token. */
-    static native int[] credentials(byte[] value);
+    /** What {@code fow_credentials} answers, the scheme, and the places of the token. */
+    static native int[] credentials(int schemes, byte[] value);
 
-    /** The status that a request is answered with. */
-    static native int statusOf(int outcome);
+    /** The status that a request is answered with, and the challenges of Bearer and DPoP, by {@code enum fow_challenge_kind}. */
+    static native int[] replyTo(int schemes, int shown, int outcome);
 
-    /** The challenge that is sent; empty where none is, and null where the realm or the scopes can't be quoted. */
-    static native byte[] challengeOf(int outcome, byte[] realm, byte[] scopes);
+    /** The text of a challenge; empty where there is none, and null where the realm, the scopes or the algorithms can't be quoted. */
+    static native byte[] challenge(int scheme, int kind, byte[] realm, byte[] scopes, byte[] algs);
+
+    /** The nonce of a moment; null where the secret is too short or the period is 0. */
+    static native byte[] nonce(byte[] secret, int period, long now);
+
+    /** The number of an {@link Outcome}, of what was said of a proof. */
+    static native int proofOutcome(int status, int fault);
 
     static native boolean isQuotable(byte[] text);
 

@@ -49,15 +49,30 @@ public final class Once implements AutoCloseable {
 
     /** Takes the token that this seat of a validator has accepted just now, at that moment. */
     void take(Seats.Seat accepted, long now) throws Refused {
+        take(Outcome.NOT_ACCEPTED, (at, taken) -> Native.takeOnce(at, accepted.at, now, taken));
+    }
+
+    /** Takes the proof that this seat of a policy for proofs has accepted just now, at that moment. */
+    void takeProof(Seats.Seat accepted, long now) throws Refused {
+        take(Outcome.ofProof(Native.REFUSED, 0), (at, taken) -> Native.takeProof(at, accepted.at, now, taken));
+    }
+
+    /** Takes by this call of the library. The outcome is that of what isn't taken. */
+    private void take(Outcome outcome, Taking call) throws Refused {
         int[] taken = new int[1];
-        int status = memory.take(accepted.at, now, taken);
+        int status = memory.take(call, taken);
         Reference.reachabilityFence(this);
         if (status == Native.REFUSED) {
-            throw new Refused(Refused.Kind.NOT_TAKEN, WHY[taken[0]], null, 0, 0);
+            throw new Refused(Refused.Kind.NOT_TAKEN, WHY[taken[0]], outcome);
         }
         if (status != Native.OK) {
             throw new OutOfMemoryError("fowharimu: an allocation was refused");
         }
+    }
+
+    /** A call of the library that takes something in a memory. */
+    private interface Taking {
+        int in(long at, int[] taken);
     }
 
     /** What the library holds, of which one call at a time is made. Running it frees that. */
@@ -68,11 +83,11 @@ public final class Once implements AutoCloseable {
             this.at = at;
         }
 
-        synchronized int take(long validator, long now, int[] taken) {
+        synchronized int take(Taking call, int[] taken) {
             if (at == 0) {
                 throw new IllegalStateException("the memory of tokens that count once is closed");
             }
-            return Native.takeOnce(at, validator, now, taken);
+            return call.in(at, taken);
         }
 
         @Override

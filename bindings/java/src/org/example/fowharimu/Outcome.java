@@ -1,6 +1,6 @@
 package org.example.fowharimu;
 
-/** What is known of the token of a request. */
+/** What is known of a request and its token. */
 public enum Outcome {
     /** Nothing can be said of the token. */
     UNANSWERED,
@@ -8,16 +8,25 @@ public enum Outcome {
     ADMITTED,
     /** There is more than one header {@code Authorization}. */
     SEVERAL,
-    /** There is none, or its scheme isn't Bearer. */
-    NO_BEARER,
+    /** There is none, or its scheme is none that is taken. */
+    NO_TOKEN,
     /** What stands behind the scheme is no b64token (RFC 6750, section 2.1). */
     MALFORMED,
-    /** It is refused. */
+    /** It is refused, or bound to another key, or bound and a bearer's. */
     NOT_ACCEPTED,
     /** A scope that the access rule asks for is missing. */
     SCOPE_MISSING,
     /** The claims don't meet the access rule otherwise. */
     NOT_GRANTED,
     /** The keys are too old. */
-    KEYS_TOO_OLD
+    KEYS_TOO_OLD,
+    /** There is no proof, or several, or it isn't one for this request, or it came before. */
+    PROOF_REFUSED,
+    /** The proof hasn't a nonce that is asked for. */
+    NONCE_WANTED;
+
+    /** The outcome of what was said of a proof, by a status and a fault of the library. */
+    static Outcome ofProof(int status, int fault) {
+        return values()[Native.proofOutcome(status, fault)];
+    }
 }

@@ -1,32 +1,61 @@
 package org.example.fowharimu;
 
 import java.nio.charset.StandardCharsets;
+import java.util.ArrayList;
 import java.util.List;
 import java.util.Optional;
+import java.util.Set;
 
 /**
  * What a request is answered.
  *
  * @param status the status; 200 where it is let through
- * @param challenge the value of {@code WWW-Authenticate} (RFC 6750, section 3); empty where there is no such header
+ * @param challenges the values of {@code WWW-Authenticate}, one for each scheme (RFC 6750, section 3; RFC 9449, section 7.1)
+ * @param wantsNonce whether the answer has a header {@code DPoP-Nonce} too, with {@link Nonces#now}, and {@code Cache-Control} with {@code no-store}
  */
-public record Reply(int status, Optional<String> challenge) {
+public record Reply(int status, List<String> challenges, boolean wantsNonce) {
+    private static final int NO_CHALLENGE = 0;
+    private static final int USE_DPOP_NONCE = 7;
+
     /**
-     * What a request is answered of whose token this is known.
+     * What challenges quote, as it is.
      *
-     * @param outcome what is known of the token
      * @param realm the realm of the service
      * @param scopes what the request needs, of {@link Outcome#SCOPE_MISSING}
-     * @return the answer
-     * @throws IllegalArgumentException for a realm or a scope that can't be quoted
+     * @param algs the algorithms of proofs, as {@link Proofs#algs} has them; an empty text where none are taken
      */
-    public static Reply to(Outcome outcome, String realm, List<String> scopes) {
-        byte[] challenge = Native.challengeOf(outcome.ordinal(), octets(realm), octets(String.join(" ", scopes)));
-        if (challenge == null) {
-            throw new IllegalArgumentException("a realm or a scope can't be quoted");
+    public record Quoted(String realm, List<String> scopes, String algs) {}
+
+    /**
+     * What a request is answered of which this is known.
+     *
+     * @param taken the schemes that the service takes
+     * @param shown the one that the request shows; empty where that is none of these
+     * @param outcome what is known of it
+     * @param quoted what challenges quote
+     * @return the answer
+     * @throws IllegalArgumentException for a realm, a scope or an algorithm that can't be quoted
+     */
+    public static Reply to(Set<Scheme> taken, Optional<Scheme> shown, Outcome outcome, Quoted quoted) {
+        int number = Scheme.number(shown.map(Set::of).orElse(Set.of()));
+        int[] said = Native.replyTo(Scheme.number(taken), number, outcome.ordinal());
+        List<String> challenges = new ArrayList<>();
+        for (Scheme scheme : Scheme.values()) {
+            int kind = said[1 + scheme.ordinal()];
+            if (kind != NO_CHALLENGE) {
+                challenges.add(challenge(scheme, kind, quoted));
+            }
         }
-        String text = new String(challenge, StandardCharsets.US_ASCII);
-        return new Reply(Native.statusOf(outcome.ordinal()), text.isEmpty() ? Optional.empty() : Optional.of(text));
+        return new Reply(said[0], List.copyOf(challenges), said[2] == USE_DPOP_NONCE);
+    }
+
+    private static String challenge(Scheme scheme, int kind, Quoted quoted) {
+        byte[] scopes = octets(String.join(" ", quoted.scopes()));
+        byte[] text = Native.challenge(Scheme.number(Set.of(scheme)), kind, octets(quoted.realm()), scopes, octets(quoted.algs()));
+        if (text == null) {
+            throw new IllegalArgumentException("a realm, a scope or an algorithm can't be quoted");
+        }
+        return new String(text, StandardCharsets.US_ASCII);
     }
 
     /**

@@ -172,7 +172,7 @@ public final class Validator implements Judging {
         Seats.Seat seat = seats.take();
         try {
             accept(seat, token, now);
-            return taken(seat, now);
+            return taken(seat, now, null);
         } finally {
             give(seat);
         }
@@ -224,7 +224,7 @@ public final class Validator implements Judging {
         try {
             accept(seat, token, now);
             access.hold(seat);
-            return taken(seat, now);
+            return taken(seat, now, null);
         } finally {
             give(seat);
         }
@@ -237,7 +237,9 @@ public final class Validator implements Judging {
         try {
             accept(seat, token, now);
             asking.hold(seat);
-            return taken(seat, now);
+            try (Proof.Shown shown = asking.shown(seat, now)) {
+                return taken(seat, now, shown);
+            }
         } finally {
             give(seat);
         }
@@ -437,9 +439,15 @@ public final class Validator implements Judging {
         return claim < CLAIMS.length ? CLAIMS[claim] : Text.of(Native.refusedClaim(seat.at));
     }
 
-    /** The payload of the token that was accepted just now. The token is taken last, so that nothing which fails has used it up. */
-    private String taken(Seats.Seat seat, long now) throws Refused {
+    /**
+     * The payload of the token that was accepted just now, with this proof, or null. They are taken last, so that nothing which fails has used them up; a client makes another
+     * proof, and no other token.
+     */
+    private String taken(Seats.Seat seat, long now, Proof.Shown shown) throws Refused {
         String claims = payload(seat);
+        if (shown != null) {
+            shown.take(now);
+        }
         if (once != null) {
             once.take(seat, now);
         }
@@ -487,7 +495,8 @@ public final class Validator implements Judging {
         return new Refused(Refused.Kind.ISSUE, Native.faultName((int) report[Native.FAULT]), about, (int) report[Native.SIGNATURE], 0);
     }
 
-    private static Refused documentRefused(int fault, byte[] policy) {
+    /** Why a policy or a key set is refused. Throws OutOfMemoryError where it isn't. */
+    static Refused documentRefused(int fault, byte[] policy) {
         if (fault == 0) {
             throw lackMemory();
         }

@@ -12,18 +12,22 @@ import java.util.Collections;
 import java.util.List;
 import java.util.Objects;
 import java.util.Optional;
+import java.util.Set;
 import org.example.fowharimu.Access;
+import org.example.fowharimu.Asking;
 import org.example.fowharimu.Credentials;
 import org.example.fowharimu.Denied;
 import org.example.fowharimu.Judging;
 import org.example.fowharimu.Outcome;
 import org.example.fowharimu.Refused;
 import org.example.fowharimu.Reply;
+import org.example.fowharimu.Scheme;
 
 /**
- * Lets HTTP requests through where their token is accepted (RFC 6750). Their claims, a JSON text, are the request's attribute {@link #CLAIMS}.
+ * Lets HTTP requests through where their token is accepted (RFC 6750), and where the service asks for it, whoever sends it holds its key (RFC 9449). Their claims, a JSON text, are the
+ * request's attribute {@link #CLAIMS}.
  *
- * <p>Else the answer is 400, 401 or 403, with {@code WWW-Authenticate} (RFC 6750, section 3). Where nothing is said of a token, for want of memory or
+ * <p>Else the answer is 400, 401 or 403, with {@code WWW-Authenticate} (RFC 6750, section 3; RFC 9449, section 7.1). Where nothing is said of a token, for want of memory or
  * since the validator is closed, the exception is the container's, which answers 500. Threads share a filter. It doesn't close what it is given.
  *
  * <pre>{@code
@@ -39,6 +43,8 @@ public class Guard implements Filter {
     private final Optional<Access> access;
     private final String realm;
     private final boolean hidesToken;
+    private volatile Optional<Dpop> dpop = Optional.empty();
+    private volatile boolean refusesBound;
 
     /**
      * A filter that asks for an accepted token.
@@ -54,7 +60,7 @@ public class Guard implements Filter {
      *
      * @param validator what judges the tokens, which the filter doesn't close
      * @param realm the realm that a request without a token is told
-     * @param hidesToken whether what is behind isn't shown {@code Authorization}
+     * @param hidesToken whether what is behind isn't shown {@code Authorization} and {@code DPoP}
      * @throws IllegalArgumentException for a realm that a quoted string can't have
      */
     public Guard(Judging validator, String realm, boolean hidesToken) {
@@ -78,7 +84,7 @@ public class Guard implements Filter {
      * @param validator what judges the tokens, which the filter doesn't close
      * @param access the access rule
      * @param realm the realm that a request without a token is told
-     * @param hidesToken whether what is behind isn't shown {@code Authorization}
+     * @param hidesToken whether what is behind isn't shown {@code Authorization} and {@code DPoP}
      * @throws IllegalArgumentException for a realm that a quoted string can't have
      * @throws NullPointerException where there is no access rule
      */
@@ -96,23 +102,49 @@ public class Guard implements Filter {
         this.hidesToken = hidesToken;
     }
 
+    /**
+     * Has this filter take tokens of the scheme DPoP too, or alone, with proofs. A bearer's token that is bound is refused then. A proof counts once: the filter stands once on a
+     * request's way, for the type {@code REQUEST} alone, since a forward or another dispatch would find the proof taken.
+     *
+     * @param dpop how they are taken
+     * @return this filter
+     */
+    public Guard takeProofs(Dpop dpop) {
+        this.dpop = Optional.of(dpop);
+        return this;
+    }
+
+    /**
+     * Has this filter refuse a bearer's token that is bound: else whoever stole it could use it (RFC 9449, section 7.2).
+     *
+     * @return this filter
+     */
+    public Guard refuseBound() {
+        refusesBound = true;
+        return this;
+    }
+
     @Override
     public void doFilter(ServletRequest request, ServletResponse response, FilterChain chain) throws IOException, ServletException {
         HttpServletRequest asked = (HttpServletRequest) request;
         HttpServletResponse answer = (HttpServletResponse) response;
         List<String> values = Collections.list(asked.getHeaders("Authorization"));
         if (values.size() > 1) {
-            refuse(answer, Outcome.SEVERAL, List.of());
+            refuse(answer, Optional.empty(), Outcome.SEVERAL, List.of());
             return;
         }
-        Credentials credentials = Credentials.of(String.join("", values));
+        Credentials credentials = Credentials.of(schemes(), String.join("", values));
         if (credentials.outcome() != Outcome.ADMITTED) {
-            refuse(answer, credentials.outcome(), List.of());
+            refuse(answer, credentials.scheme(), credentials.outcome(), List.of());
             return;
         }
-        if (isAccepted(asked, answer, credentials.token())) {
+        if (isAccepted(asked, answer, credentials)) {
             chain.doFilter(hidesToken ? new Hiding(asked) : asked, response);
         }
+    }
+
+    private Set<Scheme> schemes() {
+        return dpop.map(Dpop::schemes).orElse(Set.of(Scheme.BEARER));
     }
 
     /**
@@ -124,23 +156,42 @@ public class Guard implements Filter {
     protected void refused(HttpServletRequest request, Exception why) {}
 
     /** Whether the token is accepted and meets the rule; the claims are the request's attribute then, and else the answer is given. */
-    private boolean isAccepted(HttpServletRequest request, HttpServletResponse answer, String token) {
+    private boolean isAccepted(HttpServletRequest request, HttpServletResponse answer, Credentials shown) {
+        List<String> proofs = Collections.list(request.getHeaders("DPoP"));
+        boolean hasScheme = shown.scheme().filter(it -> it == Scheme.DPOP).isPresent();
+        if (hasScheme && proofs.size() != 1) {
+            refuse(answer, shown.scheme(), Outcome.PROOF_REFUSED, List.of());
+            return false;
+        }
+        Asking asking = access.map(new Asking()::access).orElse(new Asking());
+        if (hasScheme) {
+            // (the path as the client wrote it, encoded)
+            asking = asking.proof(dpop.orElseThrow().proof(proofs.get(0), request.getMethod(), request.getRequestURI()));
+        } else if (dpop.isPresent() || refusesBound) {
+            asking = asking.unbound();
+        }
         try {
-            request.setAttribute(CLAIMS, access.isEmpty() ? validator.validate(token) : validator.validate(token, access.get()));
+            request.setAttribute(CLAIMS, validator.validate(shown.token(), asking));
             return true;
         } catch (Refused refusal) {
             refused(request, refusal);
-            refuse(answer, refusal.kind() == Refused.Kind.KEYS_TOO_OLD ? Outcome.KEYS_TOO_OLD : Outcome.NOT_ACCEPTED, List.of());
+            refuse(answer, shown.scheme(), refusal.outcome(), List.of());
         } catch (Denied denial) {
             refused(request, denial);
-            refuse(answer, denial.scope().isEmpty() ? Outcome.NOT_GRANTED : Outcome.SCOPE_MISSING, denial.scopes());
+            refuse(answer, shown.scheme(), denial.scope().isEmpty() ? Outcome.NOT_GRANTED : Outcome.SCOPE_MISSING, denial.scopes());
         }
         return false;
     }
 
-    private void refuse(HttpServletResponse answer, Outcome outcome, List<String> scopes) {
-        Reply reply = Reply.to(outcome, realm, scopes);
+    private void refuse(HttpServletResponse answer, Optional<Scheme> shown, Outcome outcome, List<String> scopes) {
+        Reply reply = Reply.to(schemes(), shown, outcome, new Reply.Quoted(realm, scopes, dpop.map(Dpop::algs).orElse("")));
         answer.setStatus(reply.status());
-        reply.challenge().ifPresent(it -> answer.setHeader("WWW-Authenticate", it));
+        reply.challenges().forEach(it -> answer.addHeader("WWW-Authenticate", it));
+        if (reply.wantsNonce()) {
+            dpop.flatMap(Dpop::nonces).ifPresent(it -> {
+                answer.setHeader("DPoP-Nonce", it.now());
+                answer.setHeader("Cache-Control", "no-store");
+            });
+        }
     }
 }
