@@ -29,6 +29,9 @@
 /* the octets of a mark by which a token that counts once is held */
 #define NGX_HTTP_FOWHARIMU_MARK        32
 
+/* how long a nonce for proofs is offered, in seconds, where nothing is said */
+#define NGX_HTTP_FOWHARIMU_PERIOD      60
+
 /* the most octets that a challenge has beside what it quotes */
 #define NGX_HTTP_FOWHARIMU_BESIDE_QUOTED  64
 
@@ -132,6 +135,27 @@ typedef struct {
 } ngx_http_fowharimu_entry_t;
 
 
+/* a token or a proof that was taken, by a main request */
+typedef struct {
+    ngx_shm_zone_t                  *zone;
+    ngx_http_fowharimu_entry_t       entry;
+} ngx_http_fowharimu_held_t;
+
+
+/* a policy for proofs of possession, with the names of its algorithms */
+typedef struct {
+    fow_possession                   handle;
+    ngx_str_t                        algs;
+} ngx_http_fowharimu_proofs_t;
+
+
+/* "jwt_dpop_nonce" */
+typedef struct {
+    ngx_str_t                        secret;
+    uint32_t                         period;    /* in seconds */
+} ngx_http_fowharimu_nonce_t;
+
+
 /* a line "jwt_expect" */
 typedef struct {
     ngx_str_t                        name;      /* of a claim */
@@ -192,6 +216,13 @@ typedef struct {
     ngx_array_t                     *demands;   /* such rules, by pointers */
     ngx_array_t                     *expected;  /* of "jwt_expect" */
     ngx_shm_zone_t                  *once;      /* of "jwt_once" */
+    ngx_uint_t                       schemes;   /* the sum of enum fow_scheme */
+    ngx_http_fowharimu_proofs_t     *proofs;    /* of "jwt_dpop_policy" */
+    ngx_str_t                        origin;
+    ngx_shm_zone_t                  *proof_once;
+    ngx_http_fowharimu_nonce_t      *nonce;
+    ngx_http_complex_value_t        *certificate;
+    ngx_flag_t                       refuse_bound;
     ngx_int_t                        tokens;    /* that are remembered */
     size_t                           octets;    /* of the longest of them */
     ngx_uint_t                       most;      /* questions of one token */
@@ -205,9 +236,12 @@ typedef struct {
     time_t                           moment;
     ngx_int_t                        found;     /* as the token was looked for */
     ngx_int_t                        status;    /* NGX_OK: it is accepted */
-    uint32_t                         challenge; /* enum fow_challenge_kind */
+    uint32_t                         scheme;    /* that was shown */
+    uint32_t                         bearer;    /* enum fow_challenge_kind */
+    uint32_t                         dpop;
     ngx_str_t                       *scopes;    /* of the rule, if any */
     ngx_str_t                        token;
+    ngx_str_t                        proof;     /* of the scheme "DPoP" */
     ngx_str_t                        verdict;
     ngx_str_t                        fault;
     ngx_str_t                        payload;   /* in base64url */
@@ -216,6 +250,7 @@ typedef struct {
     uint64_t                         work;
     uint64_t                         remembered;
     ngx_http_fowharimu_entry_t       entry;     /* with "jwt_once" */
+    ngx_http_fowharimu_entry_t       proof_entry;
     u_char                           digits[3][NGX_INT64_LEN];
     ngx_str_t                       *claims;    /* in the order of the names */
     unsigned                         passed:1;  /* the access phase, by it */
@@ -229,8 +264,8 @@ typedef struct {
     ngx_list_t                       headers;   /* as they were sent */
     ngx_str_t                        args;
     ngx_str_t                        stripped;  /* the same without the token */
-    ngx_shm_zone_t                  *zone;      /* in which it has taken .entry */
-    ngx_http_fowharimu_entry_t       entry;     /* (of a main request) */
+    ngx_http_fowharimu_held_t        token;     /* that it has taken */
+    ngx_http_fowharimu_held_t        proof;     /* (both of a main request) */
     unsigned                         under_way:1;
     unsigned                         changed:1; /* others go on than .headers */
     unsigned                         cut:1;     /* .stripped go on */
@@ -250,14 +285,14 @@ ngx_http_fowharimu_ctx_t *ngx_http_fowharimu_find_ctx(ngx_http_request_t *r,
     ngx_http_request_t *owner);
 ngx_http_fowharimu_ctx_t *ngx_http_fowharimu_own_ctx(ngx_http_request_t *r);
 ngx_int_t ngx_http_fowharimu_token(ngx_http_request_t *r,
-    ngx_http_fowharimu_loc_conf_t *lcf, ngx_str_t *token);
+    ngx_http_fowharimu_loc_conf_t *lcf, ngx_str_t *token, uint32_t *scheme);
 ngx_table_elt_t *ngx_http_fowharimu_next_header(ngx_list_part_t **part,
     ngx_uint_t *i);
 ngx_uint_t ngx_http_fowharimu_is_header(ngx_table_elt_t *header,
     const char *name);
 ngx_uint_t ngx_http_fowharimu_is_same_header(ngx_str_t *key, ngx_str_t *name);
 ngx_uint_t ngx_http_fowharimu_is_token_header(ngx_table_elt_t *header,
-    ngx_http_fowharimu_place_t *place);
+    ngx_http_fowharimu_loc_conf_t *lcf);
 ngx_int_t ngx_http_fowharimu_without(ngx_http_request_t *r, ngx_str_t *list,
     u_char separator, ngx_str_t *name, ngx_str_t *rest);
 ngx_list_t *ngx_http_fowharimu_sent_headers(ngx_http_request_t *r);
@@ -268,10 +303,38 @@ ngx_int_t ngx_http_fowharimu_is_expected(ngx_http_request_t *r,
     ngx_http_fowharimu_loc_conf_t *lcf, ngx_http_fowharimu_judged_t *judged);
 char *ngx_http_fowharimu_set_once(ngx_conf_t *cf, ngx_command_t *cmd,
     void *conf);
+char *ngx_http_fowharimu_set_zone(ngx_conf_t *cf, ngx_shm_zone_t **zone);
 const char *ngx_http_fowharimu_entry(ngx_http_fowharimu_validator_t *validator,
     ngx_http_fowharimu_entry_t *entry);
 const char *ngx_http_fowharimu_take(ngx_http_request_t *r,
-    ngx_shm_zone_t *zone, ngx_http_fowharimu_judged_t *judged);
+    ngx_http_fowharimu_judged_t *judged);
+const char *ngx_http_fowharimu_take_proof(ngx_http_request_t *r,
+    ngx_http_fowharimu_judged_t *judged);
+char *ngx_http_fowharimu_set_dpop(ngx_conf_t *cf, ngx_command_t *cmd,
+    void *conf);
+char *ngx_http_fowharimu_set_proofs(ngx_conf_t *cf, ngx_command_t *cmd,
+    void *conf);
+char *ngx_http_fowharimu_set_origin(ngx_conf_t *cf, ngx_command_t *cmd,
+    void *conf);
+char *ngx_http_fowharimu_set_proof_once(ngx_conf_t *cf, ngx_command_t *cmd,
+    void *conf);
+char *ngx_http_fowharimu_set_nonce(ngx_conf_t *cf, ngx_command_t *cmd,
+    void *conf);
+char *ngx_http_fowharimu_set_certificate(ngx_conf_t *cf, ngx_command_t *cmd,
+    void *conf);
+char *ngx_http_fowharimu_merge_possession(ngx_conf_t *cf,
+    ngx_http_fowharimu_loc_conf_t *prev, ngx_http_fowharimu_loc_conf_t *conf);
+ngx_uint_t ngx_http_fowharimu_is_same_possession(
+    ngx_http_fowharimu_loc_conf_t *one, ngx_http_fowharimu_loc_conf_t *other);
+const char *ngx_http_fowharimu_find_proof(ngx_http_request_t *r,
+    ngx_http_fowharimu_judged_t *judged);
+uint32_t ngx_http_fowharimu_held(ngx_http_request_t *r,
+    ngx_http_fowharimu_loc_conf_t *lcf, ngx_http_fowharimu_judged_t *judged,
+    const char **fault);
+ngx_int_t ngx_http_fowharimu_offer_nonce(ngx_http_request_t *r,
+    ngx_http_fowharimu_judged_t *judged);
+ngx_table_elt_t *ngx_http_fowharimu_send_header(ngx_http_request_t *r,
+    ngx_str_t *name, ngx_str_t *value);
 char *ngx_http_fowharimu_set_token(ngx_conf_t *cf, ngx_command_t *cmd,
     void *conf);
 ngx_int_t ngx_http_fowharimu_change_handler(ngx_http_request_t *r);

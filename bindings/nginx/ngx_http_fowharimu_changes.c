@@ -128,7 +128,7 @@ ngx_http_fowharimu_copy_header(ngx_http_request_t *r,
     value = header->value;
     strips = lcf->enable && (lcf->strip || lcf->issue);
 
-    if (strips && ngx_http_fowharimu_is_token_header(header, lcf->token)) {
+    if (strips && ngx_http_fowharimu_is_token_header(header, lcf)) {
         return NGX_OK;
     }
 

@@ -119,6 +119,55 @@ static ngx_command_t  ngx_http_fowharimu_commands[] = {
       0,
       NULL },
 
+    { ngx_string("jwt_dpop"),
+      NGX_HTTP_FOWHARIMU_CONF|NGX_CONF_TAKE1,
+      ngx_http_fowharimu_set_dpop,
+      NGX_HTTP_LOC_CONF_OFFSET,
+      0,
+      NULL },
+
+    { ngx_string("jwt_dpop_policy"),
+      NGX_HTTP_FOWHARIMU_CONF|NGX_CONF_TAKE1,
+      ngx_http_fowharimu_set_proofs,
+      NGX_HTTP_LOC_CONF_OFFSET,
+      0,
+      NULL },
+
+    { ngx_string("jwt_dpop_origin"),
+      NGX_HTTP_FOWHARIMU_CONF|NGX_CONF_TAKE1,
+      ngx_http_fowharimu_set_origin,
+      NGX_HTTP_LOC_CONF_OFFSET,
+      0,
+      NULL },
+
+    { ngx_string("jwt_dpop_once"),
+      NGX_HTTP_FOWHARIMU_CONF|NGX_CONF_TAKE1,
+      ngx_http_fowharimu_set_proof_once,
+      NGX_HTTP_LOC_CONF_OFFSET,
+      0,
+      NULL },
+
+    { ngx_string("jwt_dpop_nonce"),
+      NGX_HTTP_FOWHARIMU_CONF|NGX_CONF_TAKE12,
+      ngx_http_fowharimu_set_nonce,
+      NGX_HTTP_LOC_CONF_OFFSET,
+      0,
+      NULL },
+
+    { ngx_string("jwt_certificate"),
+      NGX_HTTP_FOWHARIMU_CONF|NGX_CONF_TAKE1,
+      ngx_http_fowharimu_set_certificate,
+      NGX_HTTP_LOC_CONF_OFFSET,
+      0,
+      NULL },
+
+    { ngx_string("jwt_refuse_bound"),
+      NGX_HTTP_FOWHARIMU_CONF|NGX_CONF_FLAG,
+      ngx_conf_set_flag_slot,
+      NGX_HTTP_LOC_CONF_OFFSET,
+      offsetof(ngx_http_fowharimu_loc_conf_t, refuse_bound),
+      NULL },
+
     { ngx_string("jwt_remember"),
       NGX_HTTP_FOWHARIMU_CONF|NGX_CONF_TAKE12,
       ngx_http_fowharimu_remember,
@@ -371,6 +420,7 @@ ngx_http_fowharimu_create_loc_conf(ngx_conf_t *cf)
      *     lcf->grounds = { { 0, NULL }, { 0, NULL }, NULL, NULL };
      *     lcf->issuers = NULL;
      *     lcf->headers = NULL;
+     *     lcf->origin = { 0, NULL };
      */
 
     lcf->enable = NGX_CONF_UNSET;
@@ -382,6 +432,12 @@ ngx_http_fowharimu_create_loc_conf(ngx_conf_t *cf)
     lcf->demands = NGX_CONF_UNSET_PTR;
     lcf->expected = NGX_CONF_UNSET_PTR;
     lcf->once = NGX_CONF_UNSET_PTR;
+    lcf->schemes = NGX_CONF_UNSET_UINT;
+    lcf->proofs = NGX_CONF_UNSET_PTR;
+    lcf->proof_once = NGX_CONF_UNSET_PTR;
+    lcf->nonce = NGX_CONF_UNSET_PTR;
+    lcf->certificate = NGX_CONF_UNSET_PTR;
+    lcf->refuse_bound = NGX_CONF_UNSET;
     lcf->tokens = NGX_CONF_UNSET;
     lcf->octets = NGX_CONF_UNSET_SIZE;
     lcf->most = NGX_CONF_UNSET_UINT;
@@ -439,6 +495,7 @@ ngx_http_fowharimu_merge_loc_conf(ngx_conf_t *cf, void *parent, void *child)
     ngx_conf_merge_ptr_value(conf->once, prev->once, NULL);
 
     if (ngx_http_fowharimu_merge_changes(cf, prev, conf) != NGX_CONF_OK
+        || ngx_http_fowharimu_merge_possession(cf, prev, conf) != NGX_CONF_OK
         || ngx_http_fowharimu_note_methods(cf, prev, conf) != NGX_OK)
     {
         return NGX_CONF_ERROR;

@@ -34,8 +34,11 @@ static void ngx_http_fowharimu_insert_turn(ngx_rbtree_node_t *temp,
     ngx_rbtree_node_t *node, ngx_rbtree_node_t *sentinel);
 static ngx_int_t ngx_http_fowharimu_compare_marks(
     ngx_rbtree_node_t *one, ngx_rbtree_node_t *other);
-static ngx_uint_t ngx_http_fowharimu_is_of_request(ngx_http_request_t *r,
-    ngx_shm_zone_t *zone, ngx_http_fowharimu_entry_t *entry);
+static ngx_http_fowharimu_ctx_t *ngx_http_fowharimu_main_ctx(
+    ngx_http_request_t *r);
+static const char *ngx_http_fowharimu_take_once(
+    ngx_http_fowharimu_held_t *held, ngx_shm_zone_t *zone,
+    ngx_http_fowharimu_entry_t *entry, time_t now);
 static const char *ngx_http_fowharimu_take_entry(ngx_shm_zone_t *zone,
     ngx_http_fowharimu_entry_t *entry, time_t now);
 static const char *ngx_http_fowharimu_take_locked(ngx_slab_pool_t *pool,
@@ -54,18 +57,27 @@ ngx_http_fowharimu_set_once(ngx_conf_t *cf, ngx_command_t *cmd, void *conf)
 {
     ngx_http_fowharimu_loc_conf_t *lcf = conf;
 
+    return ngx_http_fowharimu_set_zone(cf, &lcf->once);
+}
+
+
+/* the zone that a directive names, NULL where it says "off" */
+
+char *
+ngx_http_fowharimu_set_zone(ngx_conf_t *cf, ngx_shm_zone_t **zone)
+{
     u_char     *p;
     ssize_t     size;
     ngx_str_t  *value, name, s;
 
-    if (lcf->once != NGX_CONF_UNSET_PTR) {
+    if (*zone != NGX_CONF_UNSET_PTR) {
         return "is duplicate";
     }
 
     value = cf->args->elts;
 
     if (ngx_strcmp(value[1].data, "off") == 0) {
-        lcf->once = NULL;
+        *zone = NULL;
         return NGX_CONF_OK;
     }
 
@@ -90,13 +102,12 @@ ngx_http_fowharimu_set_once(ngx_conf_t *cf, ngx_command_t *cmd, void *conf)
         }
     }
 
-    lcf->once = ngx_shared_memory_add(cf, &name, size,
-                                      &ngx_http_fowharimu_module);
-    if (lcf->once == NULL) {
+    *zone = ngx_shared_memory_add(cf, &name, size, &ngx_http_fowharimu_module);
+    if (*zone == NULL) {
         return NGX_CONF_ERROR;
     }
 
-    lcf->once->init = ngx_http_fowharimu_init_zone;
+    (*zone)->init = ngx_http_fowharimu_init_zone;
 
     return NGX_CONF_OK;
 }
@@ -176,48 +187,71 @@ ngx_http_fowharimu_entry(ngx_http_fowharimu_validator_t *validator,
  */
 
 const char *
-ngx_http_fowharimu_take(ngx_http_request_t *r, ngx_shm_zone_t *zone,
+ngx_http_fowharimu_take(ngx_http_request_t *r,
     ngx_http_fowharimu_judged_t *judged)
 {
-    const char                *fault;
     ngx_http_fowharimu_ctx_t  *main;
 
-    if (ngx_http_fowharimu_is_of_request(r, zone, &judged->entry)) {
-        return NULL;
-    }
+    main = ngx_http_fowharimu_main_ctx(r);
 
-    main = ngx_http_fowharimu_find_ctx(r, r->main);
-
-    if (main == NULL) {
-        main = ngx_http_fowharimu_own_ctx(r->main);
-        if (main == NULL) {
-            return "OutOfMemory";
-        }
-    }
-
-    fault = ngx_http_fowharimu_take_entry(zone, &judged->entry,
-                                          judged->moment);
-    if (fault == NULL) {
-        main->zone = zone;
-        main->entry = judged->entry;
-    }
-
-    return fault;
+    return main ? ngx_http_fowharimu_take_once(&main->token, judged->conf->once,
+                                               &judged->entry, judged->moment)
+                : "OutOfMemory";
 }
 
 
-static ngx_uint_t
-ngx_http_fowharimu_is_of_request(ngx_http_request_t *r, ngx_shm_zone_t *zone,
-    ngx_http_fowharimu_entry_t *entry)
+/* the same of the proof that came with it */
+
+const char *
+ngx_http_fowharimu_take_proof(ngx_http_request_t *r,
+    ngx_http_fowharimu_judged_t *judged)
+{
+    ngx_http_fowharimu_ctx_t  *main;
+
+    main = ngx_http_fowharimu_main_ctx(r);
+
+    return main ? ngx_http_fowharimu_take_once(&main->proof,
+                                               judged->conf->proof_once,
+                                               &judged->proof_entry,
+                                               judged->moment)
+                : "OutOfMemory";
+}
+
+
+static ngx_http_fowharimu_ctx_t *
+ngx_http_fowharimu_main_ctx(ngx_http_request_t *r)
 {
     ngx_http_fowharimu_ctx_t  *main;
 
     main = ngx_http_fowharimu_find_ctx(r, r->main);
 
-    return main && main->zone == zone
-           && ngx_memcmp(main->entry.mark, entry->mark,
-                         NGX_HTTP_FOWHARIMU_MARK)
-              == 0;
+    return main ? main : ngx_http_fowharimu_own_ctx(r->main);
+}
+
+
+/* unless it is what this request has taken already */
+
+static const char *
+ngx_http_fowharimu_take_once(ngx_http_fowharimu_held_t *held,
+    ngx_shm_zone_t *zone, ngx_http_fowharimu_entry_t *entry, time_t now)
+{
+    const char  *fault;
+
+    if (held->zone == zone
+        && ngx_memcmp(held->entry.mark, entry->mark, NGX_HTTP_FOWHARIMU_MARK)
+           == 0)
+    {
+        return NULL;
+    }
+
+    fault = ngx_http_fowharimu_take_entry(zone, entry, now);
+
+    if (fault == NULL) {
+        held->zone = zone;
+        held->entry = *entry;
+    }
+
+    return fault;
 }
 
 

@@ -25,7 +25,9 @@ static ngx_int_t ngx_http_fowharimu_accepted(ngx_http_request_t *r,
 static ngx_int_t ngx_http_fowharimu_meets_rules(ngx_http_request_t *r,
     ngx_http_fowharimu_loc_conf_t *lcf, ngx_http_fowharimu_judged_t *judged);
 static ngx_int_t ngx_http_fowharimu_taken(ngx_http_request_t *r,
-    ngx_http_fowharimu_loc_conf_t *lcf, ngx_http_fowharimu_judged_t *judged);
+    ngx_http_fowharimu_judged_t *judged);
+static void ngx_http_fowharimu_forget(ngx_http_request_t *r,
+    ngx_http_fowharimu_judged_t *judged);
 static ngx_int_t ngx_http_fowharimu_permit(ngx_http_request_t *r,
     ngx_http_fowharimu_judged_t *judged, ngx_http_fowharimu_rule_t *rule);
 static void ngx_http_fowharimu_log_denial(ngx_http_request_t *r,
@@ -45,12 +47,19 @@ static ngx_int_t ngx_http_fowharimu_read_text(u_char **p, u_char *last,
     ngx_str_t *text);
 static ngx_int_t ngx_http_fowharimu_refuse_token(ngx_http_request_t *r,
     ngx_http_fowharimu_judged_t *judged, const char *fault);
+static ngx_int_t ngx_http_fowharimu_refuse_for(ngx_http_request_t *r,
+    ngx_http_fowharimu_judged_t *judged, uint32_t outcome, const char *fault);
 static ngx_int_t ngx_http_fowharimu_answer(ngx_http_fowharimu_judged_t *judged,
     uint32_t outcome);
 static ngx_int_t ngx_http_fowharimu_refuse(ngx_http_request_t *r,
     ngx_http_fowharimu_judged_t *judged);
+static ngx_table_elt_t *ngx_http_fowharimu_send_challenge(
+    ngx_http_request_t *r, ngx_http_fowharimu_judged_t *judged, uint32_t scheme,
+    uint32_t challenge);
 static ngx_int_t ngx_http_fowharimu_challenge(ngx_http_request_t *r,
-    ngx_http_fowharimu_judged_t *judged, ngx_str_t *text);
+    ngx_http_fowharimu_judged_t *judged, uint32_t scheme, uint32_t challenge,
+    ngx_str_t *text);
+static void ngx_http_fowharimu_drop_challenges(ngx_http_request_t *r);
 static ngx_int_t ngx_http_fowharimu_fail(ngx_http_request_t *r,
     ngx_http_fowharimu_judged_t *judged, const char *fault);
 static void ngx_http_fowharimu_set_text(ngx_str_t *text, const char *value);
@@ -74,16 +83,16 @@ ngx_http_fowharimu_access_handler(ngx_http_request_t *r)
         return NGX_HTTP_INTERNAL_SERVER_ERROR;
     }
 
-    /* (what a variable had judged before: values of "jwt_expect" may differ) */
+    /* (what a variable had judged before: values that are asked may differ) */
 
-    if (lcf->expected) {
+    if (lcf->expected || lcf->certificate) {
         ctx->last.conf = NULL;
     }
 
     ngx_http_fowharimu_judge(r, lcf, ctx);
 
-    if (ctx->last.status == NGX_OK && lcf->once) {
-        ctx->last.status = ngx_http_fowharimu_taken(r, lcf, &ctx->last);
+    if (ctx->last.status == NGX_OK) {
+        ctx->last.status = ngx_http_fowharimu_taken(r, &ctx->last);
     }
 
     if (ctx->last.status != NGX_OK) {
@@ -232,6 +241,7 @@ static void
 ngx_http_fowharimu_judge(ngx_http_request_t *r,
     ngx_http_fowharimu_loc_conf_t *lcf, ngx_http_fowharimu_ctx_t *ctx)
 {
+    uint32_t                      scheme;
     ngx_int_t                     found;
     ngx_str_t                     token;
     ngx_http_fowharimu_judged_t  *judged;
@@ -241,7 +251,7 @@ ngx_http_fowharimu_judge(ngx_http_request_t *r,
     /* (the token may be a variable that asks for what is known of the token) */
 
     ctx->under_way = 1;
-    found = ngx_http_fowharimu_token(r, lcf, &token);
+    found = ngx_http_fowharimu_token(r, lcf, &token, &scheme);
     ctx->under_way = 0;
 
     if (ngx_http_fowharimu_is_judged_so(judged, lcf, found, &token)) {
@@ -253,11 +263,12 @@ ngx_http_fowharimu_judge(ngx_http_request_t *r,
     judged->conf = lcf;
     judged->moment = ngx_time();
     judged->found = found;
+    judged->scheme = scheme;
     judged->token = token;
 
     ngx_http_fowharimu_forget_variables(r);
 
-    /* (and so may the values of "jwt_expect") */
+    /* (and so may the values of "jwt_expect" and "jwt_certificate") */
 
     ctx->under_way = 1;
     judged->status = ngx_http_fowharimu_verdict(r, lcf, judged);
@@ -293,6 +304,7 @@ ngx_http_fowharimu_is_same_conf(ngx_http_fowharimu_loc_conf_t *one,
                && one->demands == other->demands
                && one->expected == other->expected
                && one->once == other->once
+               && ngx_http_fowharimu_is_same_possession(one, other)
                && one->issue == other->issue
                && one->issued == other->issued);
 }
@@ -320,7 +332,7 @@ ngx_http_fowharimu_verdict(ngx_http_request_t *r,
 
     case NGX_DECLINED:
         ngx_str_set(&judged->verdict, "absent");
-        return ngx_http_fowharimu_answer(judged, FOW_NO_BEARER);
+        return ngx_http_fowharimu_answer(judged, FOW_NO_TOKEN);
 
     case NGX_ABORT:
         ngx_str_set(&judged->verdict, "refused");
@@ -338,8 +350,16 @@ ngx_http_fowharimu_judge_token(ngx_http_request_t *r,
     ngx_http_fowharimu_loc_conf_t *lcf, ngx_http_fowharimu_judged_t *judged)
 {
     ngx_int_t                        rc;
+    const char                      *fault;
     fow_report                       report;
     ngx_http_fowharimu_validator_t  *validator;
+
+    fault = ngx_http_fowharimu_find_proof(r, judged);
+
+    if (fault) {
+        return ngx_http_fowharimu_refuse_for(r, judged, FOW_PROOF_REFUSED,
+                                             fault);
+    }
 
     rc = ngx_http_fowharimu_choose(r, lcf, judged);
 
@@ -463,6 +483,7 @@ static ngx_int_t
 ngx_http_fowharimu_accepted(ngx_http_request_t *r,
     ngx_http_fowharimu_loc_conf_t *lcf, ngx_http_fowharimu_judged_t *judged)
 {
+    uint32_t                         outcome;
     ngx_int_t                        rc;
     ngx_str_t                        room;
     const char                      *fault;
@@ -482,6 +503,14 @@ ngx_http_fowharimu_accepted(ngx_http_request_t *r,
         return rc == NGX_DECLINED
                ? ngx_http_fowharimu_refuse_token(r, judged, "NotExpected")
                : ngx_http_fowharimu_fail(r, judged, "OutOfMemory");
+    }
+
+    outcome = ngx_http_fowharimu_held(r, lcf, judged, &fault);
+
+    if (outcome != FOW_ADMITTED) {
+        return outcome == FOW_UNANSWERED
+               ? ngx_http_fowharimu_fail(r, judged, fault)
+               : ngx_http_fowharimu_refuse_for(r, judged, outcome, fault);
     }
 
     fault = lcf->once
@@ -527,30 +556,53 @@ ngx_http_fowharimu_accepted(ngx_http_request_t *r,
 }
 
 
-/* of a token that is accepted, in the access phase: it is taken last */
+/*
+ * Of a token that is accepted, in the access phase: its proof is taken, and it
+ * itself last, so that a proof that came before uses up no token.
+ */
 
 static ngx_int_t
 ngx_http_fowharimu_taken(ngx_http_request_t *r,
-    ngx_http_fowharimu_loc_conf_t *lcf, ngx_http_fowharimu_judged_t *judged)
+    ngx_http_fowharimu_judged_t *judged)
 {
+    uint32_t     outcome;
     const char  *fault;
 
-    fault = ngx_http_fowharimu_take(r, lcf->once, judged);
+    fault = NULL;
+    outcome = FOW_NOT_ACCEPTED;
+
+    if (judged->scheme == FOW_DPOP && judged->conf->proof_once) {
+        fault = ngx_http_fowharimu_take_proof(r, judged);
+        outcome = fault ? FOW_PROOF_REFUSED : FOW_NOT_ACCEPTED;
+    }
+
+    if (fault == NULL && judged->conf->once) {
+        fault = ngx_http_fowharimu_take(r, judged);
+    }
 
     if (fault == NULL) {
         return NGX_OK;
     }
 
-    /* (what was made of the token's variables is no longer so) */
-
-    ngx_http_fowharimu_forget_variables(r);
-    judged->claims = NULL;
-    ngx_str_null(&judged->payload);
-    ngx_str_null(&judged->issued);
+    ngx_http_fowharimu_forget(r, judged);
 
     return ngx_strcmp(fault, "OutOfMemory") == 0
            ? ngx_http_fowharimu_fail(r, judged, fault)
-           : ngx_http_fowharimu_refuse_token(r, judged, fault);
+           : ngx_http_fowharimu_refuse_for(r, judged, outcome, fault);
+}
+
+
+/* what was made of a token that isn't accepted any longer */
+
+static void
+ngx_http_fowharimu_forget(ngx_http_request_t *r,
+    ngx_http_fowharimu_judged_t *judged)
+{
+    ngx_http_fowharimu_forget_variables(r);
+
+    judged->claims = NULL;
+    ngx_str_null(&judged->payload);
+    ngx_str_null(&judged->issued);
 }
 
 
@@ -905,93 +957,191 @@ static ngx_int_t
 ngx_http_fowharimu_refuse_token(ngx_http_request_t *r,
     ngx_http_fowharimu_judged_t *judged, const char *fault)
 {
+    return ngx_http_fowharimu_refuse_for(r, judged, FOW_NOT_ACCEPTED, fault);
+}
+
+
+static ngx_int_t
+ngx_http_fowharimu_refuse_for(ngx_http_request_t *r,
+    ngx_http_fowharimu_judged_t *judged, uint32_t outcome, const char *fault)
+{
     ngx_str_set(&judged->verdict, "refused");
     ngx_http_fowharimu_set_text(&judged->fault, fault);
 
     ngx_log_error(NGX_LOG_INFO, r->connection->log, 0,
-                  "jwt: the token is refused: %V", &judged->fault);
+                  outcome == FOW_NOT_ACCEPTED
+                  ? "jwt: the token is refused: %V"
+                  : "jwt: the proof is refused: %V", &judged->fault);
 
-    return ngx_http_fowharimu_answer(judged, FOW_NOT_ACCEPTED);
+    return ngx_http_fowharimu_answer(judged, outcome);
 }
 
 
-/* what a request is answered of whose token this is known, RFC 6750 */
+/* what a request is answered of whose token this is known: RFC 6750, RFC 9449 */
 
 static ngx_int_t
 ngx_http_fowharimu_answer(ngx_http_fowharimu_judged_t *judged, uint32_t outcome)
 {
     fow_reply  reply;
 
-    fow_reply_to(outcome, &reply);
-    judged->challenge = reply.challenge;
+    fow_reply_to((uint32_t) judged->conf->schemes, judged->scheme, outcome,
+                 &reply);
+
+    judged->bearer = reply.bearer;
+    judged->dpop = reply.dpop;
 
     return reply.status;
 }
 
 
-/* RFC 6750, section 3; a challenge of an earlier refusal is written over */
+/*
+ * RFC 6750, section 3, RFC 9449, section 7.1; challenges of an earlier refusal
+ * go.  "auth_request" of nginx before 1.23 hands on one of two: that of the
+ * scheme which was shown.
+ */
 
 static ngx_int_t
 ngx_http_fowharimu_refuse(ngx_http_request_t *r,
     ngx_http_fowharimu_judged_t *judged)
 {
-    ngx_str_t         text;
-    ngx_table_elt_t  *h;
+    ngx_table_elt_t  *bearer, *dpop, *first;
 
-    if (judged->challenge == FOW_NO_CHALLENGE) {
+    if (judged->bearer == FOW_NO_CHALLENGE && judged->dpop == FOW_NO_CHALLENGE)
+    {
         return judged->status;
     }
 
-    if (ngx_http_fowharimu_challenge(r, judged, &text) != NGX_OK) {
-        return NGX_HTTP_INTERNAL_SERVER_ERROR;
-    }
+    ngx_http_fowharimu_drop_challenges(r);
 
-    h = r->headers_out.www_authenticate;
+    bearer = NULL;
+    dpop = NULL;
 
-    if (h == NULL
-        || h->value.len < sizeof("Bearer") - 1
-        || ngx_strncmp(h->value.data, "Bearer", sizeof("Bearer") - 1) != 0)
-    {
-        h = ngx_list_push(&r->headers_out.headers);
-        if (h == NULL) {
+    if (judged->bearer != FOW_NO_CHALLENGE) {
+        bearer = ngx_http_fowharimu_send_challenge(r, judged, FOW_BEARER,
+                                                   judged->bearer);
+        if (bearer == NULL) {
             return NGX_HTTP_INTERNAL_SERVER_ERROR;
         }
-
-#if (nginx_version >= 1023000)
-        h->next = NULL;
-#endif
-        ngx_str_set(&h->key, "WWW-Authenticate");
-        r->headers_out.www_authenticate = h;
     }
 
-    h->hash = 1;
-    h->value = text;
+    if (judged->dpop != FOW_NO_CHALLENGE) {
+        dpop = ngx_http_fowharimu_send_challenge(r, judged, FOW_DPOP,
+                                                 judged->dpop);
+        if (dpop == NULL) {
+            return NGX_HTTP_INTERNAL_SERVER_ERROR;
+        }
+    }
 
-    return judged->status;
+    first = bearer ? bearer : dpop;
+
+#if (nginx_version >= 1023000)
+    if (bearer) {
+        bearer->next = dpop;
+    }
+#else
+    if (dpop && judged->scheme == FOW_DPOP) {
+        first = dpop;
+    }
+#endif
+
+    r->headers_out.www_authenticate = first;
+
+    return ngx_http_fowharimu_offer_nonce(r, judged) == NGX_OK
+           ? judged->status : NGX_HTTP_INTERNAL_SERVER_ERROR;
 }
 
 
-/* the text of the challenge, which the library writes */
+/* those that this module wrote, by their scheme, with the nonce beside them */
+
+static void
+ngx_http_fowharimu_drop_challenges(ngx_http_request_t *r)
+{
+    ngx_uint_t        i;
+    ngx_list_part_t  *part;
+    ngx_table_elt_t  *h;
+
+    part = &r->headers_out.headers.part;
+    i = 0;
+
+    while ((h = ngx_http_fowharimu_next_header(&part, &i)) != NULL) {
+
+        if (h->hash == 0) {
+            continue;
+        }
+
+        if (ngx_http_fowharimu_is_header(h, "DPoP-Nonce")
+            || (ngx_http_fowharimu_is_header(h, "WWW-Authenticate")
+                && (ngx_strncmp(h->value.data, "Bearer ", 7) == 0
+                    || ngx_strncmp(h->value.data, "DPoP ", 5) == 0)))
+        {
+            h->hash = 0;
+        }
+    }
+}
+
+
+static ngx_table_elt_t *
+ngx_http_fowharimu_send_challenge(ngx_http_request_t *r,
+    ngx_http_fowharimu_judged_t *judged, uint32_t scheme, uint32_t challenge)
+{
+    ngx_str_t  text;
+
+    static ngx_str_t  name = ngx_string("WWW-Authenticate");
+
+    return ngx_http_fowharimu_challenge(r, judged, scheme, challenge, &text)
+           == NGX_OK ? ngx_http_fowharimu_send_header(r, &name, &text) : NULL;
+}
+
+
+/* NULL: no memory */
+
+ngx_table_elt_t *
+ngx_http_fowharimu_send_header(ngx_http_request_t *r, ngx_str_t *name,
+    ngx_str_t *value)
+{
+    ngx_table_elt_t  *h;
+
+    h = ngx_list_push(&r->headers_out.headers);
+    if (h == NULL) {
+        return NULL;
+    }
+
+#if (nginx_version >= 1023000)
+    h->next = NULL;
+#endif
+    h->hash = 1;
+    h->key = *name;
+    h->value = *value;
+    h->lowcase_key = NULL;
+
+    return h;
+}
+
+
+/* the text of a challenge, which the library writes */
 
 static ngx_int_t
 ngx_http_fowharimu_challenge(ngx_http_request_t *r,
-    ngx_http_fowharimu_judged_t *judged, ngx_str_t *text)
+    ngx_http_fowharimu_judged_t *judged, uint32_t scheme, uint32_t challenge,
+    ngx_str_t *text)
 {
     size_t     room;
-    ngx_str_t  scopes;
+    ngx_str_t  scopes, algs;
 
     static ngx_str_t  none = ngx_string(""), realm = ngx_string("jwt");
 
     scopes = judged->scopes ? *judged->scopes : none;
-    room = realm.len + scopes.len + NGX_HTTP_FOWHARIMU_BESIDE_QUOTED;
+    algs = scheme == FOW_DPOP ? judged->conf->proofs->algs : none;
+    room = realm.len + scopes.len + algs.len + NGX_HTTP_FOWHARIMU_BESIDE_QUOTED;
 
     text->data = ngx_pnalloc(r->pool, room);
     if (text->data == NULL) {
         return NGX_ERROR;
     }
 
-    return fow_challenge(judged->challenge, realm.data, realm.len, scopes.data,
-                         scopes.len, text->data, room, &text->len)
+    return fow_challenge(scheme, challenge, realm.data, realm.len, scopes.data,
+                         scopes.len, algs.data, algs.len, text->data, room,
+                         &text->len)
            == FOW_OK ? NGX_OK : NGX_ERROR;
 }
 

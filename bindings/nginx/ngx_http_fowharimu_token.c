@@ -8,8 +8,8 @@
 #include "ngx_http_fowharimu.h"
 
 
-static ngx_int_t ngx_http_fowharimu_bearer(ngx_http_request_t *r,
-    ngx_str_t *token);
+static ngx_int_t ngx_http_fowharimu_authorization(ngx_http_request_t *r,
+    ngx_http_fowharimu_loc_conf_t *lcf, ngx_str_t *token, uint32_t *scheme);
 static ngx_int_t ngx_http_fowharimu_header(ngx_http_request_t *r,
     ngx_str_t *name, ngx_str_t *token);
 static ngx_int_t ngx_http_fowharimu_cookie(ngx_http_request_t *r,
@@ -28,27 +28,35 @@ static ngx_uint_t ngx_http_fowharimu_next_octet(u_char **p, u_char *last,
     u_char *c);
 static u_char ngx_http_fowharimu_fold_name(u_char c);
 static u_char ngx_http_fowharimu_fold_key(u_char c);
-static uint32_t ngx_http_fowharimu_credentials(ngx_str_t *value, size_t *from,
-    size_t *to);
-static ngx_uint_t ngx_http_fowharimu_is_bearer(ngx_str_t *value);
+static uint32_t ngx_http_fowharimu_credentials(
+    ngx_http_fowharimu_loc_conf_t *lcf, ngx_str_t *value, uint32_t *scheme,
+    size_t *from, size_t *to);
+static ngx_uint_t ngx_http_fowharimu_has_scheme(
+    ngx_http_fowharimu_loc_conf_t *lcf, ngx_str_t *value);
 
 
-/* NGX_DECLINED: there is no token; NGX_ABORT: it stands twice */
+/*
+ * NGX_DECLINED: there is no token; NGX_ABORT: it stands twice.  The scheme is
+ * that of "Authorization"; whoever has a token elsewhere bears it.
+ */
 
 ngx_int_t
 ngx_http_fowharimu_token(ngx_http_request_t *r,
-    ngx_http_fowharimu_loc_conf_t *lcf, ngx_str_t *token)
+    ngx_http_fowharimu_loc_conf_t *lcf, ngx_str_t *token, uint32_t *scheme)
 {
     ngx_int_t                    rc;
     ngx_http_fowharimu_place_t  *place;
 
     ngx_str_null(token);
+    *scheme = FOW_NO_SCHEME;
 
     place = lcf->token;
 
-    if (place == NULL) {
-        return ngx_http_fowharimu_bearer(r, token);
+    if (place == NULL || place->kind == NGX_HTTP_FOWHARIMU_BEARER) {
+        return ngx_http_fowharimu_authorization(r, lcf, token, scheme);
     }
+
+    *scheme = FOW_BEARER;
 
     switch (place->kind) {
 
@@ -64,12 +72,9 @@ ngx_http_fowharimu_token(ngx_http_request_t *r,
         rc = ngx_http_fowharimu_argument(r, &place->name, token);
         break;
 
-    case NGX_HTTP_FOWHARIMU_VARIABLE:
+    default: /* NGX_HTTP_FOWHARIMU_VARIABLE */
         rc = ngx_http_fowharimu_variable(r, place->index, token);
         break;
-
-    default: /* NGX_HTTP_FOWHARIMU_BEARER */
-        return ngx_http_fowharimu_bearer(r, token);
     }
 
     return rc == NGX_OK && token->len == 0 ? NGX_DECLINED : rc;
@@ -77,13 +82,14 @@ ngx_http_fowharimu_token(ngx_http_request_t *r,
 
 
 /*
- * The credentials of the scheme Bearer, RFC 6750, section 2.1: NGX_DECLINED
- * where there are none, NGX_ABORT of several headers, NGX_BUSY of a token that
- * is no b64token.
+ * The credentials of a scheme that is taken, RFC 6750, section 2.1, RFC 9449,
+ * section 7.1: NGX_DECLINED where there are none, NGX_ABORT of several headers,
+ * NGX_BUSY of a token that is no b64token.
  */
 
 static ngx_int_t
-ngx_http_fowharimu_bearer(ngx_http_request_t *r, ngx_str_t *token)
+ngx_http_fowharimu_authorization(ngx_http_request_t *r,
+    ngx_http_fowharimu_loc_conf_t *lcf, ngx_str_t *token, uint32_t *scheme)
 {
     size_t            from, to;
     ngx_str_t         value;
@@ -109,7 +115,7 @@ ngx_http_fowharimu_bearer(ngx_http_request_t *r, ngx_str_t *token)
         value = h->value;
     }
 
-    switch (ngx_http_fowharimu_credentials(&value, &from, &to)) {
+    switch (ngx_http_fowharimu_credentials(lcf, &value, scheme, &from, &to)) {
 
     case FOW_OK:
         token->data = value.data + from;
@@ -126,19 +132,24 @@ ngx_http_fowharimu_bearer(ngx_http_request_t *r, ngx_str_t *token)
 
 
 static uint32_t
-ngx_http_fowharimu_credentials(ngx_str_t *value, size_t *from, size_t *to)
+ngx_http_fowharimu_credentials(ngx_http_fowharimu_loc_conf_t *lcf,
+    ngx_str_t *value, uint32_t *scheme, size_t *from, size_t *to)
 {
-    return fow_credentials(value->len ? value->data : (u_char *) "", value->len,
-                           from, to);
+    return fow_credentials((uint32_t) lcf->schemes,
+                           value->len ? value->data : (u_char *) "", value->len,
+                           scheme, from, to);
 }
 
 
 static ngx_uint_t
-ngx_http_fowharimu_is_bearer(ngx_str_t *value)
+ngx_http_fowharimu_has_scheme(ngx_http_fowharimu_loc_conf_t *lcf,
+    ngx_str_t *value)
 {
-    size_t  from, to;
+    size_t    from, to;
+    uint32_t  scheme;
 
-    return ngx_http_fowharimu_credentials(value, &from, &to) != FOW_ABSENT;
+    return ngx_http_fowharimu_credentials(lcf, value, &scheme, &from, &to)
+           != FOW_ABSENT;
 }
 
 
@@ -511,15 +522,27 @@ ngx_http_fowharimu_fold_key(u_char c)
 }
 
 
-/* whether it carries the token, and nothing else */
+/* whether it carries the token or its proof, and nothing else */
 
 ngx_uint_t
 ngx_http_fowharimu_is_token_header(ngx_table_elt_t *header,
-    ngx_http_fowharimu_place_t *place)
+    ngx_http_fowharimu_loc_conf_t *lcf)
 {
+    ngx_http_fowharimu_place_t  *place;
+
+    static ngx_str_t  proof = ngx_string("DPoP");
+
+    place = lcf->token;
+
+    if ((lcf->schemes & FOW_DPOP)
+        && ngx_http_fowharimu_is_same_header(&header->key, &proof))
+    {
+        return 1;
+    }
+
     if (place == NULL || place->kind == NGX_HTTP_FOWHARIMU_BEARER) {
         return ngx_http_fowharimu_is_header(header, "Authorization")
-               && ngx_http_fowharimu_is_bearer(&header->value);
+               && ngx_http_fowharimu_has_scheme(lcf, &header->value);
     }
 
     return place->kind == NGX_HTTP_FOWHARIMU_HEADER
