@@ -6,12 +6,19 @@ import jakarta.servlet.http.HttpServletResponse;
 import java.io.IOException;
 import java.nio.file.Files;
 import java.nio.file.Path;
+import java.time.Duration;
+import java.util.Collections;
+import java.util.stream.Stream;
 import org.apache.catalina.Context;
 import org.apache.catalina.startup.Tomcat;
 import org.apache.tomcat.util.descriptor.web.FilterDef;
 import org.apache.tomcat.util.descriptor.web.FilterMap;
 import org.example.fowharimu.Access;
+import org.example.fowharimu.Nonces;
+import org.example.fowharimu.Once;
+import org.example.fowharimu.Proofs;
 import org.example.fowharimu.Validator;
+import org.example.fowharimu.servlet.Dpop;
 import org.example.fowharimu.servlet.Guard;
 
 /** The application of the cases, over Tomcat: TomcatApp FOLDER */
@@ -27,7 +34,21 @@ final class TomcatApp {
         @Override
         protected void service(HttpServletRequest request, HttpServletResponse response) throws IOException {
             String claims = (String) request.getAttribute(Guard.CLAIMS);
-            response.getWriter().print("{\"claims\":" + claims + ",\"shown\":" + (request.getHeader("Authorization") != null) + "}");
+            boolean isShown = Stream.of("Authorization", "DPoP").anyMatch(it -> isShown(request, it));
+            response.getWriter().print("{\"claims\":" + claims + ",\"shown\":" + isShown + "}");
+        }
+    }
+
+    /** Whether a request has a header, or tells of its value, as the message of an exception does. */
+    private static boolean isShown(HttpServletRequest request, String name) {
+        boolean isNamed = Collections.list(request.getHeaderNames()).stream().anyMatch(name::equalsIgnoreCase);
+        if (isNamed || request.getHeader(name) != null || request.getHeaders(name).hasMoreElements()) {
+            return true;
+        }
+        try {
+            return request.getDateHeader(name) != -1 || request.getIntHeader(name) != -1;
+        } catch (IllegalArgumentException e) {
+            return true;
         }
     }
 
@@ -45,6 +66,19 @@ final class TomcatApp {
         map.setDispatcher(DispatcherType.REQUEST.name());
         context.addFilterDef(def);
         context.addFilterMap(map);
+    }
+
+    /** The guards that ask who sends a token. */
+    private static void guardWithProofs(Context context, Path folder, Validator validator) throws Exception {
+        Dpop dpop = new Dpop(new Proofs(Files.readAllBytes(folder.resolve("proofs.json")), new Once(1000)), "https://api.example");
+        Nonces nonces = new Nonces(Files.readAllBytes(folder.resolve("nonce.secret")), Duration.ofHours(1));
+        Access scope = new Access(Files.readAllBytes(folder.resolve("scope.json")));
+        guard(context, "/unbound", new Guard(validator).refuseBound());
+        guard(context, "/dpop", new Guard(validator).takeProofs(dpop));
+        guard(context, "/dpop-only", new Guard(validator).takeProofs(dpop.only()));
+        guard(context, "/dpop-nonce", new Guard(validator).takeProofs(dpop.nonces(nonces)));
+        guard(context, "/dpop-scope", new Guard(validator, scope).takeProofs(dpop));
+        guard(context, "/dpop-hidden", new Guard(validator, "jwt", true).takeProofs(dpop));
     }
 
     /** A rule that is looked up and not found lets nobody through: no guard is made of it. */
@@ -77,6 +111,7 @@ final class TomcatApp {
         guard(context, "/role", new Guard(validator, new Access(Files.readAllBytes(folder.resolve("role.json")))));
         guard(context, "/hidden", new Guard(validator, "jwt", true));
         guard(context, "/closed", new Guard(closed));
+        guardWithProofs(context, folder, validator);
         tomcat.start();
         System.out.println("listening on 127.0.0.1:" + tomcat.getConnector().getLocalPort());
         tomcat.getServer().await();

@@ -7,7 +7,7 @@ import sys
 import flask
 from werkzeug.serving import make_server
 
-from fowharimu import Access, Validator
+from fowharimu import Access, DPoP, Nonces, Proofs, Validator
 from fowharimu.wsgi import Guard
 
 FOLDER = pathlib.Path(sys.argv[1])
@@ -18,7 +18,8 @@ app = flask.Flask(__name__)
 @app.route("/<path:path>", methods=["GET", "HEAD", "POST", "OPTIONS"], provide_automatic_options=False)
 def answer(path):
     """Stands for the service behind the guards."""
-    return json.dumps({"claims": flask.request.environ["fowharimu.claims"], "shown": "Authorization" in flask.request.headers})
+    headers = flask.request.headers
+    return json.dumps({"claims": flask.request.environ["fowharimu.claims"], "shown": "Authorization" in headers or "DPoP" in headers})
 
 
 def opened():
@@ -39,7 +40,22 @@ def guards():
     behind = app.wsgi_app
     rules = {f"/{it}": Guard(behind, validator, Access((FOLDER / f"{it}.json").read_bytes())) for it in ("scope", "role")}
     others = {"/hidden": Guard(behind, validator, hides_token=True), "/closed": Guard(behind, closed()), "/": Guard(behind, validator)}
-    return {**rules, **others}
+    return {**rules, **others, **with_proofs(behind, validator)}
+
+
+def with_proofs(behind, validator):
+    """The guards that ask who sends a token."""
+    proofs, origin = Proofs((FOLDER / "proofs.json").read_bytes(), 1000), "https://api.example"
+    nonces = Nonces((FOLDER / "nonce.secret").read_bytes(), 3600)
+    dpop = DPoP(proofs, origin)
+    return {
+        "/unbound": Guard(behind, validator, refuses_bound=True),
+        "/dpop": Guard(behind, validator, dpop=dpop),
+        "/dpop-only": Guard(behind, validator, dpop=DPoP(proofs, origin, only=True)),
+        "/dpop-nonce": Guard(behind, validator, dpop=DPoP(proofs, origin, nonces=nonces)),
+        "/dpop-scope": Guard(behind, validator, Access((FOLDER / "scope.json").read_bytes()), dpop=dpop),
+        "/dpop-hidden": Guard(behind, validator, dpop=dpop, hides_token=True),
+    }
 
 
 def by_path(paths):

@@ -10,7 +10,7 @@ from starlette.applications import Starlette
 from starlette.responses import Response
 from starlette.routing import Route
 
-from fowharimu import Access, Validator
+from fowharimu import Access, DPoP, Nonces, Proofs, Validator
 from fowharimu.asgi import Guard
 
 FOLDER = pathlib.Path(sys.argv[1])
@@ -18,7 +18,7 @@ FOLDER = pathlib.Path(sys.argv[1])
 
 async def answer(request):
     """Stands for the service behind the guards."""
-    return Response(json.dumps({"claims": request.state.claims, "shown": "authorization" in request.headers}))
+    return Response(json.dumps({"claims": request.state.claims, "shown": "authorization" in request.headers or "dpop" in request.headers}))
 
 
 def guarded(validator, **how):
@@ -44,7 +44,23 @@ def guards():
     """The guards of the paths."""
     validator = opened()
     rules = {f"/{it}": guarded(validator, access=Access((FOLDER / f"{it}.json").read_bytes())) for it in ("scope", "role")}
-    return {**rules, "/hidden": guarded(validator, hides_token=True), "/closed": guarded(closed()), "/": guarded(validator)}
+    others = {"/hidden": guarded(validator, hides_token=True), "/closed": guarded(closed()), "/": guarded(validator)}
+    return {**rules, **others, **with_proofs(validator)}
+
+
+def with_proofs(validator):
+    """The guards that ask who sends a token."""
+    proofs, origin = Proofs((FOLDER / "proofs.json").read_bytes(), 1000), "https://api.example"
+    nonces = Nonces((FOLDER / "nonce.secret").read_bytes(), 3600)
+    dpop = DPoP(proofs, origin)
+    return {
+        "/unbound": guarded(validator, refuses_bound=True),
+        "/dpop": guarded(validator, dpop=dpop),
+        "/dpop-only": guarded(validator, dpop=DPoP(proofs, origin, only=True)),
+        "/dpop-nonce": guarded(validator, dpop=DPoP(proofs, origin, nonces=nonces)),
+        "/dpop-scope": guarded(validator, access=Access((FOLDER / "scope.json").read_bytes()), dpop=dpop),
+        "/dpop-hidden": guarded(validator, dpop=dpop, hides_token=True),
+    }
 
 
 PATHS = guards()

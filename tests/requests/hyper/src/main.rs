@@ -1,21 +1,24 @@
 //! The application of the cases, over hyper: hyper_app FOLDER
 
-use fowharimu::{Access, Claims, Validator};
-use fowharimu_http::Guard;
+use fowharimu::{Access, Claims, Nonces, Once, Proofs, Validator};
+use fowharimu_http::{Dpop, Guard};
 use hyper::header::AUTHORIZATION;
 use hyper::service::{make_service_fn, service_fn};
 use hyper::{Body, Request, Response, Server};
+use std::collections::HashMap;
 use std::convert::Infallible;
+use std::num::NonZeroUsize;
 use std::path::Path;
 use std::sync::Arc;
+use std::time::Duration;
 use std::{env, error, fs};
+
+const ORIGIN: &str = "https://api.example";
 
 /// The guards of the paths.
 struct Guards {
     plain: Guard,
-    scope: Guard,
-    role: Guard,
-    hidden: Guard,
+    others: HashMap<&'static str, Guard>,
 }
 
 impl Guards {
@@ -28,21 +31,36 @@ impl Guards {
         let rule = |name| -> Result<Access, Box<dyn error::Error>> {
             Ok(Access::open(&fs::read(folder.join(name))?)?)
         };
+        let once = Arc::new(Once::open(NonZeroUsize::new(1000).ok_or("no proofs")?)?);
+        let proofs = Arc::new(Proofs::open(&fs::read(folder.join("proofs.json"))?, once)?);
+        let nonces = Nonces::new(
+            &fs::read(folder.join("nonce.secret"))?,
+            Duration::from_secs(3600),
+        )?;
+        let plain = || Guard::new(Arc::clone(&validator));
+        let dpop = || Dpop::new(Arc::clone(&proofs), ORIGIN);
+        let others = HashMap::from([
+            ("/scope", plain().access(rule("scope.json")?)),
+            ("/role", plain().access(rule("role.json")?)),
+            ("/hidden", plain().hide_token()),
+            ("/unbound", plain().refuse_bound()),
+            ("/dpop", plain().dpop(dpop()?)),
+            ("/dpop-only", plain().dpop(dpop()?.only())),
+            ("/dpop-nonce", plain().dpop(dpop()?.nonces(nonces))),
+            (
+                "/dpop-scope",
+                plain().dpop(dpop()?).access(rule("scope.json")?),
+            ),
+            ("/dpop-hidden", plain().dpop(dpop()?).hide_token()),
+        ]);
         Ok(Guards {
-            plain: Guard::new(Arc::clone(&validator)),
-            scope: Guard::new(Arc::clone(&validator)).access(rule("scope.json")?),
-            role: Guard::new(Arc::clone(&validator)).access(rule("role.json")?),
-            hidden: Guard::new(Arc::clone(&validator)).hide_token(),
+            plain: plain(),
+            others,
         })
     }
 
     fn of(&self, path: &str) -> &Guard {
-        match path {
-            "/scope" => &self.scope,
-            "/role" => &self.role,
-            "/hidden" => &self.hidden,
-            _ => &self.plain,
-        }
+        self.others.get(path).unwrap_or(&self.plain)
     }
 }
 
@@ -52,7 +70,8 @@ fn answer(request: &Request<Body>) -> Response<Body> {
         .extensions()
         .get::<Claims>()
         .map_or("null", Claims::json);
-    let is_shown = request.headers().contains_key(AUTHORIZATION);
+    let is_shown =
+        request.headers().contains_key(AUTHORIZATION) || request.headers().contains_key("dpop");
     Response::new(Body::from(format!(
         "{{\"claims\":{claims},\"shown\":{is_shown}}}"
     )))
