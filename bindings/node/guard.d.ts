@@ -37,5 +37,7 @@ export interface Guarding {
  * Calls `next()` where the token behind the scheme Bearer is accepted now. Else the answer is 400, 401 or 403, with `WWW-Authenticate` (RFC 6750,
  * section 3), or 503 where keys by URL are too old. Where nothing is said of the token, for want of memory or since the validator is closed, it is `next(error)`. Throws TypeError for a
  * realm that a quoted string can't have, for a name that `Guarding` hasn't, and for an `access`, a `dpop` or `nonces` that is none: nothing would be asked for.
+ *
+ * A validator of your own has to heed the second argument of `validate`: it holds the access rule, and who has to hold the token's key. One that leaves it out lets both through unasked.
  */
 export function guard(validator: Validator | RemoteKeys | Issuers, how?: Guarding): (request: Guarded, response: ServerResponse, next: (error?: unknown) => void) => void;
