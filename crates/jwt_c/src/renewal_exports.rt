@@ -5,7 +5,7 @@ ghost use Rattle.jwt_renewal.specs.History.{Event, passed, took, failed};
 ghost use Rattle.jwt_renewal.specs.Rules.{IsKeys, IsUsable, IsFetch, Counts, Wants, MayBegin, MayWait, with_fetch, with_end, with_waiting};
 ghost use Rattle.jwt_renewal.specs.Standing.{Stands};
 ghost use Rattle.jwt_renewal.specs.declared.asker.Asker.TheVariants.{Token};
-ghost use Rattle.jwt_handles.specs.Renewals.{renewal_of, asker_of, keys_of, fetch_of, times_of, truth};
+ghost use Rattle.jwt_handles.specs.Renewals.{renewal_of, asker_of, keys_of, fetch_of, times_of};
 
 use jwt_handles::renewal::{self, FowRenewal, FowRenewalAnswer};
 

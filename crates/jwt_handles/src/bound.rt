@@ -1,7 +1,7 @@
 //! How the token that was accepted last is bound: to a key, or to a certificate.
 
 ghost use Rattle.jwt_handles.specs.declared.status.TheConstants.{FOW_NOT_OPEN, FOW_OK};
-ghost use Rattle.std.specs.Prelude.{◌≡◌, ◌≢◌, ◌≤◌, IfSome, None, option_map, if◌then◌else◌};
+ghost use Rattle.std.specs.Prelude.{◌≡◌, ◌≢◌, ◌≤◌, IfSome, None, option_map};
 ghost use Rattle.jwt_handles.specs.Bound.{SaysCertificate, TellsBound, bit, bound_number};
 ghost use Rattle.jwt_handles.specs.Evidence.{claims_kept};
 

@@ -1,7 +1,7 @@
 //! The documents of a validator as public ones, and the issuer that a token names.
 
 ghost use Rattle.jwt_handles.specs.declared.status.TheConstants.{FOW_ABSENT, FOW_OK};
-ghost use Rattle.std.specs.Prelude.{◌≡◌, ◌≢◌, IsUtf8, codes, false, map, option_map, slice_get, string_bytes};
+ghost use Rattle.std.specs.Prelude.{◌≡◌, ◌≢◌, IsUtf8, false, option_map, slice_get};
 ghost use Rattle.std.specs.List.{list_any};
 ghost use Rattle.std.specs.Option.{option_map_or};
 ghost use Rattle.jwt_mac.specs.Algorithm.{is_hmac_alg};

@@ -1,12 +1,12 @@
 //! What is answered to a proof of possession.
 
 ghost use Rattle.jwt_handles.specs.declared.status.TheConstants.{FOW_ABSENT, FOW_NOT_OPEN, FOW_OK, FOW_OUT_OF_MEMORY, FOW_REFUSED};
-ghost use Rattle.std.specs.Prelude.{◌≡◌, ◌≢◌, [], IfErr, IfOk, IfSome, IsUtf8, None, map, option_map};
+ghost use Rattle.std.specs.Prelude.{◌≡◌, ◌≢◌, [], IfErr, IfOk, IfSome, None, map, option_map};
 ghost use Rattle.jwt_jws.specs.Views.{token};
 ghost use Rattle.jwt_verify.specs.Verdict.{token_of};
 ghost use Rattle.jwt_handles.specs.Documents.{documents};
 ghost use Rattle.jwt_handles.specs.Evidence.{claims_kept, payload_kept};
-ghost use Rattle.jwt_handles.specs.Possessing.{HoldsPolicy, IsPolicyRefused, IsRequest, SaysBeside, SaysFor, SaysProof, claims_beside, claims_of_last, key_numbers, lack_number, nonce_of, proof_numbers, request_number};
+ghost use Rattle.jwt_handles.specs.Possessing.{HoldsPolicy, IsPolicyRefused, SaysBeside, SaysFor, SaysProof, claims_beside, claims_of_last, key_numbers, lack_number, nonce_of, proof_numbers, request_number};
 ghost use Rattle.jwt_handles.specs.ProvedKept.{proved_meanings};
 ghost use Rattle.jwt_handles.specs.Reports.{report_numbers};
 
