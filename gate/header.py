@@ -1,7 +1,8 @@
 #!/usr/bin/env python3
 """Takes each "Proved:" of include/fowharimu.h apart by call and status, and finds for each a clause of the exported function that has that status: in
 the clause, or in a definition of jwt_handles that it cites. What is said without a status is one of the sentences below, and the call has the
-clauses that stand beside it. Besides it compares each exported function, clause by clause, with the one of jwt_handles that it calls. A rough reader
+clauses that stand beside it. Besides it compares each exported function, clause by clause, with the one of jwt_handles that it calls, whose structs
+that are taken by value it spells out. A rough reader
 of the layout of `rt fmt`: it finds that a clause is there, and not that it says the same as the header. It ends with 'N passed, M failed', where a call
 with a status, a sentence without one, and an exported function count as one."""
 import pathlib, re, sys
@@ -84,12 +85,37 @@ def contracts():
     return found
 
 
+def fields():
+    """The fields of each struct of the crates that is all in the open, by its name: theirs with their types, in order."""
+    found = {}
+    for file in sorted(TOP.glob("crates/*/src/**/*.rt")):
+        for name, body in re.findall(r"^pub struct (\w+)(?:<'a>)? \{\n((?: +(?:///.*|pub \w+: .*,)?\n)*)\}", file.read_text(), re.MULTILINE):
+            found[name] = re.findall(r"^    pub (\w+): (.*),$", body, re.MULTILINE)
+    return found
+
+
+def spelled_out(head, known):
+    """What a function takes, answers and promises, where each struct that it takes by value is spelled out as its fields."""
+    while True:
+        taken = next((it for it in re.finditer(r"\b(\w+): (\w+)(?:<'_>)?(?=[,)])", head) if known.get(it[2])), None)
+        if not taken:
+            return head
+        name, parts = taken[1], known[taken[2]]
+        head = head.replace(taken[0], ", ".join(f"{field}: {kind}" for field, kind in parts).replace("'a ", "").replace("<'a>", "<'_>"))
+        head = re.sub(rf"\b{name}\.(?:entry\.)?(?=(?:{'|'.join(field for field, _ in parts)})\b)", "", head)
+        head = re.sub(rf"(?<!ensures )(?<![.\w]){name}(?![.\w:])", f"record {{ {'; '.join(f'{field} = {field}' for field, _ in parts)} }}", head)
+
+
 def heads(folder):
-    """What each public function of a crate takes, answers and promises, in a line, by its file and name; and the first word of its body, which is what
-    it calls where it is one call."""
+    """What each public function of a crate takes, answers and promises, in a line, by its file and name; and the function of another file that it calls,
+    where it is one call."""
+    known = fields()
     for file in sorted(folder.glob("src/*.rt")):
-        for name, head, first in re.findall(r'^pub (?:extern "C" )?fn (\w+)(\(.*?)^\{\n +([\w:]*)', file.read_text(), re.MULTILINE | re.DOTALL):
-            yield f"{file.stem}::{name}", " ".join(head.split()).replace("( ", "(").replace(", )", ")"), first
+        found = re.findall(r'^pub (?:extern "C" )?fn (\w+)(\(.*?)^\{\n(.*?)^\}', file.read_text(), re.MULTILINE | re.DOTALL)
+        for name, head, body in found:
+            called = re.search(r"^    (\w+::\w+)\(", body, re.MULTILINE)
+            line = " ".join(head.split()).replace("( ", "(").replace(", )", ")").replace("; }", " }")
+            yield f"{file.stem}::{name}", spelled_out(line, known), called and called[1]
 
 
 def unlike():
