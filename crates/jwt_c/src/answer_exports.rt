@@ -10,7 +10,7 @@ ghost use Rattle.jwt_handles.specs.Reports.{asked_at, IsForgotten};
 ghost use Rattle.jwt_handles.specs.Remembering.{RemembersAlike};
 ghost use Rattle.jwt_handles.specs.Asking.{PutsQuestion, IsTold, StaysLast, StaysAnswered, public_asked, proved_asked, proved_says};
 
-use jwt_handles::answering;
+use jwt_handles::answering::{self, PairOf};
 use jwt_handles::handle::Handle;
 use jwt_handles::report::FowQuestion;
 use std::alloc::Global;
@@ -34,7 +34,12 @@ pub extern "C" fn fow_ask(
         result asked.new out.old out.new) }
     ensures unwritten { result ≢ FOW_OK → (out.new ≡ out.old) × (asked.new ≡ asked.old) }
 {
-    answering::ask(validator, alloc, token, signature, key, out, asked)
+    let pair = PairOf {
+        token,
+        signature,
+        key,
+    };
+    answering::ask(validator, alloc, pair, out, asked)
 }
 
 /// [`answering::asked`] by its name in C.
@@ -84,7 +89,12 @@ pub extern "C" fn fow_answer(
     ensures remembers { IfSome validator.old.state (λ d. RemembersAlike d validator.new.state) }
     ensures last { IfSome validator.old.state (λ d. StaysLast d validator.new.state) }
 {
-    answering::answer(validator, alloc, token, signature, key, valid)
+    let pair = PairOf {
+        token,
+        signature,
+        key,
+    };
+    answering::answer(validator, alloc, pair, valid)
 }
 
 /// [`answering::forget`] by its name in C.
@@ -116,5 +126,10 @@ pub extern "C" fn fow_answer_proved(
     ensures remembers { IfSome validator.old.state (λ d. RemembersAlike d validator.new.state) }
     ensures last { IfSome validator.old.state (λ d. StaysLast d validator.new.state) }
 {
-    answering::answer_proved(validator, alloc, token, signature, key)
+    let pair = PairOf {
+        token,
+        signature,
+        key,
+    };
+    answering::answer_proved(validator, alloc, pair)
 }

@@ -7,8 +7,9 @@ ghost use Rattle.jwt_handles.specs.Documents.{documents};
 ghost use Rattle.jwt_handles.specs.Evidence.{claims_kept};
 ghost use Rattle.jwt_handles.specs.Expecting.{SaysText, SaysHalfHash};
 
-use jwt_handles::expecting;
+use jwt_handles::expecting::{self, HalfHash};
 use jwt_handles::handle::Handle;
+use jwt_handles::tokens::SignatureOf;
 use std::alloc::Global;
 
 /// [`expecting::expect_text`] by its name in C.
@@ -50,5 +51,10 @@ pub extern "C" fn fow_expect_half_hash(
     ensures claim { IfSome validator.old.state (λ d. ¬ IsUtf8 claim.now → result ≡ FOW_REFUSED) }
     ensures said { result ≢ FOW_NOT_EXPECTED → unmet.new ≡ 0 }
 {
-    expecting::expect_half_hash(validator, alloc, token, signature, claim, octets, unmet)
+    let expected = HalfHash {
+        of: SignatureOf { token, signature },
+        claim,
+        octets,
+    };
+    expecting::expect_half_hash(validator, alloc, expected, unmet)
 }

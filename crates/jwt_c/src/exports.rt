@@ -19,8 +19,10 @@ ghost use Rattle.jwt_handles.specs.Issuing.{hmac_at, form_at, typ_of, PutsIssued
 ghost use Rattle.jwt_issue.specs.ClaimSets.{claim_set_of};
 
 use jwt_handles::handle::Handle;
+use jwt_handles::opening::{self, DocumentTexts};
 use jwt_handles::report::{FowReport, FowState, FowTry};
-use jwt_handles::{opening, tokens, verdicts};
+use jwt_handles::tokens::{self, SignatureOf};
+use jwt_handles::verdicts;
 use std::alloc::Global;
 
 /// [`opening::open`] by its name in C.
@@ -53,7 +55,13 @@ pub extern "C" fn fow_open_prepared(
     ensures refused { result ≢ FOW_OK → IsRefused policy.now keys.now result fault.new }
     ensures same { result ≢ FOW_OK → validator.new.state ≡ validator.old.state }
 {
-    opening::open_prepared(validator, alloc, policy, keys, most, fault)
+    opening::open_prepared(
+        validator,
+        alloc,
+        DocumentTexts { policy, keys },
+        most,
+        fault,
+    )
 }
 
 /// [`opening::open_beside`] by its name in C.
@@ -284,7 +292,13 @@ pub extern "C" fn fow_unverified_header(
         (header_octets_at (token_of (documents d).policy token.now) signature) result written.new out.old out.new) }
     ensures unwritten { result ≢ FOW_OK → (out.new ≡ out.old) × (written.new ≡ written.old) }
 {
-    tokens::unverified_header(validator, alloc, token, signature, out, written)
+    tokens::unverified_header(
+        validator,
+        alloc,
+        SignatureOf { token, signature },
+        out,
+        written,
+    )
 }
 
 /// [`verdicts::refused_claim`] by its name in C.

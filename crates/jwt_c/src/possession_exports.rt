@@ -16,6 +16,7 @@ ghost use Rattle.jwt_handles.specs.Written.{Puts, PutsHeld};
 
 use jwt_handles::handle::Handle;
 use jwt_handles::once_handle::OnceHandle;
+use jwt_handles::possessing::{Asked, Sent};
 use jwt_handles::possession_handle::PossessionHandle;
 use jwt_handles::{bound, entries, nonces, possessions};
 use std::alloc::Global;
@@ -63,9 +64,18 @@ pub extern "C" fn fow_possession_judge(
         (record { method = method.now; uri = uri.now; nonce = nonce.now; token = token.now })
         proof.now result fault.new (kept_in possession.new.state))) }
 {
-    possessions::possession_judge(
-        possession, alloc, validator, proof, method, uri, nonce, token, now, fault,
-    )
+    let request = Asked {
+        method,
+        uri,
+        nonce,
+        token,
+    };
+    let sent = Sent {
+        proof,
+        request,
+        now,
+    };
+    possessions::possession_judge(possession, alloc, validator, sent, fault)
 }
 
 /// [`possessions::possession_take`] by its name in C.

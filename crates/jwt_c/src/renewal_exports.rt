@@ -8,6 +8,7 @@ ghost use Rattle.jwt_renewal.specs.declared.asker.Asker.TheVariants.{Token};
 ghost use Rattle.jwt_handles.specs.Renewals.{renewal_of, asker_of, keys_of, fetch_of, times_of};
 
 use jwt_handles::renewal::{self, FowRenewal, FowRenewalAnswer};
+use jwt_renewal::Times;
 
 /// [`renewal::begin`] by its name in C.
 #[unsafe(no_mangle)]
@@ -24,7 +25,13 @@ pub extern "C" fn fow_renewal_begin(
     ensures heard { renewal.new.heard ≡ now }
     ensures stands { Stands (renewal_of renewal.new) [] }
 {
-    renewal::begin(renewal, refresh_after, cool_down, max_age, timeout, now);
+    let times = Times {
+        refresh_after,
+        cool_down,
+        max_age,
+        timeout,
+    };
+    renewal::begin(renewal, times, now);
 }
 
 /// [`renewal::ask`] by its name in C.

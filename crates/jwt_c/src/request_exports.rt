@@ -8,7 +8,7 @@ ghost use Rattle.jwt_request.specs.Challenges.{IsQuotable};
 ghost use Rattle.jwt_handles.specs.Requests.{IsAbsentBy, IsMalformedBy, IsOutcomeOfProof, IsTokenBy, challenge_of, outcome_of, reply_of, scheme_of, schemes_of, text_by};
 ghost use Rattle.jwt_handles.specs.Written.{Puts};
 
-use jwt_handles::requests::{self, FowReply};
+use jwt_handles::requests::{self, FowReply, NumberedChallenge};
 
 /// [`requests::credentials`] by its name in C.
 #[unsafe(no_mangle)]
@@ -70,5 +70,12 @@ pub extern "C" fn fow_challenge(
     ensures refused { result ≡ FOW_REFUSED → ¬ (All IsQuotable realm.now × All IsQuotable scope.now × All IsQuotable algs.now) }
     ensures unwritten { result ≢ FOW_OK → (out.new ≡ out.old) × (written.new ≡ written.old) }
 {
-    requests::challenge(scheme, number, realm, scope, algs, out, written)
+    let it = NumberedChallenge {
+        scheme,
+        number,
+        realm,
+        scope,
+        algs,
+    };
+    requests::challenge(it, out, written)
 }

@@ -14,6 +14,7 @@ use crate::state::{Last, State};
 use crate::status::{
     FOW_ABSENT, FOW_NOT_EXPECTED, FOW_NOT_OPEN, FOW_OK, FOW_OUT_OF_MEMORY, FOW_REFUSED,
 };
+use crate::tokens::SignatureOf;
 use jwt_expected::{Expected, Unmet, Wanted, first_unmet};
 use jwt_jws::Signed;
 use jwt_mac::Alg;
@@ -155,6 +156,15 @@ pub fn expect_text(
     status
 }
 
+/// The octets whose half hash is expected in a claim, which is named by its name or a JSON Pointer, and the signature whose algorithm names
+/// the hash function.
+#[derive(Clone, Copy)]
+pub struct HalfHash<'a> {
+    pub of: SignatureOf<'a>,
+    pub claim: &'a [u8],
+    pub octets: &'a [u8],
+}
+
 /// Holds base64url of the left half of the hash of octets against a claim of the token that was accepted last (OpenID Connect Core 1.0,
 /// section 3.1.3.6 for `at_hash`, 3.3.2.11 for `c_hash`): by the hash function of the algorithm of that signature, which verified. The claim
 /// is named as in [`expect_text`]. `FOW_OK`: the claim is that very text; `FOW_NOT_EXPECTED`: it isn't, and the number is 1 where it is
@@ -163,25 +173,23 @@ pub fn expect_text(
 pub fn expect_half_hash(
     validator: &mut Handle,
     alloc: Global,
-    token: &[u8],
-    signature: u32,
-    claim: &[u8],
-    octets: &[u8],
+    expected: HalfHash<'_>,
     unmet: &mut u32,
 ) -> u32
     ensures same { validator.new.state ≡ validator.old.state }
     ensures none { validator.old.state ≡ None → result ≡ FOW_NOT_OPEN }
-    ensures expected { IfSome validator.old.state (λ d. IsUtf8 claim.now → result ≢ FOW_OUT_OF_MEMORY
-        → SaysHalfHash (token_of (documents d).policy token.now) d.last signature
-        claim.now octets.now result unmet.new) }
-    ensures claim { IfSome validator.old.state (λ d. ¬ IsUtf8 claim.now → result ≡ FOW_REFUSED) }
+    ensures expected { IfSome validator.old.state (λ d. IsUtf8 expected.entry.claim.now → result ≢ FOW_OUT_OF_MEMORY
+        → SaysHalfHash (token_of (documents d).policy expected.entry.of.token.now) d.last expected.entry.of.signature
+        expected.entry.claim.now expected.entry.octets.now result unmet.new) }
+    ensures claim { IfSome validator.old.state (λ d. ¬ IsUtf8 expected.entry.claim.now → result ≡ FOW_REFUSED) }
     ensures said { result ≢ FOW_NOT_EXPECTED → unmet.new ≡ 0 }
 {
     *unmet = 0;
     let Some(state) = take(validator, alloc) else {
         return FOW_NOT_OPEN;
     };
-    let (status, number) = state.hold_half_hash(alloc, token, signature, claim, octets);
+    let HalfHash { of, claim, octets } = expected;
+    let (status, number) = state.hold_half_hash(alloc, of.token, of.signature, claim, octets);
     *unmet = number;
     *validator = Handle::of(state);
     status

@@ -28,7 +28,7 @@ pub mod once_handle;
 pub mod once_state;
 pub mod onces;
 pub mod opening;
-mod possessing;
+pub mod possessing;
 pub mod possession_handle;
 pub mod possession_state;
 pub mod possessions;

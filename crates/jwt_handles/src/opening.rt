@@ -100,6 +100,13 @@ fn handle_on(alloc: Global, shared: Arc<SharedGrounds>) -> Result<Handle, AllocE
     }
 }
 
+/// The octets of a policy and of a key set.
+#[derive(Clone, Copy)]
+pub struct DocumentTexts<'a> {
+    pub policy: &'a [u8],
+    pub keys: &'a [u8],
+}
+
 /// [`open_prepared`] with 16 keys.
 pub fn open(
     validator: &mut Handle,
@@ -112,7 +119,13 @@ pub fn open(
     ensures refused { result ≢ FOW_OK → IsRefused policy.now keys.now result fault.new }
     ensures same { result ≢ FOW_OK → validator.new.state ≡ validator.old.state }
 {
-    open_prepared(validator, alloc, policy, keys, PREPARED_KEYS, fault)
+    open_prepared(
+        validator,
+        alloc,
+        DocumentTexts { policy, keys },
+        PREPARED_KEYS,
+        fault,
+    )
 }
 
 /// Reads a policy and a key set, and prepares the first keys that can be, at most so many, for the proved verifiers: those of ECDSA and
@@ -122,17 +135,16 @@ pub fn open(
 pub fn open_prepared(
     validator: &mut Handle,
     alloc: Global,
-    policy: &[u8],
-    keys: &[u8],
+    texts: DocumentTexts<'_>,
     most: usize,
     fault: &mut u32,
 ) -> u32
-    ensures opened { result ≡ FOW_OK → IsOpened policy.now keys.now validator.new.state }
-    ensures refused { result ≢ FOW_OK → IsRefused policy.now keys.now result fault.new }
+    ensures opened { result ≡ FOW_OK → IsOpened texts.entry.policy.now texts.entry.keys.now validator.new.state }
+    ensures refused { result ≢ FOW_OK → IsRefused texts.entry.policy.now texts.entry.keys.now result fault.new }
     ensures same { result ≢ FOW_OK → validator.new.state ≡ validator.old.state }
 {
     *fault = 0;
-    match shared_of(alloc, policy, keys, most) {
+    match shared_of(alloc, texts.policy, texts.keys, most) {
         Ok(shared) => match handle_on(alloc, shared) {
             Ok(handle) => {
                 *validator = handle;

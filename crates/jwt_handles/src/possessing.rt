@@ -113,11 +113,19 @@ pub(crate) fn policy_of(alloc: Global, document: &[u8]) -> Result<Box<Possession
 /// What C says of a request: its method, its URI, the nonce that was asked for, and the access token that came with it, each as octets. An
 /// empty nonce is none, and so is an empty token.
 #[derive(Clone, Copy)]
-pub(crate) struct Asked<'a> {
-    pub(crate) method: &'a [u8],
-    pub(crate) uri: &'a [u8],
-    pub(crate) nonce: &'a [u8],
-    pub(crate) token: &'a [u8],
+pub struct Asked<'a> {
+    pub method: &'a [u8],
+    pub uri: &'a [u8],
+    pub nonce: &'a [u8],
+    pub token: &'a [u8],
+}
+
+/// A proof with the request that it came with, and the moment, in seconds since 1970-01-01T00:00:00Z.
+#[derive(Clone, Copy)]
+pub struct Sent<'a> {
+    pub proof: &'a [u8],
+    pub request: Asked<'a>,
+    pub now: i64,
 }
 
 /// What is said of a proof, and what is kept of it.

@@ -12,7 +12,7 @@ ghost use Rattle.jwt_handles.specs.Written.{Puts, PutsHeld};
 use crate::handle::Handle;
 use crate::once_handle::{OnceHandle, take_once};
 use crate::onces::numbers_of;
-use crate::possessing::{Asked, policy_of};
+use crate::possessing::{Sent, policy_of};
 use crate::possession_handle::{PossessionHandle, take_possession};
 use crate::status::{FOW_ABSENT, FOW_NOT_OPEN, FOW_OK, FOW_TOO_SHORT};
 use crate::writing::put;
@@ -54,39 +54,43 @@ pub fn possession_judge(
     possession: &mut PossessionHandle,
     alloc: Global,
     validator: &mut Handle,
-    proof: &[u8],
-    method: &[u8],
-    uri: &[u8],
-    nonce: &[u8],
-    token: &[u8],
-    now: i64,
+    sent: Sent<'_>,
     fault: &mut u32,
 ) -> u32
     ensures same { validator.new.state ≡ validator.old.state }
     ensures none { possession.old.state ≡ None → (result ≡ FOW_NOT_OPEN) × (possession.new.state ≡ None) }
     ensures held { IfSome possession.old.state (λ p. HoldsOn p possession.new.state) }
     ensures unproved { result ≢ FOW_OK → kept_in possession.new.state ≡ None }
-    ensures alone { IfSome possession.old.state (λ p. token.now ≡ [] → SaysFor p.policy now
-        (record { method = method.now; uri = uri.now; nonce = nonce.now; token = token.now })
-        None proof.now result fault.new (kept_in possession.new.state)) }
-    ensures no_validator { token.now ≢ [] → validator.old.state ≡ None → result ≡ FOW_NOT_OPEN }
+    ensures alone { IfSome possession.old.state (λ p. sent.entry.request.token.now ≡ [] → SaysFor p.policy sent.entry.now
+        (record {
+          method = sent.entry.request.method.now;
+          uri = sent.entry.request.uri.now;
+          nonce = sent.entry.request.nonce.now;
+          token = sent.entry.request.token.now;
+        })
+        None sent.entry.proof.now result fault.new (kept_in possession.new.state)) }
+    ensures no_validator { sent.entry.request.token.now ≢ [] → validator.old.state ≡ None → result ≡ FOW_NOT_OPEN }
     ensures beside { IfSome possession.old.state (λ p. IfSome validator.old.state (λ d.
-        token.now ≢ [] → result ≢ FOW_OUT_OF_MEMORY → SaysBeside
-        (claims_of_last (token_of (documents d).policy token.now) d.last) p.policy now
-        (record { method = method.now; uri = uri.now; nonce = nonce.now; token = token.now })
-        proof.now result fault.new (kept_in possession.new.state))) }
+        sent.entry.request.token.now ≢ [] → result ≢ FOW_OUT_OF_MEMORY → SaysBeside
+        (claims_of_last (token_of (documents d).policy sent.entry.request.token.now) d.last) p.policy sent.entry.now
+        (record {
+          method = sent.entry.request.method.now;
+          uri = sent.entry.request.uri.now;
+          nonce = sent.entry.request.nonce.now;
+          token = sent.entry.request.token.now;
+        })
+        sent.entry.proof.now result fault.new (kept_in possession.new.state))) }
 {
     *fault = 0;
     let Some(mut held) = take_possession(possession, alloc) else {
         return FOW_NOT_OPEN;
     };
-    let asked = Asked {
-        method,
-        uri,
-        nonce,
-        token,
-    };
-    let (status, number) = held.judge(alloc, validator, proof, asked, now);
+    let Sent {
+        proof,
+        request,
+        now,
+    } = sent;
+    let (status, number) = held.judge(alloc, validator, proof, request, now);
     *fault = number;
     *possession = PossessionHandle::of(held);
     status

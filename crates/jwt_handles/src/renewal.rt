@@ -154,25 +154,11 @@ fn number(it: bool) -> u64
 }
 
 /// No keys, and no fetch yet, with these times in milliseconds.
-pub fn begin(
-    renewal: &mut FowRenewal,
-    refresh_after: u64,
-    cool_down: u64,
-    max_age: u64,
-    timeout: u64,
-    now: u64,
-)
-    ensures times { times_of renewal.new
-        ≡ record { refresh_after = refresh_after; cool_down = cool_down; max_age = max_age; timeout = timeout } }
+pub fn begin(renewal: &mut FowRenewal, times: Times, now: u64)
+    ensures times { times_of renewal.new ≡ times }
     ensures heard { renewal.new.heard ≡ now }
     ensures stands { Stands (renewal_of renewal.new) [] }
 {
-    let times = Times {
-        refresh_after,
-        cool_down,
-        max_age,
-        timeout,
-    };
     *renewal = FowRenewal::of(Renewal::new(times, now));
 }
 

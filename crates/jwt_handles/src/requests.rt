@@ -85,23 +85,35 @@ pub fn quotable(text: &[u8]) -> bool
     is_quotable(text)
 }
 
+/// A challenge as C names it: by the numbers of its scheme and of itself, with its texts, of which an empty one is none.
+#[derive(Clone, Copy)]
+pub struct NumberedChallenge<'a> {
+    pub scheme: u32,
+    pub number: u32,
+    pub realm: &'a [u8],
+    pub scope: &'a [u8],
+    pub algs: &'a [u8],
+}
+
 /// Writes the challenge of this number, of the scheme of that number, at the front of `out`. `FOW_OK`; `FOW_TOO_SHORT`: `out` is too short; `FOW_REFUSED`: the
 /// realm, the scope or the algorithms can't be quoted.
-pub fn challenge(
-    scheme: u32,
-    number: u32,
-    realm: &[u8],
-    scope: &[u8],
-    algs: &[u8],
-    out: &mut [u8],
-    written: &mut usize,
-) -> u32
-    ensures text { All IsQuotable realm.now → All IsQuotable scope.now → All IsQuotable algs.now
-        → Puts (text_by (scheme_of scheme) (challenge_of number) realm.now scope.now algs.now) result written.new out.old out.new }
-    ensures quotable { result ≢ FOW_REFUSED → All IsQuotable realm.now × All IsQuotable scope.now × All IsQuotable algs.now }
-    ensures refused { result ≡ FOW_REFUSED → ¬ (All IsQuotable realm.now × All IsQuotable scope.now × All IsQuotable algs.now) }
+pub fn challenge(it: NumberedChallenge<'_>, out: &mut [u8], written: &mut usize) -> u32
+    ensures text { All IsQuotable it.entry.realm.now → All IsQuotable it.entry.scope.now → All IsQuotable it.entry.algs.now
+        → Puts (text_by (scheme_of it.entry.scheme) (challenge_of it.entry.number) it.entry.realm.now it.entry.scope.now it.entry.algs.now)
+        result written.new out.old out.new }
+    ensures quotable { result ≢ FOW_REFUSED
+        → All IsQuotable it.entry.realm.now × All IsQuotable it.entry.scope.now × All IsQuotable it.entry.algs.now }
+    ensures refused { result ≡ FOW_REFUSED
+        → ¬ (All IsQuotable it.entry.realm.now × All IsQuotable it.entry.scope.now × All IsQuotable it.entry.algs.now) }
     ensures unwritten { result ≢ FOW_OK → (out.new ≡ out.old) × (written.new ≡ written.old) }
 {
+    let NumberedChallenge {
+        scheme,
+        number,
+        realm,
+        scope,
+        algs,
+    } = it;
     if !is_quotable(realm) || !is_quotable(scope) || !is_quotable(algs) {
         return FOW_REFUSED;
     }

@@ -40,27 +40,33 @@ pub fn payload(
     status
 }
 
+/// A signature as C names it: a token, and the place of the signature in it.
+#[derive(Clone, Copy)]
+pub struct SignatureOf<'a> {
+    pub token: &'a [u8],
+    pub signature: u32,
+}
+
 /// Writes the octets of a signature's protected header at the front of `out`. `FOW_OK`; `FOW_OUT_OF_MEMORY`: memory was refused;
 /// `FOW_NOT_OPEN`: nothing is held; `FOW_TOO_SHORT`: `out` is too short; `FOW_ABSENT`: the octets are no token, or it has no such
 /// signature.
 pub fn unverified_header(
     validator: &mut Handle,
     alloc: Global,
-    token: &[u8],
-    signature: u32,
+    of: SignatureOf<'_>,
     out: &mut [u8],
     written: &mut usize,
 ) -> u32
     ensures same { validator.new.state ≡ validator.old.state }
     ensures none { validator.old.state ≡ None → result ≡ FOW_NOT_OPEN }
     ensures header { IfSome validator.old.state (λ d. PutsSome
-        (header_octets_at (token_of (documents d).policy token.now) signature) result written.new out.old out.new) }
+        (header_octets_at (token_of (documents d).policy of.entry.token.now) of.entry.signature) result written.new out.old out.new) }
     ensures unwritten { result ≢ FOW_OK → (out.new ≡ out.old) × (written.new ≡ written.old) }
 {
     let Some(state) = take(validator, alloc) else {
         return FOW_NOT_OPEN;
     };
-    let status = state.put_header(alloc, token, signature, out, written);
+    let status = state.put_header(alloc, of.token, of.signature, out, written);
     *validator = Handle::of(state);
     status
 }

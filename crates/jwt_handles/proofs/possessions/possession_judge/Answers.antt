@@ -10,11 +10,11 @@ use Rattle.jwt_handles.proofs.possessions.possession_judge.Goals as goal
 
 pub returns-clause-beside : goal.returns-clause-beside
 returns-clause-beside c =
-    let z : to_z w64 (of_z w64 c.args.now) ≡ c.args.now = search rules in let said = c.judge-status.result in let kept = c.judge-status.new.self.last in
-    let says : Settings → ℤ → Option Possession → Type 0 = λ policy n it. IfSome c.args.validator.now.state (λ d. c.args.token.now ≢ [] → said.0 ≢ FOW_OUT_OF_MEMORY
-    → SaysBeside (claims_of_last (token_of (documents d).policy c.args.token.now) d.last) policy n
-    (record { method = c.args.method.now; uri = c.args.uri.now; nonce = c.args.nonce.now; token = c.args.token.now }) c.args.proof.now said.0 said.1 it) in
-    subst (λ o. IfSome o (λ p. says p.policy c.args.now (kept_in c.of.result.state))) (sym c.in-Some.ensures.held)
-    (subst (λ o. says c.in-Some.held.value.policy c.args.now (kept_in o)) (sym c.of.ensures)
-    (subst (λ (p : PossessionState). says p.policy c.args.now kept) c.deref_mut.ensures.value
+    let z : to_z w64 (of_z w64 c.args.sent.now) ≡ c.args.sent.now = search rules in let said = c.judge-status.result in let kept = c.judge-status.new.self.last in
+    let says : Settings → ℤ → Option Possession → Type 0 = λ policy n it. IfSome c.args.validator.now.state (λ d. c.args.sent.request.token.now ≢ [] → said.0 ≢ FOW_OUT_OF_MEMORY
+    → SaysBeside (claims_of_last (token_of (documents d).policy c.args.sent.request.token.now) d.last) policy n
+    (record { method = c.args.sent.request.method.now; uri = c.args.sent.request.uri.now; nonce = c.args.sent.request.nonce.now; token = c.args.sent.request.token.now }) c.args.sent.proof.now said.0 said.1 it) in
+    subst (λ o. IfSome o (λ p. says p.policy c.args.sent.now (kept_in c.of.result.state))) (sym c.in-Some.ensures.held)
+    (subst (λ o. says c.in-Some.held.value.policy c.args.sent.now (kept_in o)) (sym c.of.ensures)
+    (subst (λ (p : PossessionState). says p.policy c.args.sent.now kept) c.deref_mut.ensures.value
     (subst (λ (n : ℤ). says c.deref_mut.result.now.policy n kept) z c.judge-status.ensures.beside)))
