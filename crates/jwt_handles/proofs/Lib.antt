@@ -2,19 +2,15 @@
 pub mod Resting
 -- ---- For expecting.rt
 pub mod Standings
--- ---- For handle.rt
-pub mod Handles
--- ---- For once_handle.rt
-pub mod OnceHandles
--- ---- For possession_handle.rt
-pub mod PossessionHandles
 -- ---- For possession_state.rt
 pub mod Refusals
--- ---- For rule_handle.rt
-pub mod RuleHandles
+-- ---- For raw_box.rt
+pub mod Values
 -- ---- For several files
 pub mod Adding
 pub mod Counting
+pub mod HandleForms
+pub mod Handles
+pub mod HandleWalks
 pub mod Payloads
 pub mod Telling
-pub mod Values

@@ -26,7 +26,7 @@ pub mod Access
 pub mod Asking
 -- what one call knows of the claims of the last acceptance
 pub mod Expecting
--- the ownership of a validator's handle
+-- the ownership of a handle
 pub mod Handles
 -- public documents, and the issuer that a token names
 pub mod Issuers
@@ -40,16 +40,10 @@ pub mod Proving
 pub mod Taking
 -- how the token, or the proof, that was accepted last is held by a store of those that count once
 pub mod Entries
--- the ownership of the handle of such a memory
-pub mod OnceHandles
 -- the policy for proofs of possession that is held, and what is answered to a proof
 pub mod Possessing
 -- nonces by time, and what is said of the one of the proof that was accepted last
 pub mod Nonces
--- the ownership of the handle of such a policy
-pub mod PossessionHandles
--- the ownership of the handle of an access rule
-pub mod RuleHandles
 -- how the parts of a renewal of keys cross to C
 pub mod Renewals
 -- how what is answered to a request crosses to C

@@ -1,7 +1,10 @@
-//! A handle.
+//! The handle of a validator. Those of other states are as this one, each a struct of its own, since no exported function takes a struct with a
+//! type parameter. All own alike, and are proved alike.
 ghost use Rattle.std.specs.Prelude.{◌≡◌, Option, Some, None, MatchOption};
+ghost use Rattle.std.specs.Coded.{coded_option};
 ghost use Rattle.jwt_handles.specs.declared.state.State.{State};
-ghost use Rattle.jwt_handles.specs.Handles.{handle_owns, state_coded};
+ghost use Rattle.jwt_handles.specs.contracts.state.State.{the_row};
+ghost use Rattle.jwt_handles.specs.Handles.{handle_owns};
 
 use crate::raw_box::RawBox;
 use crate::state::State;
@@ -16,11 +19,11 @@ pub struct Handle {
     at: *mut u8,
     held: bool,
     alloc: Global,
-    pub ghost state: { Option State } by { state_coded },
+    pub ghost state: { Option State } by { coded_option the_row.coded },
 }
 
 impl Model for Handle {
-    ghost also_owns = { λ h. handle_owns h.alloc h.held h.at h.state };
+    ghost also_owns = { λ h. handle_owns the_row h.alloc h.held h.at h.state };
 }
 
 impl Handle {
@@ -98,7 +101,7 @@ impl Drop for Handle {
 unsafe impl Send for Handle {}
 
 /// Compiles where the type may be sent to another thread.
-fn needs_send<T: Send>(_value: &T) {}
+pub(crate) fn needs_send<T: Send>(_value: &T) {}
 
 /// A handle may go to another thread: this is proved only where it may.
 pub fn may_go_to_another_thread(handle: &Handle) {

@@ -1,8 +1,11 @@
 //! The handle of a memory of tokens that count once: as that of a validator, over a state of its own.
 ghost use Rattle.std.specs.Prelude.{◌≡◌, Option, Some, None, MatchOption};
+ghost use Rattle.std.specs.Coded.{coded_option};
 ghost use Rattle.jwt_handles.specs.declared.once_state.OnceState.{OnceState};
-ghost use Rattle.jwt_handles.specs.OnceHandles.{once_handle_owns, once_state_coded};
+ghost use Rattle.jwt_handles.specs.contracts.once_state.OnceState.{the_row};
+ghost use Rattle.jwt_handles.specs.Handles.{handle_owns};
 
+use crate::handle::needs_send;
 use crate::once_state::OnceState;
 use crate::raw_box::RawBox;
 use std::alloc::Global;
@@ -16,11 +19,11 @@ pub struct OnceHandle {
     at: *mut u8,
     held: bool,
     alloc: Global,
-    pub ghost state: { Option OnceState } by { once_state_coded },
+    pub ghost state: { Option OnceState } by { coded_option the_row.coded },
 }
 
 impl Model for OnceHandle {
-    ghost also_owns = { λ h. once_handle_owns h.alloc h.held h.at h.state };
+    ghost also_owns = { λ h. handle_owns the_row h.alloc h.held h.at h.state };
 }
 
 impl OnceHandle {
@@ -96,9 +99,6 @@ impl Drop for OnceHandle {
 }
 
 unsafe impl Send for OnceHandle {}
-
-/// Compiles where the type may be sent to another thread.
-fn needs_send<T: Send>(_value: &T) {}
 
 /// A handle may go to another thread: this is proved only where it may.
 pub fn once_may_go_to_another_thread(handle: &OnceHandle) {

@@ -1,8 +1,11 @@
 //! The handle of a policy for proofs of possession: as that of a validator, over a state of its own.
 ghost use Rattle.std.specs.Prelude.{◌≡◌, Option, Some, None, MatchOption};
+ghost use Rattle.std.specs.Coded.{coded_option};
 ghost use Rattle.jwt_handles.specs.declared.possession_state.PossessionState.{PossessionState};
-ghost use Rattle.jwt_handles.specs.PossessionHandles.{possession_handle_owns, possession_state_coded};
+ghost use Rattle.jwt_handles.specs.contracts.possession_state.PossessionState.{the_row};
+ghost use Rattle.jwt_handles.specs.Handles.{handle_owns};
 
+use crate::handle::needs_send;
 use crate::possession_state::PossessionState;
 use crate::raw_box::RawBox;
 use std::alloc::Global;
@@ -16,11 +19,11 @@ pub struct PossessionHandle {
     at: *mut u8,
     held: bool,
     alloc: Global,
-    pub ghost state: { Option PossessionState } by { possession_state_coded },
+    pub ghost state: { Option PossessionState } by { coded_option the_row.coded },
 }
 
 impl Model for PossessionHandle {
-    ghost also_owns = { λ h. possession_handle_owns h.alloc h.held h.at h.state };
+    ghost also_owns = { λ h. handle_owns the_row h.alloc h.held h.at h.state };
 }
 
 impl PossessionHandle {
@@ -99,9 +102,6 @@ impl Drop for PossessionHandle {
 }
 
 unsafe impl Send for PossessionHandle {}
-
-/// Compiles where the type may be sent to another thread.
-fn needs_send<T: Send>(_value: &T) {}
 
 /// A handle may go to another thread: this is proved only where it may.
 pub fn possession_may_go_to_another_thread(handle: &PossessionHandle) {

@@ -1,8 +1,11 @@
 //! The handle of an access rule: as that of a validator, over a state of its own.
 ghost use Rattle.std.specs.Prelude.{◌≡◌, Option, Some, None, MatchOption};
+ghost use Rattle.std.specs.Coded.{coded_option};
 ghost use Rattle.jwt_handles.specs.declared.rule_state.RuleState.{RuleState};
-ghost use Rattle.jwt_handles.specs.RuleHandles.{rule_handle_owns, rule_state_coded};
+ghost use Rattle.jwt_handles.specs.contracts.rule_state.RuleState.{the_row};
+ghost use Rattle.jwt_handles.specs.Handles.{handle_owns};
 
+use crate::handle::needs_send;
 use crate::raw_box::RawBox;
 use crate::rule_state::RuleState;
 use std::alloc::Global;
@@ -16,11 +19,11 @@ pub struct RuleHandle {
     at: *mut u8,
     held: bool,
     alloc: Global,
-    pub ghost state: { Option RuleState } by { rule_state_coded },
+    pub ghost state: { Option RuleState } by { coded_option the_row.coded },
 }
 
 impl Model for RuleHandle {
-    ghost also_owns = { λ h. rule_handle_owns h.alloc h.held h.at h.state };
+    ghost also_owns = { λ h. handle_owns the_row h.alloc h.held h.at h.state };
 }
 
 impl RuleHandle {
@@ -96,9 +99,6 @@ impl Drop for RuleHandle {
 }
 
 unsafe impl Send for RuleHandle {}
-
-/// Compiles where the type may be sent to another thread.
-fn needs_send<T: Send>(_value: &T) {}
 
 /// A handle may go to another thread: this is proved only where it may.
 pub fn rule_may_go_to_another_thread(handle: &RuleHandle) {
