@@ -5,8 +5,9 @@ pub mod Printing
 -- ---- For verify_lines.rt
 pub mod AnsweredLines
 pub mod RunningLines
+pub mod WalkedLines
 -- ---- For several files
 pub mod InputLemmas
 pub mod LineLemmas
+pub mod Refusing
 pub mod Verifying
-pub mod WalkedLines

@@ -28,7 +28,7 @@ use Rattle.jwt_access.specs.declared.access_fault.AccessFault.{AccessFault}
 use Rattle.jwt_policy.specs.Settings.{Settings}
 use Rattle.jwt_words.specs.InHand.{Held}
 use Rattle.jwt_command.specs.Access.{under_rule}
-use Rattle.jwt_command.specs.Documents.{TakesDocument, behind, document, document_most, last_document}
+use Rattle.jwt_command.specs.Documents.{TakesDocument, behind, document, document_most, kept_line, last_document}
 use Rattle.jwt_text.specs.Intake.{TakesAtMost}
 use Rattle.jwt_command.specs.Issue.{issue_answer, issue_under}
 use Rattle.jwt_issue.specs.Options.{OptionParts}
@@ -42,7 +42,7 @@ use Rattle.jwt_verdicts.specs.Verdicts.{moment_of, token_answer, verify_line}
 use Rattle.jwt_printing.specs.Printed.{Answer}
 use Rattle.jwt_command.specs.Keys.{list_answer, listed}
 use Rattle.jwt_command.specs.Stops.{behind_keys, behind_policy, keys_most, token_most, verify_most}
-use Rattle.jwt_command.specs.TakenLines.{TakesLine}
+use Rattle.jwt_command.specs.TakenLines.{TakesLine, first_line}
 use Rattle.jwt_command.proofs.LineLemmas.{line_taken}
 use Rattle.jwt_words.specs.declared.printing.Printing.{Printing}
 use Rattle.jwt_words.specs.declared.printing.Printing.TheVariants.{Lines}
@@ -95,9 +95,16 @@ policy_read tell view r vs now h p x octets mid failed d is then =
     subst (λ k. IfOk r (λ a. view a ≡ unless_read_failed tell failed (under_policy tell vs now h k (behind h.policy x)))) (sym is ∙ ap policy_of d.octets_are)
     (subst (λ m. IfSome m (λ y. IfOk r (λ a. view a ≡ unless_read_failed tell failed (keys_answer tell vs now h p y)))) d.unread then)
 
+-- a line that is within the limit is held, and nothing of one that isn't
+kept_within : (limit : ℕ) (l : List ℕ) → length l ≤ limit → kept_line limit l ≡ l
+kept_within limit l short = let is : nat_lt limit (length l) ≡ false = grind (arith, nat_tests, short) in rw is refl
+
+pub kept_long : (limit : ℕ) (l : List ℕ) → limit < length l → kept_line limit l ≡ []
+kept_long limit l long = let is : nat_lt limit (length l) ≡ true = grind (arith, nat_tests, long) in rw is refl
+
 -- a line as a document
 pub line_document : (limit : ℕ) (x octets : List ℕ) (rest : Option (List ℕ)) → TakesLine limit x octets rest → TakesDocument limit None x octets rest
-line_document limit x octets rest h = record { octets_are = h.line; unread = h.unread; taken = line_taken limit x octets rest h }
+line_document limit x octets rest h = record { octets_are = h.line; read = h.line ∙ sym (kept_within limit (first_line x) h.within); unread = h.unread; taken = line_taken limit x octets rest h }
 
 pub front_taken : (limit most : ℕ) (x : List ℕ) (rest : Option (List ℕ)) (failed : Bool) (v : Verdict) → limit + 1 ≤ most
     → (v ≢ Refused (Text Read) → TakesAtMost (limit + 1) x rest) → (v ≡ Refused (Text Read) → failed ≡ true) → (failed ≡ true) ⊎ TakesAtMost most x rest

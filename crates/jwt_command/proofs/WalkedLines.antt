@@ -1,5 +1,5 @@
 -- Lines that are taken part by part.
-use Rattle.std.proofs.Common.{◌≡◌, ◌≤◌, ◌<◌, ◌==◌, ◌||◌, ℕ, zero, suc, ◌+◌, Bool, true, false, List, [], ◌∷◌, ◌++◌, length, take, Option, None, Some, Result, Ok, Err, IfOk, IfSome, refl, sym, ap, if◌then◌else◌, ◌∙◌, append_assoc, length-append, arith, nat_lt}
+use Rattle.std.proofs.Common.{◌≡◌, ◌≤◌, ◌<◌, ◌==◌, ◌||◌, ℕ, zero, suc, ◌+◌, Bool, true, false, List, [], ◌∷◌, ◌++◌, length, take, Option, None, Some, Err, IfSome, refl, sym, ap, if◌then◌else◌, ◌∙◌, append_assoc, length-append, arith, nat_lt}
 use Rattle.std.proofs.lemmas.List.{take_all}
 use Rattle.std.proofs.lemmas.List.Folds.{list_any-append}
 use Rattle.std.proofs.lemmas.Bool.Decides.{nat_tests}
@@ -7,7 +7,7 @@ use Rattle.std.specs.Io.KnownBytes.{Consumes, IsAtEnd, Keeps, prepend_known}
 use Rattle.jwt_command.specs.Lines.{lines, onto_first}
 use Rattle.jwt_printing.specs.Printed.{Answer}
 use Rattle.jwt_verdicts.specs.VerdictsJson.{payload_of, token_json, verdict_json}
-use Rattle.jwt_verdicts.specs.Printer.{printer_for, unless_read_failed}
+use Rattle.jwt_verdicts.specs.Printer.{printer_for}
 use Rattle.jwt_verdicts.specs.Verdicts.{moment_of, paid_tries, token_answer}
 use Rattle.jwt_access.specs.Rules.{Rule}
 use Rattle.jwt_verdicts.specs.Denied.{Demands}
@@ -72,7 +72,7 @@ pub walked_none : (limit : ℕ) (told : Option (List ℕ)) (held : List ℕ) →
 walked_none limit None held none = tt
 walked_none limit (Some x) held none = ([], refl, refl, none ∙ sym (take_all (limit + 1) [] (omega arith)), λ e. refl, λ e. absurd (cc e))
 
-length-take-all : (l : List ℕ) (n : ℕ) → n ≤ length l → length (take n l) ≡ n
+pub length-take-all : (l : List ℕ) (n : ℕ) → n ≤ length l → length (take n l) ≡ n
 length-take-all l zero h = refl
 length-take-all [] (suc n) h = absurd (omega (arith, h))
 length-take-all (d ∷ ds) (suc n) h = ap suc (length-take-all ds n (omega (arith, h)))
@@ -153,7 +153,7 @@ answer_by_token : (asked : Demands) (q : Terms) (x y : List ℕ) → token_of q.
 unfolding verdict_of table
 answer_by_token asked q x y is = rw is refl
 
-token_too_long : (p : Settings) (x : List ℕ) → p.run.limit < length x → token_of p x ≡ Err (Text TooLong)
+pub token_too_long : (p : Settings) (x : List ℕ) → p.run.limit < length x → token_of p x ≡ Err (Text TooLong)
 unfolding token_of
 token_too_long p x long = let is : nat_lt p.run.limit (length x) ≡ true = grind (arith, nat_tests, long) in rw is refl
 
@@ -195,10 +195,3 @@ json_bounded asked q l = go (nat_lt q.policy.run.limit (length l)) refl
 pub printed_bounded : (printing : Printing) (e : Option Expectation) (rule : Option Rule) (q : Terms) (l : List ℕ) → (printer_for printing e).token rule q (take (q.policy.run.limit + 1) l) ≡ (printer_for printing e).token rule q l
 printed_bounded Json e rule q l = json_bounded (record { rule = rule; expected = e }) q l
 printed_bounded Lines e rule q l = token_bounded (record { rule = rule; expected = e }) q l
-
--- the answer in JSON to what was taken of a token
-pub json_taken : {A E : Type 0} (view : A → Answer) (r : Result A E) (asked : Demands) (q : Terms) (x octets : List ℕ) (limit : ℕ) (failed : Bool) → limit ≡ q.policy.run.limit → octets ≡ take (limit + 1) x → failed ≡ false
-    → IfOk r (λ a. view a ≡ token_json asked q octets) → IfOk r (λ a. view a ≡ unless_read_failed (printer_for Json asked.expected) failed (token_json asked q x))
-json_taken view (Ok a) asked q x octets limit failed l o works is =
-    is ∙ ap (token_json asked q) (o ∙ ap (λ n. take (n + 1) x) l) ∙ json_bounded asked q x ∙ sym (ap (λ f. unless_read_failed (printer_for Json asked.expected) f (token_json asked q x)) works)
-json_taken view (Err e) asked q x octets limit failed l o works is = tt

@@ -1,5 +1,5 @@
 -- The documents of a command: a line of the input each, or what a file holds.
-use Rattle.std.specs.Prelude.{◌≡◌, ◌<◌, ℕ, Bool, true, false, List, Option, Some, None, length}
+use Rattle.std.specs.Prelude.{◌≡◌, ◌<◌, ◌+◌, ℕ, Bool, true, false, List, [], Option, Some, None, length, take, nat_lt, if◌then◌else◌}
 use Rattle.jwt_text.specs.Intake.{TakesAtMost}
 use Rattle.jwt_command.specs.TakenLines.{after_line, first_line, line_most}
 use Rattle.jwt_command.specs.declared.input.line.LineFault.{LineFault}
@@ -21,6 +21,22 @@ behind None x = after_line x
 abbrev pub last_document : Option (List ℕ) → List ℕ → List ℕ
 last_document (Some octets) x = octets
 last_document None x = x
+
+-- ---- what is held of a document
+
+-- of a line all; nothing of one that is longer than the limit
+abbrev pub kept_line : ℕ → List ℕ → List ℕ
+kept_line limit octets = if nat_lt limit (length octets) then [] else octets
+
+-- of a document: what is in hand, or what is held of the first line of the input
+abbrev pub read_document : ℕ → Option (List ℕ) → List ℕ → List ℕ
+read_document limit (Some octets) x = octets
+read_document limit None x = kept_line limit (first_line x)
+
+-- of the last document: what is in hand, or the input as far as one octet past the limit
+abbrev pub read_last : ℕ → Option (List ℕ) → List ℕ → List ℕ
+read_last limit (Some octets) x = octets
+read_last limit None x = take (limit + 1) x
 
 -- ---- what is taken of the input
 
@@ -44,11 +60,12 @@ most_unless_unread None most = most
 -- the document, and what follows it is still to come
 pub record TakesDocument (limit : ℕ) (held : Option (List ℕ)) (x octets : List ℕ) (rest : Option (List ℕ)) : Type 0 where
   pub octets_are : octets ≡ document held x
+  pub read : octets ≡ read_document limit held x
   pub unread : rest ≡ Some (behind held x)
   pub taken : TakesAtMost (document_most limit held x) x rest
 
 -- a line that is too long; or a read failed; or an allocation was refused
 abbrev pub DocumentFails : ℕ → Option (List ℕ) → Bool → List ℕ → LineFault → Type 0
-DocumentFails limit held failed x TooLong = (limit < length (document held x)) × (failed ≡ false)
+DocumentFails limit held failed x TooLong = (limit < length (document held x)) × (failed ≡ false) × (read_document limit held x ≡ [])
 DocumentFails limit held failed x Read = failed ≡ true
 DocumentFails limit held failed x OutOfMemory = Unit {0}

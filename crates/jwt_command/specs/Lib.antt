@@ -32,6 +32,8 @@ pub mod Pretty
 pub mod Stops
 -- the end of a run of the command
 pub mod Runs
+-- the document that a command refuses
+pub mod Subjects
 -- ---- What contracts of private functions alone cite, which nobody has to believe
 
 -- a command's input

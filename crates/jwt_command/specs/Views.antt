@@ -1,5 +1,5 @@
 -- This crate's own values as contracts see them.
-use Rattle.std.specs.Prelude.{ℕ, List, Option, option_map}
+use Rattle.std.specs.Prelude.{Option, option_map}
 use Rattle.std.specs.Borrow.{Bor}
 use Rattle.jwt_access.specs.Rules.{Rule}
 use Rattle.jwt_words.specs.Seen.{expectation_view}
@@ -7,13 +7,7 @@ use Rattle.jwt_words.specs.declared.expectation.Expectation.{Expectation}
 use Rattle.jwt_words.specs.declared.printing.Printing.{Printing}
 use Rattle.jwt_verdicts.specs.Denied.{Demands}
 use Rattle.jwt_verdicts.specs.Printer.{Printer, printer_for}
-use Rattle.jwt_command.specs.declared.documents.TakenDocument.{TakenDocument}
-use Rattle.jwt_command.specs.declared.documents.TakenDocument.TheVariants.{Line, Held as InHand}
 use Rattle.jwt_command.specs.declared.telling.Telling.{Telling}
-
-abbrev pub document_octets : TakenDocument → List ℕ
-document_octets (Line v) = v.items
-document_octets (InHand octets) = octets.now
 
 -- an access rule, where there is one
 abbrev pub rule_view : Option (Bor Rule) → Option Rule

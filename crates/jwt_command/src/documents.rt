@@ -2,7 +2,7 @@
 ghost use Rattle.std.specs.Prelude.{◌≡◌, ◌≤◌, ◌+◌, ◌⊎◌, false, true, option_map, take, Err, IfErr, IfNone, IfOk, IfSome, OnOk, OnSome};
 ghost use Rattle.jwt_command.specs.Documents.{DocumentFails, TakesDocument, document_most};
 ghost use Rattle.jwt_text.specs.Intake.{TakesAtMost};
-ghost use Rattle.jwt_command.specs.Views.{document_octets};
+ghost use Rattle.jwt_command.specs.Subjects.{document_octets};
 
 use crate::input::line::{LineFault, line};
 use jwt_text::{GREATEST_LIMIT, Intake, Source, TextFault};
@@ -22,6 +22,7 @@ pub fn read_document<R: Source>(
     requires greatest { limit ≤ GREATEST_LIMIT }
     ensures read { IfSome (R.remaining r.old) (λ x. IfOk result (λ d.
         IfSome d (λ held. held.octets ≡ take (limit + 1) x))) }
+    ensures limit { IfOk result (λ d. IfSome d (λ held. held.limit ≡ limit)) }
     ensures unread { IfOk result (λ d. IfNone d (R.failed r.new ≡ true)) }
     ensures works { IfOk result (λ d. OnSome d (R.failed r.new ≡ false)) }
     ensures taken { IfSome (R.remaining r.old)
@@ -35,21 +36,28 @@ pub fn read_document<R: Source>(
     }
 }
 
-/// A document: a line of the input, or octets in hand.
+/// What a command has read of a document.
 #[derive(Drop)]
-pub(crate) enum TakenDocument<'a> {
+pub enum TakenDocument<'a> {
+    /// A line of the input.
     Line(Vec<u8>),
+
+    /// Octets in hand; none of a line that is longer than its limit.
     Held(&'a [u8]),
+
+    /// All that was left of the input; or as much as shows that this is too much, one octet past the limit.
+    Input(Intake),
 }
 
 impl TakenDocument<'_> {
     /// Its octets.
-    pub(crate) fn octets(&self) -> &[u8]
+    pub fn octets(&self) -> &[u8]
         ensures { result.now ≡ document_octets self.now }
     {
         match self {
             TakenDocument::Line(octets) => octets.as_slice(),
             TakenDocument::Held(octets) => octets,
+            TakenDocument::Input(intake) => intake.octets(),
         }
     }
 }

@@ -1,5 +1,5 @@
 //! The command `issue`: a token of some claims by a key set.
-ghost use Rattle.std.specs.Prelude.{◌≡◌, ◌≢◌, ◌⊎◌, true, option_map, IfOk, IfSome};
+ghost use Rattle.std.specs.Prelude.{◌≡◌, ◌≢◌, ◌⊎◌, Some, true, option_map, IfOk, IfSome};
 ghost use Rattle.jwt_keys.specs.KeySets.{key_set};
 ghost use Rattle.jwt_issue.specs.Views.{options_parts};
 ghost use Rattle.jwt_issue.specs.Options.{issued_by};
@@ -8,12 +8,14 @@ ghost use Rattle.jwt_command.specs.Stops.{keys_most};
 ghost use Rattle.jwt_command.specs.Issue.{claims_answer, issue_answer, of_claims, issued_answer};
 ghost use Rattle.jwt_issue.specs.ClaimSets.{claim_set_of};
 ghost use Rattle.jwt_printing.specs.Printed.{refused};
-ghost use Rattle.jwt_printing.specs.Refused.{unless_failed};
+ghost use Rattle.jwt_printing.specs.Refused.{keys_refused, unless_failed};
 ghost use Rattle.jwt_printing.specs.Views.{reply_view};
+ghost use Rattle.jwt_command.specs.Subjects.{RefusedKeys, document_octets, issue_subject, subject_view, unless_read};
 
-use crate::documents::document;
+use crate::documents::{TakenDocument, document};
 use crate::input::line::LineFault;
 use crate::input::whole::{read_input, without_line_feed};
+use crate::subject::{Replied, Subject};
 use jwt_issue::{ClaimSet, IssueFault, IssueOptions, issue_by};
 use jwt_keys::{KeySet, KeysFault};
 use jwt_policy::ClaimFault;
@@ -85,31 +87,50 @@ fn on_claims<R: Source>(
     }
 }
 
+/// The answer that a key set is refused.
+fn on_fault<'a>(
+    alloc: Global,
+    fault: KeysFault,
+    document: TakenDocument<'a>,
+) -> Result<Replied<'a>, AllocError>
+    ensures line { IfOk result (λ a. reply_view a.reply ≡ keys_refused fault) }
+    ensures subject { IfOk result (λ a. option_map subject_view a.subject
+        ≡ Some (RefusedKeys fault (document_octets document.entry))) }
+    ensures done { IfOk result (λ a. a.reply.status ≡ 1) }
+{
+    let reply = Reply::refused_keys(alloc, fault.name())?;
+    Ok(Replied::refusing(reply, Subject::Keys(fault, document)))
+}
+
 /// Runs `jwt issue` on an input: the line of a key set, where that isn't in hand, and claims with one line feed behind them or
 /// none. The key set is read and refused before the claims are taken.
-pub(crate) fn issue<R: Source>(
+pub(crate) fn issue<'a, R: Source>(
     alloc: Global,
     options: IssueOptions<'_>,
-    keys: Option<&[u8]>,
+    keys: Option<&'a [u8]>,
     r: &mut R,
-) -> Result<Reply, AllocError>
-    ensures line { IfSome (R.remaining r.old) (λ x. IfOk result (λ a. reply_view a
+) -> Result<Replied<'a>, AllocError>
+    ensures line { IfSome (R.remaining r.old) (λ x. IfOk result (λ a. reply_view a.reply
         ≡ issue_answer (options_parts options.entry) (option_map (λ t. t.now) keys.entry)
         (R.failed r.new) x)) }
+    ensures subject { IfSome (R.remaining r.old) (λ x. IfOk result (λ a. option_map subject_view a.subject
+        ≡ unless_read (R.failed r.new) (issue_subject (option_map (λ t. t.now) keys.entry) x))) }
     ensures stops { IfSome (R.remaining r.old) (λ x. (R.failed r.new ≡ true)
         ⊎ TakesAtMost (keys_most 1048577 (option_map (λ t. t.now) keys.entry) x) x
         (R.remaining r.new)) }
-    ensures failed { IfOk result (λ a. a.status ≡ 3 → R.failed r.new ≡ true) }
+    ensures failed { IfOk result (λ a. a.reply.status ≡ 3 → R.failed r.new ≡ true) }
 {
     let text = match document(alloc, keys, r, 4_194_304) {
         Ok(text) => text,
-        Err(LineFault::Read) => return Reply::line(alloc, "failed Read", 3),
-        Err(LineFault::TooLong) => return Reply::refused_keys(alloc, "TooLong"),
+        Err(LineFault::Read) => return Ok(Replied::bare(Reply::line(alloc, "failed Read", 3)?)),
+        Err(LineFault::TooLong) => {
+            return on_fault(alloc, KeysFault::TooLong, TakenDocument::Held(&[]));
+        }
         Err(LineFault::OutOfMemory) => return Err(AllocError),
     };
     match KeySet::read(alloc, text.octets()) {
-        Ok(keys) => on_claims(alloc, options, &keys, r),
+        Ok(keys) => Ok(Replied::bare(on_claims(alloc, options, &keys, r)?)),
         Err(KeysFault::OutOfMemory) => Err(AllocError),
-        Err(fault) => Reply::refused_keys(alloc, fault.name()),
+        Err(fault) => on_fault(alloc, fault, text),
     }
 }

@@ -1,9 +1,9 @@
 //! The command `jwt`, over any source and sink: its words, one input, one answer.
 //!
-//! [`run_with`](run::run_with) is the whole of it; the program gives it the process's words, standard input and standard output, its
-//! clock, the verifiers for public keys, and the documents of the files that the words name, which
-//! [`read_document`](documents::read_document) reads. [`run_read`](run::run_read) is the same of words that were read, and
-//! [`run`](run::run) with none of these at hand.
+//! [`run_read`](run::run_read) is the whole of it; the program gives it the process's words, which it has read by [`read_words`], standard
+//! input and standard output, its clock, the verifiers for public keys, and the documents of the files that the words name, which
+//! [`read_document`](documents::read_document) reads. [`run`](run::run) reads the words first, and has none of the others at hand. What a
+//! run came to is [`Ran`](subject::Ran): the status, and the document that was refused.
 //! [`line`](input::line::line) takes one line of an input, and nothing behind it.
 //!
 //! `jwt_words` reads the words, `jwt_printing` writes the output; the answers are made here.
@@ -20,6 +20,7 @@ mod policy;
 mod pretty;
 pub mod run;
 mod show;
+pub mod subject;
 mod telling;
 mod verify;
 pub mod verify_lines;

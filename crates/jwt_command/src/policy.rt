@@ -1,5 +1,5 @@
 //! The command `policy`: what a policy means, alone or with its keys.
-ghost use Rattle.std.specs.Prelude.{◌≡◌, IfOk, map, option_map};
+ghost use Rattle.std.specs.Prelude.{◌≡◌, [], IfOk, Some, map, option_map, unwrap_or};
 ghost use Rattle.jwt_text.specs.ObjectText.{object_of};
 ghost use Rattle.jwt_keys.specs.KeySets.{key_set, key_set_of};
 ghost use Rattle.jwt_keys.specs.Numbers.{numbers};
@@ -9,12 +9,16 @@ ghost use Rattle.jwt_verdicts.specs.Meant.{printed_policy};
 ghost use Rattle.jwt_command.specs.Policy.{document_answer, meaning_of, members_or_none, policy_answer, policy_with_keys};
 ghost use Rattle.jwt_words.specs.Seen.{held_view, policy_view};
 ghost use Rattle.jwt_printing.specs.Views.{reply_view};
+ghost use Rattle.jwt_words.specs.InHand.{unread};
+ghost use Rattle.jwt_command.specs.Subjects.{policy_subject, set_subject, subject_view, unless_lacking};
 
+use crate::documents::TakenDocument;
+use crate::subject::{Replied, refused_keys, refused_policy};
 use jwt_advice::{Findings, private_entries};
 use jwt_keys::{KeySet, KeysFault};
 use jwt_mac::Verifier;
 use jwt_policy::{Policy, PolicyFault};
-use jwt_printing::{Reply, printed_file_fault, printed_keys_fault, printed_policy_fault};
+use jwt_printing::{Reply, printed_file_fault};
 use jwt_text::{Object, TextFault, object};
 use jwt_verdicts::printed_policy;
 use jwt_words::{Held, PolicyOrder, Printing, unread};
@@ -91,16 +95,17 @@ fn with_set(
 }
 
 /// A policy with the document of its key set.
-fn with_keys(
+fn with_keys<'a>(
     alloc: Global,
     printing: Printing,
     verifiers: &[Box<dyn Verifier>],
     read: &ReadPolicy<'_>,
-    document: &[u8],
-) -> Result<Reply, AllocError>
-    ensures { IfOk result (λ a. reply_view a
+    document: &'a [u8],
+) -> Result<Replied<'a>, AllocError>
+    ensures line { IfOk result (λ a. reply_view a.reply
         ≡ policy_with_keys printing (map meaning verifiers.now) read.now.document.now read.now.policy.now
         document.now (key_set_of document.now)) }
+    ensures subject { IfOk result (λ a. option_map subject_view a.subject ≡ set_subject (Some document.now)) }
 {
     match KeySet::read(alloc, document) {
         Ok(keys) => {
@@ -108,42 +113,46 @@ fn with_keys(
                 document,
                 keys: &keys,
             };
-            with_set(alloc, printing, verifiers, read, &set)
+            Ok(Replied::bare(with_set(alloc, printing, verifiers, read, &set)?))
         }
         Err(KeysFault::OutOfMemory) => Err(AllocError),
-        Err(fault) => printed_keys_fault(alloc, printing, &fault),
+        Err(fault) => refused_keys(alloc, printing, fault, TakenDocument::Held(document)),
     }
 }
 
 /// A policy, with the document of a key set, if there is one.
-fn meaning_of(
+fn meaning_of<'a>(
     alloc: Global,
     printing: Printing,
     verifiers: &[Box<dyn Verifier>],
     read: &ReadPolicy<'_>,
-    keys: Option<&[u8]>,
-) -> Result<Reply, AllocError>
-    ensures { IfOk result (λ a. reply_view a
+    keys: Option<&'a [u8]>,
+) -> Result<Replied<'a>, AllocError>
+    ensures line { IfOk result (λ a. reply_view a.reply
         ≡ meaning_of printing (map meaning verifiers.now) read.now.document.now read.now.policy.now
         (option_map (λ t. t.now) keys.entry)) }
+    ensures subject { IfOk result (λ a. option_map subject_view a.subject
+        ≡ set_subject (option_map (λ t. t.now) keys.entry)) }
 {
     match keys {
         Some(keys) => with_keys(alloc, printing, verifiers, read, keys),
-        None => alone(alloc, printing, read),
+        None => Ok(Replied::bare(alone(alloc, printing, read)?)),
     }
 }
 
 /// The answer of documents. The policy is looked at first.
-fn on_documents(
+fn on_documents<'a>(
     alloc: Global,
     printing: Printing,
     verifiers: &[Box<dyn Verifier>],
-    document: &[u8],
-    keys: Option<&[u8]>,
-) -> Result<Reply, AllocError>
-    ensures { IfOk result (λ a. reply_view a
+    document: &'a [u8],
+    keys: Option<&'a [u8]>,
+) -> Result<Replied<'a>, AllocError>
+    ensures line { IfOk result (λ a. reply_view a.reply
         ≡ document_answer printing (map meaning verifiers.now) document.now
         (option_map (λ t. t.now) keys.entry)) }
+    ensures subject { IfOk result (λ a. option_map subject_view a.subject
+        ≡ policy_subject document.now (option_map (λ t. t.now) keys.entry)) }
 {
     match Policy::read(alloc, document) {
         Ok(policy) => {
@@ -154,23 +163,26 @@ fn on_documents(
             meaning_of(alloc, printing, verifiers, &read, keys)
         }
         Err(PolicyFault::OutOfMemory) => Err(AllocError),
-        Err(fault) => printed_policy_fault(alloc, printing, &fault),
+        Err(fault) => refused_policy(alloc, printing, fault, TakenDocument::Held(document)),
     }
 }
 
 /// Runs `jwt policy`, in JSON or in lines, on the documents in hand: what a policy means, with the keys of a key set and these verifiers
 /// for public keys, or alone.
-pub(crate) fn policy(
+pub(crate) fn policy<'a>(
     alloc: Global,
     order: PolicyOrder<'_>,
     verifiers: &[Box<dyn Verifier>],
-    held: Held<'_>,
-) -> Result<Reply, AllocError>
-    ensures { IfOk result (λ a. reply_view a
+    held: Held<'a>,
+) -> Result<Replied<'a>, AllocError>
+    ensures line { IfOk result (λ a. reply_view a.reply
         ≡ policy_answer (map meaning verifiers.now) (policy_view order.entry) (held_view held.entry)) }
+    ensures subject { IfOk result (λ a. option_map subject_view a.subject
+        ≡ unless_lacking (unread (policy_view order.entry).files (held_view held.entry))
+        (policy_subject (unwrap_or (held_view held.entry).policy []) (held_view held.entry).keys)) }
 {
     match unread(order.files, held) {
-        Some(name) => printed_file_fault(alloc, order.printing, name),
+        Some(name) => Ok(Replied::bare(printed_file_fault(alloc, order.printing, name)?)),
         None => {
             let document = held.policy.unwrap_or(&[]);
             on_documents(alloc, order.printing, verifiers, document, held.keys)

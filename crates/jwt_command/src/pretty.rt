@@ -1,49 +1,65 @@
 //! The command `show --pretty`: a token for a person.
-ghost use Rattle.std.specs.Prelude.{◌≡◌, ◌≢◌, ◌≤◌, ◌⊎◌, true, IfOk, IfSome};
+ghost use Rattle.std.specs.Prelude.{◌≡◌, ◌≢◌, ◌≤◌, ◌⊎◌, true, option_map, IfOk, IfSome};
 ghost use Rattle.jwt_jws.specs.Forms.{form_of};
 ghost use Rattle.jwt_text.specs.Intake.{TakesAtMost};
 ghost use Rattle.jwt_words.specs.Seen.{pretty_view, seconds_of};
 ghost use Rattle.jwt_command.specs.Pretty.{PrettyAnswer, PrettyToken, pretty_most};
 ghost use Rattle.jwt_printing.specs.Views.{reply_view};
+ghost use Rattle.jwt_command.specs.Subjects.{fault_of, shown_subject, subject_view, unless_read};
 
-use crate::input::whole::{read_input, without_line_feed};
+use crate::documents::{TakenDocument, read_document};
+use crate::input::whole::without_line_feed;
+use crate::subject::{Replied, Subject, TokenReply};
 use jwt_jws::{FormFault, parse};
 use jwt_printing::{Reply, pretty_token, printed_form_fault, printed_too_long};
-use jwt_text::{Source, TextFault};
+use jwt_text::Source;
 use jwt_words::{Moment, PrettyOrder, Printing};
 use std::alloc::{AllocError, Global};
 
 /// What stands in a token of these octets, of at most 32 signatures, or why they are none.
-fn shown(alloc: Global, now: Option<Moment>, octets: &[u8]) -> Result<Reply, AllocError>
+fn shown(alloc: Global, now: Option<Moment>, octets: &[u8]) -> Result<TokenReply, AllocError>
     ensures answer { IfOk result (λ a.
-        PrettyToken (seconds_of now) octets.now (form_of 32 octets.now) (reply_view a)) }
-    ensures done { IfOk result (λ a. a.status ≢ 3) }
+        PrettyToken (seconds_of now) octets.now (form_of 32 octets.now) (reply_view a.reply)) }
+    ensures fault { IfOk result (λ a. a.fault ≡ fault_of (form_of 32 octets.now)) }
+    ensures done { IfOk result (λ a. a.reply.status ≢ 3) }
 {
     match parse(alloc, octets, 32) {
-        Ok(signed) => pretty_token(alloc, now, octets, &signed),
+        Ok(signed) => Ok(TokenReply {
+            reply: pretty_token(alloc, now, octets, &signed)?,
+            fault: None,
+        }),
         Err(FormFault::OutOfMemory) => Err(AllocError),
-        Err(fault) => printed_form_fault(alloc, Printing::Lines, fault),
+        Err(fault) => Ok(TokenReply {
+            reply: printed_form_fault(alloc, Printing::Lines, fault)?,
+            fault: Some(fault),
+        }),
     }
 }
 
 /// Runs `jwt show --pretty` on an input: a token in any form, of at most 32 signatures, and one line feed behind it or none.
-pub(crate) fn show_pretty<R: Source>(
+pub(crate) fn show_pretty<'a, R: Source>(
     alloc: Global,
     order: PrettyOrder,
     r: &mut R,
-) -> Result<Reply, AllocError>
+) -> Result<Replied<'a>, AllocError>
     requires least { 1 ≤ order.limit }
     requires most { order.limit ≤ 1048576 }
     ensures answer { IfSome (R.remaining r.old) (λ x. IfOk result (λ a.
-        PrettyAnswer (pretty_view order) (R.failed r.new) x (reply_view a))) }
+        PrettyAnswer (pretty_view order) (R.failed r.new) x (reply_view a.reply))) }
+    ensures subject { IfSome (R.remaining r.old) (λ x. IfOk result (λ a.
+        option_map subject_view a.subject ≡ unless_read (R.failed r.new) (shown_subject order.limit x))) }
     ensures taken { IfSome (R.remaining r.old) (λ x. (R.failed r.new ≡ true)
         ⊎ TakesAtMost (pretty_most (pretty_view order)) x (R.remaining r.new)) }
-    ensures failed { IfOk result (λ a. a.status ≡ 3 → R.failed r.new ≡ true) }
+    ensures failed { IfOk result (λ a. a.reply.status ≡ 3 → R.failed r.new ≡ true) }
 {
-    match read_input(alloc, order.limit as u32, r) {
-        Ok(input) => shown(alloc, order.now, without_line_feed(input.octets())),
-        Err(TextFault::Read) => Reply::line(alloc, "failed Read", 3),
-        Err(TextFault::TooLong) => printed_too_long(alloc, Printing::Lines),
-        Err(_) => Err(AllocError),
+    let Some(input) = read_document(alloc, order.limit as u32, r)? else {
+        return Ok(Replied::bare(Reply::line(alloc, "failed Read", 3)?));
+    };
+    if input.is_too_long() {
+        let reply = printed_too_long(alloc, Printing::Lines)?;
+        let token = TakenDocument::Input(input);
+        return Ok(Replied::refusing(reply, Subject::Token(None, token)));
     }
+    let told = shown(alloc, order.now, without_line_feed(input.octets()))?;
+    Ok(told.of_form(TakenDocument::Input(input)))
 }

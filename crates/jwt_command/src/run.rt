@@ -1,5 +1,5 @@
 //! The command, over any source and sink.
-ghost use Rattle.std.specs.Prelude.{◌≡◌, ◌⊎◌, [], None, Option, Some, is_some, map, true, false, IfOk, IfSome};
+ghost use Rattle.std.specs.Prelude.{◌≡◌, ◌⊎◌, [], None, Option, Some, is_some, map, option_map, true, false, IfOk, IfSome};
 ghost use Rattle.jwt_command.specs.Answered.{answer_in_hand, answer_of, version_answer};
 ghost use Rattle.jwt_words.specs.InHand.{none_held, unread};
 ghost use Rattle.jwt_command.specs.Jwk.{jwk_most};
@@ -9,6 +9,7 @@ ghost use Rattle.jwt_command.specs.Runs.{IsReading, Runs, reads_nothing};
 ghost use Rattle.jwt_words.specs.Seen.{HasRange, held_view, requested, seconds_of, seen};
 ghost use Rattle.jwt_printing.specs.Views.{reply_view};
 ghost use Rattle.jwt_command.specs.Stops.{most_in_hand, most_taken};
+ghost use Rattle.jwt_command.specs.Subjects.{IsSubject, subject_in_hand, subject_of_order, subject_view, unless_read};
 ghost use Rattle.jwt_command.specs.Verify.{asked_for};
 ghost use Rattle.jwt_words.specs.Words.{HasLimits, Jwk, JwkOrder, Once, Order as Asked, Pretty, PrettyOrder, Request as Wanted, files_in_order, request_of};
 
@@ -19,12 +20,13 @@ use crate::mac::{mac, mac_in_hand};
 use crate::policy::policy;
 use crate::pretty::show_pretty;
 use crate::show::show;
+use crate::subject::{Ran, Replied, give_alone, give_no_memory, give_replied, give_wrong};
 use crate::verify::{VerifyOptions, verify};
 use crate::verify_lines::{Clock, LinesAsked, NoClock, run_lines};
 use jwt_issue::IssueOptions;
 use jwt_mac::Verifier;
 pub use jwt_printing::lack_memory;
-use jwt_printing::{Reply, give, printed_file_fault, send};
+use jwt_printing::{Reply, printed_file_fault};
 use jwt_text::{Sink, Source};
 use jwt_words::{
     Held, Moment, Order, Printing, Request, WordsFault, files_in_order, read_words, unread,
@@ -33,9 +35,9 @@ use std::alloc::{AllocError, Global};
 
 /// What a program has at hand for an answer, beside its clock.
 #[derive(Clone, Copy)]
-pub(crate) struct AtHand<'a> {
+pub(crate) struct AtHand<'v, 'a> {
     /// The verifiers for public keys.
-    pub(crate) built_in: &'a [Box<dyn Verifier>],
+    pub(crate) built_in: &'v [Box<dyn Verifier>],
     /// The documents that were read from files.
     pub(crate) held: Held<'a>,
 }
@@ -95,112 +97,29 @@ pub fn run<R: Source, W: Sink>(alloc: Global, words: &[&str], r: &mut R, w: &mut
         → result ≡ 3 → (R.failed r.new ≡ true) ⊎ (W.failed w.new ≡ true) }
 {
     let built_in: [Box<dyn Verifier>; 0] = [];
-    run_with(
-        alloc,
-        words,
-        &built_in,
-        None,
-        &mut NoClock,
-        Held::none(),
-        r,
-        w,
-    )
+    let words = read_words(alloc, words, None);
+    run_read(alloc, words, &built_in, &mut NoClock, Held::none(), r, w).status
 }
 
-/// The same as [`run`], with what a program has at hand: verifiers for public keys, which `verify --public-keys` hands in; the moment
-/// that its clock says, if any, which `verify` takes where `--now` is left out, in seconds since 1970-01-01T00:00:00Z and at most
-/// 9,223,372,036,854,775,807; the clock that `verify --lines` asks for each line; and the documents that were read from files, which
-/// stand in the place of those in the input, and octets of the system's random source. Where a file is named and its document isn't in
-/// hand, the answer is that it can't be read, and nothing is read.
+/// The same as [`run`], of words that [`read_words`] has read, and with what a program has at hand: verifiers for public keys, which
+/// `verify --public-keys` hands in; the clock that `verify --lines` asks for each line; the documents that were read from files, which
+/// stand in the place of those in the input; and octets of the system's random source. A program reads the words once, at the moment that
+/// its clock says, if any, which `verify` takes where `--now` is left out, and reads the files that they name before it runs. Where a file
+/// is named and its document isn't in hand, the answer is that it can't be read, and nothing is read.
 ///
 /// With `--lines` each line is answered before the next is waited for, and the status is 0 where each was answered.
-pub fn run_with<R: Source, W: Sink, C: Clock>(
-    alloc: Global,
-    words: &[&str],
-    built_in: &[Box<dyn Verifier>],
-    clock: Option<Moment>,
-    moments: &mut C,
-    held: Held<'_>,
-    r: &mut R,
-    w: &mut W,
-) -> u8
-    // What the words ask for is answered.
-    ensures answer { IfSome (R.remaining r.old) (λ x.
-        Runs (map meaning built_in.now) C.says (held_view held.entry)
-        (request_of (seconds_of clock) (map (λ word. word.now) words.now)) x (R.failed r.new)
-        (record {
-          before = W.contents w.old;
-          after = W.contents w.new;
-          failed = W.failed w.new;
-          status = result;
-        })) }
-
-    // At most one octet past the limit is taken, and nothing behind a line that is refused.
-    ensures stops { (printing : Printing) (order : Asked)
-        → request_of (seconds_of clock) (map (λ word. word.now) words.now)
-        ≡ Some (Once printing order)
-        → IfSome (R.remaining r.old) (λ x. (R.failed r.new ≡ true)
-        ⊎ TakesAtMost (most_taken (held_view held.entry) order x) x (R.remaining r.new)) }
-
-    // At most one octet past the limit is taken, and nothing where public keys are in a file.
-    ensures jwk_stops { (order : JwkOrder) → request_of (seconds_of clock) (map (λ word. word.now) words.now)
-        ≡ Some (Jwk order)
-        → IfSome (R.remaining r.old) (λ x. (R.failed r.new ≡ true)
-        ⊎ TakesAtMost (jwk_most (held_view held.entry) order) x (R.remaining r.new)) }
-    ensures pretty_stops { (order : PrettyOrder) → request_of (seconds_of clock) (map (λ word. word.now) words.now)
-        ≡ Some (Pretty order)
-        → IfSome (R.remaining r.old) (λ x. (R.failed r.new ≡ true)
-        ⊎ TakesAtMost (pretty_most order) x (R.remaining r.new)) }
-
-    // Of every source: what is answered without reading, and where the status is 3.
-    ensures unread { reads_nothing
-        (request_of (seconds_of clock) (map (λ word. word.now) words.now)) ≡ true
-        → r.new ≡ r.old }
-    ensures known { reads_nothing
-        (request_of (seconds_of clock) (map (λ word. word.now) words.now)) ≡ true
-        → Runs (map meaning built_in.now) C.says (held_view held.entry)
-        (request_of (seconds_of clock) (map (λ word. word.now) words.now)) [] false
-        (record {
-          before = W.contents w.old;
-          after = W.contents w.new;
-          failed = W.failed w.new;
-          status = result;
-        }) }
-    ensures failed { (printing : Printing) (order : Asked)
-        → request_of (seconds_of clock) (map (λ word. word.now) words.now)
-        ≡ Some (Once printing order)
-        → result ≡ 3 → (R.failed r.new ≡ true) ⊎ ((W.failed w.new ≡ true)
-        ⊎ (is_some (unread (files_in_order order) (held_view held.entry)) ≡ true)) }
-    ensures jwk_failed { (order : JwkOrder) → request_of (seconds_of clock) (map (λ word. word.now) words.now)
-        ≡ Some (Jwk order)
-        → result ≡ 3 → (R.failed r.new ≡ true) ⊎ ((W.failed w.new ≡ true)
-        ⊎ (is_some (unread order.files (held_view held.entry)) ≡ true)) }
-    ensures pretty_failed { (order : PrettyOrder) → request_of (seconds_of clock) (map (λ word. word.now) words.now)
-        ≡ Some (Pretty order)
-        → result ≡ 3 → (R.failed r.new ≡ true) ⊎ (W.failed w.new ≡ true) }
-{
-    run_read(
-        alloc,
-        read_words(alloc, words, clock),
-        built_in,
-        moments,
-        held,
-        r,
-        w,
-    )
-}
-
-/// The same as [`run_with`], of words that [`read_words`] has read: a program reads them once, and the files that they name before it
-/// runs.
-pub fn run_read<R: Source, W: Sink, C: Clock>(
+///
+/// Which document was refused, why, and what was read of it stands in the subject: of `verify`, with `--lines` and without, of `keys`,
+/// `issue`, `show` and `policy`. Where memory was refused it may be left out.
+pub fn run_read<'a, R: Source, W: Sink, C: Clock>(
     alloc: Global,
     words: Result<Request<'_>, WordsFault>,
     built_in: &[Box<dyn Verifier>],
     moments: &mut C,
-    held: Held<'_>,
+    held: Held<'a>,
     r: &mut R,
     w: &mut W,
-) -> u8
+) -> Ran<'a>
     requires { IfOk words (λ request. HasRange (requested request)) }
 
     // What the words ask for is answered.
@@ -211,7 +130,19 @@ pub fn run_read<R: Source, W: Sink, C: Clock>(
           before = W.contents w.old;
           after = W.contents w.new;
           failed = W.failed w.new;
-          status = result;
+          status = result.status;
+        })) }
+
+    // The document that was refused, if one was, and what was read of it.
+    ensures subject { (asked : Option Wanted) → IsReading words.entry asked
+        → IfSome (R.remaining r.old) (λ x.
+        IsSubject (map meaning built_in.now) (held_view held.entry) asked x (R.failed r.new)
+        (option_map subject_view result.subject)
+        (record {
+          before = W.contents w.old;
+          after = W.contents w.new;
+          failed = W.failed w.new;
+          status = result.status;
         })) }
 
     // At most one octet past the limit is taken, and nothing behind a line that is refused.
@@ -238,33 +169,36 @@ pub fn run_read<R: Source, W: Sink, C: Clock>(
           before = W.contents w.old;
           after = W.contents w.new;
           failed = W.failed w.new;
-          status = result;
+          status = result.status;
         }) }
     ensures failed { (printing : Printing) (order : Asked)
         → IsReading words.entry (Some (Once printing order))
-        → result ≡ 3 → (R.failed r.new ≡ true) ⊎ ((W.failed w.new ≡ true)
+        → result.status ≡ 3 → (R.failed r.new ≡ true) ⊎ ((W.failed w.new ≡ true)
         ⊎ (is_some (unread (files_in_order order) (held_view held.entry)) ≡ true)) }
     ensures jwk_failed { (order : JwkOrder) → IsReading words.entry (Some (Jwk order))
-        → result ≡ 3 → (R.failed r.new ≡ true) ⊎ ((W.failed w.new ≡ true)
+        → result.status ≡ 3 → (R.failed r.new ≡ true) ⊎ ((W.failed w.new ≡ true)
         ⊎ (is_some (unread order.files (held_view held.entry)) ≡ true)) }
     ensures pretty_failed { (order : PrettyOrder) → IsReading words.entry (Some (Pretty order))
-        → result ≡ 3 → (R.failed r.new ≡ true) ⊎ (W.failed w.new ≡ true) }
+        → result.status ≡ 3 → (R.failed r.new ≡ true) ⊎ (W.failed w.new ≡ true) }
 {
+    let request = match words {
+        Ok(request) => request,
+        Err(WordsFault::Wrong(text)) => return give_wrong(w, text.as_str()),
+        Err(WordsFault::OutOfMemory) => return give_no_memory(w),
+    };
     let at_hand = AtHand { built_in, held };
-    match words {
-        Ok(Request::Once { printing, order }) => {
-            give(w, reply_of(alloc, printing, order, &at_hand, r))
+    match request {
+        Request::Once { printing, order } => {
+            give_replied(w, reply_of(alloc, printing, order, &at_hand, r))
         }
-        Ok(Request::EachLine(order)) => {
+        Request::EachLine(order) => {
             let asked = LinesAsked { order, at_hand };
             run_lines(alloc, &asked, moments, r, w)
         }
-        Ok(Request::Jwk(order)) => give(w, jwk(alloc, order, held, r)),
-        Ok(Request::NewSecret(order)) => give(w, secret(alloc, order, held)),
-        Ok(Request::Policy(order)) => give(w, policy(alloc, order, built_in, held)),
-        Ok(Request::Pretty(order)) => give(w, show_pretty(alloc, order, r)),
-        Err(WordsFault::Wrong(text)) => send(w, text.as_bytes(), 2),
-        Err(WordsFault::OutOfMemory) => lack_memory(w),
+        Request::Jwk(order) => give_alone(w, jwk(alloc, order, held, r)),
+        Request::NewSecret(order) => give_alone(w, secret(alloc, order, held)),
+        Request::Policy(order) => give_replied(w, policy(alloc, order, built_in, held)),
+        Request::Pretty(order) => give_replied(w, show_pretty(alloc, order, r)),
     }
 }
 
@@ -291,34 +225,37 @@ pub(crate) fn asked_for(public_keys: bool, built_in: &[Box<dyn Verifier>]) -> &[
 }
 
 /// The answer to an order whose files are in hand, in JSON or in lines.
-fn reply_in_hand<R: Source>(
+fn reply_in_hand<'a, R: Source>(
     alloc: Global,
     printing: Printing,
     order: Order<'_>,
-    at_hand: &AtHand<'_>,
+    at_hand: &AtHand<'_, 'a>,
     r: &mut R,
-) -> Result<Reply, AllocError>
+) -> Result<Replied<'a>, AllocError>
     requires { HasLimits (seen order) }
-    ensures answer { IfSome (R.remaining r.old) (λ x. IfOk result (λ a. reply_view a
+    ensures answer { IfSome (R.remaining r.old) (λ x. IfOk result (λ a. reply_view a.reply
         ≡ answer_in_hand printing (map meaning at_hand.now.built_in.now) (held_view at_hand.now.held)
         (seen order.entry)
         (R.failed r.new) x)) }
+    ensures subject { IfSome (R.remaining r.old) (λ x. IfOk result (λ a. option_map subject_view a.subject
+        ≡ unless_read (R.failed r.new)
+        (subject_in_hand printing (map meaning at_hand.now.built_in.now) (held_view at_hand.now.held) (seen order.entry) x))) }
     ensures stops { IfSome (R.remaining r.old) (λ x. (R.failed r.new ≡ true)
         ⊎ TakesAtMost (most_in_hand (held_view at_hand.now.held) (seen order.entry) x) x
         (R.remaining r.new)) }
     ensures unread { reads_nothing (Some (Once printing (seen order.entry))) ≡ true
         → r.new ≡ r.old }
     ensures known { reads_nothing (Some (Once printing (seen order.entry))) ≡ true
-        → IfOk result (λ a. reply_view a
+        → IfOk result (λ a. reply_view a.reply
         ≡ answer_in_hand printing (map meaning at_hand.now.built_in.now) (held_view at_hand.now.held)
         (seen order.entry)
         false []) }
-    ensures failed { IfOk result (λ a. a.status ≡ 3 → R.failed r.new ≡ true) }
+    ensures failed { IfOk result (λ a. a.reply.status ≡ 3 → R.failed r.new ≡ true) }
 {
     let held = at_hand.held;
     match order {
-        Order::Mac { key, limit } => mac(alloc, key.as_bytes(), limit, r),
-        Order::MacFile { limit, .. } => mac_in_hand(alloc, held.key, limit, r),
+        Order::Mac { key, limit } => Ok(Replied::bare(mac(alloc, key.as_bytes(), limit, r)?)),
+        Order::MacFile { limit, .. } => Ok(Replied::bare(mac_in_hand(alloc, held.key, limit, r)?)),
         Order::Keys => keys(alloc, printing, r),
         Order::Show { limit } => show(alloc, printing, limit, r),
         Order::Verify {
@@ -344,21 +281,24 @@ fn reply_in_hand<R: Source>(
             };
             issue(alloc, options, held.keys, r)
         }
-        Order::Version => version_line(alloc),
+        Order::Version => Ok(Replied::bare(version_line(alloc)?)),
     }
 }
 
 /// The answer to an order, in JSON or in lines, before any of it goes out.
-fn reply_of<R: Source>(
+fn reply_of<'a, R: Source>(
     alloc: Global,
     printing: Printing,
     order: Order<'_>,
-    at_hand: &AtHand<'_>,
+    at_hand: &AtHand<'_, 'a>,
     r: &mut R,
-) -> Result<Reply, AllocError>
+) -> Result<Replied<'a>, AllocError>
     requires { HasLimits (seen order) }
-    ensures answer { IfSome (R.remaining r.old) (λ x. IfOk result (λ a. reply_view a
+    ensures answer { IfSome (R.remaining r.old) (λ x. IfOk result (λ a. reply_view a.reply
         ≡ answer_of printing (map meaning at_hand.now.built_in.now) (held_view at_hand.now.held) (seen order.entry)
+        (R.failed r.new) x)) }
+    ensures subject { IfSome (R.remaining r.old) (λ x. IfOk result (λ a. option_map subject_view a.subject
+        ≡ subject_of_order printing (map meaning at_hand.now.built_in.now) (held_view at_hand.now.held) (seen order.entry)
         (R.failed r.new) x)) }
     ensures stops { IfSome (R.remaining r.old) (λ x. (R.failed r.new ≡ true)
         ⊎ TakesAtMost (most_taken (held_view at_hand.now.held) (seen order.entry) x) x
@@ -366,14 +306,14 @@ fn reply_of<R: Source>(
     ensures unread { reads_nothing (Some (Once printing (seen order.entry))) ≡ true
         → r.new ≡ r.old }
     ensures known { reads_nothing (Some (Once printing (seen order.entry))) ≡ true
-        → IfOk result (λ a. reply_view a
+        → IfOk result (λ a. reply_view a.reply
         ≡ answer_of printing (map meaning at_hand.now.built_in.now) (held_view at_hand.now.held)
         (seen order.entry) false []) }
-    ensures failed { IfOk result (λ a. a.status ≡ 3 → (R.failed r.new ≡ true)
+    ensures failed { IfOk result (λ a. a.reply.status ≡ 3 → (R.failed r.new ≡ true)
         ⊎ (is_some (unread (files_in_order (seen order.entry)) (held_view at_hand.now.held)) ≡ true)) }
 {
     match unread(files_in_order(order), at_hand.held) {
-        Some(name) => printed_file_fault(alloc, printing, name),
+        Some(name) => Ok(Replied::bare(printed_file_fault(alloc, printing, name)?)),
         None => reply_in_hand(alloc, printing, order, at_hand, r),
     }
 }

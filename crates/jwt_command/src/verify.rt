@@ -1,8 +1,8 @@
 //! The command `verify`: the verdict on a token by a policy and a key set.
-ghost use Rattle.std.specs.Prelude.{◌≡◌, ◌≢◌, ◌+◌, ◌⊎◌, false, true, map, option_map, IfOk, IfSome};
+ghost use Rattle.std.specs.Prelude.{◌≡◌, ◌≢◌, ◌+◌, ◌⊎◌, None, false, true, map, option_map, IfOk, IfSome};
 ghost use Rattle.jwt_keys.specs.KeySets.{key_set};
 ghost use Rattle.jwt_verify.specs.TermsTable.{terms_meant};
-ghost use Rattle.jwt_verify.specs.declared.report.InputFault.TheVariants.{Read};
+ghost use Rattle.jwt_verify.specs.Verdict.{verdict_of};
 ghost use Rattle.jwt_command.specs.Documents.{last_document, last_most};
 ghost use Rattle.jwt_text.specs.Intake.{TakesAtMost};
 ghost use Rattle.jwt_command.specs.Access.{rule_in_hand, under_rule};
@@ -14,25 +14,23 @@ ghost use Rattle.jwt_verdicts.specs.Verdicts.{token_answer};
 ghost use Rattle.jwt_words.specs.Seen.{held_view};
 ghost use Rattle.jwt_printing.specs.Views.{reply_view};
 ghost use Rattle.jwt_command.specs.Views.{asked_of, rule_view, told_by};
-ghost use Rattle.jwt_words.specs.declared.printing.Printing.TheVariants.{Json, Lines};
+ghost use Rattle.jwt_command.specs.Subjects.{form_fault, keys_subject, rule_subject, subject_view, token_subject, unless_read, verify_subject};
 
 use crate::access::rule_in_hand;
-use crate::documents::{document, read_document};
+use crate::documents::{TakenDocument, document, read_document};
 use crate::input::line::LineFault;
+use crate::subject::{Replied, TokenReply, refused_keys, refused_policy, refused_rule};
 use crate::telling::Telling;
 use jwt_access::AccessFault;
-use jwt_jws::Signed;
+use jwt_jws::{FormFault, Signed};
 use jwt_keys::{KeySet, KeysFault};
 use jwt_mac::{Budget, CountDown, Verifier};
 use jwt_policy::{Policy, PolicyFault};
-use jwt_printing::{
-    Reply, printed_access_fault, printed_keys_fault, printed_policy_fault, printed_read_fault,
-    read_failed_json,
-};
+use jwt_printing::printed_read_fault;
 use jwt_text::{Scratch, Source};
 use jwt_verdicts::{report_json, report_line};
 use jwt_verify::laws::{tells_reports, tells_tokens};
-use jwt_verify::{Terms, judge_under, validate};
+use jwt_verify::{Fault, Terms, Verdict, judge_under};
 use jwt_words::{Expectation, Held, Moment, Printing};
 use std::alloc::{AllocError, Global};
 
@@ -68,32 +66,14 @@ pub(crate) fn terms_at<'k, 'p, 'v>(
     }
 }
 
-/// The verdict on the token, which is all that is left of the input.
-fn on_token<R: Source>(
-    alloc: Global,
-    terms: &Terms<'_, '_, '_>,
-    telling: &Telling<'_>,
-    r: &mut R,
-) -> Result<Reply, AllocError>
-    ensures line { IfSome (R.remaining r.old) (λ x. IfOk result (λ a. reply_view a
-        ≡ unless_read_failed (told_by Lines telling.now.expected) (R.failed r.new)
-        (token_answer (asked_of telling.now) (terms_meant (λ b. meaning (b.vtable, b.value)) terms.now) x))) }
-    ensures stops { IfSome (R.remaining r.old) (λ x. (R.failed r.new ≡ true)
-        ⊎ TakesAtMost (terms.now.policy.now.run.limit + 1) x (R.remaining r.new)) }
-    ensures failed { IfOk result (λ a. a.status ≡ 3 → R.failed r.new ≡ true) }
+/// The fault of a token's form, where that is why it is refused.
+fn form_fault(verdict: &Verdict<'_>) -> Option<FormFault>
+    ensures { result ≡ form_fault verdict.now }
 {
-    let mut budget = CountDown::new(terms.policy.work());
-    tells_reports();
-    let report = validate(
-        alloc,
-        r,
-        terms.keys,
-        terms.policy,
-        terms.moment,
-        terms.verifiers,
-        &mut budget,
-    );
-    report_line(alloc, &report, &telling.demands(terms), budget.octets())
+    match verdict {
+        Verdict::Refused(Fault::Form(fault)) => Some(*fault),
+        _ => None,
+    }
 }
 
 /// The verdict on a token in hand, in lines.
@@ -102,21 +82,23 @@ fn on_octets_in_lines(
     terms: &Terms<'_, '_, '_>,
     telling: &Telling<'_>,
     token: &[u8],
-) -> Result<Reply, AllocError>
-    ensures line { IfOk result (λ a. reply_view a
+) -> Result<TokenReply, AllocError>
+    ensures line { IfOk result (λ a. reply_view a.reply
         ≡ token_answer (asked_of telling.now) (terms_meant (λ b. meaning (b.vtable, b.value)) terms.now) token.now) }
-    ensures done { IfOk result (λ a. a.status ≢ 3) }
+    ensures fault { IfOk result (λ a. a.fault
+        ≡ form_fault (verdict_of (terms_meant (λ b. meaning (b.vtable, b.value)) terms.now) token.now terms.now.policy.now.run.work)) }
+    ensures done { IfOk result (λ a. a.reply.status ≢ 3) }
 {
-    let mut count = CountDown::new(terms.policy.work());
+    let mut budget = CountDown::new(terms.policy.work());
     let mut scratch = Scratch::new(alloc);
     tells_reports();
-    let judged = judge_under(alloc, token, terms, &mut count, &mut scratch);
-    report_line(
-        alloc,
-        &judged.report,
-        &telling.demands(terms),
-        count.octets(),
-    )
+    let judged = judge_under(alloc, token, terms, &mut budget, &mut scratch);
+    let demands = telling.demands(terms);
+    let reply = report_line(alloc, &judged.report, &demands, budget.octets())?;
+    Ok(TokenReply {
+        reply,
+        fault: form_fault(&judged.report.verdict),
+    })
 }
 
 /// The payload of the token that was read; no octets where none was.
@@ -135,10 +117,12 @@ fn on_octets_in_json(
     terms: &Terms<'_, '_, '_>,
     telling: &Telling<'_>,
     token: &[u8],
-) -> Result<Reply, AllocError>
-    ensures line { IfOk result (λ a. reply_view a
+) -> Result<TokenReply, AllocError>
+    ensures line { IfOk result (λ a. reply_view a.reply
         ≡ token_json (asked_of telling.now) (terms_meant (λ b. meaning (b.vtable, b.value)) terms.now) token.now) }
-    ensures done { IfOk result (λ a. a.status ≢ 3) }
+    ensures fault { IfOk result (λ a. a.fault
+        ≡ form_fault (verdict_of (terms_meant (λ b. meaning (b.vtable, b.value)) terms.now) token.now terms.now.policy.now.run.work)) }
+    ensures done { IfOk result (λ a. a.reply.status ≢ 3) }
 {
     let mut count = CountDown::new(terms.policy.work());
     let mut scratch = Scratch::new(alloc);
@@ -146,13 +130,12 @@ fn on_octets_in_json(
     tells_tokens();
     let judged = judge_under(alloc, token, terms, &mut count, &mut scratch);
     let payload = payload_in(&judged.token);
-    report_json(
-        alloc,
-        &judged.report,
-        &telling.demands(terms),
-        payload,
-        count.octets(),
-    )
+    let demands = telling.demands(terms);
+    let reply = report_json(alloc, &judged.report, &demands, payload, count.octets())?;
+    Ok(TokenReply {
+        reply,
+        fault: form_fault(&judged.report.verdict),
+    })
 }
 
 /// The verdict on a token in hand, in JSON or in lines.
@@ -161,11 +144,13 @@ pub(crate) fn on_octets(
     terms: &Terms<'_, '_, '_>,
     telling: &Telling<'_>,
     token: &[u8],
-) -> Result<Reply, AllocError>
-    ensures line { IfOk result (λ a. reply_view a
+) -> Result<TokenReply, AllocError>
+    ensures line { IfOk result (λ a. reply_view a.reply
         ≡ (told_by telling.now.printing telling.now.expected).token (rule_view telling.now.rule)
         (terms_meant (λ b. meaning (b.vtable, b.value)) terms.now) token.now) }
-    ensures done { IfOk result (λ a. a.status ≢ 3) }
+    ensures fault { IfOk result (λ a. a.fault
+        ≡ form_fault (verdict_of (terms_meant (λ b. meaning (b.vtable, b.value)) terms.now) token.now terms.now.policy.now.run.work)) }
+    ensures done { IfOk result (λ a. a.reply.status ≢ 3) }
 {
     match telling.printing {
         Printing::Json => on_octets_in_json(alloc, terms, telling, token),
@@ -173,71 +158,86 @@ pub(crate) fn on_octets(
     }
 }
 
-/// The verdict on the token, which is all that is left of the input, in JSON.
-fn on_token_json<R: Source>(
+/// The verdict on the token, which is all that is left of the input.
+fn on_token<'a, R: Source>(
     alloc: Global,
     terms: &Terms<'_, '_, '_>,
     telling: &Telling<'_>,
     r: &mut R,
-) -> Result<Reply, AllocError>
-    ensures line { IfSome (R.remaining r.old) (λ x. IfOk result (λ a. reply_view a
-        ≡ unless_read_failed (told_by Json telling.now.expected) (R.failed r.new)
-        (token_json (asked_of telling.now) (terms_meant (λ b. meaning (b.vtable, b.value)) terms.now) x))) }
+) -> Result<Replied<'a>, AllocError>
+    ensures line { IfSome (R.remaining r.old) (λ x. IfOk result (λ a. reply_view a.reply
+        ≡ unless_read_failed (told_by telling.now.printing telling.now.expected) (R.failed r.new)
+        ((told_by telling.now.printing telling.now.expected).token (rule_view telling.now.rule)
+        (terms_meant (λ b. meaning (b.vtable, b.value)) terms.now) x))) }
+    ensures subject { IfSome (R.remaining r.old) (λ x. IfOk result (λ a. option_map subject_view a.subject
+        ≡ unless_read (R.failed r.new)
+        (token_subject (told_by telling.now.printing telling.now.expected) (rule_view telling.now.rule)
+        (terms_meant (λ b. meaning (b.vtable, b.value)) terms.now) None x))) }
     ensures stops { IfSome (R.remaining r.old) (λ x. (R.failed r.new ≡ true)
         ⊎ TakesAtMost (terms.now.policy.now.run.limit + 1) x (R.remaining r.new)) }
-    ensures failed { IfOk result (λ a. a.status ≡ 3 → R.failed r.new ≡ true) }
+    ensures failed { IfOk result (λ a. a.reply.status ≡ 3 → R.failed r.new ≡ true) }
 {
-    match read_document(alloc, terms.policy.limit(), r)? {
-        Some(token) => on_octets_in_json(alloc, terms, telling, token.octets()),
-        None => read_failed_json(alloc),
-    }
+    let Some(token) = read_document(alloc, terms.policy.limit(), r)? else {
+        return Ok(Replied::bare(printed_read_fault(alloc, telling.printing)?));
+    };
+    let told = on_octets(alloc, terms, telling, token.octets())?;
+    Ok(told.on(TakenDocument::Input(token)))
 }
 
 /// The verdict on the token: in hand, or all that is left of the input.
-fn on_last<R: Source>(
+fn on_last<'a, R: Source>(
     alloc: Global,
     terms: &Terms<'_, '_, '_>,
     telling: &Telling<'_>,
-    token: Option<&[u8]>,
+    token: Option<&'a [u8]>,
     r: &mut R,
-) -> Result<Reply, AllocError>
+) -> Result<Replied<'a>, AllocError>
     requires { R.failed r.old ≡ false }
-    ensures line { IfSome (R.remaining r.old) (λ x. IfOk result (λ a. reply_view a
+    ensures line { IfSome (R.remaining r.old) (λ x. IfOk result (λ a. reply_view a.reply
         ≡ unless_read_failed (told_by telling.now.printing telling.now.expected) (R.failed r.new)
         ((told_by telling.now.printing telling.now.expected).token (rule_view telling.now.rule)
         (terms_meant (λ b. meaning (b.vtable, b.value)) terms.now)
         (last_document (option_map (λ t. t.now) token.entry) x)))) }
+    ensures subject { IfSome (R.remaining r.old) (λ x. IfOk result (λ a. option_map subject_view a.subject
+        ≡ unless_read (R.failed r.new)
+        (token_subject (told_by telling.now.printing telling.now.expected) (rule_view telling.now.rule)
+        (terms_meant (λ b. meaning (b.vtable, b.value)) terms.now)
+        (option_map (λ t. t.now) token.entry) x))) }
     ensures stops { IfSome (R.remaining r.old) (λ x. (R.failed r.new ≡ true)
         ⊎ TakesAtMost (last_most (terms.now.policy.now.run.limit + 1)
         (option_map (λ t. t.now) token.entry))
         x (R.remaining r.new)) }
-    ensures failed { IfOk result (λ a. a.status ≡ 3 → R.failed r.new ≡ true) }
+    ensures failed { IfOk result (λ a. a.reply.status ≡ 3 → R.failed r.new ≡ true) }
 {
-    match (token, telling.printing) {
-        (Some(token), _) => on_octets(alloc, terms, telling, token),
-        (None, Printing::Json) => on_token_json(alloc, terms, telling, r),
-        (None, Printing::Lines) => on_token(alloc, terms, telling, r),
-    }
+    let Some(token) = token else {
+        return on_token(alloc, terms, telling, r);
+    };
+    let told = on_octets(alloc, terms, telling, token)?;
+    Ok(told.on(TakenDocument::Held(token)))
 }
 
 /// The access rule, where one is in hand, and the token.
-fn on_rule<R: Source>(
+fn on_rule<'a, R: Source>(
     alloc: Global,
     asked: &Telling<'_>,
     terms: &Terms<'_, '_, '_>,
-    held: Held<'_>,
+    held: Held<'a>,
     r: &mut R,
-) -> Result<Reply, AllocError>
+) -> Result<Replied<'a>, AllocError>
     requires { R.failed r.old ≡ false }
-    ensures line { IfSome (R.remaining r.old) (λ x. IfOk result (λ a. reply_view a
+    ensures line { IfSome (R.remaining r.old) (λ x. IfOk result (λ a. reply_view a.reply
         ≡ unless_read_failed (told_by asked.now.printing asked.now.expected) (R.failed r.new)
         (under_rule (told_by asked.now.printing asked.now.expected) (terms_meant (λ b. meaning (b.vtable, b.value)) terms.now)
         (rule_in_hand (held_view held.entry).access)
         (last_document (held_view held.entry).token x)))) }
+    ensures subject { IfSome (R.remaining r.old) (λ x. IfOk result (λ a. option_map subject_view a.subject
+        ≡ unless_read (R.failed r.new)
+        (rule_subject (told_by asked.now.printing asked.now.expected) (terms_meant (λ b. meaning (b.vtable, b.value)) terms.now)
+        (held_view held.entry) x))) }
     ensures stops { IfSome (R.remaining r.old) (λ x. (R.failed r.new ≡ true)
         ⊎ TakesAtMost (token_most (held_view held.entry) terms.now.policy.now) x
         (R.remaining r.new)) }
-    ensures failed { IfOk result (λ a. a.status ≡ 3 → R.failed r.new ≡ true) }
+    ensures failed { IfOk result (λ a. a.reply.status ≡ 3 → R.failed r.new ≡ true) }
 {
     match rule_in_hand(alloc, held.access) {
         Ok(rule) => {
@@ -249,32 +249,46 @@ fn on_rule<R: Source>(
             on_last(alloc, terms, &telling, held.token, r)
         }
         Err(AccessFault::OutOfMemory) => Err(AllocError),
-        Err(fault) => printed_access_fault(alloc, asked.printing, &fault),
+        Err(fault) => {
+            let document = TakenDocument::Held(held.access.unwrap_or(&[]));
+            refused_rule(alloc, asked.printing, fault, document)
+        }
     }
 }
 
 /// The key set, in hand or a line, and what is behind it.
-fn on_keys<R: Source>(
+fn on_keys<'a, R: Source>(
     alloc: Global,
     options: &VerifyOptions<'_>,
-    held: Held<'_>,
+    held: Held<'a>,
     policy: &Policy,
     r: &mut R,
-) -> Result<Reply, AllocError>
-    ensures line { IfSome (R.remaining r.old) (λ x. IfOk result (λ a. reply_view a
+) -> Result<Replied<'a>, AllocError>
+    ensures line { IfSome (R.remaining r.old) (λ x. IfOk result (λ a. reply_view a.reply
         ≡ unless_read_failed (told_by options.now.printing options.now.expected) (R.failed r.new)
         (keys_answer (told_by options.now.printing options.now.expected) (map meaning options.now.verifiers.now)
+        options.now.moment.seconds (held_view held.entry) policy.now x))) }
+    ensures subject { IfSome (R.remaining r.old) (λ x. IfOk result (λ a. option_map subject_view a.subject
+        ≡ unless_read (R.failed r.new)
+        (keys_subject (told_by options.now.printing options.now.expected) (map meaning options.now.verifiers.now)
         options.now.moment.seconds (held_view held.entry) policy.now x))) }
     ensures stops { IfSome (R.remaining r.old) (λ x. (R.failed r.new ≡ true)
         ⊎ TakesAtMost (keys_most (token_most (held_view held.entry) policy.now)
         (held_view held.entry).keys x) x (R.remaining r.new)) }
-    ensures failed { IfOk result (λ a. a.status ≡ 3 → R.failed r.new ≡ true) }
+    ensures failed { IfOk result (λ a. a.reply.status ≡ 3 → R.failed r.new ≡ true) }
 {
     let printing = options.printing;
     let text = match document(alloc, held.keys, r, 4_194_304) {
         Ok(text) => text,
-        Err(LineFault::Read) => return printed_read_fault(alloc, printing),
-        Err(LineFault::TooLong) => return printed_keys_fault(alloc, printing, &KeysFault::TooLong),
+        Err(LineFault::Read) => return Ok(Replied::bare(printed_read_fault(alloc, printing)?)),
+        Err(LineFault::TooLong) => {
+            return refused_keys(
+                alloc,
+                printing,
+                KeysFault::TooLong,
+                TakenDocument::Held(&[]),
+            );
+        }
         Err(LineFault::OutOfMemory) => return Err(AllocError),
     };
     match KeySet::read(alloc, text.octets()) {
@@ -284,40 +298,47 @@ fn on_keys<R: Source>(
             on_rule(alloc, &asked, &terms, held, r)
         }
         Err(KeysFault::OutOfMemory) => Err(AllocError),
-        Err(fault) => printed_keys_fault(alloc, printing, &fault),
+        Err(fault) => refused_keys(alloc, printing, fault, text),
     }
 }
 
 /// Runs `jwt verify`, in JSON or in lines, with verifiers for public keys, at a moment, on an input: the line of a policy, the line
 /// of a key set, and a token, each where it isn't in hand; and an access rule, where one is in hand. The policy is read and refused before
 /// the key set is taken, and that before the rule is read, and the rule before the token is taken.
-pub(crate) fn verify<R: Source>(
+pub(crate) fn verify<'a, R: Source>(
     alloc: Global,
     options: &VerifyOptions<'_>,
-    held: Held<'_>,
+    held: Held<'a>,
     r: &mut R,
-) -> Result<Reply, AllocError>
-    ensures line { IfSome (R.remaining r.old) (λ x. IfOk result (λ a. reply_view a
+) -> Result<Replied<'a>, AllocError>
+    ensures line { IfSome (R.remaining r.old) (λ x. IfOk result (λ a. reply_view a.reply
         ≡ verify_answer (told_by options.now.printing options.now.expected) (map meaning options.now.verifiers.now)
         options.now.moment.seconds (held_view held.entry) (R.failed r.new) x)) }
+    ensures subject { IfSome (R.remaining r.old) (λ x. IfOk result (λ a. option_map subject_view a.subject
+        ≡ unless_read (R.failed r.new)
+        (verify_subject (told_by options.now.printing options.now.expected) (map meaning options.now.verifiers.now)
+        options.now.moment.seconds (held_view held.entry) x))) }
     ensures stops { IfSome (R.remaining r.old) (λ x. (R.failed r.new ≡ true)
         ⊎ TakesAtMost (verify_most (held_view held.entry) x) x (R.remaining r.new)) }
-    ensures failed { IfOk result (λ a. a.status ≡ 3 → R.failed r.new ≡ true) }
+    ensures failed { IfOk result (λ a. a.reply.status ≡ 3 → R.failed r.new ≡ true) }
 {
     let printing = options.printing;
     let text = match document(alloc, held.policy, r, 65_536) {
         Ok(text) => text,
-        Err(LineFault::Read) => return printed_read_fault(alloc, printing),
-        Err(LineFault::TooLong) => return printed_policy_fault(
-            alloc,
-            printing,
-            &PolicyFault::TooLong,
-        ),
+        Err(LineFault::Read) => return Ok(Replied::bare(printed_read_fault(alloc, printing)?)),
+        Err(LineFault::TooLong) => {
+            return refused_policy(
+                alloc,
+                printing,
+                PolicyFault::TooLong,
+                TakenDocument::Held(&[]),
+            );
+        }
         Err(LineFault::OutOfMemory) => return Err(AllocError),
     };
     match Policy::read(alloc, text.octets()) {
         Ok(policy) => on_keys(alloc, options, held, &policy, r),
         Err(PolicyFault::OutOfMemory) => Err(AllocError),
-        Err(fault) => printed_policy_fault(alloc, printing, &fault),
+        Err(fault) => refused_policy(alloc, printing, fault, text),
     }
 }

@@ -8,15 +8,19 @@ ghost use Rattle.jwt_command.specs.Lines.{CutReady, GivesLines, IsMoment, LineAn
 ghost use Rattle.jwt_printing.specs.Printed.{out_of_memory};
 ghost use Rattle.jwt_command.specs.RunLines.{LinesByPolicy, Printed, RunsLines};
 ghost use Rattle.jwt_words.specs.Seen.{lines_view, held_view, seconds_of};
+ghost use Rattle.jwt_words.specs.InHand.{unread};
+ghost use Rattle.jwt_command.specs.Subjects.{OrLacks, lines_subject, subject_view, unless_lacking};
 ghost use Rattle.jwt_command.specs.TakenLines.{after_line, first_line};
 ghost use Rattle.jwt_verdicts.specs.Printer.{printer};
 ghost use Rattle.jwt_command.specs.Views.{rule_view, told_by};
 ghost use Rattle.jwt_command.specs.Verify.{terms_of_keys};
 
 use crate::access::rule_in_hand;
+use crate::documents::TakenDocument;
 use crate::input::buffered::Ahead;
 use crate::input::line::LineFault;
 use crate::run::{AtHand, asked_for};
+use crate::subject::{Ran, Subject, give_alone, give_no_memory, give_refusing};
 use crate::telling::Telling;
 use crate::verify::{on_octets, terms_at};
 use jwt_access::AccessFault;
@@ -115,10 +119,10 @@ fn answer_line<C: Clock>(
         return Err(LineFault::Read);
     };
     let terms = terms_at(moment, shared.verifiers, shared.policy, shared.keys);
-    let Ok(reply) = on_octets(alloc, &terms, &shared.telling, line.octets) else {
+    let Ok(told) = on_octets(alloc, &terms, &shared.telling, line.octets) else {
         return Err(LineFault::OutOfMemory);
     };
-    match ready.extend_from_slice(reply.text.as_slice()) {
+    match ready.extend_from_slice(told.reply.text.as_slice()) {
         Ok(()) => Ok(()),
         Err(_) => Err(LineFault::OutOfMemory),
     }
@@ -260,13 +264,13 @@ fn answer_lines<R: Source, W: Sink, C: Clock>(
 
 /// What the answers to all lines rest on, with the documents in hand.
 #[derive(Clone, Copy)]
-struct LinesInHand<'a> {
+struct LinesInHand<'o, 'v, 'a> {
     /// How the answers are told.
     printing: Printing,
     /// The moment that `--now` names, if it does.
     moment: Option<Moment>,
     /// The verifiers for public keys, where they are asked for.
-    verifiers: &'a [Box<dyn Verifier>],
+    verifiers: &'v [Box<dyn Verifier>],
     /// The document of the policy.
     policy: &'a [u8],
     /// The document of the key set.
@@ -274,25 +278,25 @@ struct LinesInHand<'a> {
     /// The document of the access rule, if there is one.
     access: Option<&'a [u8]>,
     /// What one claim of an accepted token has to be, where that is asked.
-    expected: Option<Expectation<'a>>,
+    expected: Option<Expectation<'o>>,
 }
 
 /// Answers each line under the documents in hand, each of which is read once: the policy, the key set, and the access rule, where
 /// one is in hand.
-fn lines_in_hand<R: Source, W: Sink, C: Clock>(
+fn lines_in_hand<'a, R: Source, W: Sink, C: Clock>(
     alloc: Global,
-    lines: &LinesInHand<'_>,
+    lines: &LinesInHand<'_, '_, 'a>,
     clock: &mut C,
     r: &mut R,
     w: &mut W,
-) -> u8
-    ensures { IfSome (R.remaining r.old) (λ x.
+) -> Ran<'a>
+    ensures answer { IfSome (R.remaining r.old) (λ x.
         Printed out_of_memory
         (record {
           before = W.contents w.old;
           after = W.contents w.new;
           failed = W.failed w.new;
-          status = result;
+          status = result.status;
         })
         ⊎ LinesByPolicy (told_by lines.now.printing lines.now.expected) (map meaning lines.now.verifiers.now) C.says
         (seconds_of lines.now.moment) (policy_of lines.now.policy.now)
@@ -303,19 +307,35 @@ fn lines_in_hand<R: Source, W: Sink, C: Clock>(
           before = W.contents w.old;
           after = W.contents w.new;
           failed = W.failed w.new;
-          status = result;
+          status = result.status;
         })) }
+    ensures subject { OrLacks (option_map subject_view result.subject)
+        (lines_subject (Some lines.now.policy.now) (Some lines.now.keys.now) (option_map (λ t. t.now) lines.now.access))
+        (record {
+          before = W.contents w.old;
+          after = W.contents w.new;
+          failed = W.failed w.new;
+          status = result.status;
+        }) }
 {
     let printing = lines.printing;
     let policy = match Policy::read(alloc, lines.policy) {
         Ok(policy) => policy,
-        Err(PolicyFault::OutOfMemory) => return lack_memory(w),
-        Err(fault) => return give(w, printed_policy_fault(alloc, printing, &fault)),
+        Err(PolicyFault::OutOfMemory) => return give_no_memory(w),
+        Err(fault) => {
+            let reply = printed_policy_fault(alloc, printing, &fault);
+            let document = TakenDocument::Held(lines.policy);
+            return give_refusing(w, reply, Subject::Policy(fault, document));
+        }
     };
     let keys = match KeySet::read(alloc, lines.keys) {
         Ok(keys) => keys,
-        Err(KeysFault::OutOfMemory) => return lack_memory(w),
-        Err(fault) => return give(w, printed_keys_fault(alloc, printing, &fault)),
+        Err(KeysFault::OutOfMemory) => return give_no_memory(w),
+        Err(fault) => {
+            let reply = printed_keys_fault(alloc, printing, &fault);
+            let document = TakenDocument::Held(lines.keys);
+            return give_refusing(w, reply, Subject::Keys(fault, document));
+        }
     };
     match rule_in_hand(alloc, lines.access) {
         Ok(rule) => {
@@ -331,44 +351,61 @@ fn lines_in_hand<R: Source, W: Sink, C: Clock>(
                 policy: &policy,
                 keys: &keys,
             };
-            answer_lines(alloc, &shared, clock, r, w)
+            Ran {
+                status: answer_lines(alloc, &shared, clock, r, w),
+                subject: None,
+            }
         }
-        Err(AccessFault::OutOfMemory) => lack_memory(w),
-        Err(fault) => give(w, printed_access_fault(alloc, printing, &fault)),
+        Err(AccessFault::OutOfMemory) => give_no_memory(w),
+        Err(fault) => {
+            let reply = printed_access_fault(alloc, printing, &fault);
+            let document = TakenDocument::Held(lines.access.unwrap_or(&[]));
+            give_refusing(w, reply, Subject::Access(fault, document))
+        }
     }
 }
 
 /// What is asked of `verify --lines`, and what is at hand for it.
 #[derive(Clone, Copy)]
-pub(crate) struct LinesAsked<'a> {
+pub(crate) struct LinesAsked<'o, 'v, 'a> {
     /// What the words ask for.
-    pub(crate) order: LinesOrder<'a>,
+    pub(crate) order: LinesOrder<'o>,
     /// The verifiers and the documents at hand.
-    pub(crate) at_hand: AtHand<'a>,
+    pub(crate) at_hand: AtHand<'v, 'a>,
 }
 
 /// Runs `jwt verify --lines`, where each document that a file is named for is in hand.
-pub(crate) fn run_lines<R: Source, W: Sink, C: Clock>(
+pub(crate) fn run_lines<'a, R: Source, W: Sink, C: Clock>(
     alloc: Global,
-    asked: &LinesAsked<'_>,
+    asked: &LinesAsked<'_, '_, 'a>,
     clock: &mut C,
     r: &mut R,
     w: &mut W,
-) -> u8
-    ensures { IfSome (R.remaining r.old)
+) -> Ran<'a>
+    ensures answer { IfSome (R.remaining r.old)
         (λ x. RunsLines (map meaning asked.now.at_hand.built_in.now) C.says
         (lines_view asked.now.order) (held_view asked.now.at_hand.held) x (R.failed r.new)
         (record {
           before = W.contents w.old;
           after = W.contents w.new;
           failed = W.failed w.new;
-          status = result;
+          status = result.status;
         })) }
+    ensures subject { OrLacks (option_map subject_view result.subject)
+        (unless_lacking (unread (lines_view asked.now.order).files (held_view asked.now.at_hand.held))
+        (lines_subject (held_view asked.now.at_hand.held).policy (held_view asked.now.at_hand.held).keys
+        (held_view asked.now.at_hand.held).access))
+        (record {
+          before = W.contents w.old;
+          after = W.contents w.new;
+          failed = W.failed w.new;
+          status = result.status;
+        }) }
 {
     let LinesAsked { order, at_hand } = *asked;
     let held = at_hand.held;
     if let Some(name) = unread(order.files, held) {
-        return give(w, printed_file_fault(alloc, order.printing, name));
+        return give_alone(w, printed_file_fault(alloc, order.printing, name));
     }
     match held.policy {
         Some(policy) => match held.keys {
@@ -384,8 +421,8 @@ pub(crate) fn run_lines<R: Source, W: Sink, C: Clock>(
                 };
                 lines_in_hand(alloc, &lines, clock, r, w)
             }
-            None => give(w, printed_read_fault(alloc, order.printing)),
+            None => give_alone(w, printed_read_fault(alloc, order.printing)),
         },
-        None => give(w, printed_read_fault(alloc, order.printing)),
+        None => give_alone(w, printed_read_fault(alloc, order.printing)),
     }
 }

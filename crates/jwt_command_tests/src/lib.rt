@@ -31,6 +31,8 @@ mod show;
 #[cfg(test)]
 mod streams;
 #[cfg(test)]
+mod subjects;
+#[cfg(test)]
 mod verify;
 #[cfg(test)]
 mod words;

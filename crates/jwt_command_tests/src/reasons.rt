@@ -1,8 +1,12 @@
 //! The reasons on standard error why a document is refused.
+use jwt_access::AccessRule;
+use jwt_jws::parse;
+use jwt_keys::KeySet;
+use jwt_policy::Policy;
 use jwt_reasons::{
-    access_reason, around_token, keys_reason, policy_reason, token_reason, token_sentences,
+    Reason, access_reason, around_token, keys_reason, policy_reason, token_reason, token_sentences,
 };
-use std::alloc::Global;
+use std::alloc::{AllocError, Global};
 use std::process::Abort;
 use std::test::Fail;
 
@@ -157,9 +161,8 @@ static RULES: [(&str, &str); 3] = [
     ),
 ];
 
-/// Tokens; of those that aren't in JSON form, of those that are refused for what they hold, and of those of more than 64 octets, no reason
-/// is given.
-static TOKENS: [(&str, &str); 6] = [
+/// Tokens; of those that aren't in JSON form, and of those that are refused for what they hold, no reason is given.
+static TOKENS: [(&str, &str); 5] = [
     ("", ""),
     ("e30.e30.", ""),
     (
@@ -171,10 +174,6 @@ static TOKENS: [(&str, &str); 6] = [
         "line 1, column 18: this name stands twice in its object",
     ),
     ("{\"payload\":7,\"signature\":\"\"}", ""),
-    (
-        "{\"payload\":\"e30\",\"header\":{\"kid\":\"longer than 64 octets\"},\"signatures\":[}",
-        "",
-    ),
 ];
 
 /// Policies, and why they are refused, as a JSON object.
@@ -190,14 +189,38 @@ static POLICIES_IN_JSON: [(&str, &str); 3] = [
     ),
 ];
 
+/// Why a policy is refused; none where it isn't.
+fn of_policy(alloc: Global, octets: &[u8]) -> Result<Option<Reason>, AllocError> {
+    match Policy::read(alloc, octets) {
+        Ok(_) => Ok(None),
+        Err(fault) => Ok(Some(policy_reason(alloc, &fault, octets)?)),
+    }
+}
+
+/// Why a key set is refused; none where it isn't.
+fn of_keys(alloc: Global, octets: &[u8]) -> Result<Option<Reason>, AllocError> {
+    match KeySet::read(alloc, octets) {
+        Ok(_) => Ok(None),
+        Err(fault) => Ok(Some(keys_reason(alloc, fault, octets)?)),
+    }
+}
+
+/// Why an access rule is refused; none where it isn't.
+fn of_access(alloc: Global, octets: &[u8]) -> Result<Option<Reason>, AllocError> {
+    match AccessRule::read(alloc, octets) {
+        Ok(_) => Ok(None),
+        Err(fault) => Ok(Some(access_reason(alloc, &fault, octets)?)),
+    }
+}
+
 /// Why a document of this kind is refused, and an empty text where it isn't.
 fn reason(alloc: Global, kind: &str, document: &str) -> Result<String, Fail> {
     let octets = document.as_bytes();
     let found = match kind {
-        "policy" => policy_reason(alloc, octets)?,
-        "keys" => keys_reason(alloc, octets)?,
-        "token" => token_reason(alloc, octets, 64)?,
-        _ => access_reason(alloc, octets)?,
+        "policy" => of_policy(alloc, octets)?,
+        "keys" => of_keys(alloc, octets)?,
+        "token" => token_reason(alloc, parse(alloc, octets, 32).err(), octets)?,
+        _ => of_access(alloc, octets)?,
     };
     match found {
         Some(reason) => Ok(reason.text(alloc)?),
@@ -207,7 +230,7 @@ fn reason(alloc: Global, kind: &str, document: &str) -> Result<String, Fail> {
 
 /// The same as a JSON object; an empty text where there is no reason.
 fn json(alloc: Global, document: &str) -> Result<String, Fail> {
-    match policy_reason(alloc, document.as_bytes())? {
+    match of_policy(alloc, document.as_bytes())? {
         Some(reason) => Ok(reason.json(alloc, "policy")?),
         None => Ok(String::new(alloc)),
     }
@@ -246,7 +269,7 @@ fn a_place_is_the_first_that_is_no_json(rt: HostRuntime) -> Result<(), Fail> {
         assert_eq!(rt; found.as_str(), wanted.as_str(), "at {text}");
     }
     for &(octets, wanted) in &OCTETS {
-        let Some(found) = keys_reason(rt.alloc(), octets)? else {
+        let Some(found) = of_keys(rt.alloc(), octets)? else {
             return Err(Fail::new("it isn't refused"));
         };
         assert_eq!(rt; found.text(rt.alloc())?.as_str(), wanted);

@@ -1,9 +1,10 @@
 //! Runs of the command over sources and sinks in memory, and tables of them. No function here has a clause, so that a test which
 //! calls one doesn't carry the contract of the command through its own proof.
-use jwt_command::Moment;
 use jwt_command::documents::Held;
-use jwt_command::run::{run, run_with};
+use jwt_command::run::{run, run_read};
+use jwt_command::subject::{Ran, Subject};
 use jwt_command::verify_lines::{Clock, NoClock};
+use jwt_command::{Moment, read_words};
 use jwt_mac::Verifier;
 use jwt_support::examples::filled;
 use jwt_text::{Reader, Sink, Source, Writer};
@@ -69,7 +70,47 @@ pub(crate) fn status_with<R: Source, W: Sink, C: Clock>(
         Some(moment) => Moment::new(moment as u64),
         None => None,
     };
-    run_with(alloc, words, verifiers, clock, moments, held, r, w)
+    let words = read_words(alloc, words, clock);
+    run_read(alloc, words, verifiers, moments, held, r, w).status
+}
+
+/// The document that a run refused.
+#[derive(Drop)]
+pub(crate) struct Refused {
+    /// Which it is; the empty text where none was.
+    pub(crate) kind: &'static str,
+    /// What was read of it.
+    pub(crate) octets: Vec<u8>,
+}
+
+/// The document that a run named.
+fn refused_of(alloc: Global, ran: &Ran<'_>) -> Result<Refused, AllocError> {
+    let (kind, octets) = match &ran.subject {
+        Some(Subject::Policy(_, document)) => ("policy", document.octets()),
+        Some(Subject::Keys(_, document)) => ("keys", document.octets()),
+        Some(Subject::Access(_, document)) => ("access", document.octets()),
+        Some(Subject::Token(_, document)) => ("token", document.octets()),
+        None => ("", b"".as_slice()),
+    };
+    Ok(Refused {
+        kind,
+        octets: octets.to_vec(alloc)?,
+    })
+}
+
+/// The document that a run on this input refuses, with documents in hand and nothing else.
+pub(crate) fn refused_by(
+    alloc: Global,
+    words: &[&str],
+    held: Held<'_>,
+    input: &str,
+) -> Result<Refused, AllocError> {
+    let mut out: Vec<u8> = Vec::new(alloc);
+    let mut w = Writer::new(&mut out);
+    let mut r = Reader::new(input.as_bytes());
+    let words = read_words(alloc, words, None);
+    let ran = run_read(alloc, words, &[], &mut NoClock, held, &mut r, &mut w);
+    refused_of(alloc, &ran)
 }
 
 /// The text that was written, with the status.

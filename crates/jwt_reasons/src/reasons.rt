@@ -3,10 +3,10 @@ use crate::members::member_words;
 use crate::place::place_behind;
 use crate::reason::Reason;
 use crate::scan::{doubled_name, json_fault};
-use jwt_access::{AccessFault, AccessRule};
-use jwt_jws::{FormFault, parse};
-use jwt_keys::{KeySet, KeysFault};
-use jwt_policy::{Policy, PolicyFault};
+use jwt_access::AccessFault;
+use jwt_jws::FormFault;
+use jwt_keys::KeysFault;
+use jwt_policy::PolicyFault;
 use jwt_shown::push_quoted;
 use std::alloc::{AllocError, Global};
 
@@ -67,60 +67,62 @@ fn of_member(alloc: Global, name: &str) -> Result<Reason, AllocError> {
     Ok(Reason { place: None, words })
 }
 
-/// Why a policy is refused: the place at which its text can't be JSON or at which a name stands twice, or its member with what that has to be;
-/// none where it isn't refused.
+/// Why a policy is refused for a fault: the place at which its text can't be JSON or at which a name stands twice, or its member with what
+/// that has to be.
 ///
 /// # Errors
 /// `AllocError`, where an allocation was refused.
-pub fn policy_reason(alloc: Global, document: &[u8]) -> Result<Option<Reason>, AllocError> {
-    let reason = match Policy::read(alloc, document) {
-        Ok(_) => return Ok(None),
-        Err(PolicyFault::OutOfMemory) => return Err(AllocError),
-        Err(PolicyFault::Json) => of_json(alloc, document)?,
-        Err(PolicyFault::NameTwice) => of_doubled(alloc, document)?,
-        Err(PolicyFault::Member(name)) => of_member(alloc, name.text())?,
-        Err(PolicyFault::Range(name)) => of_member(alloc, name.text())?,
-        Err(PolicyFault::NoAlgorithm) => of_member(alloc, "algs")?,
-        Err(PolicyFault::TooLong) => bare(alloc, "it has more than 65,536 octets")?,
-    };
-    Ok(Some(reason))
+pub fn policy_reason(
+    alloc: Global,
+    fault: &PolicyFault,
+    document: &[u8],
+) -> Result<Reason, AllocError> {
+    match fault {
+        PolicyFault::OutOfMemory => Err(AllocError),
+        PolicyFault::Json => of_json(alloc, document),
+        PolicyFault::NameTwice => of_doubled(alloc, document),
+        PolicyFault::Member(name) => of_member(alloc, name.text()),
+        PolicyFault::Range(name) => of_member(alloc, name.text()),
+        PolicyFault::NoAlgorithm => of_member(alloc, "algs"),
+        PolicyFault::TooLong => bare(alloc, "it has more than 65,536 octets"),
+    }
 }
 
 /// The same of a key set. No octet of it is in what is said.
 ///
 /// # Errors
 /// `AllocError`, where an allocation was refused.
-pub fn keys_reason(alloc: Global, document: &[u8]) -> Result<Option<Reason>, AllocError> {
-    let reason = match KeySet::read(alloc, document) {
-        Ok(_) => return Ok(None),
-        Err(KeysFault::OutOfMemory) => return Err(AllocError),
-        Err(KeysFault::Json) if document.starts_with(b"-----BEGIN") => bare(
+pub fn keys_reason(alloc: Global, fault: KeysFault, document: &[u8]) -> Result<Reason, AllocError> {
+    match fault {
+        KeysFault::OutOfMemory => Err(AllocError),
+        KeysFault::Json if document.starts_with(b"-----BEGIN") => bare(
             alloc,
             "it is PEM: jwt jwk --file FILE makes a key set of it",
-        )?,
-        Err(KeysFault::Json) => of_json(alloc, document)?,
-        Err(KeysFault::NameTwice) => of_doubled(alloc, document)?,
-        Err(KeysFault::NotKeySet) => bare(alloc, "it is no object with a list \"keys\"")?,
-        Err(KeysFault::TooManyKeys) => bare(alloc, "it has more than 1,024 entries")?,
-        Err(KeysFault::TooLong) => bare(alloc, "it has more than 4,194,304 octets")?,
-    };
-    Ok(Some(reason))
+        ),
+        KeysFault::Json => of_json(alloc, document),
+        KeysFault::NameTwice => of_doubled(alloc, document),
+        KeysFault::NotKeySet => bare(alloc, "it is no object with a list \"keys\""),
+        KeysFault::TooManyKeys => bare(alloc, "it has more than 1,024 entries"),
+        KeysFault::TooLong => bare(alloc, "it has more than 4,194,304 octets"),
+    }
 }
 
 /// The same of an access rule.
 ///
 /// # Errors
 /// `AllocError`, where an allocation was refused.
-pub fn access_reason(alloc: Global, document: &[u8]) -> Result<Option<Reason>, AllocError> {
-    let reason = match AccessRule::read(alloc, document) {
-        Ok(_) => return Ok(None),
-        Err(AccessFault::OutOfMemory) => return Err(AllocError),
-        Err(AccessFault::Json) => of_json(alloc, document)?,
-        Err(AccessFault::NameTwice) => of_doubled(alloc, document)?,
-        Err(AccessFault::TooLong) => bare(alloc, "it has more than 65,536 octets")?,
-        Err(fault) => of_rule(alloc, &fault)?,
-    };
-    Ok(Some(reason))
+pub fn access_reason(
+    alloc: Global,
+    fault: &AccessFault,
+    document: &[u8],
+) -> Result<Reason, AllocError> {
+    match fault {
+        AccessFault::OutOfMemory => Err(AllocError),
+        AccessFault::Json => of_json(alloc, document),
+        AccessFault::NameTwice => of_doubled(alloc, document),
+        AccessFault::TooLong => bare(alloc, "it has more than 65,536 octets"),
+        fault => of_rule(alloc, fault),
+    }
 }
 
 /// The words that follow the name of a member, or of a claim, for which an access rule is refused.
@@ -164,35 +166,19 @@ fn of_rule(alloc: Global, fault: &AccessFault) -> Result<Reason, AllocError> {
     Ok(Reason { place: None, words })
 }
 
-/// The most octets of a token that this policy takes; none where it is refused.
-///
-/// # Errors
-/// `AllocError`, where an allocation was refused.
-pub fn token_limit(alloc: Global, policy: &[u8]) -> Result<Option<u64>, AllocError> {
-    match Policy::read(alloc, policy) {
-        Ok(policy) => Ok(Some(u64::from(policy.limit()))),
-        Err(PolicyFault::OutOfMemory) => Err(AllocError),
-        Err(_) => Ok(None),
-    }
-}
-
 /// Why octets in JSON form are no token: the place at which their text can't be JSON, or at which a name stands twice; none of any other
-/// fault, and none of more octets than the limit, which weren't all read. No octet of them is in what is said.
+/// fault. No octet of them is in what is said.
 ///
 /// # Errors
 /// `AllocError`, where an allocation was refused.
 pub fn token_reason(
     alloc: Global,
+    fault: Option<FormFault>,
     octets: &[u8],
-    limit: u64,
 ) -> Result<Option<Reason>, AllocError> {
-    if octets.len() as u64 > limit {
-        return Ok(None);
-    }
-    match parse(alloc, octets, 32) {
-        Err(FormFault::OutOfMemory) => Err(AllocError),
-        Err(FormFault::Json) => Ok(Some(of_json(alloc, octets)?)),
-        Err(FormFault::NameTwice) => Ok(Some(of_doubled(alloc, octets)?)),
+    match fault {
+        Some(FormFault::Json) => Ok(Some(of_json(alloc, octets)?)),
+        Some(FormFault::NameTwice) => Ok(Some(of_doubled(alloc, octets)?)),
         _ => Ok(None),
     }
 }

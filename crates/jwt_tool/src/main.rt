@@ -2,20 +2,17 @@
 #![tactic(auto)]
 
 mod answered;
-mod documents;
 mod files;
 mod moments;
-mod recorded;
 mod saying;
 mod words;
 
 use crate::answered::Answered;
-use crate::documents::asked_of;
-use crate::files::{input_of, octets, printing_in, read_files, token_octets};
+use crate::files::{input_of, octets, printing_in, printing_of, read_files, token_octets};
 use crate::moments::{System, moment};
-use crate::recorded::Recorded;
 use crate::saying::{
-    reads_der, say_hint, say_how_to_go_on, say_what_is_waited_for, say_why_refused,
+    issues, reads_der, say_hint, say_how_to_go_on, say_what_is_waited_for, say_which_line,
+    say_why_not_issued, say_why_refused,
 };
 use crate::words::{Spelled, as_meant};
 use jwt_built_in::{BuiltIn, PREPARED_KEYS};
@@ -57,19 +54,13 @@ fn run<W: Sink>(rt: &HostRuntime, clock: Option<Moment>, w: &mut Answered<W>) ->
     let words = words.as_slice();
     match input {
         Some(name) if name.as_str() != "-" => match input_of(rt, words, name.as_str())? {
-            Some(file) => {
-                let mut r = Recorded::new(rt.alloc(), Reader::new(file));
-                run_words(rt, clock, words, &mut r, w)
-            }
+            Some(file) => run_words(rt, clock, words, &mut Reader::new(file), w),
             None => Ok(give(
                 w,
                 printed_file_fault(rt.alloc(), printing_in(words), name.as_str()),
             )),
         },
-        _ => {
-            let mut r = Recorded::new(rt.alloc(), Reader::new(rt.stdin()));
-            run_words(rt, clock, words, &mut r, w)
-        }
+        _ => run_words(rt, clock, words, &mut Reader::new(rt.stdin()), w),
     }
 }
 
@@ -116,7 +107,7 @@ fn run_words<R: Source, W: Sink>(
     rt: &HostRuntime,
     clock: Option<Moment>,
     words: &[&str],
-    r: &mut Recorded<R>,
+    r: &mut R,
     w: &mut Answered<W>,
 ) -> io::Result<u8> {
     let request = read_words(rt.alloc(), words, clock);
@@ -137,15 +128,21 @@ fn run_words<R: Source, W: Sink>(
         random: random(rt, &request, &mut fresh),
     };
     let mut moments = System { rt };
-    let asked = asked_of(&request);
+    let printing = printing_of(&request);
+    let issues = issues(&request);
     let der = reads_der(&request);
-    r.keeps = asked.is_some();
-    let status = run_read(rt.alloc(), request, &built_in, &mut moments, held, r, w);
-    if let (1, Some(asked)) = (status, asked) {
-        say_why_refused(rt, asked, held, r.kept.as_slice(), w.begin.as_slice());
+    let ran = run_read(rt.alloc(), request, &built_in, &mut moments, held, r, w);
+    let answer = w.begin.as_slice();
+    match (ran.status, &ran.subject) {
+        (1, Some(subject)) => {
+            say_why_refused(rt, printing, subject, answer);
+            say_which_line(rt, held, answer);
+        }
+        (1, None) if issues => say_why_not_issued(rt, printing, answer),
+        _ => {}
     }
     if der {
-        say_how_to_go_on(rt, status, w.begin.as_slice());
+        say_how_to_go_on(rt, ran.status, answer);
     }
-    Ok(status)
+    Ok(ran.status)
 }

@@ -1,14 +1,14 @@
 //! What is said on standard error. What becomes of it changes nothing.
-use crate::documents::{Asked, ReadDocuments, documents_of};
 use jwt_command::documents::Held;
+use jwt_command::subject::Subject;
 use jwt_command::{Request, WordsFault};
+use jwt_jws::FormFault;
 use jwt_reasons::{
-    Reason, access_reason, around_token, keys_reason, policy_reason, token_limit, token_reason,
-    token_sentences,
+    Reason, access_reason, around_token, keys_reason, policy_reason, token_reason, token_sentences,
 };
 use jwt_shown::push_quoted;
 use jwt_words::{Order, Printing};
-use std::alloc::{AllocError, Global};
+use std::alloc::AllocError;
 use std::io::IsTerminal;
 use std::str;
 
@@ -23,15 +23,15 @@ const ACCESS: Document = ("access", "access rule");
 
 const TOKEN: Document = ("token", "token");
 
-/// Says why a document is refused, if it is, in words or as a JSON object, and answers whether there is a reason.
+/// Says why a document is refused, in words or as a JSON object. Where memory is refused nothing is said.
 fn say_reason(
     rt: &HostRuntime,
     printing: Printing,
     document: Document,
-    reason: Result<Option<Reason>, AllocError>,
-) -> bool {
-    let Ok(Some(reason)) = reason else {
-        return false;
+    reason: Result<Reason, AllocError>,
+) {
+    let Ok(reason) = reason else {
+        return;
     };
     match printing {
         Printing::Json => if let Ok(text) = reason.json(rt.alloc(), document.0) {
@@ -42,28 +42,9 @@ fn say_reason(
             let _ = eprintln!(rt; "jwt: the {name} is refused: {text}");
         },
     }
-    true
 }
 
-/// Why the token is refused, as far as its text says it: none of a token that is longer than the command or the policy allows.
-fn reason_of_token(
-    alloc: Global,
-    documents: ReadDocuments<'_>,
-) -> Result<Option<Reason>, AllocError> {
-    let Some(token) = documents.token else {
-        return Ok(None);
-    };
-    let limit = match (documents.limit, documents.policy) {
-        (None, Some(policy)) => token_limit(alloc, policy)?,
-        (limit, _) => limit,
-    };
-    match limit {
-        Some(limit) => token_reason(alloc, token, limit),
-        None => Ok(None),
-    }
-}
-
-/// Says what became of the token, and what to do, by the answer.
+/// Says what became of the token, and what to do, by the answer; of a token that is read also by what stands around it.
 fn say_sentences(rt: &HostRuntime, printing: Printing, token: Option<&[u8]>, answer: &[u8]) {
     let around = match token {
         Some(token) => around_token(token),
@@ -91,44 +72,66 @@ fn say_sentences(rt: &HostRuntime, printing: Printing, token: Option<&[u8]>, ans
     }
 }
 
-/// Says why the first document that is refused is: the policy, the key set, the access rule or the token.
-fn say_why(rt: &HostRuntime, printing: Printing, documents: ReadDocuments<'_>, answer: &[u8]) {
-    let alloc = rt.alloc();
-    if let Some(policy) = documents.policy {
-        if say_reason(rt, printing, POLICY, policy_reason(alloc, policy)) {
-            return;
-        }
-    }
-    if let Some(keys) = documents.keys {
-        if say_reason(rt, printing, KEYS, keys_reason(alloc, keys)) {
-            return;
-        }
-    }
-    if let Some(access) = documents.access {
-        if say_reason(rt, printing, ACCESS, access_reason(alloc, access)) {
-            return;
-        }
-    }
-    if !say_reason(rt, printing, TOKEN, reason_of_token(alloc, documents)) {
-        say_sentences(rt, printing, documents.token, answer);
+/// Says why a token is refused or denied: where its form can't be read, the place of that, and else what the answer means.
+fn say_of_token(
+    rt: &HostRuntime,
+    printing: Printing,
+    fault: Option<FormFault>,
+    token: &[u8],
+    answer: &[u8],
+) {
+    match token_reason(rt.alloc(), fault, token) {
+        Ok(Some(reason)) => say_reason(rt, printing, TOKEN, Ok(reason)),
+        _ => say_sentences(rt, printing, Some(token), answer),
     }
 }
 
-/// Says why a document is refused, or the token denied: by those in hand, those of standard input, and the beginning of the answer.
-pub fn say_why_refused(
-    rt: &HostRuntime,
-    asked: Asked,
-    held: Held<'_>,
-    input: &[u8],
-    answer: &[u8],
-) {
-    say_why(rt, asked.printing, documents_of(asked, held, input), answer);
+/// Says why a document is refused, or the token denied, with the beginning of the answer.
+pub fn say_why_refused(rt: &HostRuntime, printing: Printing, subject: &Subject<'_>, answer: &[u8]) {
+    let alloc = rt.alloc();
+    match subject {
+        Subject::Policy(fault, document) => {
+            let reason = policy_reason(alloc, fault, document.octets());
+            say_reason(rt, printing, POLICY, reason);
+        }
+        Subject::Keys(fault, document) => {
+            let reason = keys_reason(alloc, *fault, document.octets());
+            say_reason(rt, printing, KEYS, reason);
+        }
+        Subject::Access(fault, document) => {
+            let reason = access_reason(alloc, fault, document.octets());
+            say_reason(rt, printing, ACCESS, reason);
+        }
+        Subject::Token(fault, token) => say_of_token(rt, printing, *fault, token.octets(), answer),
+    }
+}
+
+/// Says which line the policy was, where no file of it is named and another document is in one.
+pub fn say_which_line(rt: &HostRuntime, held: Held<'_>, answer: &[u8]) {
     let line_is_policy = held.policy.is_none() && (held.keys.is_some() || held.token.is_some());
     if line_is_policy && answer.starts_with(b"refused Policy Json") {
         let _ = eprintln!(rt;
             "jwt: the policy was the first line of standard input, since no --policy FILE names it"
         );
     }
+}
+
+/// Whether the words ask for a token of some claims.
+pub fn issues(request: &Result<Request<'_>, WordsFault>) -> bool {
+    match request {
+        Ok(
+            Request::Once {
+                order: Order::Issue { .. },
+                ..
+            },
+        ) => true,
+        _ => false,
+    }
+}
+
+/// Says what it means that no token is issued, by the beginning of the answer.
+pub fn say_why_not_issued(rt: &HostRuntime, printing: Printing, answer: &[u8]) {
+    say_sentences(rt, printing, None, answer);
 }
 
 /// Whether the words ask for the JWK of a key in DER.

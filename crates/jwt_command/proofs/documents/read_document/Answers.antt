@@ -6,6 +6,7 @@ use Rattle.jwt_command.proofs.documents.read_document.Goals as goal
 pub returns-in-Err : goal.returns-in-Err
 returns-in-Err g c = record {
   read = search rules;
+  limit = search rules;
   unread = search rules;
   works = search rules;
   taken = takes_at_most (Unit {0}) (g.R.Source.remaining c.args.r.now) c.in-Err.field-0 c.args.limit c.new-intake.result c.read_from.new.self (g.R.Source.remaining c.read_from.new.source) (g.R.Source.failed c.read_from.new.source)

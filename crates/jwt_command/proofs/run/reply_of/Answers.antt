@@ -1,17 +1,19 @@
-use Rattle.std.proofs.Common.{◌≡◌, ◌⊎◌, ◌∙◌, ap, subst, sym, map, ℕ, List, None, Some, Option, IfSome, true}
+use Rattle.std.proofs.Common.{◌≡◌, ◌⊎◌, ◌∙◌, ap, subst, sym, ℕ, List, None, Option, IfSome, true}
 use Rattle.jwt_command.specs.Documents.{most_unless_unread}
 use Rattle.jwt_words.specs.InHand.{unread}
 use Rattle.jwt_text.specs.Intake.{TakesAtMost}
 use Rattle.jwt_words.specs.Seen.{seen, held_view}
 use Rattle.jwt_command.specs.Stops.{most_in_hand, most_taken}
 use Rattle.jwt_words.specs.Words.{files_in_order}
-use Rattle.jwt_printing.specs.Views.{reply_view}
-use Rattle.jwt_command.specs.Answered.{answer_in_hand}
-use Rattle.jwt_command.proofs.Verifying.{file_unread, nothing_taken}
+use Rattle.jwt_command.proofs.Verifying.{nothing_taken}
 use Rattle.jwt_command.proofs.run.reply_of.Goals as goal
 
-pub returns-in-Some-clause-stops : goal.returns-in-Some-clause-stops
-returns-in-Some-clause-stops g c =
+pub returns-in_ok-printed_file_fault-in-Some-clause-stops : goal.returns-in_ok-printed_file_fault-in-Some-clause-stops
+returns-in_ok-printed_file_fault-in-Some-clause-stops g c =
+    nothing_taken (λ x. most_taken (held_view c.args.at_hand.now.held) (seen c.args.order) x) (g.R.Source.remaining c.args.r.now) (g.R.Source.failed c.args.r.now)
+
+pub returns-in_err-printed_file_fault-in-Some-clause-stops : goal.returns-in_err-printed_file_fault-in-Some-clause-stops
+returns-in_err-printed_file_fault-in-Some-clause-stops g c =
     nothing_taken (λ x. most_taken (held_view c.args.at_hand.now.held) (seen c.args.order) x) (g.R.Source.remaining c.args.r.now) (g.R.Source.failed c.args.r.now)
 
 pub returns-in-None-clause-stops : goal.returns-in-None-clause-stops
@@ -34,9 +36,7 @@ returns-in-None-clause-known g c =
 pub returns-in-None-clause-unread : goal.returns-in-None-clause-unread
 returns-in-None-clause-unread g c = c.reply_in_hand.ensures.unread
 
-pub returns-in-Some-clause-answer : goal.returns-in-Some-clause-answer
-returns-in-Some-clause-answer g c =
-    let vs = map (λ b. (goal.Verifier-dyn g (b.vtable, b.value)).meaning b.value) c.args.at_hand.now.built_in.now in
-    let some : Some c.in-Some.name.now ≡ unread (files_in_order (seen c.args.order)) (held_view c.args.at_hand.now.held) = c.in-Some.ensures ∙ ap (λ fs. unread fs (held_view c.args.at_hand.now.held)) c.files_in_order.ensures in
-    file_unread reply_view c.printed_file_fault.result c.args.printing (g.R.Source.remaining c.args.r.now) c.in-Some.name.now (unread (files_in_order (seen c.args.order)) (held_view c.args.at_hand.now.held))
-    (λ x. answer_in_hand c.args.printing vs (held_view c.args.at_hand.now.held) (seen c.args.order) (g.R.Source.failed c.args.r.now) x) some c.printed_file_fault.ensures
+pub returns-in-None-clause-subject : goal.returns-in-None-clause-subject
+returns-in-None-clause-subject g c =
+    let none : unread (files_in_order (seen c.args.order)) (held_view c.args.at_hand.now.held) ≡ None = sym (c.in-None.ensures ∙ ap (λ fs. unread fs (held_view c.args.at_hand.now.held)) c.files_in_order.ensures) in
+    rw none c.reply_in_hand.ensures.subject

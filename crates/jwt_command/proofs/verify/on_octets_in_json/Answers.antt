@@ -4,7 +4,8 @@ use Rattle.jwt_verify.specs.TermsTable.{terms_meant}
 use Rattle.jwt_printing.specs.Views.{reply_view}
 use Rattle.jwt_verdicts.specs.VerdictsJson.{verdict_json}
 use Rattle.jwt_command.specs.Views.{asked_of}
-use Rattle.jwt_command.proofs.Verifying.{answered_in_json, both_ok, read_payload}
+use Rattle.jwt_command.proofs.Verifying.{answered_in_json, read_payload}
+use Rattle.jwt_command.proofs.Refusing.{told_fault}
 use Rattle.jwt_command.proofs.verify.on_octets_in_json.Goals as goal
 
 pub returns-clause-line : goal.returns-clause-line
@@ -12,13 +13,21 @@ returns-clause-line g c =
     let q = terms_meant (λ b. (goal.Verifier-dyn g (b.vtable, b.value)).meaning b.value) c.args.terms.now in
     let x = c.args.token.now in
     let r = c.judge_under-judged.result.report in
-    both_ok c.report_json.result c.report_json.ensures.line c.report_json.ensures.memory
-    (λ a line found. answered_in_json (asked_of c.args.telling.now) q x c.payload_in-payload.result.now c.tells_reports.ensures r c.octets.result
+    let found = c.in_ok-reply.ensures.memory in
+    answered_in_json (asked_of c.args.telling.now) q x c.payload_in-payload.result.now c.tells_reports.ensures r c.octets.result
     (subst (λ w. IsReport q x w r) (c.new-count.ensures.ceiling ∙ c.work.ensures.value)
     c.judge_under-judged.ensures.report)
     (c.payload_in-payload.ensures ∙ read_payload c.args.terms.now.policy.now x r.verdict c.judge_under-judged.result.token c.tells_tokens.ensures.token found c.judge_under-judged.ensures.token)
-    (c.octets.ensures ∙ c.judge_under-judged.ensures.octets) found (reply_view a) (line ∙ ap₂ (λ d m. verdict_json d m r.verdict c.payload_in-payload.result.now r.states.items r.tries.items c.octets.result) c.demands.ensures.asked c.demands.ensures.moment))
+    (c.octets.ensures ∙ c.judge_under-judged.ensures.octets) found (reply_view c.in_ok-reply.reply) (c.in_ok-reply.ensures.line ∙ ap₂ (λ d m. verdict_json d m r.verdict c.payload_in-payload.result.now r.states.items r.tries.items c.octets.result) c.demands-demands.ensures.asked c.demands-demands.ensures.moment)
+
+pub returns-clause-fault : goal.returns-clause-fault
+returns-clause-fault g c =
+    let q = terms_meant (λ b. (goal.Verifier-dyn g (b.vtable, b.value)).meaning b.value) c.args.terms.now in
+    let x = c.args.token.now in
+    let r = c.judge_under-judged.result.report in
+    told_fault q x c.tells_reports.ensures r
+    (subst (λ w. IsReport q x w r) (c.new-count.ensures.ceiling ∙ c.work.ensures.value)
+    c.judge_under-judged.ensures.report) c.in_ok-reply.ensures.memory _ c.form_fault.ensures
 
 pub returns-clause-done : goal.returns-clause-done
-returns-clause-done g c =
-    both_ok c.report_json.result c.report_json.ensures.failed c.report_json.ensures.failed (λ a failed _ is. c.judge_under-judged.ensures.read (failed is))
+returns-clause-done g c = λ is. c.judge_under-judged.ensures.read (c.in_ok-reply.ensures.failed is)

@@ -1,0 +1,241 @@
+//! The document that a command refuses.
+ghost use Rattle.std.specs.Prelude.{◌≡◌, IfErr, IfOk, None, Some, option_map};
+ghost use Rattle.jwt_printing.specs.Printed.{Prints, out_of_memory};
+ghost use Rattle.jwt_printing.specs.Refused.{printed_access_fault, printed_keys_fault, printed_policy_fault};
+ghost use Rattle.jwt_printing.specs.Views.{reply_view};
+ghost use Rattle.jwt_command.specs.Subjects.{RefusedKeys, RefusedPolicy, RefusedRule, document_octets, form_or, subject_view, token_or};
+
+use crate::documents::TakenDocument;
+use jwt_access::AccessFault;
+use jwt_jws::FormFault;
+use jwt_keys::KeysFault;
+use jwt_policy::PolicyFault;
+use jwt_printing::{
+    Reply, give, lack_memory, printed_access_fault, printed_keys_fault, printed_policy_fault, send,
+};
+use jwt_text::Sink;
+use jwt_words::Printing;
+use std::alloc::{AllocError, Global};
+
+/// A document that is refused, why it is, and what the command read of it, so that whoever has more to say of it needn't read it again. No
+/// fault is want of memory.
+#[derive(Drop)]
+pub enum Subject<'a> {
+    /// The policy.
+    Policy(PolicyFault, TakenDocument<'a>),
+
+    /// The key set.
+    Keys(KeysFault, TakenDocument<'a>),
+
+    /// The access rule.
+    Access(AccessFault, TakenDocument<'a>),
+
+    /// The token, which is refused or denied, with the fault of its form, if that is why.
+    Token(Option<FormFault>, TakenDocument<'a>),
+}
+
+/// What a run of the command came to.
+#[derive(Drop)]
+pub struct Ran<'a> {
+    /// The status.
+    pub status: u8,
+
+    /// The document that was refused; none where none was, or where the command reads none of these.
+    pub subject: Option<Subject<'a>>,
+}
+
+/// An answer, and the document that is refused by it, if one is.
+#[derive(Drop)]
+pub(crate) struct Replied<'a> {
+    pub(crate) reply: Reply,
+    pub(crate) subject: Option<Subject<'a>>,
+}
+
+impl<'a> Replied<'a> {
+    /// No document is refused by it.
+    pub(crate) fn bare(reply: Reply) -> Replied<'a>
+        ensures reply { result.reply ≡ reply }
+        ensures subject { result.subject ≡ None }
+    {
+        Replied {
+            reply,
+            subject: None,
+        }
+    }
+
+    /// This document is refused by it.
+    pub(crate) fn refusing(reply: Reply, subject: Subject<'a>) -> Replied<'a>
+        ensures reply { result.reply ≡ reply }
+        ensures subject { result.subject ≡ Some subject.entry }
+    {
+        Replied {
+            reply,
+            subject: Some(subject),
+        }
+    }
+}
+
+/// A policy is refused.
+pub(crate) fn refused_policy<'a>(
+    alloc: Global,
+    printing: Printing,
+    fault: PolicyFault,
+    document: TakenDocument<'a>,
+) -> Result<Replied<'a>, AllocError>
+    ensures line { IfOk result (λ a. reply_view a.reply ≡ printed_policy_fault printing fault) }
+    ensures subject { IfOk result (λ a. option_map subject_view a.subject
+        ≡ Some (RefusedPolicy fault (document_octets document.entry))) }
+    ensures done { IfOk result (λ a. a.reply.status ≡ 1) }
+{
+    let reply = printed_policy_fault(alloc, printing, &fault)?;
+    Ok(Replied::refusing(reply, Subject::Policy(fault, document)))
+}
+
+/// A key set is refused.
+pub(crate) fn refused_keys<'a>(
+    alloc: Global,
+    printing: Printing,
+    fault: KeysFault,
+    document: TakenDocument<'a>,
+) -> Result<Replied<'a>, AllocError>
+    ensures line { IfOk result (λ a. reply_view a.reply ≡ printed_keys_fault printing fault) }
+    ensures subject { IfOk result (λ a. option_map subject_view a.subject
+        ≡ Some (RefusedKeys fault (document_octets document.entry))) }
+    ensures done { IfOk result (λ a. a.reply.status ≡ 1) }
+{
+    let reply = printed_keys_fault(alloc, printing, &fault)?;
+    Ok(Replied::refusing(reply, Subject::Keys(fault, document)))
+}
+
+/// An access rule is refused.
+pub(crate) fn refused_rule<'a>(
+    alloc: Global,
+    printing: Printing,
+    fault: AccessFault,
+    document: TakenDocument<'a>,
+) -> Result<Replied<'a>, AllocError>
+    ensures line { IfOk result (λ a. reply_view a.reply ≡ printed_access_fault printing fault) }
+    ensures subject { IfOk result (λ a. option_map subject_view a.subject
+        ≡ Some (RefusedRule fault (document_octets document.entry))) }
+    ensures done { IfOk result (λ a. a.reply.status ≡ 1) }
+{
+    let reply = printed_access_fault(alloc, printing, &fault)?;
+    Ok(Replied::refusing(reply, Subject::Access(fault, document)))
+}
+
+/// The answer to a token, and the fault of its form, if it is refused for that.
+#[derive(Drop)]
+pub(crate) struct TokenReply {
+    pub(crate) reply: Reply,
+    pub(crate) fault: Option<FormFault>,
+}
+
+impl TokenReply {
+    /// With the token itself, where it is refused or denied.
+    pub(crate) fn on<'a>(self, token: TakenDocument<'a>) -> Replied<'a>
+        ensures reply { result.reply ≡ self.reply }
+        ensures subject { option_map subject_view result.subject
+            ≡ token_or self.reply.status self.fault (document_octets token.entry) }
+    {
+        let TokenReply { reply, fault } = self;
+        let subject = if reply.status == 1 {
+            Some(Subject::Token(fault, token))
+        } else {
+            None
+        };
+        Replied { reply, subject }
+    }
+
+    /// With the token itself, where its form has a fault.
+    pub(crate) fn of_form<'a>(self, token: TakenDocument<'a>) -> Replied<'a>
+        ensures reply { result.reply ≡ self.reply }
+        ensures subject { option_map subject_view result.subject
+            ≡ form_or self.fault (document_octets token.entry) }
+    {
+        let TokenReply { reply, fault } = self;
+        match fault {
+            Some(fault) => Replied::refusing(reply, Subject::Token(Some(fault), token)),
+            None => Replied::bare(reply),
+        }
+    }
+}
+
+/// Sends an answer, where memory was there.
+pub(crate) fn give_replied<'a, W: Sink>(
+    w: &mut W,
+    answer: Result<Replied<'a>, AllocError>,
+) -> Ran<'a>
+    ensures ok { IfOk answer.entry (λ a. Prints (reply_view a.reply)
+        (W.contents w.old) (W.contents w.new) (W.failed w.new) result.status) }
+    ensures err { IfErr answer.entry (λ _. Prints out_of_memory
+        (W.contents w.old) (W.contents w.new) (W.failed w.new) result.status) }
+    ensures subject { IfOk answer.entry (λ a. result.subject ≡ a.subject) }
+    ensures none { IfErr answer.entry (λ _. result.subject ≡ None) }
+{
+    match answer {
+        Ok(Replied { reply, subject }) => Ran {
+            status: give(w, Ok(reply)),
+            subject,
+        },
+        Err(error) => Ran {
+            status: give(w, Err(error)),
+            subject: None,
+        },
+    }
+}
+
+/// Sends an answer by which no document is refused, where memory was there.
+pub(crate) fn give_alone<'a, W: Sink>(w: &mut W, answer: Result<Reply, AllocError>) -> Ran<'a>
+    ensures ok { IfOk answer (λ a. Prints (reply_view a)
+        (W.contents w.old) (W.contents w.new) (W.failed w.new) result.status) }
+    ensures err { IfErr answer (λ _. Prints out_of_memory
+        (W.contents w.old) (W.contents w.new) (W.failed w.new) result.status) }
+    ensures subject { result.subject ≡ None }
+{
+    Ran {
+        status: give(w, answer),
+        subject: None,
+    }
+}
+
+/// Sends an answer by which this document is refused, where memory was there.
+pub(crate) fn give_refusing<'a, W: Sink>(
+    w: &mut W,
+    answer: Result<Reply, AllocError>,
+    subject: Subject<'a>,
+) -> Ran<'a>
+    ensures ok { IfOk answer (λ a. Prints (reply_view a)
+        (W.contents w.old) (W.contents w.new) (W.failed w.new) result.status) }
+    ensures err { IfErr answer (λ _. Prints out_of_memory
+        (W.contents w.old) (W.contents w.new) (W.failed w.new) result.status) }
+    ensures subject { result.subject ≡ Some subject.entry }
+{
+    Ran {
+        status: give(w, answer),
+        subject: Some(subject),
+    }
+}
+
+/// Prints that an allocation was refused.
+pub(crate) fn give_no_memory<'a, W: Sink>(w: &mut W) -> Ran<'a>
+    ensures printed { Prints out_of_memory
+        (W.contents w.old) (W.contents w.new) (W.failed w.new) result.status }
+    ensures subject { result.subject ≡ None }
+{
+    Ran {
+        status: lack_memory(w),
+        subject: None,
+    }
+}
+
+/// Prints what is said of wrong words.
+pub(crate) fn give_wrong<'a, W: Sink>(w: &mut W, text: &str) -> Ran<'a>
+    ensures printed { Prints (record { text = text.now; status = 2 })
+        (W.contents w.old) (W.contents w.new) (W.failed w.new) result.status }
+    ensures subject { result.subject ≡ None }
+{
+    Ran {
+        status: send(w, text.as_bytes(), 2),
+        subject: None,
+    }
+}
