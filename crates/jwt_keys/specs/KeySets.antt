@@ -5,6 +5,7 @@ use Rattle.serde_json.specs.Find.{as_object}
 use Rattle.jwt_text.specs.Members.{list_at}
 use Rattle.jwt_text.specs.ObjectText.{object_of}
 use Rattle.jwt_text.specs.declared.fault.TextFault.{TextFault}
+use Rattle.jwt_text.specs.declared.limits.TheConstants.{LONGEST_KEY_SET}
 use Rattle.jwt_text.specs.declared.fault.TextFault.TheVariants.{NotObject, NameTwice as DoubledName}
 use Rattle.jwt_keys.specs.Keys.{KeyParts}
 use Rattle.jwt_keys.specs.Entries.{key_in, key_if, skip_if}
@@ -45,7 +46,7 @@ set_in (Err _) = Err Json
 
 -- the key set of a document, or the first cause why there is none
 unfoldable pub key_set_of : List ℕ → Result KeyList KeysFault
-key_set_of z = if nat_lt 4194304 (length z) then Err TooLong else set_in (object_of z)
+key_set_of z = if nat_lt LONGEST_KEY_SET (length z) then Err TooLong else set_in (object_of z)
 
 -- what contracts see of a key set
 abbrev pub key_set : KeySet → KeyList

@@ -12,12 +12,9 @@ use crate::fault::KeysFault;
 use crate::index::{Index, earlier, first_from};
 use crate::key::Key;
 use crate::skip::Skip;
-use jwt_text::{ObjectRef, TextFault, object};
+use jwt_text::{LONGEST_KEY_SET, ObjectRef, TextFault, object};
 use std::alloc::{AllocError, Global};
 use std::slice::Iter;
-
-/// The greatest number of octets of a key set document.
-const MAX_OCTETS: usize = 4_194_304;
 
 /// The greatest number of entries of a key set.
 const MAX_ENTRIES: usize = 1024;
@@ -47,9 +44,9 @@ impl KeySet {
     #[tactic(auto, unfolding(crate::specs::KeySets::key_set_of))]
     pub fn read(alloc: Global, octets: &[u8]) -> Result<KeySet, KeysFault>
         ensures answer { Answers KeysFault.OutOfMemory key_set result (key_set_of octets.now) }
-        ensures too_long { 4194304 < length octets.now → result ≡ Err KeysFault.TooLong }
+        ensures too_long { LONGEST_KEY_SET < length octets.now → result ≡ Err KeysFault.TooLong }
     {
-        if octets.len() > MAX_OCTETS {
+        if octets.len() > LONGEST_KEY_SET as usize {
             return Err(KeysFault::TooLong);
         }
         let document = match object(alloc, octets) {
