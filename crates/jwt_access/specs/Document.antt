@@ -5,6 +5,7 @@ use Rattle.serde_json.specs.Data.{Members}
 use Rattle.jwt_text.specs.Answers.{◌>>=◌}
 use Rattle.jwt_text.specs.declared.fault.TextFault.{TextFault}
 use Rattle.jwt_text.specs.declared.fault.TextFault.TheVariants.{NameTwice}
+use Rattle.jwt_text.specs.declared.limits.TheConstants.{LONGEST_POLICY}
 use Rattle.jwt_text.specs.ObjectText.{object_of}
 use Rattle.jwt_text.specs.Members.{member_names}
 use Rattle.jwt_policy.specs.Texts.{is_among}
@@ -65,4 +66,4 @@ document_in (Err _) = Err fault.Json
 
 -- the rule of a document, or the first cause to refuse it
 unfoldable pub rule_of : List ℕ → Result Rule AccessFault
-rule_of document = if nat_lt 65536 (length document) then Err fault.TooLong else document_in (object_of document)
+rule_of document = if nat_lt LONGEST_POLICY (length document) then Err fault.TooLong else document_in (object_of document)

@@ -3,6 +3,7 @@ use Rattle.std.specs.Prelude.{◌≡◌, ◌≢◌, ◌⊎◌, ◌≤◌, ℕ, p
 use Rattle.std.specs.List.{Contains, AllZip}
 use Rattle.serde_json.specs.Data.{Data, string, Members}
 use Rattle.jwt_text.specs.Members.{has, text_at, whole_at, list_at, object_at, member_names}
+use Rattle.jwt_text.specs.declared.limits.TheConstants.{LONGEST_POLICY}
 use Rattle.jwt_text.specs.ObjectText.{IsObjectText}
 use Rattle.jwt_access.specs.Rules.{Allowed, Demand, Asked, absent, only, an_object, aged, ascii, Further, Rule}
 use Rattle.jwt_access.specs.Scopes.{is_scope}
@@ -86,4 +87,4 @@ pub record SaysRule (members : Members) (rule : Rule) : Type 0 where
 
 -- at most 65,536 octets, the text of an object that says the rule
 abbrev pub IsRuleText : List ℕ → Rule → Type 0
-IsRuleText document rule = (length document ≤ 65536) × (members : Members) × IsObjectText document members × SaysRule members rule
+IsRuleText document rule = (length document ≤ LONGEST_POLICY) × (members : Members) × IsObjectText document members × SaysRule members rule

@@ -7,11 +7,8 @@ use crate::access_fault::AccessFault;
 use crate::further_kinds::{NamesKind, ValuesKind, names, values};
 use crate::member_kinds::{claim_rules, scope_claim, scopes};
 use crate::rule::AccessRule;
-use jwt_text::{ObjectRef, TextFault, object};
+use jwt_text::{LONGEST_POLICY, ObjectRef, TextFault, object};
 use std::alloc::Global;
-
-/// The greatest number of octets of a rule's document.
-const MAX_OCTETS: usize = 65_536;
 
 impl AccessRule {
     /// The rule of a document in UTF-8, of at most 65,536 octets: an object with these members, all optional.
@@ -45,9 +42,9 @@ impl AccessRule {
     #[tactic(auto, unfolding(crate::specs::Document::rule_of))]
     pub fn read(alloc: Global, document: &[u8]) -> Result<AccessRule, AccessFault>
         ensures answer { ¬ IsErrOf result AccessFault.OutOfMemory → result ≡ rule_of document.now }
-        ensures too_long { 65536 < length document.now → result ≡ Err AccessFault.TooLong }
+        ensures too_long { LONGEST_POLICY < length document.now → result ≡ Err AccessFault.TooLong }
     {
-        if document.len() > MAX_OCTETS {
+        if document.len() > LONGEST_POLICY as usize {
             return Err(AccessFault::TooLong);
         }
         match object(alloc, document) {

@@ -7,6 +7,7 @@ use Rattle.serde_json.specs.Data.{object}
 use Rattle.serde_json.specs.Written.{compact_text}
 use Rattle.jwt_text.specs.Answers.{Answers, unless}
 use Rattle.jwt_text.specs.Base64url.{spelling}
+use Rattle.jwt_text.specs.declared.limits.TheConstants.{LONGEST_TOKEN}
 use Rattle.jwt_issue.specs.Issued.{PairParts, SignerParts, header, may_sign, or_else, unfit, first_unfit, first_spent, token_within, signer_of, signing_cost, pair_signing_cost, pair_costs}
 use Rattle.jwt_mac.specs.Algorithm.{is_hmac_alg}
 use Rattle.jwt_issue.specs.declared.fault.IssueFault.{IssueFault}
@@ -42,7 +43,7 @@ by_tests false (Some fault) token t e = absurd (cc e)
 
 token_of : (fault : Option IssueFault) (left : ℕ) (costs token t : List ℕ) → unless fault (token_within left costs token) ≡ Ok t → token ≡ t
 unfolding token_within
-token_of None left costs token t e = by_tests (nat_lt 1048576 (length token)) (first_spent 0 left costs) token t e
+token_of None left costs token t e = by_tests (nat_lt LONGEST_TOKEN (length token)) (first_spent 0 left costs) token t e
 token_of (Some fault) left costs token t e = absurd (cc e)
 
 pub answered : (P : List ℕ → Type 0) (r : Result (Vec ℕ Global) IssueFault) (fault : Option IssueFault) (left : ℕ) (costs token : List ℕ)

@@ -6,6 +6,7 @@ use Rattle.serde_json.specs.Data.{Members, no_members, string, object, put}
 use Rattle.serde_json.specs.Written.{compact_text}
 use Rattle.jwt_text.specs.Answers.{unless}
 use Rattle.jwt_text.specs.Base64url.{spelling}
+use Rattle.jwt_text.specs.declared.limits.TheConstants.{LONGEST_TOKEN}
 use Rattle.jwt_mac.specs.Algorithm.{is_hmac_alg, digest_size, tag_of, cost_of, name_of}
 use Rattle.jwt_mac.specs.Verifying.{KeyOctets, OctKey, RsaKey, EcKey, OkpKey, signing_input}
 use Rattle.jwt_mac.specs.declared.algorithm.Alg.{Alg}
@@ -146,7 +147,7 @@ first_spent i left (cost ∷ costs) = if nat_lt left cost then Some (Spent i) el
 -- the token, unless it has more than 1,048,576 octets or the costs exceed what is left
 unfoldable pub token_within : ℕ → List ℕ → List ℕ → Result (List ℕ) IssueFault
 token_within left costs token =
-    if nat_lt 1048576 (length token) then Err TooLong
+    if nat_lt LONGEST_TOKEN (length token) then Err TooLong
     else unless (first_spent 0 left costs) (Ok token)
 
 -- what a pair's signature over these claims costs

@@ -2,6 +2,7 @@
 ghost use Rattle.std.specs.Prelude.{◌≡◌, ◌≢◌, ◌+◌, ◌-◌, ◌*◌, ◌<◌, ◌≤◌, ◌^◌, ◌∷◌, ◌++◌, [], ℕ, List, Option, IfOk, IfErr, OnOk, SomeIff, IsUtf8, codes, length};
 ghost use Rattle.serde_json.specs.Data.{object};
 ghost use Rattle.serde_json.specs.Written.{compact_text};
+ghost use Rattle.jwt_text.specs.declared.limits.TheConstants.{LONGEST_TOKEN};
 ghost use Rattle.jwt_text.specs.Answers.{Answers};
 ghost use Rattle.jwt_jws.specs.SignedToken.{IsSignedToken};
 ghost use Rattle.jwt_mac.specs.Verifying.{signing_input};
@@ -103,7 +104,7 @@ fn add_token(
 /// The octets of the token, `None` where they are too many.
 fn token_len(form: Single, signer: &Signer<'_>, payload: &[u8]) -> Option<usize>
     ensures { SomeIff result
-        (length (single_token form payload.now (signer_parts signer.now)) ≤ 1048576)
+        (length (single_token form payload.now (signer_parts signer.now)) ≤ LONGEST_TOKEN)
         (length (single_token form payload.now (signer_parts signer.now))) }
 {
     match form {

@@ -5,9 +5,10 @@ ghost use Rattle.jwt_issue.specs.Views.{signer_parts};
 
 use crate::signer::Signer;
 use jwt_mac::laws::tags_are_digests;
+use jwt_text::LONGEST_TOKEN;
 
 /// The most octets of a token.
-const MOST: usize = 1_048_576;
+const MOST: usize = LONGEST_TOKEN as usize;
 
 /// The octets of a signature text, over any payload.
 fn signature_len(signer: &Signer<'_>) -> usize
@@ -21,7 +22,7 @@ fn signature_len(signer: &Signer<'_>) -> usize
 
 /// The length of a token, if it isn't too long.
 fn at_most(len: usize) -> Option<usize>
-    ensures { SomeIff result (len ≤ 1048576) len }
+    ensures { SomeIff result (len ≤ LONGEST_TOKEN) len }
 {
     if len <= MOST { Some(len) } else { None }
 }
@@ -29,7 +30,7 @@ fn at_most(len: usize) -> Option<usize>
 /// The octets of the token in compact form, `None` where they are too many.
 pub(crate) fn compact_len(signer: &Signer<'_>, payload: &[u8]) -> Option<usize>
     ensures { SomeIff result
-        (length (in_compact_form payload.now (signer_parts signer.now)) ≤ 1048576)
+        (length (in_compact_form payload.now (signer_parts signer.now)) ≤ LONGEST_TOKEN)
         (length (in_compact_form payload.now (signer_parts signer.now))) }
 {
     if signer.protected.len() > MOST || payload.len() > MOST {
@@ -41,7 +42,7 @@ pub(crate) fn compact_len(signer: &Signer<'_>, payload: &[u8]) -> Option<usize>
 /// The octets of the token in flattened JSON form, `None` where they are too many.
 pub(crate) fn flattened_len(signer: &Signer<'_>, payload: &[u8]) -> Option<usize>
     ensures { SomeIff result
-        (length (flattened_token payload.now (signer_parts signer.now)) ≤ 1048576)
+        (length (flattened_token payload.now (signer_parts signer.now)) ≤ LONGEST_TOKEN)
         (length (flattened_token payload.now (signer_parts signer.now))) }
 {
     if signer.protected.len() > MOST || payload.len() > MOST {
@@ -55,7 +56,7 @@ pub(crate) fn flattened_len(signer: &Signer<'_>, payload: &[u8]) -> Option<usize
 pub(crate) fn general_len(signers: &[Signer<'_>], payload: &[u8]) -> Option<usize>
     requires { 0 < length signers.now }
     ensures { SomeIff result
-        (length (general_token payload.now (map signer_parts signers.now)) ≤ 1048576)
+        (length (general_token payload.now (map signer_parts signers.now)) ≤ LONGEST_TOKEN)
         (length (general_token payload.now (map signer_parts signers.now))) }
 {
     if payload.len() > MOST {

@@ -6,6 +6,7 @@ use Rattle.serde_json.specs.Data.{Members}
 use Rattle.jwt_text.specs.Answers.{◌>>=◌}
 use Rattle.jwt_text.specs.declared.fault.TextFault.{TextFault}
 use Rattle.jwt_text.specs.declared.fault.TextFault.TheVariants.{NameTwice}
+use Rattle.jwt_text.specs.declared.limits.TheConstants.{LONGEST_POLICY, LONGEST_TOKEN}
 use Rattle.jwt_text.specs.ObjectText.{object_of}
 use Rattle.jwt_text.specs.Members.{whole_at, member_names}
 use Rattle.jwt_policy.specs.Settings.{RunSettings, HeaderSettings, ClaimSettings, Settings}
@@ -21,7 +22,7 @@ run_settings_of ms = do
   version ← whole_in 1 2 1 (codes "version") ms
   algs ← algs_in (codes "algs") ms
   mode ← mode_in (codes "mode") ms
-  limit ← whole_in 1 1048576 8192 (codes "limit") ms
+  limit ← whole_in 1 LONGEST_TOKEN 8192 (codes "limit") ms
   work ← whole_in 0 1000000000000 1048576 (codes "work") ms
   max_signatures ← whole_in 1 32 8 (codes "max_signatures") ms
   line_feed ← flag_in (codes "line_feed") ms
@@ -95,4 +96,4 @@ document_in (Err _) = Err fault.Json
 
 -- the policy of a document, or the first cause to refuse it
 unfoldable pub policy_of : List ℕ → Result Settings PolicyFault
-policy_of document = if nat_lt 65536 (length document) then Err fault.TooLong else document_in (object_of document)
+policy_of document = if nat_lt LONGEST_POLICY (length document) then Err fault.TooLong else document_in (object_of document)

@@ -1,5 +1,6 @@
 -- The ranges of a policy's numbers, and that it allows an algorithm.
 use Rattle.std.specs.Prelude.{◌≤◌, length, IfSome}
+use Rattle.jwt_text.specs.declared.limits.TheConstants.{LONGEST_TOKEN}
 use Rattle.jwt_policy.specs.Settings.{RunSettings, ClaimSettings}
 
 pub record IsRunInRange (run : RunSettings) : Type 0 where
@@ -7,7 +8,7 @@ pub record IsRunInRange (run : RunSettings) : Type 0 where
   pub version_most : run.version ≤ 2
   pub algs_least : 1 ≤ length run.algs
   pub limit_least : 1 ≤ run.limit
-  pub limit_most : run.limit ≤ 1048576
+  pub limit_most : run.limit ≤ LONGEST_TOKEN
   pub work_most : run.work ≤ 1000000000000
   pub signatures_least : 1 ≤ run.max_signatures
   pub signatures_most : run.max_signatures ≤ 32

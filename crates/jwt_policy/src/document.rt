@@ -8,11 +8,8 @@ ghost use Rattle.jwt_policy.specs.MemberKinds.{optional, whole_of};
 use crate::member_kinds::{Bounds, algs, flag, mode, optional, texts, typ, understood, whole};
 use crate::policy::{ClaimPart, HeaderPart, Policy, RunPart};
 use crate::policy_fault::PolicyFault;
-use jwt_text::{ObjectRef, TextFault, object};
+use jwt_text::{LONGEST_POLICY, LONGEST_TOKEN, ObjectRef, TextFault, object};
 use std::alloc::Global;
-
-/// The greatest number of octets of a policy document.
-const MAX_OCTETS: usize = 65_536;
 
 impl Policy {
     /// The policy of a document in UTF-8, of at most 65,536 octets: an object with these members, all optional but `algs`.
@@ -49,9 +46,9 @@ impl Policy {
     pub fn read(alloc: Global, document: &[u8]) -> Result<Policy, PolicyFault>
         ensures answer { ¬ IsErrOf result PolicyFault.OutOfMemory
             → result ≡ policy_of document.now }
-        ensures too_long { 65536 < length document.now → result ≡ Err PolicyFault.TooLong }
+        ensures too_long { LONGEST_POLICY < length document.now → result ≡ Err PolicyFault.TooLong }
     {
-        if document.len() > MAX_OCTETS {
+        if document.len() > LONGEST_POLICY as usize {
             return Err(PolicyFault::TooLong);
         }
         match object(alloc, document) {
@@ -168,7 +165,7 @@ fn run_part(alloc: Global, members: &ObjectRef<'_>) -> Result<RunPart, PolicyFau
     let version = whole(alloc, members, "version", Bounds::new(1, 2), 1)? as u32;
     let algs = algs(alloc, members, "algs")?;
     let mode = mode(alloc, members, "mode")?;
-    let limit = whole(alloc, members, "limit", Bounds::new(1, 1_048_576), 8192)? as u32;
+    let limit = whole(alloc, members, "limit", Bounds::new(1, LONGEST_TOKEN as u64), 8192)? as u32;
     let work = whole(
         alloc,
         members,

@@ -1,6 +1,7 @@
 //! A policy: what a service asks of the tokens that it takes.
 
 ghost use Rattle.std.specs.Prelude.{◌≡◌, ◌≤◌, IfSome, length, map, option_map, string_bytes};
+ghost use Rattle.jwt_text.specs.declared.limits.TheConstants.{LONGEST_TOKEN};
 
 use crate::mode::Mode;
 use jwt_mac::{Alg, Budget, CountDown};
@@ -166,7 +167,7 @@ impl Policy {
     /// The greatest number of octets of a token, 1 to 1,048,576. By default 8,192.
     pub fn limit(&self) -> u32
         ensures value { result ≡ self.now.run.limit }
-        ensures range { (1 ≤ self.now.run.limit) × (self.now.run.limit ≤ 1048576) }
+        ensures range { (1 ≤ self.now.run.limit) × (self.now.run.limit ≤ LONGEST_TOKEN) }
     {
         let run = &self.run;
         run.limit

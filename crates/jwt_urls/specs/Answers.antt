@@ -1,5 +1,6 @@
 -- What follows on an answer.
 use Rattle.std.specs.Prelude.{◌≡◌, ◌⊎◌, ◌↔◌, ◌<◌, ◌≤◌, ℕ}
+use Rattle.jwt_text.specs.declared.limits.TheConstants.{LONGEST_KEY_SET}
 use Rattle.jwt_urls.specs.declared.answers.Asked.{Asked}
 use Rattle.jwt_urls.specs.declared.answers.Asked.TheVariants.{OpenId}
 use Rattle.jwt_urls.specs.declared.answers.Next.{Next}
@@ -20,7 +21,7 @@ pub record IsNext (asked : Asked) (status followed : ℕ) (next : Next) : Type 0
 
 -- how many octets of an answer are taken, at most
 abbrev pub most_of : Next → ℕ
-most_of Take = 4194304
+most_of Take = LONGEST_KEY_SET
 most_of Follow = 0
 most_of AskOAuth = 0
 most_of TooOften = 0

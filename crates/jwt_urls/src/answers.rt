@@ -1,6 +1,8 @@
 ghost use Rattle.std.specs.Prelude.{◌≡◌, ◌↔◌, IsTrue};
 ghost use Rattle.jwt_urls.specs.Answers.{IsNext, IsRedirection, most_of};
 
+use jwt_text::LONGEST_KEY_SET;
+
 /// What was asked for.
 #[derive(Clone, Copy, Debug, PartialEq, Eq)]
 pub enum Asked {
@@ -58,7 +60,7 @@ impl Next {
         ensures { result ≡ most_of self }
     {
         match self {
-            Next::Take => 4_194_304,
+            Next::Take => LONGEST_KEY_SET,
             _ => 0,
         }
     }

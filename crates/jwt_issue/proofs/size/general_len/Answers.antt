@@ -1,5 +1,6 @@
 use Rattle.std.proofs.Common.{◌≡◌, ◌≤◌, ℕ, length, map, SomeIff, subst, sym, ◌∙◌, arith}
 use Rattle.std.proofs.lemmas.List.{take_all, length-map}
+use Rattle.jwt_text.specs.declared.limits.TheConstants.{LONGEST_TOKEN}
 use Rattle.jwt_issue.specs.Issued.{general_token}
 use Rattle.jwt_issue.specs.Views.{signer_parts}
 use Rattle.jwt_issue.proofs.Lengths.{length_share, length_general, shares_more, shares_within}
@@ -35,4 +36,4 @@ returns c =
     let all = take_all c.loop-signer.signer-index (map signer_parts signers) (omega (arith, length-map signers signer_parts)) in
     let len = c.loop-signer.invariant in
     let same : c.loop-signer.len ≡ length (general_token payload (map signer_parts signers)) = rw all at len ∙ sym whole in
-    subst (λ (n : ℕ). SomeIff c.at_most.result (n ≤ 1048576) n) same c.at_most.ensures
+    subst (λ (n : ℕ). SomeIff c.at_most.result (n ≤ LONGEST_TOKEN) n) same c.at_most.ensures
