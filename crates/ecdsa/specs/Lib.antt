@@ -2,13 +2,13 @@
 
 -- the inverse of a number modulo another
 pub mod Inverse
--- elliptic curves over a prime field, and ECDSA on them (SEC 1 version 2, sections 2.2.1, 3.2.2.1 and 4.1.4)
+-- elliptic curves over a prime field, and ECDSA on them
 pub mod Curve
 -- the curves of NIST SP 800-186, sections 3.2.1.3 to 3.2.1.5
 pub mod Curves
 -- ECDSA signatures as octets
 pub mod Ecdsa
--- the primes of P-256 and P-521 (NIST SP 800-186, sections 3.2.1.3 and 3.2.1.5)
+-- the primes of P-256 and P-521
 pub mod Primes
 -- congruence modulo m, and what has an inverse
 pub mod Residues
@@ -16,7 +16,7 @@ pub mod Residues
 pub mod Field
 -- jacobian coordinates that stand for a result of the curve's definition
 pub mod Stands
--- tables of a point's windows, by the hexadecimal digits of a scalar
+-- tables of a point's windows
 pub mod Windows
 -- ---- What laws alone cite
 

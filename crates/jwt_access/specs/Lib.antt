@@ -1,30 +1,30 @@
 -- ---- What contracts of public functions cite, in reading order
 
--- what a rule asks
+-- access rules
 pub mod Rules
--- the moment at which it is held against dates
+-- the moment at which a rule is held against dates
 pub mod Moments
--- scopes
+-- scopes, and the claims that carry them
 pub mod Scopes
 -- the claim of a name
 pub mod Pointers
--- the claims that meet a rule
+-- the claims that meet a rule, in words
 pub mod Granted
--- the first demand that they don't meet
+-- the scope or the demand that is the first that claims don't meet, in words
 pub mod DenialWords
--- its members by kind and range
+-- the members of a rule's document by kind and range
 pub mod MemberKinds
--- the rule that it says, or the first cause to refuse it
+-- the rule that a document says, or the first cause to refuse it
 pub mod Document
 -- the names of faults and of denials
 pub mod FaultNames
--- tests of claims
+-- tests of claims that have to have a value that is allowed
 pub mod Claims
--- the table of rows of why claims don't meet a rule, which a law says in words
+-- the table of rows of why claims don't meet a rule
 pub mod Denials
 -- ---- What laws alone cite
 
--- the document of a rule, in words
+-- the documents that say a rule, in words
 pub mod RuleTexts
 -- ---- What contracts of private functions alone cite, which nobody has to believe
 

@@ -24,15 +24,15 @@ pub mod Lines
 pub mod RunLines
 -- the answer of `jwt jwk`
 pub mod Jwk
--- what `jwt policy` answers
+-- the answer of `jwt policy`
 pub mod Policy
--- what `jwt show --pretty` answers
+-- the answer of `jwt show --pretty`
 pub mod Pretty
 -- the amount that is taken of an input
 pub mod Stops
 -- the end of a run of the command
 pub mod Runs
--- the document that a command refuses
+-- the document that a command refuses, and what it read of it
 pub mod Subjects
 -- ---- What contracts of private functions alone cite, which nobody has to believe
 

@@ -1,8 +1,8 @@
 -- ---- What contracts of public functions cite, in reading order
 
--- the claims that meet an expectation
+-- what a call expects of claims
 pub mod Expected
--- the first expectation that they don't meet
+-- the first expectation that claims don't meet
 pub mod Unmet
 -- ---- What contracts of private functions alone cite, which nobody has to believe
 

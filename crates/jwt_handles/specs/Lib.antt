@@ -16,7 +16,7 @@ pub mod Reports
 pub mod Payloads
 -- what a judging adds to the memories of a validator
 pub mod Keeping
--- how the token that was accepted last is bound
+-- how the token that was accepted last is bound, by its claim `cnf`
 pub mod Bound
 -- the octets that are written for the caller, by the status
 pub mod Written
@@ -40,11 +40,11 @@ pub mod Proving
 pub mod Taking
 -- how the token, or the proof, that was accepted last is held by a store of those that count once
 pub mod Entries
--- the policy for proofs of possession that is held, and what is answered to a proof
+-- proofs of possession
 pub mod Possessing
 -- nonces by time, and what is said of the one of the proof that was accepted last
 pub mod Nonces
--- how the parts of a renewal of keys cross to C
+-- how the parts of a renewal cross to C
 pub mod Renewals
 -- how what is answered to a request crosses to C
 pub mod Requests

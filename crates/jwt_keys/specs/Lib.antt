@@ -1,12 +1,12 @@
 -- ---- What contracts of public functions cite, in reading order
 
--- key types, their curves, members and sizes (RFC 7518, section 6)
+-- key types, their curves, members and sizes
 pub mod Kinds
 -- a key as contracts see it, and what it answers to
 pub mod Keys
 -- the reasons to skip an entry of a key set
 pub mod SkipTable
--- the thumbprint of a key, by SHA-256 (RFC 7638, section 3)
+-- the thumbprint of a key, by SHA-256
 pub mod Thumbprints
 -- the key in an entry of a key set
 pub mod Entries

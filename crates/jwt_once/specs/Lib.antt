@@ -1,6 +1,6 @@
 -- ---- What contracts of public functions cite, in reading order
 
--- the digest of a pair of issuer and jti
+-- the digest that a pair of issuer and `jti` is held by
 pub mod Marks
 -- the two tables of a memory
 pub mod Tables

@@ -1,26 +1,26 @@
 -- ---- What contracts of public functions cite, in reading order
 
--- what makes a policy one for proofs
+-- the policies for proofs
 pub mod ProofPolicies
--- the key that stands in the header
+-- the public key that stands in a token's own header
 pub mod HeaderKey
 -- how an access token is bound
 pub mod Bindings
--- one form of each URI
+-- one form of each URI of HTTP, without query and fragment
 pub mod Uris
--- what belongs to this request
+-- what belongs to this request, and the steps of a proof's claims that need it
 pub mod Requests
 -- a proof of possession, and why a token is none
 pub mod Proofs
--- what an accepted proof says
+-- what a proof that was accepted says, and until when it counts
 pub mod Possessions
--- the names of a policy's algorithms as one text
+-- the names of algorithms as one text, and how it is written
 pub mod AlgNames
--- nonces by time
+-- nonces by time, of which nothing is kept
 pub mod Nonces
 -- the names of faults
 pub mod FaultNames
 -- ---- What laws alone cite
 
--- that a proof has no fault
+-- that no octets are a proof and have a fault
 pub mod Laws

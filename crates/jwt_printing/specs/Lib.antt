@@ -6,11 +6,11 @@ pub mod Faults
 pub mod Nearest
 -- the output of a command, and its status
 pub mod Printed
--- objects on one line, what faults name, and the refusals of documents
+-- JSON objects that are printed, each on one line, as the kit's writer spells it
 pub mod Json
 -- the tokens of the objects that are printed, as they are written one by one
 pub mod JsonTokens
--- the answers for a document that is refused and for what can't be read, in JSON or in lines
+-- the answers for a document that is refused, for a read that failed and for a file that can't be read, in JSON or in lines
 pub mod Refused
 -- the lines of a key set, as `jwt keys` prints them
 pub mod Listed

@@ -2,5 +2,5 @@
 
 -- places in a text, by line and column in octets
 pub mod Places
--- what the members of a policy are, in words
+-- the members of a policy, in words
 pub mod MemberWords

@@ -1,8 +1,8 @@
 -- ---- What contracts of public functions cite, in reading order
 
--- the value of the header Authorization
+-- how the value of the header Authorization carries a token
 pub mod Spelled
--- what is answered
+-- what is answered to a request, and when
 pub mod Replies
 -- the text of a challenge
 pub mod Challenges

@@ -10,5 +10,5 @@ pub mod Shown
 pub mod Dates
 -- ---- What contracts of private functions alone cite, which nobody has to believe
 
--- what contracts see of the crate's own types
+-- the crate's own types as contracts see them
 pub mod Views

@@ -1,1 +1,2 @@
+-- the meanings of the tests' verifiers
 pub mod Verifiers

@@ -1,1 +1,2 @@
+-- the meanings of the verifiers of single tests
 pub mod Verifiers

@@ -1,8 +1,8 @@
 -- ---- What contracts of public functions cite, in reading order
 
--- the parts of a URL
+-- a URL from which something is fetched, by its parts
 pub mod Urls
--- the octets that are written for the caller
+-- what is written for the caller
 pub mod Written
 -- where a redirection leads
 pub mod References

@@ -1,16 +1,16 @@
 -- ---- What contracts of public functions cite, in reading order
 
--- the first demand of an access rule that the claims of an accepted token don't meet
+-- what the claims of an accepted token don't meet
 pub mod Denied
--- the names of the faults of a token, with their places
+-- the names of the faults of a token, with their places, as the lines of the commands have them
 pub mod Faults
 -- the line of a verdict
 pub mod Verdicts
--- the object of a verdict, as `jwt verify --json` prints it
+-- the output of `verify --json`
 pub mod VerdictsJson
 -- the two ways to print an answer of `verify`
 pub mod Printer
--- an access rule as contracts see it
+-- values of the code as this crate's contracts see them
 pub mod Views
--- what `jwt policy` prints
+-- the output of `jwt policy`
 pub mod Meant

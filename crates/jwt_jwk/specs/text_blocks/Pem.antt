@@ -1,4 +1,4 @@
--- Texts between labels (PEM; RFC 7468, section 3).
+-- Texts between labels, as PEM has them (RFC 7468, section 3).
 use Rattle.std.specs.Prelude.{◌≡◌, ◌≢◌, ℕ, ◌==◌, ◌&&◌, ◌||◌, Bool, not, List, [], ◌∷◌, ◌++◌, slice_index, filter, codes, nat_le, EachIndex, if◌then◌else◌, Result, Ok, Err}
 use Rattle.std.specs.List.{starts_with}
 use Rattle.base64.specs.Engines.{standard}
