@@ -165,7 +165,13 @@ fn run_part(alloc: Global, members: &ObjectRef<'_>) -> Result<RunPart, PolicyFau
     let version = whole(alloc, members, "version", Bounds::new(1, 2), 1)? as u32;
     let algs = algs(alloc, members, "algs")?;
     let mode = mode(alloc, members, "mode")?;
-    let limit = whole(alloc, members, "limit", Bounds::new(1, LONGEST_TOKEN as u64), 8192)? as u32;
+    let limit = whole(
+        alloc,
+        members,
+        "limit",
+        Bounds::new(1, LONGEST_TOKEN as u64),
+        8192,
+    )? as u32;
     let work = whole(
         alloc,
         members,
