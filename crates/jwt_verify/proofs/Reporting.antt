@@ -18,16 +18,16 @@ use Rattle.jwt_verify.specs.declared.report.Verdict.{Verdict}
 use Rattle.jwt_verify.specs.declared.report.Verdict.TheVariants.{Accepted, Refused}
 use Rattle.jwt_verify.specs.Table.{Table, below, tries, work, paid, stop, states_at, states}
 use Rattle.jwt_verify.specs.Trying.{at_pair, table_of}
-use Rattle.jwt_verify.specs.Verdict.{Terms, token_of, table, verdict_of}
+use Rattle.jwt_verify.specs.Verdict.{Terms, token_of, table, token_verdict, verdict_of}
 use Rattle.jwt_verify.specs.Paying.{IsFront, IsWithin, AreAllowed, ArePaid}
 use Rattle.jwt_verify.specs.Asks.{AtPair, IsToken, IsTokenWithTable}
 use Rattle.jwt_verify.specs.Laws.{IsBefore, common_cost, long_key}
-use Rattle.jwt_verify.specs.Reports.{FoundMemory, IsStateAt, IsComplete, IsReport, AreEligible, IsBounded}
+use Rattle.jwt_verify.specs.Reports.{FoundMemory, IsStateAt, IsComplete, IsReport, IsJudged, IsCounted, IsCharged, AreEligible, IsBounded, TakesMemory}
 use Rattle.jwt_verify.specs.Steps.{IsSourceFault, IsWhole, IsListed, ReportsInWords, ReportsOnTaken, TakenTokens, TellsReports}
 use Rattle.jwt_verify.proofs.Bounds.{HasCost, rows_ordered, tries_eligible, length-tries, sum_bound, tries_bounded}
 use Rattle.jwt_verify.proofs.Walking.{tries_are_rows}
 use Rattle.jwt_verify.proofs.Paying.{work-append, work-nil}
-use Rattle.jwt_verify.proofs.Judged.{no_paid, no_states, table_none, table_of_token, same_verdict}
+use Rattle.jwt_verify.proofs.Judged.{no_paid, no_states, table_none, table_of_token, same_verdict, says_of_token, refused_says, refused_whole, front_none, octets_none}
 use Rattle.jwt_verify.proofs.Taking.{token_taken}
 use Rattle.jwt_verify.proofs.Ceilings.{table_cost}
 use Rattle.jwt_verify.proofs.Accepting.{token_is, is_token}
@@ -61,8 +61,11 @@ module _ (t : Table) (w : ℕ) (calls : Option ℕ) (es more : List Try) (front 
       let cost : work (paid t w calls) ≡ work es + work more = ap work front ∙ work-append es more in
       (omega (arith, a.0, cost), λ most e. (let n = a.1 most e in omega (arith, n, ap length front, length-append es more)))
 
-  pub front_once : AllPairs IsBefore es
+  front_once : AllPairs IsBefore es
   front_once = pairs_front (tries t) es front_tries.0 front_tries.1 (tries_bounded t).0
+
+  pub front_counted : (fed called : ℕ) → fed ≡ work es → called ≡ length es → IsCounted calls es fed called
+  front_counted fed called octets count = record { once = front_once; octets = octets; calls = count; within = subst (IsWithin calls) (sym count) front_allowed.1 }
 
 -- ---- what the run leaves
 
@@ -117,17 +120,23 @@ module _ (t : Table) (w : ℕ) (calls : Option ℕ) (es : List Try) (sts : List 
 
 -- ---- nothing was tried
 
-pub none_once : (es : List Try) → es ≡ [] → AllPairs IsBefore es
+none_once : (es : List Try) → es ≡ [] → AllPairs IsBefore es
 none_once es nil i j d l m = absurd (omega (arith, m, ap length nil))
 
-pub none_within : (calls : Option ℕ) (n : ℕ) → n ≡ 0 → IsWithin calls n
+none_within : (calls : Option ℕ) (n : ℕ) → n ≡ 0 → IsWithin calls n
 none_within calls n z most e = omega (arith, z)
 
-pub none_eligible : (q : Terms) (x : List ℕ) (es : List Try) → es ≡ [] → AreEligible q x es
+none_eligible : (q : Terms) (x : List ℕ) (es : List Try) → es ≡ [] → AreEligible q x es
 none_eligible q x es nil token is = subst (All (λ e. AtPair token q.keys e.signature e.key (λ s key. IsEligible q.policy s key q.verifiers))) (sym nil) (All-nil _)
 
-pub none_bounded : (q : Terms) (x : List ℕ) (es : List Try) (n : ℕ) → n ≡ 0 → IsBounded q x es n
+none_bounded : (q : Terms) (x : List ℕ) (es : List Try) (n : ℕ) → n ≡ 0 → IsBounded q x es n
 none_bounded q x es n z token is = omega (arith, z)
+
+pub none_counted : (calls : Option ℕ) (es : List Try) (fed called : ℕ) → es ≡ [] → fed ≡ 0 → called ≡ 0 → IsCounted calls es fed called
+none_counted calls es fed called nil f c = record { once = none_once es nil; octets = octets_none fed es f nil; calls = c ∙ sym (ap length nil); within = none_within calls called c }
+
+pub none_charged : (q : Terms) (x : List ℕ) (es : List Try) (fed called : ℕ) → es ≡ [] → fed ≡ 0 → called ≡ 0 → IsCharged q x es fed called
+none_charged q x es fed called nil f c = record { counted = none_counted q.policy.max_calls es fed called nil f c; eligible = none_eligible q x es nil; bound = none_bounded q x es fed f }
 
 memory_report : (q : Terms) (x : List ℕ) (w : ℕ) (r : Report) → r.tries.items ≡ [] → r.verdict ≡ Refused OutOfMemory → IsReport q x w r
 memory_report q x w r nil memory = record {
@@ -158,6 +167,41 @@ source_report q x w r before failed (CallsExceeded i j) h v nil works = absurd h
 -- no try and no state is listed; after OutOfMemory nothing is said of the states
 abbrev IsBlank : Report → Type 0
 IsBlank r = (r.tries.items ≡ []) × ((r.verdict ≡ Refused OutOfMemory) ⊎ (FoundMemory r.verdict × (r.states.items ≡ [])))
+
+-- of a token that was read
+pub token_listed : (q : Terms) (x : List ℕ) (w : ℕ) (t : Token) (r : Report) → token_of q.policy x ≡ Ok t → (FoundMemory r.verdict → r.verdict ≡ token_verdict q w t)
+    → IsWhole (table_of q.policy q.verifiers q.keys t) w q.policy.max_calls r.tries.items r.states.items r.verdict
+    → (more : List Try) × (paid (table_of q.policy q.verifiers q.keys t) w q.policy.max_calls ≡ r.tries.items ++ more) → IsListed q x w r
+token_listed q x w t r is verdict whole front =
+    let same = table_of_token q x t is in record {
+      verdict = λ found. verdict found ∙ says_of_token q x w t is;
+      whole = subst (λ t. IsWhole t w q.policy.max_calls r.tries.items r.states.items r.verdict) same whole;
+      front = (front.0, ap (λ t. paid t w q.policy.max_calls) (sym same) ∙ front.1);
+    }
+
+-- of octets that are none, or where memory was refused
+pub refused_listed : (q : Terms) (x : List ℕ) (w : ℕ) (f : Fault) (r : Report) → (f ≢ OutOfMemory → token_of q.policy x ≡ Err f) → r.verdict ≡ Refused f → r.tries.items ≡ [] → r.states.items ≡ [] → IsListed q x w r
+refused_listed q x w f r fault verdict tries states = record {
+  verdict = rw verdict (refused_says q x w f fault);
+  whole = rw (tries, states, verdict) (refused_whole q x w q.policy.max_calls f fault);
+  front = front_none (paid (table q x) w q.policy.max_calls) r.tries.items tries;
+}
+
+-- what is listed is judged, and charged for
+module _ (words : ReportsInWords) (q : Terms) (x : List ℕ) (w : ℕ) (r : Report) (listed : IsListed q x w r) where
+  pub listed_judged : r.verdict ≢ Refused (Text Read) → (r.verdict ≡ Refused OutOfMemory → TakesMemory q.policy x) → IsJudged q x w r
+  listed_judged read memory = record { report = (words q x w r listed).0; read = read; memory = memory }
+
+  pub listed_charged : (fed called : ℕ) → fed ≡ work r.tries.items → called ≡ length r.tries.items → IsCharged q x r.tries.items fed called
+  listed_charged fed called octets calls = record {
+    counted = front_counted (table q x) w q.policy.max_calls r.tries.items listed.front.0 listed.front.1 fed called octets calls;
+    eligible = (words q x w r listed).1;
+    bound = subst (IsBounded q x r.tries.items) (sym octets) (words q x w r listed).2;
+  }
+
+-- what is charged for the octets that are taken is charged for all of them
+pub taken_charged : TakenTokens → (q : Terms) (x : List ℕ) (es : List Try) (fed called : ℕ) → IsCharged q (taken x q.policy.run.limit) es fed called → IsCharged q x es fed called
+taken_charged tokens q x es fed called h = record { counted = h.counted; eligible = λ token is. h.eligible token (tokens q x token is); bound = λ token is. h.bound token (tokens q x token is) }
 
 module _ (laws : Laws) where
   listed_blank : (q : Terms) (x : List ℕ) (w : ℕ) (r : Report) → IsListed q x w r → ((token : Token) → ¬ IsToken q.policy x token) → IsBlank r

@@ -1,6 +1,6 @@
 -- The report on a token.
 use Rattle.std.specs.Prelude.{◌≡◌, ◌≢◌, ◌≤◌, ◌<◌, ◌+◌, ◌*◌, ◌⊎◌, ℕ, ℤ, ◌++◌, true, false, List, [], ◌∷◌, length, map, slice_get, Option, Some, None}
-use Rattle.std.specs.List.{All, AllZip, sum_by}
+use Rattle.std.specs.List.{All, AllPairs, AllZip, sum_by}
 use Rattle.jwt_mac.specs.Verifying.{Meaning}
 use Rattle.jwt_jws.specs.declared.signed.Signed.{Signed}
 use Rattle.jwt_jws.specs.Token.{Token}
@@ -19,11 +19,11 @@ use Rattle.jwt_verify.specs.declared.report.Fault.TheVariants.{OutOfMemory, Veri
 use Rattle.jwt_verify.specs.declared.report.Report.{Report}
 use Rattle.jwt_verify.specs.declared.report.Verdict.{Verdict}
 use Rattle.jwt_verify.specs.declared.report.Verdict.TheVariants.{Refused}
-use Rattle.jwt_verify.specs.Table.{Table, below, verified, reached, tries}
-use Rattle.jwt_verify.specs.Paying.{IsFront, AreAllowed, ArePaid}
+use Rattle.jwt_verify.specs.Table.{Table, below, verified, reached, tries, work}
+use Rattle.jwt_verify.specs.Paying.{IsFront, IsWithin, AreAllowed, ArePaid}
 use Rattle.jwt_verify.specs.Asks.{AtPair, IsToken, IsTokenWithTable}
 use Rattle.jwt_verify.specs.Accepted.{IsLeastKey, IsVerdict}
-use Rattle.jwt_verify.specs.Laws.{common_cost, long_key}
+use Rattle.jwt_verify.specs.Laws.{IsBefore, common_cost, long_key}
 use Rattle.jwt_verify.specs.Trying.{at_pair}
 use Rattle.jwt_verify.specs.Verdict.{Terms, without_line_feed}
 
@@ -89,6 +89,26 @@ IsBounded terms token_octets made octets = (token : Token) → IsToken terms.pol
 abbrev pub TakesMemory : Settings → List ℕ → Type 0
 TakesMemory policy octets = (length octets ≤ policy.run.limit)
     × ((opens_object (without_line_feed policy.run.line_feed octets) ≡ true) ⊎ ((protected payload signature : List ℕ) × IsCompact (without_line_feed policy.run.line_feed octets) protected payload signature))
+
+-- The octets in hand are judged: this is the report on them. No read fails, and memory is wanted only where reading takes some.
+pub record IsJudged (terms : Terms) (octets : List ℕ) (ceiling : ℕ) (said : Report) : Type 0 where
+  pub report : IsReport terms octets ceiling said
+  pub read : said.verdict ≢ Refused (Text Read)
+  pub memory : said.verdict ≡ Refused OutOfMemory → TakesMemory terms.policy octets
+
+-- Just these tries are counted: no pair is tried twice, so many octets and calls are what they cost, and the calls are within the ceiling
+-- on calls.
+pub record IsCounted (most_calls : Option ℕ) (made : List Try) (fed called : ℕ) : Type 0 where
+  pub once : AllPairs IsBefore made
+  pub octets : fed ≡ work made
+  pub calls : called ≡ length made
+  pub within : IsWithin most_calls called
+
+-- A run on the octets is charged for these tries: they are counted, each is of an eligible pair, and the octets are within the bound.
+pub record IsCharged (terms : Terms) (token_octets : List ℕ) (made : List Try) (fed called : ℕ) : Type 0 where
+  pub counted : IsCounted terms.policy.max_calls made fed called
+  pub eligible : AreEligible terms token_octets made
+  pub bound : IsBounded terms token_octets made fed
 
 -- the source failed, or memory was refused before anything was tried
 abbrev pub Failed : Verdict → List Try → List SigState → Type 0

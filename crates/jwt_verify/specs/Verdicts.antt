@@ -2,6 +2,7 @@
 use Rattle.std.specs.Prelude.{ℕ, ◌+◌, ◌*◌, ◌<◌, ◌≤◌, ◌≡◌, ◌≢◌, Bool, List, length, map, Option, None}
 use Rattle.std.specs.List.{All, AllZip, Contains, sum_by}
 use Rattle.serde_json.specs.Data.{Members}
+use Rattle.jwt_text.specs.declared.limits.TheConstants.{LONGEST_TOKEN}
 use Rattle.jwt_jws.specs.Token.{Token}
 use Rattle.jwt_keys.specs.Keys.{KeyParts, secret_length}
 use Rattle.jwt_verify.specs.declared.report.Try.{Try}
@@ -59,7 +60,7 @@ CallersBound = (terms : Terms) (octets : List ℕ) (token : Token) (table : Tabl
 -- its greatest value, for every policy and key set: up to 32 signatures and 1,048,576 octets of a token, 1,024 keys, and secrets of 4,096
 abbrev pub GreatestWork : Type 0
 GreatestWork = (terms : Terms) (octets : List ℕ) (token : Token) (table : Table) → IsTokenWithTable terms octets token table
-    → 0 < terms.policy.run.max_signatures → terms.policy.run.max_signatures ≤ 32 → terms.policy.run.limit ≤ 1048576
+    → 0 < terms.policy.run.max_signatures → terms.policy.run.max_signatures ≤ 32 → terms.policy.run.limit ≤ LONGEST_TOKEN
     → length terms.keys ≤ 1024 → All (λ key. secret_length key.octets ≤ 4096) terms.keys
     → work (tries table) ≤ 34504441856
 

@@ -1,17 +1,13 @@
 //! Judges a token in hand, or one that a source gives.
 
 ghost use Rattle.std.specs.Prelude.{◌≡◌, ◌≢◌, ◌≤◌, ◌+◌, ◌++◌, [], ℕ, List, Some, true, false, map, length, drop, IfSome};
-ghost use Rattle.std.specs.List.{AllPairs};
 ghost use Rattle.jwt_jws.specs.Views.{token};
 ghost use Rattle.jwt_verify.specs.Table.{work, paid};
 ghost use Rattle.jwt_verify.specs.TermsTable.{terms_meant, terms_table};
 ghost use Rattle.jwt_verify.specs.Verdict.{token_verdict};
 ghost use Rattle.jwt_verify.specs.Asks.{IsToken};
-ghost use Rattle.jwt_verify.specs.Accepted.{IsVerdict};
-ghost use Rattle.jwt_verify.specs.Laws.{IsBefore};
-ghost use Rattle.jwt_verify.specs.Paying.{IsWithin};
 ghost use Rattle.jwt_text.specs.Intake.{TakesAtMost};
-ghost use Rattle.jwt_verify.specs.Reports.{FoundMemory, IsReport, IsReadAs, AreEligible, IsBounded, TakesMemory, Failed, terms};
+ghost use Rattle.jwt_verify.specs.Reports.{FoundMemory, IsReport, IsReadAs, IsJudged, IsCounted, IsCharged, TakesMemory, Failed, terms};
 ghost use Rattle.jwt_verify.specs.Steps.{IsWhole, IsListed};
 ghost use Rattle.jwt_verify.specs.declared.report.InputFault.TheVariants.{Read};
 ghost use Rattle.jwt_verify.specs.declared.report.Fault.TheVariants.{OutOfMemory, Text};
@@ -89,39 +85,6 @@ fn refused<'p>(alloc: Global, fault: Fault<'p>) -> Report<'p>
     }
 }
 
-/// The report on octets in hand, by the steps of the definitions, with the token.
-fn judge_octets<'a, 'p, B: Budget>(
-    alloc: Global,
-    terms: &Terms<'_, 'p, '_>,
-    octets: &'a [u8],
-    budget: &mut B,
-    scratch: &mut Scratch,
-) -> JudgedToken<'a, 'p>
-    requires no_octets { B.octets budget.old ≡ 0 }
-    requires no_calls { B.calls budget.old ≡ 0 }
-    ensures listed { IsListed (terms_meant meaning terms.now)
-        octets.now (B.ceiling budget.old) result.report }
-    ensures token { IsReadAs terms.now.policy.now octets.now result.report.verdict result.token }
-    ensures read { result.report.verdict ≢ Refused (Text Read) }
-    ensures memory { result.report.verdict ≡ Refused OutOfMemory
-        → TakesMemory terms.now.policy.now octets.now }
-    ensures octets { B.octets budget.new ≡ work result.report.tries.items }
-    ensures calls { B.calls budget.new ≡ length result.report.tries.items }
-    ensures ceiling { B.ceiling budget.new ≡ B.ceiling budget.old }
-{
-    signed_tokens();
-    match read_with(alloc, octets, terms.policy, scratch) {
-        Ok(signed) => JudgedToken {
-            report: report_on(alloc, terms, &signed, budget, scratch),
-            token: Some(signed),
-        },
-        Err(fault) => JudgedToken {
-            report: refused(alloc, fault),
-            token: None,
-        },
-    }
-}
-
 /// The verdict on octets in hand, with what became of each signature and each try that was paid.
 ///
 /// The octets, without one final line feed where the policy has `line_feed`, are read as a signed token (RFC 7515, section 7). The
@@ -152,29 +115,16 @@ pub fn judge<'p, B: Budget>(
     requires no_octets { B.octets budget.old ≡ 0 }
     requires no_calls { B.calls budget.old ≡ 0 }
 
-    // The verdict is that on the octets, unless memory was refused; and what else the report holds.
-    ensures verdict { FoundMemory result.verdict
-        → IsVerdict (terms policy.now keys.now now (map meaning verifiers.now))
-        octets.now (B.ceiling budget.old) result.verdict }
-    ensures report { IsReport (terms policy.now keys.now now (map meaning verifiers.now))
+    // The report is the one on the octets: the verdict is theirs, unless memory was refused.
+    ensures judged { IsJudged (terms policy.now keys.now now (map meaning verifiers.now))
         octets.now (B.ceiling budget.old) result }
-    ensures read { result.verdict ≢ Refused (Text Read) }
-    ensures memory { result.verdict ≡ Refused OutOfMemory → TakesMemory policy.now octets.now }
 
-    // No pair is tried twice, and each is eligible; the octets are within the bound, the calls within the policy's ceiling.
-    ensures once { AllPairs IsBefore result.tries.items }
-    ensures eligible { AreEligible (terms policy.now keys.now now (map meaning verifiers.now))
-        octets.now result.tries.items }
-    ensures bound { IsBounded (terms policy.now keys.now now (map meaning verifiers.now))
-        octets.now result.tries.items (B.octets budget.new) }
-    ensures within { IsWithin policy.now.max_calls (B.calls budget.new) }
-
-    // The budget agrees with the tries.
-    ensures octets { B.octets budget.new ≡ work result.tries.items }
-    ensures calls { B.calls budget.new ≡ length result.tries.items }
+    // The budget counts just its tries. No pair is tried twice, and each is eligible; the octets are within the bound, the calls within the
+    // policy's ceiling.
+    ensures charged { IsCharged (terms policy.now keys.now now (map meaning verifiers.now))
+        octets.now result.tries.items (B.octets budget.new) (B.calls budget.new) }
     ensures ceiling { B.ceiling budget.new ≡ B.ceiling budget.old }
 {
-    reports_in_words();
     let terms = Terms {
         keys,
         policy,
@@ -182,13 +132,7 @@ pub fn judge<'p, B: Budget>(
         verifiers,
     };
     let mut scratch = Scratch::new(alloc);
-    let JudgedToken { report, token: _ } = judge_octets(
-        alloc,
-        &terms,
-        octets,
-        budget,
-        &mut scratch,
-    );
+    let JudgedToken { report, token: _ } = judge_under(alloc, octets, &terms, budget, &mut scratch);
     report
 }
 
@@ -210,24 +154,28 @@ pub fn judge_under<'a, 'p, B: Budget>(
     requires no_octets { B.octets budget.old ≡ 0 }
     requires no_calls { B.calls budget.old ≡ 0 }
 
-    // The report is the one of `judge`.
-    ensures report { IsReport (terms_meant meaning terms.now)
+    // The report is the one of `judge`, and so is what the budget counts.
+    ensures judged { IsJudged (terms_meant meaning terms.now)
         octets.now (B.ceiling budget.old) result.report }
-    ensures read { result.report.verdict ≢ Refused (Text Read) }
-    ensures memory { result.report.verdict ≡ Refused OutOfMemory
-        → TakesMemory terms.now.policy.now octets.now }
-    ensures within { IsWithin terms.now.policy.now.max_calls (B.calls budget.new) }
+    ensures charged { IsCharged (terms_meant meaning terms.now)
+        octets.now result.report.tries.items (B.octets budget.new) (B.calls budget.new) }
+    ensures ceiling { B.ceiling budget.new ≡ B.ceiling budget.old }
 
     // The token is the one that the octets are.
     ensures token { IsReadAs terms.now.policy.now octets.now result.report.verdict result.token }
-
-    // The budget agrees with the tries.
-    ensures octets { B.octets budget.new ≡ work result.report.tries.items }
-    ensures calls { B.calls budget.new ≡ length result.report.tries.items }
-    ensures ceiling { B.ceiling budget.new ≡ B.ceiling budget.old }
 {
+    signed_tokens();
     reports_in_words();
-    judge_octets(alloc, terms, octets, budget, scratch)
+    match read_with(alloc, octets, terms.policy, scratch) {
+        Ok(signed) => JudgedToken {
+            report: report_on(alloc, terms, &signed, budget, scratch),
+            token: Some(signed),
+        },
+        Err(fault) => JudgedToken {
+            report: refused(alloc, fault),
+            token: None,
+        },
+    }
 }
 
 /// The report on a token that was read already, as [`judge`] gives it on the octets that the token is of, under the policy by which
@@ -251,16 +199,18 @@ pub fn judge_token<'p, B: Budget>(
     requires no_octets { B.octets budget.old ≡ 0 }
     requires no_calls { B.calls budget.old ≡ 0 }
 
-    // The report is the one of `judge`, on all octets that this policy reads as the token.
+    // The report is the one of `judge`, on all octets that this policy reads as the token, and so is what the budget counts.
     ensures report { (x : List ℕ) → IsToken policy.now x (token signed.now)
         → IsReport (terms policy.now keys.now now (map meaning verifiers.now))
         x (B.ceiling budget.old) result }
-    ensures read { result.verdict ≢ Refused (Text Read) }
-    ensures within { IsWithin policy.now.max_calls (B.calls budget.new) }
+    ensures charged { (x : List ℕ) → IsToken policy.now x (token signed.now)
+        → IsCharged (terms policy.now keys.now now (map meaning verifiers.now))
+        x result.tries.items (B.octets budget.new) (B.calls budget.new) }
 
-    // The budget agrees with the tries.
-    ensures octets { B.octets budget.new ≡ work result.tries.items }
-    ensures calls { B.calls budget.new ≡ length result.tries.items }
+    // Whatever octets it was read from: no read fails, and the budget counts just the tries.
+    ensures read { result.verdict ≢ Refused (Text Read) }
+    ensures counted { IsCounted policy.now.max_calls
+        result.tries.items (B.octets budget.new) (B.calls budget.new) }
     ensures ceiling { B.ceiling budget.new ≡ B.ceiling budget.old }
 {
     tells_tokens();
@@ -311,21 +261,14 @@ pub fn validate<'p, R: Source, B: Budget>(
     requires no_octets { B.octets budget.old ≡ 0 }
     requires no_calls { B.calls budget.old ≡ 0 }
 
-    // Of a source whose octets are known, unless a read failed: the verdict is that on them, unless memory was refused; what else
-    // the report holds; and what was taken.
-    ensures verdict { IfSome (R.remaining source.old) (λ x. result.verdict ≢ Refused (Text Read)
-        → FoundMemory result.verdict
-        → IsVerdict (terms policy.now keys.now now (map meaning verifiers.now))
-        x (B.ceiling budget.old) result.verdict) }
+    // Of a source whose octets are known: unless a read failed, the report is the one on them; what the budget counts; and what was
+    // taken.
     ensures report { IfSome (R.remaining source.old) (λ x. result.verdict ≢ Refused (Text Read)
         → IsReport (terms policy.now keys.now now (map meaning verifiers.now))
         x (B.ceiling budget.old) result) }
-    ensures eligible { IfSome (R.remaining source.old) (λ x.
-        AreEligible (terms policy.now keys.now now (map meaning verifiers.now))
-        x result.tries.items) }
-    ensures bound { IfSome (R.remaining source.old) (λ x.
-        IsBounded (terms policy.now keys.now now (map meaning verifiers.now))
-        x result.tries.items (B.octets budget.new)) }
+    ensures charged { IfSome (R.remaining source.old) (λ x.
+        IsCharged (terms policy.now keys.now now (map meaning verifiers.now))
+        x result.tries.items (B.octets budget.new) (B.calls budget.new)) }
     ensures taken { IfSome (R.remaining source.old) (λ x. result.verdict ≢ Refused (Text Read)
         → result.verdict ≢ Refused OutOfMemory
         → R.remaining source.new ≡ Some (drop (policy.now.run.limit + 1) x)) }
@@ -334,21 +277,22 @@ pub fn validate<'p, R: Source, B: Budget>(
     ensures few { IfSome (R.remaining source.old) (λ x. result.verdict ≡ Refused (Text Read)
         → TakesAtMost policy.now.run.limit x (R.remaining source.new)) }
 
-    // Of every source, also of one whose octets aren't known: unless a read failed, some octets have this report.
+    // Of every source, also of one whose octets aren't known: unless a read failed, some octets have this report; and the budget counts
+    // just its tries.
     ensures some { result.verdict ≢ Refused (Text Read)
         → (x : List ℕ) × (length x ≤ policy.now.run.limit + 1)
         × IsReport (terms policy.now keys.now now (map meaning verifiers.now))
         x (B.ceiling budget.old) result }
-    ensures once { AllPairs IsBefore result.tries.items }
-    ensures within { IsWithin policy.now.max_calls (B.calls budget.new) }
+    ensures counted { IsCounted policy.now.max_calls
+        result.tries.items (B.octets budget.new) (B.calls budget.new) }
+    ensures ceiling { B.ceiling budget.new ≡ B.ceiling budget.old }
+
+    // Where the source fails, nothing was tried.
     ensures failed { R.failed source.new ≡ true
         → Failed result.verdict result.tries.items result.states.items }
     ensures read { result.verdict ≡ Refused (Text Read) → R.failed source.new ≡ true }
     ensures fails { R.failed source.old ≡ false → R.failed source.new ≡ true
         → result.verdict ≡ Refused (Text Read) }
-    ensures octets { B.octets budget.new ≡ work result.tries.items }
-    ensures calls { B.calls budget.new ≡ length result.tries.items }
-    ensures ceiling { B.ceiling budget.new ≡ B.ceiling budget.old }
 {
     reports_in_words();
     match take_in(alloc, source, policy.limit()) {

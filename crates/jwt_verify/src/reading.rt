@@ -2,6 +2,7 @@
 
 ghost use Rattle.std.specs.Prelude.{◌≡◌, ◌≢◌, ◌≤◌, ◌+◌, Err, false, length, IfOk, OnOk, IfErr, IfSome};
 ghost use Rattle.jwt_text.specs.Answers.{Answers};
+ghost use Rattle.jwt_text.specs.declared.limits.TheConstants.{LONGEST_TOKEN};
 ghost use Rattle.jwt_jws.specs.Views.{token};
 ghost use Rattle.jwt_verify.specs.Verdict.{token_of, without_line_feed};
 ghost use Rattle.jwt_verify.specs.Asks.{IsToken};
@@ -79,7 +80,7 @@ pub(crate) fn take_in<'p, R: Source>(
     limit: u32,
 ) -> Result<Intake, Fault<'p>>
     requires least { 1 ≤ limit }
-    requires greatest { limit ≤ 1048576 }
+    requires greatest { limit ≤ LONGEST_TOKEN }
     ensures octets { IfSome (R.remaining source.old)
         (λ x. IsTakenIn result limit x (R.remaining source.new)) }
     ensures bound { IfOk result (λ held. length held.octets ≤ limit + 1) }

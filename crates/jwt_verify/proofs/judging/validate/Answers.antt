@@ -1,22 +1,12 @@
 -- What is taken of the source has the report of all of it.
-use Rattle.std.proofs.Common.{[], length, map, ap, sym, subst, ◌∙◌, arith, w64}
+use Rattle.std.proofs.Common.{[], ℤ, length, map, ap, sym, subst, ◌∙◌, arith, w64}
 use Rattle.std.proofs.lemmas.Bool.{false≢true}
 use Rattle.std.proofs.lemmas.Int.{to_z-of_z}
 use Rattle.std.proofs.lemmas.Option.{IfSome_then}
-use Rattle.jwt_verify.specs.Reports.{terms, IsReport, AreEligible, IsBounded}
-use Rattle.jwt_verify.proofs.Judged.{octets_none}
+use Rattle.jwt_verify.specs.Reports.{terms, IsReport, IsCharged}
 use Rattle.jwt_verify.proofs.Taking.{takes_taken, source_takes, takes_more, source_fails, nothing_failed}
-use Rattle.jwt_verify.proofs.Reporting.{none_once, none_within, none_eligible, none_bounded, source_report}
+use Rattle.jwt_verify.proofs.Reporting.{none_counted, none_charged, taken_charged, source_report}
 use Rattle.jwt_verify.proofs.judging.validate.Goals as goal
-
-pub returns-in-Ok-clause-verdict : goal.returns-in-Ok-clause-verdict
-returns-in-Ok-clause-verdict g c =
-    let v = map (λ b. (goal.Verifier-dyn g (b.vtable, b.value)).meaning b.value) c.args.verifiers.now in
-    let q = terms c.args.policy.now c.args.keys.now c.args.now v in
-    let w = g.B.Budget.ceiling c.args.budget.now in
-    let z = to_z-of_z w64 c.args.now c.ranges.now in
-    IfSome_then (g.R.Source.remaining c.args.source.now) c.in-Ok.ensures.octets
-    (λ x k read. (c.reports_in_words.ensures.taken q x w c.judge.result (subst (λ y. IsReport q y w c.judge.result) (c.octets.ensures.value ∙ rw c.limit.ensures.value at k.0) (rw z at c.judge.ensures.report))).verdict)
 
 pub returns-in-Ok-clause-report : goal.returns-in-Ok-clause-report
 returns-in-Ok-clause-report g c =
@@ -25,25 +15,19 @@ returns-in-Ok-clause-report g c =
     let w = g.B.Budget.ceiling c.args.budget.now in
     let z = to_z-of_z w64 c.args.now c.ranges.now in
     IfSome_then (g.R.Source.remaining c.args.source.now) c.in-Ok.ensures.octets
-    (λ x k read. c.reports_in_words.ensures.taken q x w c.judge.result (subst (λ y. IsReport q y w c.judge.result) (c.octets.ensures.value ∙ rw c.limit.ensures.value at k.0) (rw z at c.judge.ensures.report)))
+    (λ x k read. c.reports_in_words.ensures.taken q x w c.judge.result (subst (λ y. IsReport q y w c.judge.result) (c.octets.ensures.value ∙ rw c.limit.ensures.value at k.0) (rw z at c.judge.ensures.judged.report)))
 
-pub returns-in-Ok-clause-eligible : goal.returns-in-Ok-clause-eligible
-returns-in-Ok-clause-eligible g c =
+pub returns-in-Ok-clause-charged : goal.returns-in-Ok-clause-charged
+returns-in-Ok-clause-charged g c =
     let v = map (λ b. (goal.Verifier-dyn g (b.vtable, b.value)).meaning b.value) c.args.verifiers.now in
     let q = terms c.args.policy.now c.args.keys.now c.args.now v in
     let z = to_z-of_z w64 c.args.now c.ranges.now in
+    let es = c.judge.result.tries.items in
+    let fed = g.B.Budget.octets c.judge.new.budget in
+    let called = g.B.Budget.calls c.judge.new.budget in
+    let here = subst (λ n. IsCharged (terms c.args.policy.now c.args.keys.now n v) c.octets.result.now es fed called) z c.judge.ensures.charged in
     IfSome_then (g.R.Source.remaining c.args.source.now) c.in-Ok.ensures.octets
-    (λ x k token is. subst (λ y. AreEligible q y c.judge.result.tries.items) (c.octets.ensures.value ∙ rw c.limit.ensures.value at k.0) (rw z at c.judge.ensures.eligible) token (c.reports_in_words.ensures.token q x token is))
-
-pub returns-in-Ok-clause-bound : goal.returns-in-Ok-clause-bound
-returns-in-Ok-clause-bound g c =
-    let v = map (λ b. (goal.Verifier-dyn g (b.vtable, b.value)).meaning b.value) c.args.verifiers.now in
-    let q = terms c.args.policy.now c.args.keys.now c.args.now v in
-    let z = to_z-of_z w64 c.args.now c.ranges.now in
-    let octets = g.B.Budget.octets c.judge.new.budget in
-    let bound = subst (λ n. IsBounded (terms c.args.policy.now c.args.keys.now n v) c.octets.result.now c.judge.result.tries.items octets) z c.judge.ensures.bound in
-    IfSome_then (g.R.Source.remaining c.args.source.now) c.in-Ok.ensures.octets
-    (λ x k token is. subst (λ y. IsBounded q y c.judge.result.tries.items octets) (c.octets.ensures.value ∙ rw c.limit.ensures.value at k.0) bound token (c.reports_in_words.ensures.token q x token is))
+    (λ x k. taken_charged c.reports_in_words.ensures.token q x es fed called (subst (λ y. IsCharged q y es fed called) (c.octets.ensures.value ∙ rw c.limit.ensures.value at k.0) here))
 
 pub returns-in-Ok-clause-most : goal.returns-in-Ok-clause-most
 returns-in-Ok-clause-most g c =
@@ -53,7 +37,7 @@ returns-in-Ok-clause-most g c =
 pub returns-in-Ok-clause-few : goal.returns-in-Ok-clause-few
 returns-in-Ok-clause-few g c =
     IfSome_then (g.R.Source.remaining c.args.source.now) c.in-Ok.ensures.octets
-    (λ x k read. absurd (c.judge.ensures.read read))
+    (λ x k read. absurd (c.judge.ensures.judged.read read))
 
 pub returns-in-Ok-clause-fails : goal.returns-in-Ok-clause-fails
 returns-in-Ok-clause-fails g c = λ worked fails. absurd (false≢true (sym c.in-Ok.ensures.ok ∙ fails))
@@ -61,15 +45,7 @@ returns-in-Ok-clause-fails g c = λ worked fails. absurd (false≢true (sym c.in
 pub returns-in-Ok-clause-some : goal.returns-in-Ok-clause-some
 returns-in-Ok-clause-some g c =
     let z = to_z-of_z w64 c.args.now c.ranges.now in
-    λ read. (c.octets.result.now, omega (arith, ap length c.octets.ensures.value, c.in-Ok.ensures.bound, c.limit.ensures.value), rw z at c.judge.ensures.report)
-
-pub returns-in-Err-clause-verdict : goal.returns-in-Err-clause-verdict
-returns-in-Err-clause-verdict g c =
-    let v = map (λ b. (goal.Verifier-dyn g (b.vtable, b.value)).meaning b.value) c.args.verifiers.now in
-    let q = terms c.args.policy.now c.args.keys.now c.args.now v in
-    let w = g.B.Budget.ceiling c.args.budget.now in
-    IfSome_then (g.R.Source.remaining c.args.source.now) c.take_in.ensures.octets
-    (λ x k read. (source_report q x w c.refused.result _ _ c.in-Err.fault c.in-Err.ensures.fault c.refused.ensures.verdict c.refused.ensures.tries read).verdict)
+    λ read. (c.octets.result.now, omega (arith, ap length c.octets.ensures.value, c.in-Ok.ensures.bound, c.limit.ensures.value), rw z at c.judge.ensures.judged.report)
 
 pub returns-in-Err-clause-report : goal.returns-in-Err-clause-report
 returns-in-Err-clause-report g c =
@@ -79,19 +55,12 @@ returns-in-Err-clause-report g c =
     IfSome_then (g.R.Source.remaining c.args.source.now) c.take_in.ensures.octets
     (λ x k read. source_report q x w c.refused.result _ _ c.in-Err.fault c.in-Err.ensures.fault c.refused.ensures.verdict c.refused.ensures.tries read)
 
-pub returns-in-Err-clause-eligible : goal.returns-in-Err-clause-eligible
-returns-in-Err-clause-eligible g c =
+pub returns-in-Err-clause-charged : goal.returns-in-Err-clause-charged
+returns-in-Err-clause-charged g c =
     let v = map (λ b. (goal.Verifier-dyn g (b.vtable, b.value)).meaning b.value) c.args.verifiers.now in
     let q = terms c.args.policy.now c.args.keys.now c.args.now v in
     IfSome_then (g.R.Source.remaining c.args.source.now) c.take_in.ensures.octets
-    (λ x k. none_eligible q x c.refused.result.tries.items c.refused.ensures.tries)
-
-pub returns-in-Err-clause-bound : goal.returns-in-Err-clause-bound
-returns-in-Err-clause-bound g c =
-    let v = map (λ b. (goal.Verifier-dyn g (b.vtable, b.value)).meaning b.value) c.args.verifiers.now in
-    let q = terms c.args.policy.now c.args.keys.now c.args.now v in
-    IfSome_then (g.R.Source.remaining c.args.source.now) c.take_in.ensures.octets
-    (λ x k. none_bounded q x c.refused.result.tries.items (g.B.Budget.octets c.args.budget.now) c.requires.no_octets)
+    (λ x k. none_charged q x c.refused.result.tries.items _ _ c.refused.ensures.tries c.requires.no_octets c.requires.no_calls)
 
 pub returns-in-Err-clause-most : goal.returns-in-Err-clause-most
 returns-in-Err-clause-most g c =
@@ -113,16 +82,8 @@ returns-in-Err-clause-some g c =
     let w = g.B.Budget.ceiling c.args.budget.now in
     λ read. ([], omega arith, source_report q [] w c.refused.result _ _ c.in-Err.fault c.in-Err.ensures.fault c.refused.ensures.verdict c.refused.ensures.tries read)
 
-pub returns-in-Err-clause-once : goal.returns-in-Err-clause-once
-returns-in-Err-clause-once g c =
-    none_once c.refused.result.tries.items c.refused.ensures.tries
-
-pub returns-in-Err-clause-within : goal.returns-in-Err-clause-within
-returns-in-Err-clause-within g c =
-    none_within c.args.policy.now.max_calls (g.B.Budget.calls c.args.budget.now) c.requires.no_calls
-
-pub returns-in-Err-clause-octets : goal.returns-in-Err-clause-octets
-returns-in-Err-clause-octets g c = octets_none _ _ c.requires.no_octets c.refused.ensures.tries
+pub returns-in-Err-clause-counted : goal.returns-in-Err-clause-counted
+returns-in-Err-clause-counted g c = none_counted c.args.policy.now.max_calls c.refused.result.tries.items _ _ c.refused.ensures.tries c.requires.no_octets c.requires.no_calls
 
 pub returns-in-Err-clause-failed : goal.returns-in-Err-clause-failed
 returns-in-Err-clause-failed g c = λ failed. nothing_failed c.in-Err.fault _ _ _ _ _ c.in-Err.ensures.fault c.refused.ensures.verdict c.refused.ensures.tries c.refused.ensures.states
