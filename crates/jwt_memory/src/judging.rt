@@ -1,17 +1,9 @@
 //! Judges a token, by a memory or anew.
 
-ghost use Rattle.std.specs.Prelude.{◌≡◌, ◌≢◌, IfSome, false, length, map};
-ghost use Rattle.std.specs.List.{AllPairs};
+ghost use Rattle.std.specs.Prelude.{◌≡◌, IfSome, false, map};
 ghost use Rattle.jwt_jws.specs.Forms.{opens_object};
-ghost use Rattle.jwt_verify.specs.Table.{work};
-ghost use Rattle.jwt_verify.specs.Accepted.{IsVerdict};
-ghost use Rattle.jwt_verify.specs.Laws.{IsBefore};
-ghost use Rattle.jwt_verify.specs.Paying.{IsWithin};
-ghost use Rattle.jwt_verify.specs.Reports.{FoundMemory, IsReport, AreEligible, IsBounded, TakesMemory};
+ghost use Rattle.jwt_verify.specs.Reports.{IsCharged, IsJudged};
 ghost use Rattle.jwt_verify.specs.TermsTable.{terms_meant};
-ghost use Rattle.jwt_verify.specs.declared.report.InputFault.TheVariants.{Read};
-ghost use Rattle.jwt_verify.specs.declared.report.Fault.TheVariants.{OutOfMemory, Text};
-ghost use Rattle.jwt_verify.specs.declared.report.Verdict.TheVariants.{Refused};
 ghost use Rattle.jwt_memory.specs.Entries.{HasRoomOf};
 ghost use Rattle.jwt_memory.specs.Kept.{AreKept};
 ghost use Rattle.jwt_memory.specs.Outcomes.{report_in, paid_in, is_remembered, shared_payload, IsFound, KeepsOnly};
@@ -68,30 +60,17 @@ pub fn judge<'p, B: Budget>(
     requires kept { AreKept terms.now.policy.now terms.now.keys.now
         (map (λ b. meaning (b.vtable, b.value)) terms.now.verifiers.now) memory.old }
 
-    // The verdict is that on the octets, unless memory was refused; and what else the report holds.
-    ensures verdict { FoundMemory (report_in result).verdict
-        → IsVerdict (terms_meant (λ b. meaning (b.vtable, b.value)) terms.now)
-        octets.now (B.ceiling budget.old) (report_in result).verdict }
-    ensures report { IsReport (terms_meant (λ b. meaning (b.vtable, b.value)) terms.now)
+    // The report is the one on the octets: the verdict is theirs, unless memory was refused.
+    ensures judged { IsJudged (terms_meant (λ b. meaning (b.vtable, b.value)) terms.now)
         octets.now (B.ceiling budget.old) (report_in result) }
-    ensures read { (report_in result).verdict ≢ Refused (Text Read) }
-    ensures memory { (report_in result).verdict ≡ Refused OutOfMemory → TakesMemory terms.now.policy.now octets.now }
 
     // It is remembered only where the memory held these octets, accepted under this ceiling.
     ensures found { IsFound (is_remembered result) memory.old octets.now (B.ceiling budget.old) }
 
-    // Of what was paid in this call: no pair is tried twice, and each is eligible; the octets are within the bound, the calls within
-    // the policy's ceiling.
-    ensures once { AllPairs IsBefore (paid_in result) }
-    ensures eligible { AreEligible (terms_meant (λ b. meaning (b.vtable, b.value)) terms.now)
-        octets.now (paid_in result) }
-    ensures bound { IsBounded (terms_meant (λ b. meaning (b.vtable, b.value)) terms.now)
-        octets.now (paid_in result) (B.octets budget.new) }
-    ensures within { IsWithin terms.now.policy.now.max_calls (B.calls budget.new) }
-
-    // The budget agrees with that.
-    ensures octets { B.octets budget.new ≡ work (paid_in result) }
-    ensures calls { B.calls budget.new ≡ length (paid_in result) }
+    // The budget counts just what was paid in this call. No pair is tried twice, and each is eligible; the octets are within the bound, the
+    // calls within the policy's ceiling.
+    ensures charged { IsCharged (terms_meant (λ b. meaning (b.vtable, b.value)) terms.now)
+        octets.now (paid_in result) (B.octets budget.new) (B.calls budget.new) }
     ensures ceiling { B.ceiling budget.new ≡ B.ceiling budget.old }
 
     // The memory is still of that policy, those keys and those verifiers.

@@ -1,15 +1,13 @@
 //! Judges a token by a memory, or by what a caller told.
 
-ghost use Rattle.std.specs.Prelude.{◌≡◌, ◌∷◌, [], Ok, IfOk, IfErr, MatchResult, false, true, length};
+ghost use Rattle.std.specs.Prelude.{◌≡◌, Ok, IfOk, IfErr, MatchResult, false, true};
 ghost use Rattle.jwt_jws.specs.Views.{token};
 ghost use Rattle.jwt_keys.specs.KeySets.{key_set};
-ghost use Rattle.jwt_verify.specs.Table.{work};
-ghost use Rattle.jwt_verify.specs.Paying.{IsWithin};
-ghost use Rattle.jwt_verify.specs.Reports.{TakesMemory, terms};
+ghost use Rattle.jwt_verify.specs.Reports.{IsCharged, TakesMemory};
 ghost use Rattle.jwt_verify.specs.declared.report.Fault.TheVariants.{OutOfMemory};
 ghost use Rattle.jwt_verify.specs.declared.report.Verdict.TheVariants.{Refused};
 ghost use Rattle.jwt_verify.specs.Verdict.{token_of};
-ghost use Rattle.jwt_told.specs.Told.{told, told_meaning};
+ghost use Rattle.jwt_told.specs.Told.{told, terms_told};
 ghost use Rattle.jwt_told.specs.Questions.{AreTries, IsFirstOpen, IsOpen};
 ghost use Rattle.jwt_memory.specs.Entries.{HasRoomOf};
 ghost use Rattle.jwt_memory.specs.ToldKept.{IsToldNow, IsRecalled, KeepsTold};
@@ -80,8 +78,7 @@ impl Memory {
         ensures room { HasRoomOf self.new self.old }
 
         // It asks about the first try of a run by the answers that has none. It comes with the token.
-        ensures tries { IfErr result (λ a. AreTries
-            (terms under.now.policy.now under.now.keys.now under.now.moment (told_meaning (told under.now.answers.now) ∷ []))
+        ensures tries { IfErr result (λ a. AreTries (terms_told under.now)
             octets.now (⟦<CountDown as Budget>⟧.ceiling budget.old) a.tries.items) }
         ensures first { IfErr result (λ a. IsFirstOpen (told under.now.answers.now)
             under.now.policy.now octets.now (key_set under.now.keys.now).keys a.tries.items
@@ -91,14 +88,14 @@ impl Memory {
             a.pair.signature a.pair.key) }
         ensures token { IfErr result (λ a. token_of under.now.policy.now octets.now ≡ Ok (token a.token)) }
 
-        // What the budget counts: what was paid in this call.
-        ensures octets { MatchResult result
-            (λ h. ⟦<CountDown as Budget>⟧.octets budget.new ≡ work (paid_in h.outcome))
-            (λ a. ⟦<CountDown as Budget>⟧.octets budget.new ≡ work a.tries.items) }
-        ensures calls { MatchResult result
-            (λ h. ⟦<CountDown as Budget>⟧.calls budget.new ≡ length (paid_in h.outcome))
-            (λ a. ⟦<CountDown as Budget>⟧.calls budget.new ≡ length a.tries.items) }
-        ensures within { IsWithin under.now.policy.now.max_calls (⟦<CountDown as Budget>⟧.calls budget.new) }
+        // The budget counts just what was paid in this call.
+        ensures charged { MatchResult result
+            (λ h. IsCharged (terms_told under.now)
+            octets.now (paid_in h.outcome)
+            (⟦<CountDown as Budget>⟧.octets budget.new) (⟦<CountDown as Budget>⟧.calls budget.new))
+            (λ a. IsCharged (terms_told under.now)
+            octets.now a.tries.items
+            (⟦<CountDown as Budget>⟧.octets budget.new) (⟦<CountDown as Budget>⟧.calls budget.new)) }
         ensures ceiling { ⟦<CountDown as Budget>⟧.ceiling budget.new
             ≡ ⟦<CountDown as Budget>⟧.ceiling budget.old }
     {

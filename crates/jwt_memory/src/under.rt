@@ -1,12 +1,8 @@
 //! Judges a token by a memory or anew, and hands out its payload.
 
-ghost use Rattle.std.specs.Prelude.{◌≡◌, ◌≢◌, length, map};
-ghost use Rattle.jwt_verify.specs.Table.{work};
-ghost use Rattle.jwt_verify.specs.Paying.{IsWithin};
-ghost use Rattle.jwt_verify.specs.Reports.{IsReport, TakesMemory};
+ghost use Rattle.std.specs.Prelude.{◌≡◌, map};
+ghost use Rattle.jwt_verify.specs.Reports.{IsCharged, IsJudged};
 ghost use Rattle.jwt_verify.specs.TermsTable.{terms_meant};
-ghost use Rattle.jwt_verify.specs.declared.report.Fault.TheVariants.{OutOfMemory};
-ghost use Rattle.jwt_verify.specs.declared.report.Verdict.TheVariants.{Refused};
 ghost use Rattle.jwt_memory.specs.Entries.{HasRoomOf};
 ghost use Rattle.jwt_memory.specs.Kept.{AreKept};
 ghost use Rattle.jwt_memory.specs.Outcomes.{report_in, paid_in, is_remembered, payload_in, IsFound, KeepsHanded};
@@ -47,10 +43,8 @@ impl Memory {
             (map (λ b. meaning (b.vtable, b.value)) terms.now.verifiers.now) self.old }
 
         // The report is the one of `judge`.
-        ensures report { IsReport (terms_meant (λ b. meaning (b.vtable, b.value)) terms.now)
+        ensures judged { IsJudged (terms_meant (λ b. meaning (b.vtable, b.value)) terms.now)
             octets.now (B.ceiling budget.old) (report_in result.outcome) }
-        ensures memory { (report_in result.outcome).verdict ≡ Refused OutOfMemory
-            → TakesMemory terms.now.policy.now octets.now }
 
         // What is handed out is the payload of the token, which is accepted.
         ensures payload { HandsOut terms.now.policy.now octets.now (report_in result.outcome).verdict (payload_in result) }
@@ -58,10 +52,9 @@ impl Memory {
         // It is remembered only where the memory held these octets, accepted under this ceiling.
         ensures found { IsFound (is_remembered result.outcome) self.old octets.now (B.ceiling budget.old) }
 
-        // What the budget counts: what was paid in this call.
-        ensures octets { B.octets budget.new ≡ work (paid_in result.outcome) }
-        ensures calls { B.calls budget.new ≡ length (paid_in result.outcome) }
-        ensures within { IsWithin terms.now.policy.now.max_calls (B.calls budget.new) }
+        // The budget counts just what was paid in this call.
+        ensures charged { IsCharged (terms_meant (λ b. meaning (b.vtable, b.value)) terms.now)
+            octets.now (paid_in result.outcome) (B.octets budget.new) (B.calls budget.new) }
         ensures ceiling { B.ceiling budget.new ≡ B.ceiling budget.old }
 
         // The memory is still of that policy, those keys and those verifiers. It keeps nothing new but this token, where it is accepted now, with

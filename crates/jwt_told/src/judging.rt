@@ -1,17 +1,13 @@
 //! Judges a token by what a caller told.
 
-ghost use Rattle.std.specs.Prelude.{◌≡◌, ◌≢◌, ◌↔◌, ◌∷◌, [], None, Ok, IfOk, IfErr, MatchResult, IsTrue, map, length};
+ghost use Rattle.std.specs.Prelude.{◌≡◌, ◌↔◌, ◌∷◌, [], Ok, IfOk, IfErr, MatchResult, IsTrue, map};
 ghost use Rattle.jwt_jws.specs.Views.{token};
 ghost use Rattle.jwt_keys.specs.KeySets.{key_set};
-ghost use Rattle.jwt_verify.specs.Table.{work};
 ghost use Rattle.jwt_verify.specs.Accepted.{IsVerdict};
-ghost use Rattle.jwt_verify.specs.Paying.{IsWithin};
-ghost use Rattle.jwt_verify.specs.Reports.{FoundMemory, IsReport, IsReadAs, TakesMemory, terms};
+ghost use Rattle.jwt_verify.specs.Reports.{FoundMemory, IsReadAs, IsJudged, IsCharged, terms};
 ghost use Rattle.jwt_verify.specs.TermsTable.{terms_meant};
 ghost use Rattle.jwt_verify.specs.Verdict.{token_of};
-ghost use Rattle.jwt_verify.specs.declared.report.Fault.TheVariants.{OutOfMemory};
-ghost use Rattle.jwt_verify.specs.declared.report.Verdict.TheVariants.{Refused};
-ghost use Rattle.jwt_told.specs.Told.{Truth, AreRight, told, told_meaning, true_meaning};
+ghost use Rattle.jwt_told.specs.Told.{Truth, AreRight, told, told_meaning, terms_told, true_meaning};
 ghost use Rattle.jwt_told.specs.Questions.{AreTries, IsFirstOpen, IsOpen, NoneOpen};
 
 use crate::answers::Answers;
@@ -70,8 +66,7 @@ fn told_terms<'k, 'p, 'v>(
     verifiers: &'v [Box<dyn Verifier>],
 ) -> Terms<'k, 'p, 'v>
     requires one { map meaning verifiers.now ≡ told_meaning (told under.now.answers.now) ∷ [] }
-    ensures meant { terms_meant meaning result
-        ≡ terms under.now.policy.now under.now.keys.now under.now.moment (told_meaning (told under.now.answers.now) ∷ []) }
+    ensures meant { terms_meant meaning result ≡ terms_told under.now }
     ensures policy { result.policy.now ≡ under.now.policy.now }
 {
     Terms {
@@ -93,16 +88,14 @@ fn judge_by<'a, 'p>(
 ) -> JudgedToken<'a, 'p>
     requires no_octets { ⟦<CountDown as Budget>⟧.octets budget.old ≡ 0 }
     requires no_calls { ⟦<CountDown as Budget>⟧.calls budget.old ≡ 0 }
-    ensures report { IsReport
-        (terms under.now.policy.now under.now.keys.now under.now.moment (told_meaning (told under.now.answers.now) ∷ []))
+    ensures judged { IsJudged (terms_told under.now)
         octets.now (⟦<CountDown as Budget>⟧.ceiling budget.old) result.report }
-    ensures token { IsReadAs under.now.policy.now octets.now result.report.verdict result.token }
-    ensures memory { result.report.verdict ≡ Refused OutOfMemory → TakesMemory under.now.policy.now octets.now }
-    ensures within { IsWithin under.now.policy.now.max_calls (⟦<CountDown as Budget>⟧.calls budget.new) }
-    ensures octets { ⟦<CountDown as Budget>⟧.octets budget.new ≡ work result.report.tries.items }
-    ensures calls { ⟦<CountDown as Budget>⟧.calls budget.new ≡ length result.report.tries.items }
+    ensures charged { IsCharged (terms_told under.now)
+        octets.now result.report.tries.items
+        (⟦<CountDown as Budget>⟧.octets budget.new) (⟦<CountDown as Budget>⟧.calls budget.new) }
     ensures ceiling { ⟦<CountDown as Budget>⟧.ceiling budget.new
         ≡ ⟦<CountDown as Budget>⟧.ceiling budget.old }
+    ensures token { IsReadAs under.now.policy.now octets.now result.report.verdict result.token }
 {
     let Ok(shared) = boxed(alloc, under.answers) else {
         return JudgedToken {
@@ -151,10 +144,8 @@ pub fn judge_told<'a, 'p>(
     requires no_calls { ⟦<CountDown as Budget>⟧.calls budget.old ≡ 0 }
 
     // The report is that of a run by the answers.
-    ensures report { IfOk result (λ j. IsReport
-        (terms under.now.policy.now under.now.keys.now under.now.moment (told_meaning (told under.now.answers.now) ∷ []))
+    ensures judged { IfOk result (λ j. IsJudged (terms_told under.now)
         octets.now (⟦<CountDown as Budget>⟧.ceiling budget.old) j.report) }
-    ensures memory { IfOk result (λ j. j.report.verdict ≡ Refused OutOfMemory → TakesMemory under.now.policy.now octets.now) }
 
     // It comes with the token that the octets are.
     ensures read { IfOk result (λ j. IsReadAs under.now.policy.now octets.now j.report.verdict j.token) }
@@ -171,8 +162,7 @@ pub fn judge_told<'a, 'p>(
         under.now.policy.now octets.now (key_set under.now.keys.now).keys j.report.tries.items) }
 
     // It asks about the first try of that run that has no answer.
-    ensures tries { IfErr result (λ a. AreTries
-        (terms under.now.policy.now under.now.keys.now under.now.moment (told_meaning (told under.now.answers.now) ∷ []))
+    ensures tries { IfErr result (λ a. AreTries (terms_told under.now)
         octets.now (⟦<CountDown as Budget>⟧.ceiling budget.old) a.tries.items) }
     ensures first { IfErr result (λ a. IsFirstOpen (told under.now.answers.now)
         under.now.policy.now octets.now (key_set under.now.keys.now).keys a.tries.items
@@ -184,14 +174,14 @@ pub fn judge_told<'a, 'p>(
     // A question comes with the token too.
     ensures token { IfErr result (λ a. token_of under.now.policy.now octets.now ≡ Ok (token a.token)) }
 
-    // What the budget counts.
-    ensures octets { MatchResult result
-        (λ j. ⟦<CountDown as Budget>⟧.octets budget.new ≡ work j.report.tries.items)
-        (λ a. ⟦<CountDown as Budget>⟧.octets budget.new ≡ work a.tries.items) }
-    ensures calls { MatchResult result
-        (λ j. ⟦<CountDown as Budget>⟧.calls budget.new ≡ length j.report.tries.items)
-        (λ a. ⟦<CountDown as Budget>⟧.calls budget.new ≡ length a.tries.items) }
-    ensures within { IsWithin under.now.policy.now.max_calls (⟦<CountDown as Budget>⟧.calls budget.new) }
+    // The budget counts just the tries of that run.
+    ensures charged { MatchResult result
+        (λ j. IsCharged (terms_told under.now)
+        octets.now j.report.tries.items
+        (⟦<CountDown as Budget>⟧.octets budget.new) (⟦<CountDown as Budget>⟧.calls budget.new))
+        (λ a. IsCharged (terms_told under.now)
+        octets.now a.tries.items
+        (⟦<CountDown as Budget>⟧.octets budget.new) (⟦<CountDown as Budget>⟧.calls budget.new)) }
     ensures ceiling { ⟦<CountDown as Budget>⟧.ceiling budget.new
         ≡ ⟦<CountDown as Budget>⟧.ceiling budget.old }
 {

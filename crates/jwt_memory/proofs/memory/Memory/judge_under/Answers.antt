@@ -12,8 +12,8 @@ kept-requires-clause-payload g c =
     let judged = c.judge_under-judged in
     read_is_spelled c.compact_payloads.ensures.spells c.args.terms.now.policy.now c.args.octets.now judged.result.report.verdict judged.result.token c.payload_of-payload.result judged.ensures.token c.payload_of-payload.ensures
 
-pub returns-in-Some-clause-report : goal.returns-in-Some-clause-report
-returns-in-Some-clause-report g c =
+pub returns-in-Some-clause-judged : goal.returns-in-Some-clause-judged
+returns-in-Some-clause-judged g c =
     let v = map (λ b. (goal.Verifier-dyn g (b.vtable, b.value)).meaning b.value) c.args.terms.now.verifiers.now in
     let w = g.B.Budget.ceiling c.args.budget.now in
     let b = arc_value c.in-Some.basis in
@@ -52,8 +52,8 @@ returns-in-Some-clause-kept g c e h = c.requires.kept e (c.in-Some.ensures.held 
 pub returns-in-Some-clause-held : goal.returns-in-Some-clause-held
 returns-in-Some-clause-held g c e h = inl (c.in-Some.ensures.held e h)
 
-pub returns-in-None-clause-memory : goal.returns-in-None-clause-memory
-returns-in-None-clause-memory g c wants = c.judge_under-judged.ensures.memory (sym (ap (λ r. r.verdict) c.kept.ensures.report) ∙ wants)
+pub returns-in-None-clause-judged : goal.returns-in-None-clause-judged
+returns-in-None-clause-judged g c = rw c.kept.ensures.report c.judge_under-judged.ensures.judged
 
 pub returns-in-None-clause-kept : goal.returns-in-None-clause-kept
 returns-in-None-clause-kept g c e h =
@@ -64,7 +64,7 @@ returns-in-None-clause-kept g c e h =
       | inl old ↦ c.requires.kept e (c.in-None.ensures.held e old)
       | inr new ↦ moved c.args.terms.now.policy.now c.args.terms.now.keys.now v e c.args.octets.now w new.0 (new.1 ∙ same)
           (may_be_kept c.args.terms.now.policy.now c.args.terms.now.keys.now v c.args.octets.now w (arc_value e.basis) c.accepted_ever.ensures c.args.terms.now.moment c.judge_under-judged.result.report
-          c.judge_under-judged.ensures.report (sym c.kept.ensures.report ∙ new.2))
+          c.judge_under-judged.ensures.judged.report (sym c.kept.ensures.report ∙ new.2))
     ]
 
 pub returns-in-None-clause-held : goal.returns-in-None-clause-held
