@@ -1,17 +1,9 @@
 //! A policy and keys with a memory of the tokens that they accept.
 
-ghost use Rattle.std.specs.Prelude.{◌≡◌, ◌≢◌, [], IfOk, length, map};
-ghost use Rattle.std.specs.List.{AllPairs};
+ghost use Rattle.std.specs.Prelude.{◌≡◌, [], IfOk, map};
 ghost use Rattle.std.specs.NonZero.{non_zero_usize_get};
 ghost use Rattle.jwt_keys.specs.KeySets.{key_set};
-ghost use Rattle.jwt_verify.specs.Table.{work};
-ghost use Rattle.jwt_verify.specs.Accepted.{IsVerdict};
-ghost use Rattle.jwt_verify.specs.Laws.{IsBefore};
-ghost use Rattle.jwt_verify.specs.Paying.{IsWithin};
-ghost use Rattle.jwt_verify.specs.Reports.{FoundMemory, IsReport, AreEligible, IsBounded, TakesMemory, terms};
-ghost use Rattle.jwt_verify.specs.declared.report.InputFault.TheVariants.{Read};
-ghost use Rattle.jwt_verify.specs.declared.report.Fault.TheVariants.{OutOfMemory, Text};
-ghost use Rattle.jwt_verify.specs.declared.report.Verdict.TheVariants.{Refused};
+ghost use Rattle.jwt_verify.specs.Reports.{IsCharged, IsJudged, terms};
 ghost use Rattle.jwt_memory.specs.Entries.{HasRoomOf};
 ghost use Rattle.jwt_memory.specs.Kept.{AreKept};
 ghost use Rattle.jwt_memory.specs.Outcomes.{report_in, paid_in, is_remembered, IsFound, KeepsOnly};
@@ -104,26 +96,13 @@ fn judge_under<'p, B: Budget>(
     requires no_octets { B.octets budget.old ≡ 0 }
     requires no_calls { B.calls budget.old ≡ 0 }
     requires kept { AreKept under.now.policy.now under.now.keys.now built_in memory.old }
-    ensures verdict { FoundMemory (report_in result).verdict
-        → IsVerdict (terms under.now.policy.now under.now.keys.now under.now.moment built_in)
-        octets.now (B.ceiling budget.old) (report_in result).verdict }
-    ensures report { IsReport
+    ensures judged { IsJudged
         (terms under.now.policy.now under.now.keys.now under.now.moment built_in)
         octets.now (B.ceiling budget.old) (report_in result) }
-    ensures read { (report_in result).verdict ≢ Refused (Text Read) }
-    ensures memory { (report_in result).verdict ≡ Refused OutOfMemory
-        → TakesMemory under.now.policy.now octets.now }
     ensures found { IsFound (is_remembered result) memory.old octets.now (B.ceiling budget.old) }
-    ensures once { AllPairs IsBefore (paid_in result) }
-    ensures eligible { AreEligible
+    ensures charged { IsCharged
         (terms under.now.policy.now under.now.keys.now under.now.moment built_in)
-        octets.now (paid_in result) }
-    ensures bound { IsBounded
-        (terms under.now.policy.now under.now.keys.now under.now.moment built_in)
-        octets.now (paid_in result) (B.octets budget.new) }
-    ensures within { IsWithin under.now.policy.now.max_calls (B.calls budget.new) }
-    ensures octets { B.octets budget.new ≡ work (paid_in result) }
-    ensures calls { B.calls budget.new ≡ length (paid_in result) }
+        octets.now (paid_in result) (B.octets budget.new) (B.calls budget.new) }
     ensures ceiling { B.ceiling budget.new ≡ B.ceiling budget.old }
     ensures kept { AreKept under.now.policy.now under.now.keys.now built_in memory.new }
     ensures room { HasRoomOf memory.new memory.old }
@@ -184,29 +163,17 @@ impl<'p> Remembering<'p> {
         requires no_octets { B.octets budget.old ≡ 0 }
         requires no_calls { B.calls budget.old ≡ 0 }
 
-        // The verdict is that on the octets, unless memory was refused; and what else the report holds.
-        ensures verdict { FoundMemory (report_in result).verdict
-            → IsVerdict (terms_of_documents self.old now)
-            octets.now (B.ceiling budget.old) (report_in result).verdict }
-        ensures report { IsReport (terms_of_documents self.old now)
+        // The report is the one on the octets: the verdict is theirs, unless memory was refused.
+        ensures judged { IsJudged (terms_of_documents self.old now)
             octets.now (B.ceiling budget.old) (report_in result) }
-        ensures read { (report_in result).verdict ≢ Refused (Text Read) }
-        ensures memory { (report_in result).verdict ≡ Refused OutOfMemory
-            → TakesMemory self.old.policy octets.now }
 
         // It is remembered only where the memory held these octets, accepted under this ceiling.
         ensures found { IsFound (is_remembered result) self.old.memory octets.now (B.ceiling budget.old) }
 
-        // What was paid in this call: no pair is tried twice, and each is eligible; the octets are within the bound, the calls within the
-        // policy's ceiling.
-        ensures once { AllPairs IsBefore (paid_in result) }
-        ensures eligible { AreEligible (terms_of_documents self.old now) octets.now (paid_in result) }
-        ensures bound { IsBounded (terms_of_documents self.old now) octets.now (paid_in result) (B.octets budget.new) }
-        ensures within { IsWithin self.old.policy.max_calls (B.calls budget.new) }
-
-        // The budget agrees with that.
-        ensures octets { B.octets budget.new ≡ work (paid_in result) }
-        ensures calls { B.calls budget.new ≡ length (paid_in result) }
+        // The budget counts just what was paid in this call. No pair is tried twice, and each is eligible; the octets are within the bound,
+        // the calls within the policy's ceiling.
+        ensures charged { IsCharged (terms_of_documents self.old now)
+            octets.now (paid_in result) (B.octets budget.new) (B.calls budget.new) }
         ensures ceiling { B.ceiling budget.new ≡ B.ceiling budget.old }
 
         // The policy and the keys stay, and the room of the memory; it keeps nothing new but this token, where it is accepted now.

@@ -1,13 +1,8 @@
 //! A policy, keys and verifiers, kept for many tokens.
 
 ghost use Rattle.std.specs.Prelude.{◌≡◌, ◌≢◌, ◌≤◌, ◌+◌, ℕ, List, Some, true, false, map, length, drop, [], IfSome};
-ghost use Rattle.std.specs.List.{AllPairs};
-ghost use Rattle.jwt_verify.specs.Table.{work};
-ghost use Rattle.jwt_verify.specs.Accepted.{IsVerdict};
-ghost use Rattle.jwt_verify.specs.Laws.{IsBefore};
-ghost use Rattle.jwt_verify.specs.Paying.{IsWithin};
 ghost use Rattle.jwt_text.specs.Intake.{TakesAtMost};
-ghost use Rattle.jwt_verify.specs.Reports.{FoundMemory, IsReport, AreEligible, IsBounded, TakesMemory, Failed, terms};
+ghost use Rattle.jwt_verify.specs.Reports.{IsReport, IsJudged, IsCounted, IsCharged, Failed, terms};
 ghost use Rattle.jwt_verify.specs.declared.report.InputFault.TheVariants.{Read};
 ghost use Rattle.jwt_verify.specs.declared.report.Fault.TheVariants.{OutOfMemory, Text};
 ghost use Rattle.jwt_verify.specs.declared.report.Verdict.TheVariants.{Refused};
@@ -59,31 +54,16 @@ impl Validator {
         requires no_octets { B.octets budget.old ≡ 0 }
         requires no_calls { B.calls budget.old ≡ 0 }
 
-        // The verdict is that on the octets, unless memory was refused; and what else the report holds.
-        ensures verdict { FoundMemory result.verdict
-            → IsVerdict
-            (terms self.now.policy self.now.keys now (map meaning self.now.verifiers.items))
-            octets.now (B.ceiling budget.old) result.verdict }
-        ensures report { IsReport
+        // The report is the one on the octets: the verdict is theirs, unless memory was refused.
+        ensures judged { IsJudged
             (terms self.now.policy self.now.keys now (map meaning self.now.verifiers.items))
             octets.now (B.ceiling budget.old) result }
-        ensures read { result.verdict ≢ Refused (Text Read) }
-        ensures memory { result.verdict ≡ Refused OutOfMemory
-            → TakesMemory self.now.policy octets.now }
 
-        // No pair is tried twice, and each is eligible; the octets are within the bound, the calls within the policy's ceiling.
-        ensures once { AllPairs IsBefore result.tries.items }
-        ensures eligible { AreEligible
+        // The budget counts just its tries. No pair is tried twice, and each is eligible; the octets are within the bound, the calls within the
+        // policy's ceiling.
+        ensures charged { IsCharged
             (terms self.now.policy self.now.keys now (map meaning self.now.verifiers.items))
-            octets.now result.tries.items }
-        ensures bound { IsBounded
-            (terms self.now.policy self.now.keys now (map meaning self.now.verifiers.items))
-            octets.now result.tries.items (B.octets budget.new) }
-        ensures within { IsWithin self.now.policy.max_calls (B.calls budget.new) }
-
-        // The budget agrees with the tries.
-        ensures octets { B.octets budget.new ≡ work result.tries.items }
-        ensures calls { B.calls budget.new ≡ length result.tries.items }
+            octets.now result.tries.items (B.octets budget.new) (B.calls budget.new) }
         ensures ceiling { B.ceiling budget.new ≡ B.ceiling budget.old }
     {
         let Validator {
@@ -113,25 +93,16 @@ impl Validator {
         requires no_octets { B.octets budget.old ≡ 0 }
         requires no_calls { B.calls budget.old ≡ 0 }
 
-        // Of a source whose octets are known, unless a read failed: the verdict is that on them, unless memory was refused; what
-        // else the report holds; and what was taken.
-        ensures verdict { IfSome (R.remaining source.old) (λ x. result.verdict ≢ Refused (Text Read)
-            → FoundMemory result.verdict
-            → IsVerdict
-            (terms self.now.policy self.now.keys now (map meaning self.now.verifiers.items))
-            x (B.ceiling budget.old) result.verdict) }
+        // Of a source whose octets are known: unless a read failed, the report is the one on them; what the budget counts; and what was
+        // taken.
         ensures report { IfSome (R.remaining source.old) (λ x. result.verdict ≢ Refused (Text Read)
             → IsReport
             (terms self.now.policy self.now.keys now (map meaning self.now.verifiers.items))
             x (B.ceiling budget.old) result) }
-        ensures eligible { IfSome (R.remaining source.old) (λ x.
-            AreEligible
+        ensures charged { IfSome (R.remaining source.old) (λ x.
+            IsCharged
             (terms self.now.policy self.now.keys now (map meaning self.now.verifiers.items))
-            x result.tries.items) }
-        ensures bound { IfSome (R.remaining source.old) (λ x.
-            IsBounded
-            (terms self.now.policy self.now.keys now (map meaning self.now.verifiers.items))
-            x result.tries.items (B.octets budget.new)) }
+            x result.tries.items (B.octets budget.new) (B.calls budget.new)) }
         ensures taken { IfSome (R.remaining source.old) (λ x. result.verdict ≢ Refused (Text Read)
             → result.verdict ≢ Refused OutOfMemory
             → R.remaining source.new ≡ Some (drop (self.now.policy.run.limit + 1) x)) }
@@ -140,22 +111,23 @@ impl Validator {
         ensures few { IfSome (R.remaining source.old) (λ x. result.verdict ≡ Refused (Text Read)
             → TakesAtMost self.now.policy.run.limit x (R.remaining source.new)) }
 
-        // Of every source, also of one whose octets aren't known: unless a read failed, some octets have this report.
+        // Of every source, also of one whose octets aren't known: unless a read failed, some octets have this report; and the budget
+        // counts just its tries.
         ensures some { result.verdict ≢ Refused (Text Read)
             → (x : List ℕ) × (length x ≤ self.now.policy.run.limit + 1)
             × IsReport
             (terms self.now.policy self.now.keys now (map meaning self.now.verifiers.items))
             x (B.ceiling budget.old) result }
-        ensures once { AllPairs IsBefore result.tries.items }
-        ensures within { IsWithin self.now.policy.max_calls (B.calls budget.new) }
+        ensures counted { IsCounted self.now.policy.max_calls
+            result.tries.items (B.octets budget.new) (B.calls budget.new) }
+        ensures ceiling { B.ceiling budget.new ≡ B.ceiling budget.old }
+
+        // Where the source fails, nothing was tried.
         ensures failed { R.failed source.new ≡ true
             → Failed result.verdict result.tries.items result.states.items }
         ensures read { result.verdict ≡ Refused (Text Read) → R.failed source.new ≡ true }
         ensures fails { R.failed source.old ≡ false → R.failed source.new ≡ true
             → result.verdict ≡ Refused (Text Read) }
-        ensures octets { B.octets budget.new ≡ work result.tries.items }
-        ensures calls { B.calls budget.new ≡ length result.tries.items }
-        ensures ceiling { B.ceiling budget.new ≡ B.ceiling budget.old }
     {
         let Validator {
             policy,

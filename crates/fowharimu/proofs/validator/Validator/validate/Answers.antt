@@ -3,11 +3,11 @@ use Rattle.std.proofs.Common.{w64}
 use Rattle.std.proofs.lemmas.Int.{to_z-of_z}
 use Rattle.fowharimu.proofs.validator.Validator.validate.Goals as goal
 
-pub returns-clause-verdict : goal.returns-clause-verdict
-returns-clause-verdict g c = rw (to_z-of_z w64 c.args.now c.ranges.now, c.as_slice-verifiers.ensures.value) at c.validate.ensures.verdict
+pub returns-clause-report : goal.returns-clause-report
+returns-clause-report g c = rw (to_z-of_z w64 c.args.now c.ranges.now, c.as_slice-verifiers.ensures.value) at c.validate.ensures.report
 
-pub returns-clause-eligible : goal.returns-clause-eligible
-returns-clause-eligible g c = rw (to_z-of_z w64 c.args.now c.ranges.now, c.as_slice-verifiers.ensures.value) at c.validate.ensures.eligible
+pub returns-clause-charged : goal.returns-clause-charged
+returns-clause-charged g c = rw (to_z-of_z w64 c.args.now c.ranges.now, c.as_slice-verifiers.ensures.value) at c.validate.ensures.charged
 
 pub returns-clause-some : goal.returns-clause-some
 returns-clause-some g c = rw (to_z-of_z w64 c.args.now c.ranges.now, c.as_slice-verifiers.ensures.value) at c.validate.ensures.some
