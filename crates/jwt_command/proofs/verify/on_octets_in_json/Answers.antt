@@ -16,9 +16,9 @@ returns-clause-line g c =
     let found = c.in_ok-reply.ensures.memory in
     answered_in_json (asked_of c.args.telling.now) q x c.payload_in-payload.result.now c.tells_reports.ensures r c.octets.result
     (subst (λ w. IsReport q x w r) (c.new-count.ensures.ceiling ∙ c.work.ensures.value)
-    c.judge_under-judged.ensures.report)
+    c.judge_under-judged.ensures.judged.report)
     (c.payload_in-payload.ensures ∙ read_payload c.args.terms.now.policy.now x r.verdict c.judge_under-judged.result.token c.tells_tokens.ensures.token found c.judge_under-judged.ensures.token)
-    (c.octets.ensures ∙ c.judge_under-judged.ensures.octets) found (reply_view c.in_ok-reply.reply) (c.in_ok-reply.ensures.line ∙ ap₂ (λ d m. verdict_json d m r.verdict c.payload_in-payload.result.now r.states.items r.tries.items c.octets.result) c.demands-demands.ensures.asked c.demands-demands.ensures.moment)
+    (c.octets.ensures ∙ c.judge_under-judged.ensures.charged.counted.octets) found (reply_view c.in_ok-reply.reply) (c.in_ok-reply.ensures.line ∙ ap₂ (λ d m. verdict_json d m r.verdict c.payload_in-payload.result.now r.states.items r.tries.items c.octets.result) c.demands-demands.ensures.asked c.demands-demands.ensures.moment)
 
 pub returns-clause-fault : goal.returns-clause-fault
 returns-clause-fault g c =
@@ -27,7 +27,7 @@ returns-clause-fault g c =
     let r = c.judge_under-judged.result.report in
     told_fault q x c.tells_reports.ensures r
     (subst (λ w. IsReport q x w r) (c.new-count.ensures.ceiling ∙ c.work.ensures.value)
-    c.judge_under-judged.ensures.report) c.in_ok-reply.ensures.memory _ c.form_fault.ensures
+    c.judge_under-judged.ensures.judged.report) c.in_ok-reply.ensures.memory _ c.form_fault.ensures
 
 pub returns-clause-done : goal.returns-clause-done
-returns-clause-done g c = λ is. c.judge_under-judged.ensures.read (c.in_ok-reply.ensures.failed is)
+returns-clause-done g c = λ is. c.judge_under-judged.ensures.judged.read (c.in_ok-reply.ensures.failed is)

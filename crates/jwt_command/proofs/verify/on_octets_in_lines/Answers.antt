@@ -15,8 +15,8 @@ returns-clause-line g c =
     let r = c.judge_under-judged.result.report in
     answered_in_hand (asked_of c.args.telling.now) q x c.tells_reports.ensures r c.octets.result
     (subst (λ w. IsReport q x w r) (c.new-budget.ensures.ceiling ∙ c.work.ensures.value)
-    c.judge_under-judged.ensures.report)
-    (c.octets.ensures ∙ c.judge_under-judged.ensures.octets) c.in_ok-reply.ensures.memory (reply_view c.in_ok-reply.reply) (c.in_ok-reply.ensures.line ∙ ap₂ (λ d m. verify_line d m r.verdict (length r.tries.items) c.octets.result) c.demands-demands.ensures.asked c.demands-demands.ensures.moment)
+    c.judge_under-judged.ensures.judged.report)
+    (c.octets.ensures ∙ c.judge_under-judged.ensures.charged.counted.octets) c.in_ok-reply.ensures.memory (reply_view c.in_ok-reply.reply) (c.in_ok-reply.ensures.line ∙ ap₂ (λ d m. verify_line d m r.verdict (length r.tries.items) c.octets.result) c.demands-demands.ensures.asked c.demands-demands.ensures.moment)
 
 pub returns-clause-fault : goal.returns-clause-fault
 returns-clause-fault g c =
@@ -25,7 +25,7 @@ returns-clause-fault g c =
     let r = c.judge_under-judged.result.report in
     told_fault q x c.tells_reports.ensures r
     (subst (λ w. IsReport q x w r) (c.new-budget.ensures.ceiling ∙ c.work.ensures.value)
-    c.judge_under-judged.ensures.report) c.in_ok-reply.ensures.memory _ c.form_fault.ensures
+    c.judge_under-judged.ensures.judged.report) c.in_ok-reply.ensures.memory _ c.form_fault.ensures
 
 pub returns-clause-done : goal.returns-clause-done
-returns-clause-done g c = λ is. c.judge_under-judged.ensures.read (c.in_ok-reply.ensures.failed is)
+returns-clause-done g c = λ is. c.judge_under-judged.ensures.judged.read (c.in_ok-reply.ensures.failed is)
