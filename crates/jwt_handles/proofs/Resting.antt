@@ -1,17 +1,18 @@
 -- What a verdict rests on, with a memory and without.
 use Rattle.std.proofs.Common.{◌≡◌, ℕ, ℤ, Bool, true, false, List, [], ◌∷◌, Some, refl, Result, Ok, Err}
-use Rattle.std.specs.Result.{IfOk, IfErr}
+use Rattle.std.specs.Result.{IfOk, IfErr, MatchResult}
 use Rattle.jwt_verify.specs.declared.report.Report.{Report}
 use Rattle.jwt_jws.specs.Views.{token}
 use Rattle.jwt_keys.specs.KeySets.{key_set}
-use Rattle.jwt_verify.specs.Reports.{terms}
-use Rattle.jwt_verify.specs.Verdict.{token_of}
+use Rattle.jwt_verify.specs.Table.{work}
+use Rattle.jwt_verify.specs.Reports.{IsCharged, terms}
+use Rattle.jwt_verify.specs.Verdict.{Terms, token_of}
 use Rattle.jwt_told.specs.Told.{ToldParts, told_meaning}
 use Rattle.jwt_told.specs.Questions.{AreTries, IsFirstOpen, IsOpen}
 use Rattle.jwt_told.specs.declared.questions.Asking.{Asking}
 use Rattle.jwt_memory.specs.declared.memory.Memory.{Memory}
 use Rattle.jwt_memory.specs.declared.outcome.Handed.{Handed}
-use Rattle.jwt_memory.specs.Outcomes.{is_remembered, report_in}
+use Rattle.jwt_memory.specs.Outcomes.{is_remembered, paid_in, report_in}
 use Rattle.jwt_memory.specs.ToldKept.{IsToldNow, IsRecalled}
 use Rattle.jwt_handles.specs.declared.grounds.Documents.{Documents}
 use Rattle.jwt_handles.specs.Remembering.{RestsOn}
@@ -31,6 +32,13 @@ pub rests_if : {E : Type 0} (result : Result Handed E) (ts : List ToldParts) (m 
     → IfOk result (λ h. RestsOn (is_remembered h.outcome) ts (Some m) it now x (report_in h.outcome))
 rests_if (Ok h) ts m it now x anew later = rests (is_remembered h.outcome) ts m it now x (report_in h.outcome) anew later
 rests_if (Err e) ts m it now x anew later = tt
+
+-- what was paid, where no question is asked
+pub paid_if : (result : Result Handed Asking) (q : Terms) (x : List ℕ) (fed called : ℕ)
+    → MatchResult result (λ h. IsCharged q x (paid_in h.outcome) fed called) (λ a. IsCharged q x a.tries.items fed called)
+    → IfOk result (λ h. fed ≡ work (paid_in h.outcome))
+paid_if (Ok h) q x fed called is = is.counted.octets
+paid_if (Err a) q x fed called is = tt
 
 -- what is asked, from its four parts
 pub asks_if : {T : Type 0} (result : Result T Asking) (ts : List ToldParts) (it : Documents) (now : ℤ) (x : List ℕ)

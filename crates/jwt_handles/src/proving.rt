@@ -22,47 +22,60 @@ use crate::report::FowReport;
 use crate::state::State;
 use crate::status::FOW_OUT_OF_MEMORY;
 use jwt_access::Moment;
-use jwt_mac::{Budget, CountDown, Verifier};
+use jwt_mac::{Budget, Verifier};
 use jwt_memory::laws::read_payloads;
 use jwt_memory::{Handed, Memory};
 use jwt_text::Scratch;
 use jwt_verify::{Terms, judge_under};
 use std::alloc::Global;
 
-/// What is handed out under terms whose verifiers mean what the proved ones do, over a memory where there is one.
+/// What is handed out, with the octets that were paid for it.
+#[derive(Drop)]
+struct PaidHanded<'p> {
+    handed: Handed<'p>,
+    cost: u64,
+}
+
+/// What is handed out under terms whose verifiers mean what the proved ones do, over a memory where there is one, under a new budget of
+/// the policy's `work`.
 #[tactic(auto, unfolding(jwt_verify::specs::Table::work))]
 fn outcome_under<'p>(
     alloc: Global,
     memory: &mut Option<Memory>,
     octets: &[u8],
     under: &Terms<'_, 'p, '_>,
-    budget: &mut CountDown,
     scratch: &mut Scratch,
-) -> Handed<'p>
+) -> PaidHanded<'p>
     requires meanings { map (λ b. meaning (b.vtable, b.value)) under.now.verifiers.now ≡ proved_meanings }
-    requires no_octets { ⟦<CountDown as Budget>⟧.octets budget.old ≡ 0 }
-    requires no_calls { ⟦<CountDown as Budget>⟧.calls budget.old ≡ 0 }
-    requires ceiling { ⟦<CountDown as Budget>⟧.ceiling budget.old
-        ≡ under.now.policy.now.run.work }
     requires kept { AreProvedKept (lent_documents under.now) memory.old }
     ensures report { IsReport
         (terms under.now.policy.now under.now.keys.now under.now.moment proved_meanings)
-        octets.now under.now.policy.now.run.work (report_in result.outcome) }
+        octets.now under.now.policy.now.run.work (report_in result.handed.outcome) }
     ensures payload { HandsOut under.now.policy.now octets.now
-        (report_in result.outcome).verdict (payload_in result) }
-    ensures held { IsHeldIn (is_remembered result.outcome) memory.old
+        (report_in result.handed.outcome).verdict (payload_in result.handed) }
+    ensures held { IsHeldIn (is_remembered result.handed.outcome) memory.old
         octets.now under.now.policy.now.run.work }
-    ensures paid { ⟦<CountDown as Budget>⟧.octets budget.new ≡ work (paid_in result.outcome) }
+    ensures paid { result.cost ≡ work (paid_in result.handed.outcome) }
     ensures kept { AreProvedKept (lent_documents under.now) memory.new }
     ensures room { HasSameRoom memory.new memory.old }
-    ensures adds { AddsHanded under.now.policy.now.run.work octets.now result memory.old memory.new }
+    ensures adds { AddsHanded under.now.policy.now.run.work octets.now result.handed memory.old memory.new }
 {
     read_payloads();
+    let mut budget = under.policy.budget();
     match memory {
-        Some(memory) => memory.judge_under(alloc, octets, under, budget, scratch),
+        Some(memory) => {
+            let handed = memory.judge_under(alloc, octets, under, &mut budget, scratch);
+            PaidHanded {
+                handed,
+                cost: budget.octets(),
+            }
+        }
         None => {
-            let judged = judge_under(alloc, octets, under, budget, scratch);
-            Handed::of(alloc, judged)
+            let judged = judge_under(alloc, octets, under, &mut budget, scratch);
+            PaidHanded {
+                handed: Handed::of(alloc, judged),
+                cost: budget.octets(),
+            }
         }
     }
 }
@@ -89,9 +102,8 @@ fn judging_under(
     ensures open { result.said.verdict ≤ FOW_OUT_OF_MEMORY }
     ensures adds { AddsOnly under.now.policy.now.run.work octets.now result.said result.last memory.old memory.new }
 {
-    let mut budget = under.policy.budget();
-    let handed = outcome_under(alloc, memory, octets, under, &mut budget, scratch);
-    match judging_of(alloc, handed, budget.octets()) {
+    let PaidHanded { handed, cost } = outcome_under(alloc, memory, octets, under, scratch);
+    match judging_of(alloc, handed, cost) {
         Ok(judging) => judging,
         Err(_) => bare(alloc, FOW_OUT_OF_MEMORY),
     }

@@ -9,7 +9,7 @@ use Rattle.jwt_verify.specs.declared.report.Report.{Report}
 use Rattle.jwt_memory.specs.ToldKept.{IsToldNow, IsRecalled}
 use Rattle.jwt_handles.specs.Keeping.{AddsHanded, AddsNone, AddsTold}
 use Rattle.jwt_handles.specs.Remembering.{RestsOn}
-use Rattle.jwt_handles.proofs.Resting.{rests_if, asks_if}
+use Rattle.jwt_handles.proofs.Resting.{rests_if, paid_if, asks_if}
 use Rattle.jwt_handles.proofs.by_answers.ByAnswers.outcome.Goals as goal
 
 pub returns-in-Some-clause-rests : goal.returns-in-Some-clause-rests
@@ -22,6 +22,9 @@ returns-in-Some-clause-rests c =
     (subst (λ n. IfOk all (λ h. is_remembered h.outcome ≡ false → IsToldNow ts it.policy it.keys n x w (report_in h.outcome))) z c.judge_told.ensures.anew))
     (subst (λ w. IfOk all (λ h. is_remembered h.outcome ≡ true → IsRecalled m it.policy now x w (report_in h.outcome))) c.requires.ceiling
     (subst (λ n. IfOk all (λ h. is_remembered h.outcome ≡ true → IsRecalled m it.policy n x w (report_in h.outcome))) z c.judge_told.ensures.remembered)))
+
+pub returns-in-Some-clause-paid : goal.returns-in-Some-clause-paid
+returns-in-Some-clause-paid c = paid_if c.judge_told.result _ c.args.octets.now _ _ c.judge_told.ensures.charged
 
 pub returns-in-Some-clause-adds : goal.returns-in-Some-clause-adds
 returns-in-Some-clause-adds c =
@@ -48,7 +51,7 @@ returns-in-Ok-clause-rests c =
     let ts = told c.args.self.now.answers.now in let it = c.args.self.now.documents.now in let x = c.args.octets.now in let r = c.in-Ok.judged.report in
     let here : IsToldNow ts it.policy it.keys c.args.self.now.moment x it.policy.run.work r =
     subst (λ w. IsToldNow ts it.policy it.keys c.args.self.now.moment x w r) c.requires.ceiling
-    (subst (λ n. IsToldNow ts it.policy it.keys n x c.args.budget.now.ceiling r) z (c.in-Ok.ensures.report, c.in-Ok.ensures.right)) in
+    (subst (λ n. IsToldNow ts it.policy it.keys n x c.args.budget.now.ceiling r) z (c.in-Ok.ensures.judged.report, c.in-Ok.ensures.right)) in
     subst (λ b. RestsOn b ts c.args.memory.now it c.args.self.now.moment x (report_in c.of.result.outcome)) (sym c.of.ensures.anew)
     (subst (IsToldNow ts it.policy it.keys c.args.self.now.moment x it.policy.run.work) (sym c.of.ensures.report) here)
 
