@@ -2,8 +2,9 @@
 use Rattle.std.specs.Prelude.{unwrap_or}
 use Rattle.std.proofs.Common.{◌≡◌, ◌≤◌, ◌<◌, ◌↔◌, ⊎_elim, IsTrue, inl, inr, ℕ, ◌+◌, Bool, true, false, List, [], length, take, Option, None, Some, Result, Ok, Err, IfOk, IfErr, IfSome, refl, sym, ap, ap₂, subst, ◌∙◌, arith, nat_lt, if◌then◌else◌}
 use Rattle.std.proofs.lemmas.Bool.{cases_lt, iff_false}
-use Rattle.std.proofs.lemmas.List.{take_all}
+use Rattle.std.proofs.lemmas.List.{length-take, take_all}
 use Rattle.std.proofs.lemmas.Bool.Decides.{nat_tests}
+use Rattle.jwt_text.specs.declared.limits.TheConstants.{LONGEST_KEY_SET, LONGEST_POLICY}
 use Rattle.jwt_mac.specs.Verifying.{Meaning}
 use Rattle.jwt_jws.specs.Forms.{form_of}
 use Rattle.jwt_jws.specs.declared.fault.FormFault.{FormFault}
@@ -21,7 +22,7 @@ use Rattle.jwt_verify.specs.Reports.{FoundMemory, IsReport}
 use Rattle.jwt_verify.specs.Steps.{TellsReports}
 use Rattle.jwt_verify.specs.declared.report.Report.{Report}
 use Rattle.jwt_words.specs.InHand.{Held}
-use Rattle.jwt_words.specs.Words.{Expectation, PrettyOrder}
+use Rattle.jwt_words.specs.Words.{Command, Expectation, PrettyOrder}
 use Rattle.jwt_words.specs.declared.printing.Printing.{Printing}
 use Rattle.jwt_words.specs.declared.printing.Printing.TheVariants.{Lines}
 use Rattle.jwt_printing.specs.ShownJson.{printed_too_long}
@@ -30,27 +31,21 @@ use Rattle.jwt_verdicts.specs.Printer.{Printer, printer, printer_for, unless_rea
 use Rattle.jwt_command.specs.Access.{rule_in_hand, under_rule}
 use Rattle.jwt_command.specs.Documents.{TakesDocument, behind, document, last_document, read_document}
 use Rattle.jwt_command.specs.Keys.{list_answer, listed}
-use Rattle.jwt_command.specs.Pretty.{PrettyAnswer, PrettyOctets, PrettyToken}
+use Rattle.jwt_command.specs.Pretty.{IsPrettyAnswer, PrettyOctets, PrettyToken}
 use Rattle.jwt_command.specs.RunLines.{Outcome, Printed}
+use Rattle.jwt_command.specs.Stops.{lacking}
 use Rattle.jwt_command.specs.Show.{printed_form, show_answer, show_on}
-use Rattle.jwt_command.specs.Subjects.{OrLacks, RefusedKeys, RefusedPolicy, RefusedRule, RefusedToken, Subject, fault_of, form_fault, form_or, keys_or, keys_subject, lines_subject, listed_subject, policy_or, rule_or, rule_subject, shown_subject, token_or, token_subject, unless_read, verify_subject}
+use Rattle.jwt_command.specs.Subjects.{IsSubject, OrLacks, RefusedKeys, RefusedPolicy, RefusedRule, RefusedToken, Subject, fault_of, form_fault, form_or, keys_or, keys_subject, lines_subject, listed_subject, policy_or, rule_or, rule_subject, shown_subject, subject_in_hand, token_or, token_subject, unless_lacking, unless_read, verify_subject}
 use Rattle.jwt_command.specs.Verify.{keys_answer, terms_of_keys, under_keys}
 use Rattle.jwt_command.proofs.Verifying.{keys_too_long, policy_too_long}
 use Rattle.jwt_command.proofs.WalkedLines.{length-take-all, printed_bounded, token_too_long}
 
 -- ---- the octets that are read
 
-length-take-le : (n : ℕ) (x : List ℕ) → length (take n x) ≤ length x
-length-take-le n x = go (nat_lt (length x) n) refl
-  where
-    go : (b : Bool) → nat_lt (length x) n ≡ b → length (take n x) ≤ length x
-    go true e = let short : length x < n = grind (arith, nat_tests, e) in omega (arith, ap length (take_all n x (omega (arith, short))))
-    go false e = let long : n ≤ length x = grind (arith, nat_tests, e) in omega (arith, length-take-all x n long, long)
-
 -- more octets than the limit are held, or all that there are
 pub is_longer : (limit : ℕ) (x octets : List ℕ) → octets ≡ take (limit + 1) x → limit < length octets → nat_lt limit (length x) ≡ true
 is_longer limit x octets is long =
-    let more : limit < length x = omega (arith, long, ap length is, length-take-le (limit + 1) x) in grind (arith, nat_tests, more)
+    let more : limit < length x = omega (arith, long, ap length is, length-take (limit + 1) x) in grind (arith, nat_tests, more)
 
 is_within : (limit : ℕ) (x octets : List ℕ) → octets ≡ take (limit + 1) x → length octets ≤ limit → nat_lt limit (length x) ≡ false
 is_within limit x octets is short = go (nat_lt limit (length x)) refl
@@ -74,70 +69,70 @@ not_longer longer n m is refused = ⊎_elim (λ below. absurd (iff_false is refu
 -- ---- a policy
 
 pub policy_refused_subject : (held : Option (List ℕ)) (x octets : List ℕ) (rest : Option (List ℕ)) (failed : Bool) (fault : PolicyFault) (next : Settings → Option Subject)
-    → TakesDocument 65536 held x octets rest → failed ≡ false → policy_of octets ≡ Err fault
-    → Some (RefusedPolicy fault octets) ≡ unless_read failed (policy_or (policy_of (document held x)) (read_document 65536 held x) next)
+    → TakesDocument LONGEST_POLICY held x octets rest → failed ≡ false → policy_of octets ≡ Err fault
+    → Some (RefusedPolicy fault octets) ≡ unless_read failed (policy_or (policy_of (document held x)) (read_document LONGEST_POLICY held x) next)
 policy_refused_subject held x octets rest failed fault next d works is =
     ap (λ o. Some (RefusedPolicy fault o)) d.read
-    ∙ sym (ap (λ f. unless_read f (policy_or (policy_of (document held x)) (read_document 65536 held x) next)) works
-    ∙ ap (λ k. policy_or k (read_document 65536 held x) next) (ap policy_of (sym d.octets_are) ∙ is))
+    ∙ sym (ap (λ f. unless_read f (policy_or (policy_of (document held x)) (read_document LONGEST_POLICY held x) next)) works
+    ∙ ap (λ k. policy_or k (read_document LONGEST_POLICY held x) next) (ap policy_of (sym d.octets_are) ∙ is))
 
-pub policy_long_subject : (held : Option (List ℕ)) (x : List ℕ) (failed : Bool) (next : Settings → Option Subject) → failed ≡ false → 65536 < length (document held x) → read_document 65536 held x ≡ []
-    → Some (RefusedPolicy policy.TooLong []) ≡ unless_read failed (policy_or (policy_of (document held x)) (read_document 65536 held x) next)
+pub policy_long_subject : (held : Option (List ℕ)) (x : List ℕ) (failed : Bool) (next : Settings → Option Subject) → failed ≡ false → LONGEST_POLICY < length (document held x) → read_document LONGEST_POLICY held x ≡ []
+    → Some (RefusedPolicy policy.TooLong []) ≡ unless_read failed (policy_or (policy_of (document held x)) (read_document LONGEST_POLICY held x) next)
 policy_long_subject held x failed next works long none =
-    sym (ap (λ f. unless_read f (policy_or (policy_of (document held x)) (read_document 65536 held x) next)) works
-    ∙ ap (λ k. policy_or k (read_document 65536 held x) next) (policy_too_long (document held x) long) ∙ ap (λ o. Some (RefusedPolicy policy.TooLong o)) none)
+    sym (ap (λ f. unless_read f (policy_or (policy_of (document held x)) (read_document LONGEST_POLICY held x) next)) works
+    ∙ ap (λ k. policy_or k (read_document LONGEST_POLICY held x) next) (policy_too_long (document held x) long) ∙ ap (λ o. Some (RefusedPolicy policy.TooLong o)) none)
 
 pub policy_read_subject : (tell : Printer) {A E : Type 0} (view : A → Option Subject) (r : Result A E) (vs : List Meaning) (now : ℕ) (h : Held) (p : Settings) (x octets : List ℕ) (mid : Option (List ℕ)) (failed : Bool)
-    → TakesDocument 65536 h.policy x octets mid → policy_of octets ≡ Ok p → IfSome mid (λ y. IfOk r (λ a. view a ≡ unless_read failed (keys_subject tell vs now h p y)))
+    → TakesDocument LONGEST_POLICY h.policy x octets mid → policy_of octets ≡ Ok p → IfSome mid (λ y. IfOk r (λ a. view a ≡ unless_read failed (keys_subject tell vs now h p y)))
     → IfOk r (λ a. view a ≡ unless_read failed (verify_subject tell vs now h x))
 policy_read_subject tell view r vs now h p x octets mid failed d is further =
-    subst (λ k. IfOk r (λ a. view a ≡ unless_read failed (policy_or k (read_document 65536 h.policy x) (λ q. keys_subject tell vs now h q (behind h.policy x))))) (sym is ∙ ap policy_of d.octets_are)
+    subst (λ k. IfOk r (λ a. view a ≡ unless_read failed (policy_or k (read_document LONGEST_POLICY h.policy x) (λ q. keys_subject tell vs now h q (behind h.policy x))))) (sym is ∙ ap policy_of d.octets_are)
     (subst (λ m. IfSome m (λ y. IfOk r (λ a. view a ≡ unless_read failed (keys_subject tell vs now h p y)))) d.unread further)
 
 -- ---- a key set
 
 pub keys_refused_subject : (held : Option (List ℕ)) (x octets : List ℕ) (rest : Option (List ℕ)) (failed : Bool) (fault : KeysFault) (next : KeyList → Option Subject)
-    → TakesDocument 4194304 held x octets rest → failed ≡ false → key_set_of octets ≡ Err fault
-    → Some (RefusedKeys fault octets) ≡ unless_read failed (keys_or (key_set_of (document held x)) (read_document 4194304 held x) next)
+    → TakesDocument LONGEST_KEY_SET held x octets rest → failed ≡ false → key_set_of octets ≡ Err fault
+    → Some (RefusedKeys fault octets) ≡ unless_read failed (keys_or (key_set_of (document held x)) (read_document LONGEST_KEY_SET held x) next)
 keys_refused_subject held x octets rest failed fault next d works is =
     ap (λ o. Some (RefusedKeys fault o)) d.read
-    ∙ sym (ap (λ f. unless_read f (keys_or (key_set_of (document held x)) (read_document 4194304 held x) next)) works
-    ∙ ap (λ k. keys_or k (read_document 4194304 held x) next) (ap key_set_of (sym d.octets_are) ∙ is))
+    ∙ sym (ap (λ f. unless_read f (keys_or (key_set_of (document held x)) (read_document LONGEST_KEY_SET held x) next)) works
+    ∙ ap (λ k. keys_or k (read_document LONGEST_KEY_SET held x) next) (ap key_set_of (sym d.octets_are) ∙ is))
 
-pub keys_long_subject : (held : Option (List ℕ)) (x : List ℕ) (failed : Bool) (next : KeyList → Option Subject) → failed ≡ false → 4194304 < length (document held x) → read_document 4194304 held x ≡ []
-    → Some (RefusedKeys keys.TooLong []) ≡ unless_read failed (keys_or (key_set_of (document held x)) (read_document 4194304 held x) next)
+pub keys_long_subject : (held : Option (List ℕ)) (x : List ℕ) (failed : Bool) (next : KeyList → Option Subject) → failed ≡ false → LONGEST_KEY_SET < length (document held x) → read_document LONGEST_KEY_SET held x ≡ []
+    → Some (RefusedKeys keys.TooLong []) ≡ unless_read failed (keys_or (key_set_of (document held x)) (read_document LONGEST_KEY_SET held x) next)
 keys_long_subject held x failed next works long none =
-    sym (ap (λ f. unless_read f (keys_or (key_set_of (document held x)) (read_document 4194304 held x) next)) works
-    ∙ ap (λ k. keys_or k (read_document 4194304 held x) next) (keys_too_long (document held x) long) ∙ ap (λ o. Some (RefusedKeys keys.TooLong o)) none)
+    sym (ap (λ f. unless_read f (keys_or (key_set_of (document held x)) (read_document LONGEST_KEY_SET held x) next)) works
+    ∙ ap (λ k. keys_or k (read_document LONGEST_KEY_SET held x) next) (keys_too_long (document held x) long) ∙ ap (λ o. Some (RefusedKeys keys.TooLong o)) none)
 
 pub keys_read_subject : (tell : Printer) {A E : Type 0} (view : A → Option Subject) (r : Result A E) (vs : List Meaning) (now : ℕ) (h : Held) (p : Settings) (set : KeyList) (x octets : List ℕ) (mid : Option (List ℕ)) (failed : Bool)
-    → TakesDocument 4194304 h.keys x octets mid → key_set_of octets ≡ Ok set → IfSome mid (λ y. IfOk r (λ a. view a ≡ unless_read failed (rule_subject tell (terms_of_keys vs now p set) h y)))
+    → TakesDocument LONGEST_KEY_SET h.keys x octets mid → key_set_of octets ≡ Ok set → IfSome mid (λ y. IfOk r (λ a. view a ≡ unless_read failed (rule_subject tell (terms_of_keys vs now p set) h y)))
     → IfOk r (λ a. view a ≡ unless_read failed (keys_subject tell vs now h p x))
 keys_read_subject tell view r vs now h p set x octets mid failed d is further =
-    subst (λ k. IfOk r (λ a. view a ≡ unless_read failed (keys_or k (read_document 4194304 h.keys x) (λ s. rule_subject tell (terms_of_keys vs now p s) h (behind h.keys x))))) (sym is ∙ ap key_set_of d.octets_are)
+    subst (λ k. IfOk r (λ a. view a ≡ unless_read failed (keys_or k (read_document LONGEST_KEY_SET h.keys x) (λ s. rule_subject tell (terms_of_keys vs now p s) h (behind h.keys x))))) (sym is ∙ ap key_set_of d.octets_are)
     (subst (λ m. IfSome m (λ y. IfOk r (λ a. view a ≡ unless_read failed (rule_subject tell (terms_of_keys vs now p set) h y)))) d.unread further)
 
 pub keys_read : (tell : Printer) {A E : Type 0} (view : A → Answer) (r : Result A E) (vs : List Meaning) (now : ℕ) (h : Held) (p : Settings) (set : KeyList) (x octets : List ℕ) (mid : Option (List ℕ)) (failed : Bool)
-    → TakesDocument 4194304 h.keys x octets mid → key_set_of octets ≡ Ok set → IfSome mid (λ y. IfOk r (λ a. view a ≡ unless_read_failed tell failed (under_rule tell (terms_of_keys vs now p set) (rule_in_hand h.access) (last_document h.token y))))
+    → TakesDocument LONGEST_KEY_SET h.keys x octets mid → key_set_of octets ≡ Ok set → IfSome mid (λ y. IfOk r (λ a. view a ≡ unless_read_failed tell failed (under_rule tell (terms_of_keys vs now p set) (rule_in_hand h.access) (last_document h.token y))))
     → IfOk r (λ a. view a ≡ unless_read_failed tell failed (keys_answer tell vs now h p x))
 keys_read tell view r vs now h p set x octets mid failed d is further =
     subst (λ k. IfOk r (λ a. view a ≡ unless_read_failed tell failed (under_keys tell vs now h p k (last_document h.token (behind h.keys x))))) (sym is ∙ ap key_set_of d.octets_are)
     (subst (λ m. IfSome m (λ y. IfOk r (λ a. view a ≡ unless_read_failed tell failed (under_rule tell (terms_of_keys vs now p set) (rule_in_hand h.access) (last_document h.token y))))) d.unread further)
 
 -- a key set that is all of the input: no more of it is looked at than one octet past the limit
-pub set_bounded : (x : List ℕ) → key_set_of (take 4194305 x) ≡ key_set_of x
-set_bounded x = go (nat_lt 4194304 (length x)) refl
+pub set_bounded : (x : List ℕ) → key_set_of (take (LONGEST_KEY_SET + 1) x) ≡ key_set_of x
+set_bounded x = go (nat_lt LONGEST_KEY_SET (length x)) refl
   where
-    go : (b : Bool) → nat_lt 4194304 (length x) ≡ b → key_set_of (take 4194305 x) ≡ key_set_of x
-    go true e = let long : 4194304 < length x = grind (arith, nat_tests, e) in
-        keys_too_long (take 4194305 x) (omega (arith, length-take-all x 4194305 (omega (arith, long)))) ∙ sym (keys_too_long x long)
-    go false e = let short : length x ≤ 4194304 = grind (arith, nat_tests, e) in ap key_set_of (take_all 4194305 x (omega (arith, short)))
+    go : (b : Bool) → nat_lt LONGEST_KEY_SET (length x) ≡ b → key_set_of (take (LONGEST_KEY_SET + 1) x) ≡ key_set_of x
+    go true e = let long : LONGEST_KEY_SET < length x = grind (arith, nat_tests, e) in
+        keys_too_long (take (LONGEST_KEY_SET + 1) x) (omega (arith, length-take-all x (LONGEST_KEY_SET + 1) (omega (arith, long)))) ∙ sym (keys_too_long x long)
+    go false e = let short : length x ≤ LONGEST_KEY_SET = grind (arith, nat_tests, e) in ap key_set_of (take_all (LONGEST_KEY_SET + 1) x (omega (arith, short)))
 
-pub set_refused_subject : (x octets : List ℕ) (failed : Bool) (fault : KeysFault) → octets ≡ take 4194305 x → failed ≡ false → key_set_of octets ≡ Err fault
+pub set_refused_subject : (x octets : List ℕ) (failed : Bool) (fault : KeysFault) → octets ≡ take (LONGEST_KEY_SET + 1) x → failed ≡ false → key_set_of octets ≡ Err fault
     → Some (RefusedKeys fault octets) ≡ unless_read failed (listed_subject x)
 set_refused_subject x octets failed fault taken works is =
     ap (λ o. Some (RefusedKeys fault o)) taken
-    ∙ sym (ap (λ f. unless_read f (listed_subject x)) works ∙ ap (λ k. keys_or k (take 4194305 x) (λ set. None)) (sym (set_bounded x) ∙ ap key_set_of (sym taken) ∙ is))
+    ∙ sym (ap (λ f. unless_read f (listed_subject x)) works ∙ ap (λ k. keys_or k (take (LONGEST_KEY_SET + 1) x) (λ set. None)) (sym (set_bounded x) ∙ ap key_set_of (sym taken) ∙ is))
 
 -- ---- an access rule
 
@@ -224,25 +219,25 @@ given_subject field f b none reply None wanted o told is lacking empty printed =
 given_subject field f b none (Ok r) (Some x) wanted o told is lacking empty printed = inl (ap f is ∙ told)
 given_subject field f b none (Err e) (Some x) wanted o told is lacking empty printed = inr (ap f lacking ∙ empty, printed)
 
--- no document is named where memory was refused
-pub lacks_subject : (known : Option (List ℕ)) (wanted : List ℕ → Option Subject) (s : Option Subject) (o : Outcome) → s ≡ None → Printed out_of_memory o → IfSome known (λ x. OrLacks s (wanted x) o)
-lacks_subject None wanted s o is printed = tt
-lacks_subject (Some x) wanted s o is printed = inr (is, printed)
+-- where each file that is named is in hand
+pub in_hand_subject : (built_in : List Meaning) (held : Held) (command : Command) (x : List ℕ) (failed : Bool) (s : Option Subject) (o : Outcome) → None ≡ lacking held (Some command)
+    → OrLacks s (subject_in_hand built_in held command failed x) o → IsSubject built_in held (Some command) x failed s o
+in_hand_subject built_in held command x failed s o none is = subst (λ (u : Option (List ℕ)). OrLacks s (unless_lacking u (subject_in_hand built_in held command failed x)) o) none is
 
--- nor where none is refused
-pub no_subject : (known : Option (List ℕ)) (s : Option Subject) (o : Outcome) → s ≡ None → IfSome known (λ x. OrLacks s None o)
-no_subject None s o is = tt
-no_subject (Some x) s o is = inl is
+-- none is refused where a file can't be read
+pub unread_subject : (built_in : List Meaning) (held : Held) (command : Command) (name x : List ℕ) (failed : Bool) (s : Option Subject) (o : Outcome) → Some name ≡ lacking held (Some command) → s ≡ None
+    → IsSubject built_in held (Some command) x failed s o
+unread_subject built_in held command name x failed s o is none = subst (λ (u : Option (List ℕ)). OrLacks s (unless_lacking u (subject_in_hand built_in held command failed x)) o) is (inl none)
 
 -- ---- the answers to what was taken
 
-pub list_taken : (printing : Printing) (x octets : List ℕ) (failed : Bool) (a : Answer) → octets ≡ take 4194305 x → failed ≡ false → a ≡ listed printing (key_set_of octets) → a ≡ list_answer printing failed x
+pub list_taken : (printing : Printing) (x octets : List ℕ) (failed : Bool) (a : Answer) → octets ≡ take (LONGEST_KEY_SET + 1) x → failed ≡ false → a ≡ listed printing (key_set_of octets) → a ≡ list_answer printing failed x
 list_taken printing x octets failed a taken works is =
     is ∙ ap (λ k. listed printing k) (ap key_set_of taken ∙ set_bounded x) ∙ sym (ap (λ f. unless_read_failed (printer printing) f (listed printing (key_set_of x))) works)
 
-pub set_read_subject : (x octets : List ℕ) (failed : Bool) (set : KeyList) → octets ≡ take 4194305 x → failed ≡ false → key_set_of octets ≡ Ok set → None ≡ unless_read failed (listed_subject x)
+pub set_read_subject : (x octets : List ℕ) (failed : Bool) (set : KeyList) → octets ≡ take (LONGEST_KEY_SET + 1) x → failed ≡ false → key_set_of octets ≡ Ok set → None ≡ unless_read failed (listed_subject x)
 set_read_subject x octets failed set taken works is =
-    sym (ap (λ f. unless_read f (listed_subject x)) works ∙ ap (λ k. keys_or k (take 4194305 x) (λ s. None)) (sym (set_bounded x) ∙ ap key_set_of (sym taken) ∙ is))
+    sym (ap (λ f. unless_read f (listed_subject x)) works ∙ ap (λ k. keys_or k (take (LONGEST_KEY_SET + 1) x) (λ s. None)) (sym (set_bounded x) ∙ ap key_set_of (sym taken) ∙ is))
 
 pub show_long : (printing : Printing) (limit : ℕ) (x octets : List ℕ) (failed : Bool) (a : Answer) → octets ≡ take (limit + 1) x → limit < length octets → failed ≡ false → a ≡ printed_too_long printing → a ≡ show_answer printing limit failed x
 show_long printing limit x octets failed a taken long works is =
@@ -257,15 +252,15 @@ show_is printing limit x octets failed a taken short works is =
     ∙ sym (ap (λ f. unless_read_failed (printer printing) f (show_on printing limit x)) works
     ∙ ap (λ b. if b then printed_too_long printing else printed_form printing (without_line_feed true x) (form_of 32 (without_line_feed true x))) all.0)
 
-pub pretty_long : (order : PrettyOrder) (x octets : List ℕ) (failed : Bool) (a : Answer) → octets ≡ take (order.limit + 1) x → order.limit < length octets → failed ≡ false → a ≡ printed_too_long Lines → PrettyAnswer order failed x a
+pub pretty_long : (order : PrettyOrder) (x octets : List ℕ) (failed : Bool) (a : Answer) → octets ≡ take (order.limit + 1) x → order.limit < length octets → failed ≡ false → a ≡ printed_too_long Lines → IsPrettyAnswer order failed x a
 pretty_long order x octets failed a taken long works is =
-    subst (λ (f : Bool). PrettyAnswer order f x a) (sym works) (subst (λ (b : Bool). PrettyOctets b order.now x a) (sym (is_longer order.limit x octets taken long)) is)
+    subst (λ (f : Bool). IsPrettyAnswer order f x a) (sym works) (subst (λ (b : Bool). PrettyOctets b order.now x a) (sym (is_longer order.limit x octets taken long)) is)
 
 pub pretty_is : (order : PrettyOrder) (x octets : List ℕ) (failed : Bool) (a : Answer) → octets ≡ take (order.limit + 1) x → length octets ≤ order.limit → failed ≡ false
-    → PrettyToken order.now (without_line_feed true octets) (form_of 32 (without_line_feed true octets)) a → PrettyAnswer order failed x a
+    → PrettyToken order.now (without_line_feed true octets) (form_of 32 (without_line_feed true octets)) a → IsPrettyAnswer order failed x a
 pretty_is order x octets failed a taken short works is =
     let all = is_all order.limit x octets taken short in
-    subst (λ (f : Bool). PrettyAnswer order f x a) (sym works) (subst (λ (b : Bool). PrettyOctets b order.now x a) (sym all.0)
+    subst (λ (f : Bool). IsPrettyAnswer order f x a) (sym works) (subst (λ (b : Bool). PrettyOctets b order.now x a) (sym all.0)
     (subst (λ (o : List ℕ). PrettyToken order.now (without_line_feed true o) (form_of 32 (without_line_feed true o)) a) all.1 is))
 
 -- ---- the documents of many lines

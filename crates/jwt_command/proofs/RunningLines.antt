@@ -7,21 +7,19 @@ use Rattle.jwt_access.specs.Rules.{Rule}
 use Rattle.jwt_access.specs.declared.access_fault.AccessFault.{AccessFault}
 use Rattle.jwt_policy.specs.Settings.{Settings}
 use Rattle.jwt_policy.specs.declared.policy_fault.PolicyFault.{PolicyFault}
-use Rattle.jwt_words.specs.InHand.{Held, unread}
 use Rattle.jwt_command.specs.Lines.{GivesLines, with_held}
 use Rattle.jwt_printing.specs.Printed.{Answer, out_of_memory}
-use Rattle.jwt_command.specs.RunLines.{LinesByKeys, LinesByPolicy, LinesByRule, LinesInHand, LinesNamed, Outcome, Printed, RunsLines}
-use Rattle.jwt_verdicts.specs.Printer.{Printer, printer_for}
-use Rattle.jwt_printing.specs.Refused.{printed_file_fault}
-use Rattle.jwt_command.specs.Verify.{asked_for, terms_of_keys}
-use Rattle.jwt_words.specs.Words.{LinesOrder}
+use Rattle.jwt_command.specs.RunLines.{LinesByKeys, LinesByPolicy, LinesByRule, LinesInHand, Outcome, Printed}
+use Rattle.jwt_verdicts.specs.Printer.{Printer}
+use Rattle.jwt_command.specs.Verify.{terms_of_keys}
 
 -- what holds for each x holds where x is known
 pub where_known : (known : Option (List ℕ)) (P : List ℕ → Type 0) → ((x : List ℕ) → P x) → IfSome known P
 where_known None P each = tt
 where_known (Some x) P each = each x
 
-given : {A E : Type 0} (view : A → Answer) (reply : Result A E) (a : Answer) (o : Outcome) → IfOk reply (λ r. view r ≡ a)
+-- an answer that was given is printed, or memory was refused
+pub given : {A E : Type 0} (view : A → Answer) (reply : Result A E) (a : Answer) (o : Outcome) → IfOk reply (λ r. view r ≡ a)
     → IfOk reply (λ r. Printed (view r) o) → IfErr reply (λ e. Printed out_of_memory o) → Printed out_of_memory o ⊎ Printed a o
 given view (Ok r) a o is printed lacks = inr (subst (λ (b : Answer). Printed b o) is printed)
 given view (Err e) a o is printed lacks = inl lacks
@@ -78,14 +76,6 @@ lines_by_rule_are_given tell verifiers says now None p keys rule asked unread o 
 lines_by_rule_are_given tell verifiers says now (Some x) p keys rule asked unread o is given =
     inr (subst (λ (k : Result (Option Rule) AccessFault). LinesByRule tell verifiers says now p keys k x unread o) (sym is) given)
 
-pub file_is_unread : {A E : Type 0} (view : A → Answer) (built_in : List Meaning) (says : ℕ → List ℕ → ℕ → Type 0) (order : LinesOrder) (held : Held) (known : Option (List ℕ)) (name : List ℕ)
-    (reply : Result A E) (failed : Bool) (o : Outcome) → Some name ≡ unread order.files held → IfOk reply (λ r. view r ≡ printed_file_fault order.printing name)
-    → IfOk reply (λ r. Printed (view r) o) → IfErr reply (λ e. Printed out_of_memory o) → IfSome known (λ x. RunsLines built_in says order held x failed o)
-file_is_unread view built_in says order held known name reply failed o is line printed lacks =
-    where_known known (λ x. RunsLines built_in says order held x failed o) (λ x.
-    or_else (Printed out_of_memory o) (Printed (printed_file_fault order.printing name) o) (LinesNamed (unread order.files held) built_in says order held x failed o)
-    (λ h. subst (λ (u : Option (List ℕ)). LinesNamed u built_in says order held x failed o) is h) (given view reply (printed_file_fault order.printing name) o line printed lacks))
-
 policy_lacks : (tell : Printer) (verifiers : List Meaning) (says : ℕ → List ℕ → ℕ → Type 0) (now : Option ℕ) (policy keys access : Option (List ℕ)) (x : List ℕ) (unread : Bool) (o : Outcome)
     → policy ≡ None → Printed tell.read_failed o → LinesInHand tell verifiers says now policy keys access x unread o
 policy_lacks tell verifiers says now policy keys access x unread o is printed = subst (λ (p : Option (List ℕ)). LinesInHand tell verifiers says now p keys access x unread o) (sym is) printed
@@ -95,20 +85,18 @@ keys_lack : (tell : Printer) (verifiers : List Meaning) (says : ℕ → List ℕ
 keys_lack tell verifiers says now None keys access x unread o is printed = printed
 keys_lack tell verifiers says now (Some p) keys access x unread o is printed = subst (λ (k : Option (List ℕ)). LinesInHand tell verifiers says now (Some p) k access x unread o) (sym is) printed
 
-pub without_policy : {A E : Type 0} (view : A → Answer) (built_in : List Meaning) (says : ℕ → List ℕ → ℕ → Type 0) (order : LinesOrder) (held : Held) (known : Option (List ℕ)) (reply : Result A E) (failed : Bool) (o : Outcome)
-    → None ≡ unread order.files held → held.policy ≡ None → IfOk reply (λ r. view r ≡ (printer_for order.printing order.expected).read_failed) → IfOk reply (λ r. Printed (view r) o)
-    → IfErr reply (λ e. Printed out_of_memory o) → IfSome known (λ x. RunsLines built_in says order held x failed o)
-without_policy view built_in says order held known reply failed o is lacking answer printed lacks =
-    where_known known (λ x. RunsLines built_in says order held x failed o) (λ x.
-    or_else (Printed out_of_memory o) (Printed (printer_for order.printing order.expected).read_failed o) (LinesNamed (unread order.files held) built_in says order held x failed o)
-    (λ h. subst (λ (u : Option (List ℕ)). LinesNamed u built_in says order held x failed o) is
-    (policy_lacks (printer_for order.printing order.expected) (asked_for order.public_keys built_in) says order.now held.policy held.keys held.access x failed o lacking h)) (given view reply (printer_for order.printing order.expected).read_failed o answer printed lacks))
+pub without_policy : {A E : Type 0} (view : A → Answer) (tell : Printer) (verifiers : List Meaning) (says : ℕ → List ℕ → ℕ → Type 0) (now : Option ℕ) (policy keys access : Option (List ℕ)) (known : Option (List ℕ)) (reply : Result A E) (failed : Bool) (o : Outcome)
+    → policy ≡ None → IfOk reply (λ r. view r ≡ tell.read_failed) → IfOk reply (λ r. Printed (view r) o) → IfErr reply (λ e. Printed out_of_memory o)
+    → IfSome known (λ x. Printed out_of_memory o ⊎ LinesInHand tell verifiers says now policy keys access x failed o)
+without_policy view tell verifiers says now policy keys access known reply failed o lacking answer printed lacks =
+    where_known known (λ x. Printed out_of_memory o ⊎ LinesInHand tell verifiers says now policy keys access x failed o) (λ x.
+    or_else (Printed out_of_memory o) (Printed tell.read_failed o) (LinesInHand tell verifiers says now policy keys access x failed o)
+    (policy_lacks tell verifiers says now policy keys access x failed o lacking) (given view reply tell.read_failed o answer printed lacks))
 
-pub without_keys : {A E : Type 0} (view : A → Answer) (built_in : List Meaning) (says : ℕ → List ℕ → ℕ → Type 0) (order : LinesOrder) (held : Held) (known : Option (List ℕ)) (reply : Result A E) (failed : Bool) (o : Outcome)
-    → None ≡ unread order.files held → held.keys ≡ None → IfOk reply (λ r. view r ≡ (printer_for order.printing order.expected).read_failed) → IfOk reply (λ r. Printed (view r) o)
-    → IfErr reply (λ e. Printed out_of_memory o) → IfSome known (λ x. RunsLines built_in says order held x failed o)
-without_keys view built_in says order held known reply failed o is lacking answer printed lacks =
-    where_known known (λ x. RunsLines built_in says order held x failed o) (λ x.
-    or_else (Printed out_of_memory o) (Printed (printer_for order.printing order.expected).read_failed o) (LinesNamed (unread order.files held) built_in says order held x failed o)
-    (λ h. subst (λ (u : Option (List ℕ)). LinesNamed u built_in says order held x failed o) is
-    (keys_lack (printer_for order.printing order.expected) (asked_for order.public_keys built_in) says order.now held.policy held.keys held.access x failed o lacking h)) (given view reply (printer_for order.printing order.expected).read_failed o answer printed lacks))
+pub without_keys : {A E : Type 0} (view : A → Answer) (tell : Printer) (verifiers : List Meaning) (says : ℕ → List ℕ → ℕ → Type 0) (now : Option ℕ) (policy keys access : Option (List ℕ)) (known : Option (List ℕ)) (reply : Result A E) (failed : Bool) (o : Outcome)
+    → keys ≡ None → IfOk reply (λ r. view r ≡ tell.read_failed) → IfOk reply (λ r. Printed (view r) o) → IfErr reply (λ e. Printed out_of_memory o)
+    → IfSome known (λ x. Printed out_of_memory o ⊎ LinesInHand tell verifiers says now policy keys access x failed o)
+without_keys view tell verifiers says now policy keys access known reply failed o lacking answer printed lacks =
+    where_known known (λ x. Printed out_of_memory o ⊎ LinesInHand tell verifiers says now policy keys access x failed o) (λ x.
+    or_else (Printed out_of_memory o) (Printed tell.read_failed o) (LinesInHand tell verifiers says now policy keys access x failed o)
+    (keys_lack tell verifiers says now policy keys access x failed o lacking) (given view reply tell.read_failed o answer printed lacks))

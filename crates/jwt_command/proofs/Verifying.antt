@@ -2,6 +2,7 @@
 use Rattle.std.proofs.Common.{◌≡◌, ◌≢◌, ◌≤◌, ◌<◌, ◌⊎◌, inl, inr, ℕ, ◌+◌, Bool, true, false, List, [], length, drop, Option, None, Some, Result, Ok, Err, IfOk, refl, sym, ap, subst, ◌∙◌, drop-drop, arith, nat_lt, true≢false, IfSome}
 use Rattle.std.proofs.lemmas.Bool.Decides.{nat_tests}
 use Rattle.std.specs.Option.{option_map_or}
+use Rattle.jwt_text.specs.declared.limits.TheConstants.{LONGEST_KEY_SET, LONGEST_POLICY}
 use Rattle.jwt_mac.specs.Verifying.{Meaning}
 use Rattle.jwt_keys.specs.KeySets.{KeyList, key_set_of}
 use Rattle.jwt_keys.specs.declared.fault.KeysFault.TheVariants as keys
@@ -35,7 +36,6 @@ use Rattle.jwt_issue.specs.Options.{OptionParts}
 use Rattle.jwt_verdicts.specs.Denied.{Demands}
 use Rattle.jwt_verdicts.specs.VerdictsJson.{verdict_json, token_json, payload_of}
 use Rattle.jwt_verdicts.specs.Printer.{Printer, printer, printer_for, unless_read_failed}
-use Rattle.jwt_printing.specs.Refused.{printed_file_fault, unless_unread}
 use Rattle.jwt_command.specs.Verify.{keys_answer, payload_in, under_keys, under_policy, verify_answer}
 use Rattle.jwt_printing.specs.Refused.{keys_refused}
 use Rattle.jwt_verdicts.specs.Verdicts.{moment_of, token_answer, verify_line}
@@ -55,8 +55,8 @@ more_taken first second most x rest failed within y a (inl is) = inl is
 more_taken first second most x rest failed within y (n, n_within, is) (inr (m, m_within, rest_is)) = inr (n + m, omega (arith, n_within, m_within, within), rest_is ∙ ap Some (ap (drop m) (ap (λ o. option_map_or (λ l. l) o y) is) ∙ drop-drop m n x))
 
 pub under_policy_taken : (h : Held) (x : List ℕ) (p : Settings) (rest : Option (List ℕ)) (failed : Bool) → policy_of (document h.policy x) ≡ Ok p
-    → (failed ≡ true) ⊎ TakesAtMost (document_most 65536 h.policy x + keys_most (token_most h p) h.keys (behind h.policy x)) x rest → (failed ≡ true) ⊎ TakesAtMost (verify_most h x) x rest
-under_policy_taken h x p rest failed is t = subst (λ r. (failed ≡ true) ⊎ TakesAtMost (document_most 65536 h.policy x + behind_policy h r (behind h.policy x)) x rest) (sym is) t
+    → (failed ≡ true) ⊎ TakesAtMost (document_most LONGEST_POLICY h.policy x + keys_most (token_most h p) h.keys (behind h.policy x)) x rest → (failed ≡ true) ⊎ TakesAtMost (verify_most h x) x rest
+under_policy_taken h x p rest failed is t = subst (λ r. (failed ≡ true) ⊎ TakesAtMost (document_most LONGEST_POLICY h.policy x + behind_policy h r (behind h.policy x)) x rest) (sym is) t
 
 pub most_is : (n most : ℕ) (x : List ℕ) (rest : Option (List ℕ)) (failed : Bool) → n ≤ most → (failed ≡ true) ⊎ TakesAtMost n x rest → (failed ≡ true) ⊎ TakesAtMost most x rest
 most_is n most x rest failed within (inl is) = inl is
@@ -82,14 +82,14 @@ document_then_stops limit more held x octets mid rest failed h then =
 
 -- of a key set that is read, and behind it
 pub behind_keys_taken : (most : ℕ) (held : Option (List ℕ)) (x octets : List ℕ) (mid rest : Option (List ℕ)) (failed : Bool) (set : KeyList)
-    → TakesDocument 4194304 held x octets mid → key_set_of octets ≡ Ok set → IfSome mid (λ y. (failed ≡ true) ⊎ TakesAtMost most y rest) → (failed ≡ true) ⊎ TakesAtMost (keys_most most held x) x rest
+    → TakesDocument LONGEST_KEY_SET held x octets mid → key_set_of octets ≡ Ok set → IfSome mid (λ y. (failed ≡ true) ⊎ TakesAtMost most y rest) → (failed ≡ true) ⊎ TakesAtMost (keys_most most held x) x rest
 behind_keys_taken most held x octets mid rest failed set h is then =
-    subst (λ k. (failed ≡ true) ⊎ TakesAtMost (document_most 4194304 held x + behind_keys most k) x rest) (sym is ∙ ap key_set_of h.octets_are)
-    (document_then_stops 4194304 (λ y. most) held x octets mid rest failed h then)
+    subst (λ k. (failed ≡ true) ⊎ TakesAtMost (document_most LONGEST_KEY_SET held x + behind_keys most k) x rest) (sym is ∙ ap key_set_of h.octets_are)
+    (document_then_stops LONGEST_KEY_SET (λ y. most) held x octets mid rest failed h then)
 
 -- the answer under a policy that is read
 pub policy_read : (tell : Printer) {A E : Type 0} (view : A → Answer) (r : Result A E) (vs : List Meaning) (now : ℕ) (h : Held) (p : Settings) (x octets : List ℕ) (mid : Option (List ℕ)) (failed : Bool)
-    → TakesDocument 65536 h.policy x octets mid → policy_of octets ≡ Ok p → IfSome mid (λ y. IfOk r (λ a. view a ≡ unless_read_failed tell failed (keys_answer tell vs now h p y)))
+    → TakesDocument LONGEST_POLICY h.policy x octets mid → policy_of octets ≡ Ok p → IfSome mid (λ y. IfOk r (λ a. view a ≡ unless_read_failed tell failed (keys_answer tell vs now h p y)))
     → IfOk r (λ a. view a ≡ verify_answer tell vs now h failed x)
 policy_read tell view r vs now h p x octets mid failed d is then =
     subst (λ k. IfOk r (λ a. view a ≡ unless_read_failed tell failed (under_policy tell vs now h k (behind h.policy x)))) (sym is ∙ ap policy_of d.octets_are)
@@ -119,30 +119,30 @@ front_taken limit most x rest false v within taken read = inr (drops (taken (λ 
 
 -- ---- lines that are too long
 
-pub keys_too_long : (z : List ℕ) → 4194304 < length z → key_set_of z ≡ Err keys.TooLong
+pub keys_too_long : (z : List ℕ) → LONGEST_KEY_SET < length z → key_set_of z ≡ Err keys.TooLong
 unfolding key_set_of
-keys_too_long z long = let is : nat_lt 4194304 (length z) ≡ true = grind (arith, nat_tests, long) in rw is refl
+keys_too_long z long = let is : nat_lt LONGEST_KEY_SET (length z) ≡ true = grind (arith, nat_tests, long) in rw is refl
 
-pub policy_too_long : (z : List ℕ) → 65536 < length z → policy_of z ≡ Err policy.TooLong
+pub policy_too_long : (z : List ℕ) → LONGEST_POLICY < length z → policy_of z ≡ Err policy.TooLong
 unfolding policy_of
-policy_too_long z long = let is : nat_lt 65536 (length z) ≡ true = grind (arith, nat_tests, long) in rw is refl
+policy_too_long z long = let is : nat_lt LONGEST_POLICY (length z) ≡ true = grind (arith, nat_tests, long) in rw is refl
 
-pub keys_line_too_long : (tell : Printer) (vs : List Meaning) (now : ℕ) (h : Held) (p : Settings) (x : List ℕ) (failed : Bool) → failed ≡ false → 4194304 < length (document h.keys x)
+pub keys_line_too_long : (tell : Printer) (vs : List Meaning) (now : ℕ) (h : Held) (p : Settings) (x : List ℕ) (failed : Bool) → failed ≡ false → LONGEST_KEY_SET < length (document h.keys x)
     → tell.keys_refused keys.TooLong ≡ unless_read_failed tell failed (keys_answer tell vs now h p x)
 keys_line_too_long tell vs now h p x failed works long =
     sym (ap (λ f. unless_read_failed tell f (keys_answer tell vs now h p x)) works ∙ ap (λ k. under_keys tell vs now h p k (last_document h.token (behind h.keys x))) (keys_too_long (document h.keys x) long))
 
-pub policy_line_too_long : (tell : Printer) (vs : List Meaning) (now : ℕ) (h : Held) (x : List ℕ) (failed : Bool) → failed ≡ false → 65536 < length (document h.policy x)
+pub policy_line_too_long : (tell : Printer) (vs : List Meaning) (now : ℕ) (h : Held) (x : List ℕ) (failed : Bool) → failed ≡ false → LONGEST_POLICY < length (document h.policy x)
     → tell.policy_refused policy.TooLong ≡ verify_answer tell vs now h failed x
 policy_line_too_long tell vs now h x failed works long =
     sym (ap (λ f. verify_answer tell vs now h f x) works ∙ ap (λ k. under_policy tell vs now h k (behind h.policy x)) (policy_too_long (document h.policy x) long))
 
-pub set_too_long : (printing : Printing) (x : List ℕ) (failed : Bool) → failed ≡ false → 4194304 < length x
+pub set_too_long : (printing : Printing) (x : List ℕ) (failed : Bool) → failed ≡ false → LONGEST_KEY_SET < length x
     → (printer printing).keys_refused keys.TooLong ≡ list_answer printing failed x
 set_too_long printing x failed works long =
     sym (ap (λ f. list_answer printing f x) works ∙ ap (listed printing) (keys_too_long x long))
 
-pub issue_line_too_long : (options : OptionParts) (held : Option (List ℕ)) (x : List ℕ) (failed : Bool) → failed ≡ false → 4194304 < length (document held x)
+pub issue_line_too_long : (options : OptionParts) (held : Option (List ℕ)) (x : List ℕ) (failed : Bool) → failed ≡ false → LONGEST_KEY_SET < length (document held x)
     → keys_refused keys.TooLong ≡ issue_answer options held failed x
 issue_line_too_long options held x failed works long =
     sym (ap (λ f. issue_answer options held f x) works ∙ ap (λ k. issue_under options k (behind held x)) (keys_too_long (document held x) long))
@@ -155,11 +155,6 @@ rule_refused tell view r q rule fault last None failed works is line = tt
 rule_refused tell view r q rule fault last (Some x) failed works is line =
     subst (λ (f : Bool). IfOk r (λ a. view a ≡ unless_read_failed tell f (under_rule tell q rule (last x)))) (sym works)
     (subst (λ (k : Result (Option Rule) AccessFault). IfOk r (λ a. view a ≡ under_rule tell q k (last x))) (sym is) line)
-
-pub file_unread : {A E : Type 0} (view : A → Answer) (r : Result A E) (printing : Printing) (known : Option (List ℕ)) (name : List ℕ) (unread : Option (List ℕ)) (answer : List ℕ → Answer)
-    → Some name ≡ unread → IfOk r (λ a. view a ≡ printed_file_fault printing name) → IfSome known (λ x. IfOk r (λ a. view a ≡ unless_unread printing unread (answer x)))
-file_unread view r printing None name unread answer is line = tt
-file_unread view r printing (Some x) name unread answer is line = subst (λ (k : Option (List ℕ)). IfOk r (λ a. view a ≡ unless_unread printing k (answer x))) is line
 
 -- ---- the line of a verdict
 

@@ -50,11 +50,6 @@ abbrev pub last_most : ℕ → Option (List ℕ) → ℕ
 last_most most (Some octets) = 0
 last_most most None = most
 
--- nothing where a file can't be read
-abbrev pub most_unless_unread : Option (List ℕ) → ℕ → ℕ
-most_unless_unread (Some name) most = 0
-most_unless_unread None most = most
-
 -- ---- Cited by contracts of private functions alone
 
 -- the document, and what follows it is still to come

@@ -1,5 +1,6 @@
 -- The answer of `jwt issue`.
 use Rattle.std.specs.Prelude.{ℕ, Bool, List, length, nat_lt, if◌then◌else◌, Option, Result, Ok, Err, codes, true}
+use Rattle.jwt_text.specs.declared.limits.TheConstants.{LONGEST_TOKEN}
 use Rattle.jwt_keys.specs.KeySets.{KeyList, key_set_of}
 use Rattle.jwt_keys.specs.Keys.{KeyParts}
 use Rattle.jwt_keys.specs.declared.fault.KeysFault.{KeysFault}
@@ -23,7 +24,7 @@ of_claims options keys (Err fault) = refused (joined_parts (claim_fault_parts fa
 
 -- of claims, without one line feed at their end
 abbrev pub claims_answer : OptionParts → List KeyParts → List ℕ → Answer
-claims_answer options keys octets = if nat_lt 1048576 (length octets) then refused (codes "TooLong") else of_claims options keys (claim_set_of (without_line_feed true octets))
+claims_answer options keys octets = if nat_lt LONGEST_TOKEN (length octets) then refused (codes "TooLong") else of_claims options keys (claim_set_of (without_line_feed true octets))
 
 abbrev pub issue_under : OptionParts → Result KeyList KeysFault → List ℕ → Answer
 issue_under options (Ok set) claims = claims_answer options set.keys claims

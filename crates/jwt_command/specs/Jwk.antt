@@ -12,14 +12,12 @@ use Rattle.jwt_jwk.specs.declared.fault.JwkFault.{JwkFault}
 use Rattle.jwt_jwk.specs.declared.fault.JwkFault.TheVariants.{OutOfMemory}
 use Rattle.jwt_jwk.specs.Converted.{IsEncoding, IsFileOf, IsJwkOf, IsJwkOfPem, IsPemOf, IsSetOf, IsSetOfOne}
 use Rattle.jwt_jwk.specs.Refusals.{IsDerFault, IsPemFault, IsSetFault}
-use Rattle.jwt_words.specs.InHand.{Held, unread}
+use Rattle.jwt_text.specs.declared.limits.TheConstants.{LONGEST_KEY_SET}
+use Rattle.jwt_words.specs.InHand.{Held}
 use Rattle.jwt_words.specs.Words.{JwkOrder, KidChoice, KidNamed, KidThumbprint, NoKid, SecretOrder}
 use Rattle.jwt_printing.specs.Jwk.{jwk_line, jwk_refused, random_failed}
-use Rattle.jwt_printing.specs.Printed.{Answer, out_of_memory}
-use Rattle.jwt_printing.specs.Refused.{printed_file_fault}
+use Rattle.jwt_printing.specs.Printed.{Answer}
 use Rattle.jwt_verdicts.specs.Printer.{printer}
-use Rattle.jwt_command.specs.Documents.{last_most, most_unless_unread}
-use Rattle.jwt_command.specs.RunLines.{Outcome, Printed}
 
 -- the `kid` of a key
 abbrev pub kid_by : KidChoice → KeyOctets → Option (List ℕ)
@@ -64,29 +62,17 @@ JwkOfKeys order octets a = ((json : List ℕ) × IsPrinted order octets json × 
 
 -- at most 4,194,304 octets are taken
 abbrev pub JwkOfOctets : JwkOrder → List ℕ → Answer → Type 0
-JwkOfOctets order octets a = ((length octets ≤ 4194304) × JwkOfKeys order octets a) ⊎ ((4194304 < length octets) × (a ≡ jwk_refused order.printing (codes "TooLong") None))
+JwkOfOctets order octets a = ((length octets ≤ LONGEST_KEY_SET) × JwkOfKeys order octets a) ⊎ ((LONGEST_KEY_SET < length octets) × (a ≡ jwk_refused order.printing (codes "TooLong") None))
 
 -- of an input, by a reader that has failed or not
 abbrev pub JwkOfInput : JwkOrder → Bool → List ℕ → Answer → Type 0
 JwkOfInput order true x a = a ≡ (printer order.printing).read_failed
 JwkOfInput order false x a = JwkOfOctets order x a
 
--- of what a file holds, or of the input
-abbrev pub JwkInHand : JwkOrder → Option (List ℕ) → Bool → List ℕ → Answer → Type 0
-JwkInHand order (Some octets) failed x a = JwkOfOctets order octets a
-JwkInHand order None failed x a = JwkOfInput order failed x a
-
-abbrev pub JwkNamed : Option (List ℕ) → JwkOrder → Option (List ℕ) → Bool → List ℕ → Answer → Type 0
-JwkNamed (Some name) order held failed x a = a ≡ printed_file_fault order.printing name
-JwkNamed None order held failed x a = JwkInHand order held failed x a
-
--- the answer, where a file that is named may not be in hand
-abbrev pub JwkAnswer : JwkOrder → Held → Bool → List ℕ → Answer → Type 0
-JwkAnswer order held failed x a = JwkNamed (unread order.files held) order held.key failed x a
-
--- an allocation was refused, or an answer is printed
-abbrev pub RunsJwk : JwkOrder → Held → List ℕ → Bool → Outcome → Type 0
-RunsJwk order held x failed o = Printed out_of_memory o ⊎ ((a : Answer) × JwkAnswer order held failed x a × Printed a o)
+-- the answer: of what a file holds, or of the input
+abbrev pub IsJwkAnswer : JwkOrder → Option (List ℕ) → Bool → List ℕ → Answer → Type 0
+IsJwkAnswer order (Some octets) failed x a = JwkOfOctets order octets a
+IsJwkAnswer order None failed x a = JwkOfInput order failed x a
 
 -- ---- new secrets
 
@@ -114,19 +100,7 @@ abbrev pub kept_secret_line : SecretOrder → Option (List ℕ) → Answer
 kept_secret_line order (Some k) = jwk_line (secret_json order.bare order.alg k)
 kept_secret_line order None = jwk_refused order.printing (codes "KeySize") None
 
--- of a file, or a new one
-abbrev pub secret_in_hand : Option (List ℕ) → SecretOrder → Held → Answer
-secret_in_hand (Some name) order held = kept_secret_line order (option_and_then (kept_secret (digest_size order.alg)) held.key)
-secret_in_hand None order held = secret_line order (fresh_secret order.alg held.random)
-
-abbrev pub secret_named : Option (List ℕ) → SecretOrder → Held → Answer
-secret_named (Some name) order held = printed_file_fault order.printing name
-secret_named None order held = secret_in_hand order.files.key order held
-
--- the answer, where a file that is named may not be in hand
-abbrev pub secret_answer : SecretOrder → Held → Answer
-secret_answer order held = secret_named (unread order.files held) order held
-
--- how much of the input is taken at most: nothing where the keys are in a file
-abbrev pub jwk_most : Held → JwkOrder → ℕ
-jwk_most held order = most_unless_unread (unread order.files held) (last_most 4194305 held.key)
+-- the answer: of a file, or a new one
+abbrev pub secret_answer : Option (List ℕ) → SecretOrder → Held → Answer
+secret_answer (Some name) order held = kept_secret_line order (option_and_then (kept_secret (digest_size order.alg)) held.key)
+secret_answer None order held = secret_line order (fresh_secret order.alg held.random)

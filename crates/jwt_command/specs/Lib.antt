@@ -16,8 +16,6 @@ pub mod Mac
 pub mod Show
 -- the answer of `jwt verify`
 pub mod Verify
--- the answer of the command to a request
-pub mod Answered
 -- the lines of an input, and the answers to them
 pub mod Lines
 -- the end of a run of `verify --lines`
@@ -28,6 +26,8 @@ pub mod Jwk
 pub mod Policy
 -- the answer of `jwt show --pretty`
 pub mod Pretty
+-- the answer of the command, where that is one
+pub mod Answered
 -- the amount that is taken of an input
 pub mod Stops
 -- the end of a run of the command

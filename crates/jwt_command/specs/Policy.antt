@@ -1,5 +1,5 @@
 -- The answer of `jwt policy`.
-use Rattle.std.specs.Prelude.{ℕ, List, [], Option, Some, None, unwrap_or, Result, Ok, Err}
+use Rattle.std.specs.Prelude.{ℕ, List, Option, Some, None, Result, Ok, Err}
 use Rattle.serde_json.specs.Data.{Members, no_members}
 use Rattle.jwt_text.specs.ObjectText.{object_of}
 use Rattle.jwt_text.specs.declared.fault.TextFault.{TextFault}
@@ -12,13 +12,10 @@ use Rattle.jwt_policy.specs.Settings.{Settings}
 use Rattle.jwt_policy.specs.declared.policy_fault.PolicyFault.{PolicyFault}
 use Rattle.jwt_advice.specs.Findings.{found_alone, found_with}
 use Rattle.jwt_advice.specs.Private.{entries_of, is_private}
-use Rattle.jwt_words.specs.InHand.{Held, unread}
-use Rattle.jwt_words.specs.Words.{PolicyOrder}
 use Rattle.jwt_words.specs.declared.printing.Printing.{Printing}
 use Rattle.jwt_verdicts.specs.Meant.{printed_policy}
 use Rattle.jwt_printing.specs.Printed.{Answer}
 use Rattle.jwt_verdicts.specs.Printer.{printer}
-use Rattle.jwt_printing.specs.Refused.{unless_unread}
 
 -- the members that stand in a document; none where it is no object
 abbrev pub members_or_none : Result Members TextFault → Members
@@ -41,10 +38,6 @@ abbrev pub policy_or_fault : Printing → List Meaning → List ℕ → Option (
 policy_or_fault printing verifiers document keys (Ok policy) = meaning_of printing verifiers document policy keys
 policy_or_fault printing verifiers document keys (Err fault) = (printer printing).policy_refused fault
 
-abbrev pub document_answer : Printing → List Meaning → List ℕ → Option (List ℕ) → Answer
-document_answer printing verifiers document keys = policy_or_fault printing verifiers document keys (policy_of document)
-
--- the answer, where a file that is named may not be in hand
-abbrev pub policy_answer : List Meaning → PolicyOrder → Held → Answer
-policy_answer verifiers order held =
-    unless_unread order.printing (unread order.files held) (document_answer order.printing verifiers (unwrap_or held.policy []) held.keys)
+-- the answer of two documents
+abbrev pub policy_answer : Printing → List Meaning → List ℕ → Option (List ℕ) → Answer
+policy_answer printing verifiers document keys = policy_or_fault printing verifiers document keys (policy_of document)

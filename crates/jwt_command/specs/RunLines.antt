@@ -1,5 +1,5 @@
 -- The end of a run of `verify --lines`.
-use Rattle.std.specs.Prelude.{◌⊎◌, ℕ, Bool, List, Option, Some, None, Result, Ok, Err}
+use Rattle.std.specs.Prelude.{ℕ, Bool, List, Option, Some, Result, Ok, Err}
 use Rattle.jwt_mac.specs.Verifying.{Meaning}
 use Rattle.jwt_keys.specs.KeySets.{KeyList, key_set_of}
 use Rattle.jwt_keys.specs.declared.fault.KeysFault.{KeysFault}
@@ -8,14 +8,11 @@ use Rattle.jwt_policy.specs.Settings.{Settings}
 use Rattle.jwt_policy.specs.declared.policy_fault.PolicyFault.{PolicyFault}
 use Rattle.jwt_access.specs.Rules.{Rule}
 use Rattle.jwt_access.specs.declared.access_fault.AccessFault.{AccessFault}
-use Rattle.jwt_words.specs.InHand.{Held, unread}
 use Rattle.jwt_command.specs.Access.{rule_in_hand}
 use Rattle.jwt_command.specs.Lines.{GivesLines, with_held}
-use Rattle.jwt_printing.specs.Printed.{Answer, Prints, out_of_memory}
-use Rattle.jwt_verdicts.specs.Printer.{Printer, printer_for}
-use Rattle.jwt_printing.specs.Refused.{printed_file_fault}
-use Rattle.jwt_command.specs.Verify.{asked_for, terms_of_keys}
-use Rattle.jwt_words.specs.Words.{LinesOrder}
+use Rattle.jwt_printing.specs.Printed.{Answer, Prints}
+use Rattle.jwt_verdicts.specs.Printer.{Printer}
+use Rattle.jwt_command.specs.Verify.{terms_of_keys}
 
 -- what went out before and after, whether the writer has failed, and the status
 pub record Outcome : Type 0 where
@@ -41,16 +38,8 @@ abbrev pub LinesByPolicy : Printer → List Meaning → (ℕ → List ℕ → �
 LinesByPolicy tell verifiers says now (Ok p) set rule x fails o = LinesByKeys tell verifiers says now p set rule x fails o
 LinesByPolicy tell verifiers says now (Err fault) set rule x fails o = Printed (tell.policy_refused fault) o
 
--- the policy and the key set are in hand
+-- where the policy and the key set are in hand
 abbrev pub LinesInHand : Printer → List Meaning → (ℕ → List ℕ → ℕ → Type 0) → Option ℕ → Option (List ℕ) → Option (List ℕ) → Option (List ℕ) → List ℕ → Bool → Outcome → Type 0
 LinesInHand tell verifiers says now (Some policy) (Some keys) access x fails o =
     LinesByPolicy tell verifiers says now (policy_of policy) (key_set_of keys) (rule_in_hand access) x fails o
 LinesInHand tell verifiers says now policy keys access x fails o = Printed tell.read_failed o
-
-abbrev pub LinesNamed : Option (List ℕ) → List Meaning → (ℕ → List ℕ → ℕ → Type 0) → LinesOrder → Held → List ℕ → Bool → Outcome → Type 0
-LinesNamed (Some name) built_in says order held x fails o = Printed (printed_file_fault order.printing name) o
-LinesNamed None built_in says order held x fails o = LinesInHand (printer_for order.printing order.expected) (asked_for order.public_keys built_in) says order.now held.policy held.keys held.access x fails o
-
--- a file can't be read, or a document is refused, or a verdict for each line; or an allocation was refused before the first line
-abbrev pub RunsLines : List Meaning → (ℕ → List ℕ → ℕ → Type 0) → LinesOrder → Held → List ℕ → Bool → Outcome → Type 0
-RunsLines built_in says order held x fails o = Printed out_of_memory o ⊎ LinesNamed (unread order.files held) built_in says order held x fails o

@@ -1,5 +1,6 @@
 -- The document that a command refuses, and what it read of it.
-use Rattle.std.specs.Prelude.{◌≡◌, ◌==◌, ◌+◌, ◌⊎◌, ℕ, Bool, true, false, List, [], length, take, nat_lt, if◌then◌else◌, Option, Some, None, unwrap_or, Result, Ok, Err}
+use Rattle.std.specs.Prelude.{◌≡◌, ◌==◌, ◌+◌, ◌⊎◌, ℕ, Bool, ◌||◌, true, false, List, [], length, take, nat_lt, if◌then◌else◌, Option, Some, None, unwrap_or, Result, Ok, Err}
+use Rattle.jwt_text.specs.declared.limits.TheConstants.{LONGEST_KEY_SET, LONGEST_POLICY}
 use Rattle.jwt_mac.specs.Verifying.{Meaning}
 use Rattle.jwt_jws.specs.Forms.{form_of}
 use Rattle.jwt_jws.specs.Token.{Token}
@@ -15,14 +16,15 @@ use Rattle.jwt_verify.specs.Verdict.{Terms, verdict_of, without_line_feed}
 use Rattle.jwt_verify.specs.declared.report.Fault.TheVariants.{Form}
 use Rattle.jwt_verify.specs.declared.report.Verdict.{Verdict}
 use Rattle.jwt_verify.specs.declared.report.Verdict.TheVariants.{Refused}
-use Rattle.jwt_words.specs.InHand.{Held, unread}
-use Rattle.jwt_words.specs.Words.{EachLine, Issue, Keys, Once, Order, Policy, Pretty, Request, Show, Verify, files_in_order}
-use Rattle.jwt_words.specs.declared.printing.Printing.{Printing}
+use Rattle.jwt_words.specs.InHand.{Held}
+use Rattle.jwt_words.specs.Words.{Command, Issue, Keys, Policy, Pretty, Show, Verify, VerifyLines}
 use Rattle.jwt_printing.specs.Printed.{out_of_memory}
 use Rattle.jwt_verdicts.specs.Printer.{Printer, printer_for}
 use Rattle.jwt_command.specs.Access.{rule_in_hand}
 use Rattle.jwt_command.specs.Documents.{behind, document, last_document, read_document, read_last}
 use Rattle.jwt_command.specs.RunLines.{Outcome, Printed}
+use Rattle.jwt_command.specs.Runs.{is_lines, reads_nothing}
+use Rattle.jwt_command.specs.Stops.{lacking}
 use Rattle.jwt_command.specs.Verify.{asked_for, terms_of_keys}
 use Rattle.jwt_command.specs.declared.documents.TakenDocument.{TakenDocument}
 use Rattle.jwt_command.specs.declared.documents.TakenDocument.TheVariants.{Input, Line, Held as InHand}
@@ -96,11 +98,11 @@ rule_subject tell q held x = rule_or (rule_in_hand held.access) (unwrap_or held.
 
 abbrev pub keys_subject : Printer → List Meaning → ℕ → Held → Settings → List ℕ → Option Subject
 keys_subject tell verifiers now held p x =
-    keys_or (key_set_of (document held.keys x)) (read_document 4194304 held.keys x) (λ set. rule_subject tell (terms_of_keys verifiers now p set) held (behind held.keys x))
+    keys_or (key_set_of (document held.keys x)) (read_document LONGEST_KEY_SET held.keys x) (λ set. rule_subject tell (terms_of_keys verifiers now p set) held (behind held.keys x))
 
 abbrev pub verify_subject : Printer → List Meaning → ℕ → Held → List ℕ → Option Subject
 verify_subject tell verifiers now held x =
-    policy_or (policy_of (document held.policy x)) (read_document 65536 held.policy x) (λ p. keys_subject tell verifiers now held p (behind held.policy x))
+    policy_or (policy_of (document held.policy x)) (read_document LONGEST_POLICY held.policy x) (λ p. keys_subject tell verifiers now held p (behind held.policy x))
 
 -- `verify --lines`: the documents in hand, and no token
 abbrev pub lines_subject : Option (List ℕ) → Option (List ℕ) → Option (List ℕ) → Option Subject
@@ -110,11 +112,11 @@ lines_subject policy keys access = None
 
 -- `keys`: the key set, which is all of the input
 abbrev pub listed_subject : List ℕ → Option Subject
-listed_subject x = keys_or (key_set_of x) (take 4194305 x) (λ set. None)
+listed_subject x = keys_or (key_set_of x) (take (LONGEST_KEY_SET + 1) x) (λ set. None)
 
 -- `issue`: the key set, in hand or the first line of the input
 abbrev pub issue_subject : Option (List ℕ) → List ℕ → Option Subject
-issue_subject held x = keys_or (key_set_of (document held x)) (read_document 4194304 held x) (λ set. None)
+issue_subject held x = keys_or (key_set_of (document held x)) (read_document LONGEST_KEY_SET held x) (λ set. None)
 
 -- `show`: the token, which is all of the input
 abbrev pub shown_subject : ℕ → List ℕ → Option Subject
@@ -130,7 +132,7 @@ set_subject (Some keys) = keys_or (key_set_of keys) keys (λ set. None)
 abbrev pub policy_subject : List ℕ → Option (List ℕ) → Option Subject
 policy_subject document keys = policy_or (policy_of document) document (λ p. set_subject keys)
 
--- ---- the document that a request refuses
+-- ---- the document that a command refuses
 
 -- none where a read has failed
 abbrev pub unless_read : Bool → Option Subject → Option Subject
@@ -142,27 +144,30 @@ abbrev pub unless_lacking : Option (List ℕ) → Option Subject → Option Subj
 unless_lacking (Some name) subject = None
 unless_lacking None subject = subject
 
-abbrev pub subject_in_hand : Printing → List Meaning → Held → Order → List ℕ → Option Subject
-subject_in_hand printing built_in held Keys x = listed_subject x
-subject_in_hand printing built_in held (Show limit) x = shown_subject limit x
-subject_in_hand printing built_in held (Verify now public_keys expected files) x = verify_subject (printer_for printing expected) (asked_for public_keys built_in) now held x
-subject_in_hand printing built_in held (Issue alg typ form files) x = issue_subject held.keys x
-subject_in_hand printing built_in held order x = None
-
-abbrev pub subject_of_order : Printing → List Meaning → Held → Order → Bool → List ℕ → Option Subject
-subject_of_order printing built_in held order failed x = unless_lacking (unread (files_in_order order) held) (unless_read failed (subject_in_hand printing built_in held order x))
+-- where each file that is named is in hand
+abbrev pub subject_in_hand : List Meaning → Held → Command → Bool → List ℕ → Option Subject
+subject_in_hand built_in held (Keys printing) failed x = unless_read failed (listed_subject x)
+subject_in_hand built_in held (Show printing limit) failed x = unless_read failed (shown_subject limit x)
+subject_in_hand built_in held (Verify printing now public_keys expected files) failed x = unless_read failed (verify_subject (printer_for printing expected) (asked_for public_keys built_in) now held x)
+subject_in_hand built_in held (VerifyLines order) failed x = lines_subject held.policy held.keys held.access
+subject_in_hand built_in held (Issue alg typ form files) failed x = unless_read failed (issue_subject held.keys x)
+subject_in_hand built_in held (Policy order) failed x = policy_subject (unwrap_or held.policy []) held.keys
+subject_in_hand built_in held (Pretty order) failed x = unless_read failed (shown_subject order.limit x)
+subject_in_hand built_in held command failed x = None
 
 -- with these verifiers and these documents at hand, of an input, by a reader that has failed or not
-abbrev pub subject_of : List Meaning → Held → Option Request → Bool → List ℕ → Option Subject
-subject_of built_in held (Some (Once printing order)) failed x = subject_of_order printing built_in held order failed x
-subject_of built_in held (Some (EachLine order)) failed x = unless_lacking (unread order.files held) (lines_subject held.policy held.keys held.access)
-subject_of built_in held (Some (Policy order)) failed x = unless_lacking (unread order.files held) (policy_subject (unwrap_or held.policy []) held.keys)
-subject_of built_in held (Some (Pretty order)) failed x = unless_read failed (shown_subject order.limit x)
-subject_of built_in held request failed x = None
+abbrev pub subject_of : List Meaning → Held → Option Command → Bool → List ℕ → Option Subject
+subject_of built_in held (Some command) failed x = unless_lacking (lacking held (Some command)) (subject_in_hand built_in held command failed x)
+subject_of built_in held None failed x = None
+
+-- a command of which that is the same of every source: one that reads nothing, and `verify --lines`, whose documents are in files
+abbrev pub is_of_files : Option Command → Bool
+is_of_files (Some command) = is_lines command || reads_nothing (Some command)
+is_of_files None = true
 
 -- The subject of a run is that document, if any. It is left out where an allocation was refused, and that is printed.
 abbrev pub OrLacks : Option Subject → Option Subject → Outcome → Type 0
 OrLacks subject wanted o = (subject ≡ wanted) ⊎ ((subject ≡ None) × Printed out_of_memory o)
 
-abbrev pub IsSubject : List Meaning → Held → Option Request → List ℕ → Bool → Option Subject → Outcome → Type 0
+abbrev pub IsSubject : List Meaning → Held → Option Command → List ℕ → Bool → Option Subject → Outcome → Type 0
 IsSubject built_in held asked x failed subject o = OrLacks subject (subject_of built_in held asked failed x) o

@@ -1,5 +1,5 @@
 //! The command `issue`: a token of some claims by a key set.
-ghost use Rattle.std.specs.Prelude.{◌≡◌, ◌≢◌, ◌⊎◌, Some, true, option_map, IfOk, IfSome};
+ghost use Rattle.std.specs.Prelude.{◌≡◌, ◌≢◌, ◌+◌, ◌⊎◌, Some, true, option_map, IfOk, IfSome};
 ghost use Rattle.jwt_keys.specs.KeySets.{key_set};
 ghost use Rattle.jwt_issue.specs.Views.{options_parts};
 ghost use Rattle.jwt_issue.specs.Options.{issued_by};
@@ -20,7 +20,7 @@ use jwt_issue::{ClaimSet, IssueFault, IssueOptions, issue_by};
 use jwt_keys::{KeySet, KeysFault};
 use jwt_policy::ClaimFault;
 use jwt_printing::{Reply, issue_fault_text, refused_claims};
-use jwt_text::{Source, TextFault};
+use jwt_text::{LONGEST_KEY_SET, LONGEST_TOKEN, Source, TextFault};
 use std::alloc::{AllocError, Global};
 
 /// The answer where these claims stand.
@@ -76,10 +76,10 @@ fn on_claims<R: Source>(
         ≡ unless_failed (R.failed r.new)
         (claims_answer (options_parts options.entry) (key_set keys.now).keys x))) }
     ensures taken { IfSome (R.remaining r.old)
-        (λ x. (R.failed r.new ≡ true) ⊎ TakesAtMost 1048577 x (R.remaining r.new)) }
+        (λ x. (R.failed r.new ≡ true) ⊎ TakesAtMost (LONGEST_TOKEN + 1) x (R.remaining r.new)) }
     ensures failed { IfOk result (λ a. a.status ≡ 3 → R.failed r.new ≡ true) }
 {
-    match read_input(alloc, 1_048_576, r) {
+    match read_input(alloc, LONGEST_TOKEN, r) {
         Err(TextFault::Read) => Reply::line(alloc, "failed Read", 3),
         Err(TextFault::TooLong) => Reply::refused(alloc, "TooLong"),
         Err(_) => Err(AllocError),
@@ -116,11 +116,11 @@ pub(crate) fn issue<'a, R: Source>(
     ensures subject { IfSome (R.remaining r.old) (λ x. IfOk result (λ a. option_map subject_view a.subject
         ≡ unless_read (R.failed r.new) (issue_subject (option_map (λ t. t.now) keys.entry) x))) }
     ensures stops { IfSome (R.remaining r.old) (λ x. (R.failed r.new ≡ true)
-        ⊎ TakesAtMost (keys_most 1048577 (option_map (λ t. t.now) keys.entry) x) x
+        ⊎ TakesAtMost (keys_most (LONGEST_TOKEN + 1) (option_map (λ t. t.now) keys.entry) x) x
         (R.remaining r.new)) }
     ensures failed { IfOk result (λ a. a.reply.status ≡ 3 → R.failed r.new ≡ true) }
 {
-    let text = match document(alloc, keys, r, 4_194_304) {
+    let text = match document(alloc, keys, r, LONGEST_KEY_SET) {
         Ok(text) => text,
         Err(LineFault::Read) => return Ok(Replied::bare(Reply::line(alloc, "failed Read", 3)?)),
         Err(LineFault::TooLong) => {

@@ -1,17 +1,16 @@
 //! The command `jwk`: public keys in PEM or DER as JWKs, and new secrets.
-ghost use Rattle.std.specs.Prelude.{◌≡◌, ◌≢◌, ◌≤◌, ◌⊎◌, true, false, IfErr, IfOk, IfSome, IsOkUnless, None, is_some, length, option_and_then, option_map};
+ghost use Rattle.std.specs.Prelude.{◌≡◌, ◌≢◌, ◌≤◌, ◌+◌, ◌⊎◌, true, false, IfErr, IfOk, IfSome, IsOkUnless, length, option_and_then, option_map};
 ghost use Rattle.serde_json.specs.Data.{object};
 ghost use Rattle.jwt_text.specs.Intake.{TakesAtMost};
 ghost use Rattle.jwt_mac.specs.Algorithm.{digest_size, is_hmac_alg};
 ghost use Rattle.jwt_jwk.specs.Converted.{kid_of};
 ghost use Rattle.jwt_jwk.specs.Jwk.{optional_text};
-ghost use Rattle.jwt_words.specs.InHand.{unread};
 ghost use Rattle.jwt_words.specs.Seen.{held_view, jwk_view, kid_view, secret_view};
 ghost use Rattle.jwt_jwk.specs.FaultNames.{jwk_fault_name, remedy};
 ghost use Rattle.jwt_printing.specs.Jwk.{jwk_line, jwk_refused};
 ghost use Rattle.jwt_printing.specs.Views.{reply_view};
 ghost use Rattle.jwt_command.specs.Documents.{last_most};
-ghost use Rattle.jwt_command.specs.Jwk.{AreKeys, AreKeysAs, IsFaultAs, IsPrinted, IsPrintedAs, JwkAnswer, JwkInHand, JwkOfInput, JwkOfKeys, JwkOfOctets, jwk_most, kid_by, kept_secret, kept_secret_line, secret_answer, secret_json, secret_line, fresh_secret};
+ghost use Rattle.jwt_command.specs.Jwk.{AreKeys, AreKeysAs, IsFaultAs, IsJwkAnswer, IsPrinted, IsPrintedAs, JwkOfInput, JwkOfKeys, JwkOfOctets, kid_by, kept_secret, kept_secret_line, secret_answer, secret_json, secret_line, fresh_secret};
 
 use crate::input::whole::read_input;
 use jwt_jwk::{
@@ -19,11 +18,9 @@ use jwt_jwk::{
     write_jwk_set,
 };
 use jwt_mac::{Alg, KeyView};
-use jwt_printing::{
-    Reply, jwk_line, printed_file_fault, printed_read_fault, random_failed, refused_jwk,
-};
-use jwt_text::{GREATEST_LIMIT, Source, TextFault};
-use jwt_words::{Held, JwkOrder, KidChoice, Printing, SecretOrder, unread};
+use jwt_printing::{Reply, jwk_line, printed_read_fault, random_failed, refused_jwk};
+use jwt_text::{LONGEST_KEY_SET, Source, TextFault};
+use jwt_words::{Held, JwkOrder, KidChoice, Printing, SecretOrder};
 use std::alloc::{AllocError, Global};
 
 /// The `kid` that is asked for.
@@ -117,7 +114,7 @@ fn octets_answer(alloc: Global, order: JwkOrder<'_>, octets: &[u8]) -> Result<Re
     ensures answer { IfOk result (λ a. JwkOfOctets (jwk_view order.entry) octets.now (reply_view a)) }
     ensures done { IfOk result (λ a. a.status ≢ 3) }
 {
-    if octets.len() <= GREATEST_LIMIT as usize {
+    if octets.len() <= LONGEST_KEY_SET as usize {
         keys_answer(alloc, order, octets)
     } else {
         refused_jwk(alloc, order.printing, "TooLong", None)
@@ -133,10 +130,10 @@ fn input_answer<R: Source>(
     ensures answer { IfSome (R.remaining r.old) (λ x. IfOk result (λ a.
         JwkOfInput (jwk_view order.entry) (R.failed r.new) x (reply_view a))) }
     ensures taken { IfSome (R.remaining r.old)
-        (λ x. (R.failed r.new ≡ true) ⊎ TakesAtMost 4194305 x (R.remaining r.new)) }
+        (λ x. (R.failed r.new ≡ true) ⊎ TakesAtMost (LONGEST_KEY_SET + 1) x (R.remaining r.new)) }
     ensures failed { IfOk result (λ a. a.status ≡ 3 → R.failed r.new ≡ true) }
 {
-    match read_input(alloc, GREATEST_LIMIT, r) {
+    match read_input(alloc, LONGEST_KEY_SET, r) {
         Ok(input) => octets_answer(alloc, order, input.octets()),
         Err(TextFault::Read) => printed_read_fault(alloc, order.printing),
         Err(TextFault::TooLong) => refused_jwk(alloc, order.printing, "TooLong", None),
@@ -144,42 +141,22 @@ fn input_answer<R: Source>(
     }
 }
 
-/// The answer of what a file holds, or of the input.
-fn held_answer<R: Source>(
+/// Runs `jwt jwk`: on the file of the keys, which is in hand, or on an input, of at most 4,194,304 octets.
+pub(crate) fn jwk<R: Source>(
     alloc: Global,
     order: JwkOrder<'_>,
     held: Option<&[u8]>,
     r: &mut R,
 ) -> Result<Reply, AllocError>
     ensures answer { IfSome (R.remaining r.old) (λ x. IfOk result (λ a.
-        JwkInHand (jwk_view order.entry) (option_map (λ t. t.now) held.entry) (R.failed r.new) x (reply_view a))) }
+        IsJwkAnswer (jwk_view order.entry) (option_map (λ t. t.now) held.entry) (R.failed r.new) x (reply_view a))) }
     ensures taken { IfSome (R.remaining r.old) (λ x. (R.failed r.new ≡ true)
-        ⊎ TakesAtMost (last_most 4194305 (option_map (λ t. t.now) held.entry)) x (R.remaining r.new)) }
+        ⊎ TakesAtMost (last_most (LONGEST_KEY_SET + 1) (option_map (λ t. t.now) held.entry)) x (R.remaining r.new)) }
     ensures failed { IfOk result (λ a. a.status ≡ 3 → R.failed r.new ≡ true) }
 {
     match held {
         Some(octets) => octets_answer(alloc, order, octets),
         None => input_answer(alloc, order, r),
-    }
-}
-
-/// Runs `jwt jwk`: on the file of the keys, which is in hand, or on an input, of at most 4,194,304 octets.
-pub(crate) fn jwk<R: Source>(
-    alloc: Global,
-    order: JwkOrder<'_>,
-    held: Held<'_>,
-    r: &mut R,
-) -> Result<Reply, AllocError>
-    ensures answer { IfSome (R.remaining r.old) (λ x. IfOk result (λ a.
-        JwkAnswer (jwk_view order.entry) (held_view held.entry) (R.failed r.new) x (reply_view a))) }
-    ensures taken { IfSome (R.remaining r.old) (λ x. (R.failed r.new ≡ true)
-        ⊎ TakesAtMost (jwk_most (held_view held.entry) (jwk_view order.entry)) x (R.remaining r.new)) }
-    ensures failed { IfOk result (λ a. a.status ≡ 3 → (R.failed r.new ≡ true)
-        ⊎ (is_some (unread (jwk_view order.entry).files (held_view held.entry)) ≡ true)) }
-{
-    match unread(order.files, held) {
-        Some(name) => printed_file_fault(alloc, order.printing, name),
-        None => held_answer(alloc, order, held.key, r),
     }
 }
 
@@ -281,11 +258,8 @@ pub(crate) fn secret(
 ) -> Result<Reply, AllocError>
     requires { is_hmac_alg order.alg ≡ true }
     ensures { IfOk result (λ a. reply_view a
-        ≡ secret_answer (secret_view order.entry) (held_view held.entry)) }
+        ≡ secret_answer (secret_view order.entry).files.key (secret_view order.entry) (held_view held.entry)) }
 {
-    if let Some(name) = unread(order.files, held) {
-        return printed_file_fault(alloc, order.printing, name);
-    }
     match order.files.key {
         Some(_) => kept_secret_line(alloc, order, held.key),
         None => new_secret_line(alloc, order, held.random),

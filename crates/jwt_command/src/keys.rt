@@ -1,5 +1,5 @@
 //! The command `keys`: the entries of a key set, in lines or in JSON.
-ghost use Rattle.std.specs.Prelude.{◌≡◌, ◌⊎◌, true, option_map, IfOk, IfSome};
+ghost use Rattle.std.specs.Prelude.{◌≡◌, ◌+◌, ◌⊎◌, true, option_map, IfOk, IfSome};
 ghost use Rattle.jwt_text.specs.Intake.{TakesAtMost};
 ghost use Rattle.jwt_command.specs.Keys.{list_answer};
 ghost use Rattle.jwt_printing.specs.Views.{reply_view};
@@ -9,7 +9,7 @@ use crate::documents::{TakenDocument, read_document};
 use crate::subject::{Replied, refused_keys};
 use jwt_keys::{KeySet, KeysFault};
 use jwt_printing::{printed_read_fault, printed_set};
-use jwt_text::{GREATEST_LIMIT, Source};
+use jwt_text::{LONGEST_KEY_SET, Source};
 use jwt_words::Printing;
 use std::alloc::{AllocError, Global};
 
@@ -24,10 +24,10 @@ pub(crate) fn keys<'a, R: Source>(
     ensures subject { IfSome (R.remaining r.old)
         (λ x. IfOk result (λ a. option_map subject_view a.subject ≡ unless_read (R.failed r.new) (listed_subject x))) }
     ensures taken { IfSome (R.remaining r.old)
-        (λ x. (R.failed r.new ≡ true) ⊎ TakesAtMost 4194305 x (R.remaining r.new)) }
+        (λ x. (R.failed r.new ≡ true) ⊎ TakesAtMost (LONGEST_KEY_SET + 1) x (R.remaining r.new)) }
     ensures failed { IfOk result (λ a. a.reply.status ≡ 3 → R.failed r.new ≡ true) }
 {
-    let Some(input) = read_document(alloc, GREATEST_LIMIT, r)? else {
+    let Some(input) = read_document(alloc, LONGEST_KEY_SET, r)? else {
         return Ok(Replied::bare(printed_read_fault(alloc, printing)?));
     };
     match KeySet::read(alloc, input.octets()) {

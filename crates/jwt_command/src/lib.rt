@@ -10,6 +10,7 @@
 #![tactic(auto)]
 
 mod access;
+mod clock;
 pub mod documents;
 pub mod input;
 mod issue;
@@ -25,6 +26,4 @@ mod telling;
 mod verify;
 pub mod verify_lines;
 
-pub use jwt_words::{
-    Files, Moment, Request, WordsFault, files_in_request, octets_asked, read_words,
-};
+pub use jwt_words::{Command, Files, Moment, Reads, WordsFault, read_words};

@@ -7,6 +7,7 @@ ghost use Rattle.jwt_mac.specs.Algorithm.{is_hmac_alg};
 ghost use Rattle.jwt_jws.specs.Views.{texts_view};
 ghost use Rattle.jwt_command.specs.declared.mac.MacFault.TheVariants.{Base64};
 ghost use Rattle.jwt_command.specs.Mac.{algorithm_of, behind_key, digest_by, compact_digest, mac_fault_name, key_spelled, mac_answer, mac_in_hand, mac_line, mac_most, texts_digest};
+ghost use Rattle.jwt_words.specs.Words.{IsLimit};
 ghost use Rattle.jwt_printing.specs.Mac.{digest_line, key_refused};
 ghost use Rattle.jwt_text.specs.Intake.{TakesAtMost};
 ghost use Rattle.jwt_printing.specs.Views.{digest_view, reply_view};
@@ -15,7 +16,7 @@ use crate::input::whole::{read_input, without_line_feed};
 use jwt_jws::{CompactTexts, compact_texts};
 use jwt_mac::{Alg, CountDown, Message, Tag, hmac};
 use jwt_printing::{Digest, Reply, digest_line, refused_key};
-use jwt_text::{Source, TextFault};
+use jwt_text::{LONGEST_TOKEN, Source, TextFault};
 use std::alloc::{AllocError, Global};
 
 /// Why a token has no tag.
@@ -77,7 +78,7 @@ fn computed(
 ) -> Result<Digest, MacFault>
     requires hmac { IsTrue (is_hmac_alg alg) }
     requires key { length key.now ≤ 4096 }
-    requires texts { length texts.now.protected.now + length texts.now.payload.now ≤ 1048577 }
+    requires texts { length texts.now.protected.now + length texts.now.payload.now ≤ LONGEST_TOKEN + 1 }
     ensures { IsOkAnd result
         (λ d. digest_view d ≡ digest_by key.now (texts_view texts.now) signature.now alg) }
 {
@@ -99,7 +100,7 @@ fn computed(
 #[tactic(auto, unfolding(crate::specs::Mac::texts_digest))]
 fn texts_digest(alloc: Global, key: &[u8], texts: &CompactTexts<'_>) -> Result<Digest, MacFault>
     requires key { length key.now ≤ 4096 }
-    requires texts { length texts.now.protected.now + length texts.now.payload.now ≤ 1048577 }
+    requires texts { length texts.now.protected.now + length texts.now.payload.now ≤ LONGEST_TOKEN + 1 }
     ensures { Answers MacFault.OutOfMemory digest_view result
         (texts_digest key.now (texts_view texts.now)) }
 {
@@ -114,7 +115,7 @@ fn texts_digest(alloc: Global, key: &[u8], texts: &CompactTexts<'_>) -> Result<D
 #[tactic(auto, unfolding(crate::specs::Mac::compact_digest))]
 fn token_digest(alloc: Global, key: &[u8], token: &[u8]) -> Result<Digest, MacFault>
     requires key { length key.now ≤ 4096 }
-    requires token { length token.now ≤ 1048576 }
+    requires token { length token.now ≤ LONGEST_TOKEN }
     ensures { Answers MacFault.OutOfMemory digest_view result (compact_digest key.now token.now) }
 {
     match compact_texts(token) {
@@ -140,7 +141,7 @@ fn fault_name(fault: MacFault) -> &'static str
 /// The line of a token.
 fn token_line(alloc: Global, key: &[u8], token: &[u8]) -> Result<Reply, AllocError>
     requires key { length key.now ≤ 4096 }
-    requires token { length token.now ≤ 1048576 }
+    requires token { length token.now ≤ LONGEST_TOKEN }
     ensures line { IfOk result (λ r. reply_view r ≡ mac_line (compact_digest key.now token.now)) }
     ensures done { IfOk result (λ r. r.status ≢ 3) }
 {
@@ -171,8 +172,7 @@ pub(crate) fn mac<R: Source>(
     limit: u64,
     r: &mut R,
 ) -> Result<Reply, AllocError>
-    requires least { 1 ≤ limit }
-    requires most { limit ≤ 1048576 }
+    requires { IsLimit limit }
     ensures line { IfSome (R.remaining r.old)
         (λ x. IfOk result (λ a. reply_view a ≡ mac_answer key.now limit (R.failed r.new) x)) }
     ensures stops { IfSome (R.remaining r.old) (λ x. (R.failed r.new ≡ true)
@@ -199,8 +199,7 @@ pub(crate) fn mac_in_hand<R: Source>(
     limit: u64,
     r: &mut R,
 ) -> Result<Reply, AllocError>
-    requires least { 1 ≤ limit }
-    requires most { limit ≤ 1048576 }
+    requires { IsLimit limit }
     ensures line { IfSome (R.remaining r.old) (λ x. IfOk result (λ a. reply_view a
         ≡ mac_in_hand (option_map (λ t. t.now) key.entry) limit (R.failed r.new) x)) }
     ensures stops { IfSome (R.remaining r.old) (λ x. (R.failed r.new ≡ true)

@@ -1,16 +1,14 @@
 //! The command `policy`: what a policy means, alone or with its keys.
-ghost use Rattle.std.specs.Prelude.{◌≡◌, [], IfOk, Some, map, option_map, unwrap_or};
+ghost use Rattle.std.specs.Prelude.{◌≡◌, IfOk, Some, map, option_map};
 ghost use Rattle.jwt_text.specs.ObjectText.{object_of};
 ghost use Rattle.jwt_keys.specs.KeySets.{key_set, key_set_of};
 ghost use Rattle.jwt_keys.specs.Numbers.{numbers};
 ghost use Rattle.jwt_advice.specs.Findings.{found_alone, found_with};
 ghost use Rattle.jwt_advice.specs.Private.{entries_of, is_private};
 ghost use Rattle.jwt_verdicts.specs.Meant.{printed_policy};
-ghost use Rattle.jwt_command.specs.Policy.{document_answer, meaning_of, members_or_none, policy_answer, policy_with_keys};
-ghost use Rattle.jwt_words.specs.Seen.{held_view, policy_view};
+ghost use Rattle.jwt_command.specs.Policy.{meaning_of, members_or_none, policy_answer, policy_with_keys};
 ghost use Rattle.jwt_printing.specs.Views.{reply_view};
-ghost use Rattle.jwt_words.specs.InHand.{unread};
-ghost use Rattle.jwt_command.specs.Subjects.{policy_subject, set_subject, subject_view, unless_lacking};
+ghost use Rattle.jwt_command.specs.Subjects.{policy_subject, set_subject, subject_view};
 
 use crate::documents::TakenDocument;
 use crate::subject::{Replied, refused_keys, refused_policy};
@@ -18,10 +16,10 @@ use jwt_advice::{Findings, private_entries};
 use jwt_keys::{KeySet, KeysFault};
 use jwt_mac::Verifier;
 use jwt_policy::{Policy, PolicyFault};
-use jwt_printing::{Reply, printed_file_fault};
+use jwt_printing::Reply;
 use jwt_text::{Object, TextFault, object};
 use jwt_verdicts::printed_policy;
-use jwt_words::{Held, PolicyOrder, Printing, unread};
+use jwt_words::Printing;
 use std::alloc::{AllocError, Global};
 
 /// The members that stand in a document; none where it is no object.
@@ -140,8 +138,9 @@ fn meaning_of<'a>(
     }
 }
 
-/// The answer of documents. The policy is looked at first.
-fn on_documents<'a>(
+/// Runs `jwt policy`, in JSON or in lines, on the documents in hand: what a policy means, with the keys of a key set and these verifiers
+/// for public keys, or alone. The policy is looked at first.
+pub(crate) fn policy<'a>(
     alloc: Global,
     printing: Printing,
     verifiers: &[Box<dyn Verifier>],
@@ -149,7 +148,7 @@ fn on_documents<'a>(
     keys: Option<&'a [u8]>,
 ) -> Result<Replied<'a>, AllocError>
     ensures line { IfOk result (λ a. reply_view a.reply
-        ≡ document_answer printing (map meaning verifiers.now) document.now
+        ≡ policy_answer printing (map meaning verifiers.now) document.now
         (option_map (λ t. t.now) keys.entry)) }
     ensures subject { IfOk result (λ a. option_map subject_view a.subject
         ≡ policy_subject document.now (option_map (λ t. t.now) keys.entry)) }
@@ -164,28 +163,5 @@ fn on_documents<'a>(
         }
         Err(PolicyFault::OutOfMemory) => Err(AllocError),
         Err(fault) => refused_policy(alloc, printing, fault, TakenDocument::Held(document)),
-    }
-}
-
-/// Runs `jwt policy`, in JSON or in lines, on the documents in hand: what a policy means, with the keys of a key set and these verifiers
-/// for public keys, or alone.
-pub(crate) fn policy<'a>(
-    alloc: Global,
-    order: PolicyOrder<'_>,
-    verifiers: &[Box<dyn Verifier>],
-    held: Held<'a>,
-) -> Result<Replied<'a>, AllocError>
-    ensures line { IfOk result (λ a. reply_view a.reply
-        ≡ policy_answer (map meaning verifiers.now) (policy_view order.entry) (held_view held.entry)) }
-    ensures subject { IfOk result (λ a. option_map subject_view a.subject
-        ≡ unless_lacking (unread (policy_view order.entry).files (held_view held.entry))
-        (policy_subject (unwrap_or (held_view held.entry).policy []) (held_view held.entry).keys)) }
-{
-    match unread(order.files, held) {
-        Some(name) => Ok(Replied::bare(printed_file_fault(alloc, order.printing, name)?)),
-        None => {
-            let document = held.policy.unwrap_or(&[]);
-            on_documents(alloc, order.printing, verifiers, document, held.keys)
-        }
     }
 }

@@ -1,9 +1,10 @@
 //! The command `show --pretty`: a token for a person.
-ghost use Rattle.std.specs.Prelude.{◌≡◌, ◌≢◌, ◌≤◌, ◌⊎◌, true, option_map, IfOk, IfSome};
+ghost use Rattle.std.specs.Prelude.{◌≡◌, ◌≢◌, ◌+◌, ◌⊎◌, true, option_map, IfOk, IfSome};
 ghost use Rattle.jwt_jws.specs.Forms.{form_of};
 ghost use Rattle.jwt_text.specs.Intake.{TakesAtMost};
 ghost use Rattle.jwt_words.specs.Seen.{pretty_view, seconds_of};
-ghost use Rattle.jwt_command.specs.Pretty.{PrettyAnswer, PrettyToken, pretty_most};
+ghost use Rattle.jwt_words.specs.Words.{IsLimit};
+ghost use Rattle.jwt_command.specs.Pretty.{IsPrettyAnswer, PrettyToken};
 ghost use Rattle.jwt_printing.specs.Views.{reply_view};
 ghost use Rattle.jwt_command.specs.Subjects.{fault_of, shown_subject, subject_view, unless_read};
 
@@ -42,14 +43,13 @@ pub(crate) fn show_pretty<'a, R: Source>(
     order: PrettyOrder,
     r: &mut R,
 ) -> Result<Replied<'a>, AllocError>
-    requires least { 1 ≤ order.limit }
-    requires most { order.limit ≤ 1048576 }
+    requires { IsLimit order.limit }
     ensures answer { IfSome (R.remaining r.old) (λ x. IfOk result (λ a.
-        PrettyAnswer (pretty_view order) (R.failed r.new) x (reply_view a.reply))) }
+        IsPrettyAnswer (pretty_view order) (R.failed r.new) x (reply_view a.reply))) }
     ensures subject { IfSome (R.remaining r.old) (λ x. IfOk result (λ a.
         option_map subject_view a.subject ≡ unless_read (R.failed r.new) (shown_subject order.limit x))) }
     ensures taken { IfSome (R.remaining r.old) (λ x. (R.failed r.new ≡ true)
-        ⊎ TakesAtMost (pretty_most (pretty_view order)) x (R.remaining r.new)) }
+        ⊎ TakesAtMost (order.limit + 1) x (R.remaining r.new)) }
     ensures failed { IfOk result (λ a. a.reply.status ≡ 3 → R.failed r.new ≡ true) }
 {
     let Some(input) = read_document(alloc, order.limit as u32, r)? else {

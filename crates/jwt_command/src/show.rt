@@ -1,9 +1,10 @@
 //! The command `show`: what stands in a token, with nothing of it verified, in lines or in JSON.
-ghost use Rattle.std.specs.Prelude.{◌≡◌, ◌≢◌, ◌≤◌, ◌+◌, ◌⊎◌, true, option_map, IfOk, IfSome, Ok, Err};
+ghost use Rattle.std.specs.Prelude.{◌≡◌, ◌≢◌, ◌+◌, ◌⊎◌, true, option_map, IfOk, IfSome, Ok, Err};
 ghost use Rattle.jwt_jws.specs.Forms.{form_of};
 ghost use Rattle.jwt_text.specs.Intake.{TakesAtMost};
 ghost use Rattle.jwt_command.specs.Show.{show_answer, printed_form};
 ghost use Rattle.jwt_printing.specs.ShownJson.{printed_form_fault, printed_token, printed_too_long};
+ghost use Rattle.jwt_words.specs.Words.{IsLimit};
 ghost use Rattle.jwt_printing.specs.Views.{reply_view};
 ghost use Rattle.jwt_command.specs.Subjects.{fault_of, shown_subject, subject_view, unless_read};
 
@@ -44,8 +45,7 @@ pub(crate) fn show<'a, R: Source>(
     limit: u64,
     r: &mut R,
 ) -> Result<Replied<'a>, AllocError>
-    requires least { 1 ≤ limit }
-    requires most { limit ≤ 1048576 }
+    requires { IsLimit limit }
     ensures line { IfSome (R.remaining r.old)
         (λ x. IfOk result (λ a. reply_view a.reply ≡ show_answer printing limit (R.failed r.new) x)) }
     ensures subject { IfSome (R.remaining r.old)

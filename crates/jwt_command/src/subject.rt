@@ -1,5 +1,5 @@
 //! The document that a command refuses.
-ghost use Rattle.std.specs.Prelude.{◌≡◌, IfErr, IfOk, None, Some, option_map};
+ghost use Rattle.std.specs.Prelude.{◌≡◌, [], IfErr, IfOk, None, Some, option_map, unwrap_or};
 ghost use Rattle.jwt_printing.specs.Printed.{Prints, out_of_memory};
 ghost use Rattle.jwt_printing.specs.Refused.{printed_access_fault, printed_keys_fault, printed_policy_fault};
 ghost use Rattle.jwt_printing.specs.Views.{reply_view};
@@ -107,19 +107,20 @@ pub(crate) fn refused_keys<'a>(
     Ok(Replied::refusing(reply, Subject::Keys(fault, document)))
 }
 
-/// An access rule is refused.
+/// The access rule in hand is refused.
 pub(crate) fn refused_rule<'a>(
     alloc: Global,
     printing: Printing,
     fault: AccessFault,
-    document: TakenDocument<'a>,
+    access: Option<&'a [u8]>,
 ) -> Result<Replied<'a>, AllocError>
     ensures line { IfOk result (λ a. reply_view a.reply ≡ printed_access_fault printing fault) }
     ensures subject { IfOk result (λ a. option_map subject_view a.subject
-        ≡ Some (RefusedRule fault (document_octets document.entry))) }
+        ≡ Some (RefusedRule fault (unwrap_or (option_map (λ t. t.now) access.entry) []))) }
     ensures done { IfOk result (λ a. a.reply.status ≡ 1) }
 {
     let reply = printed_access_fault(alloc, printing, &fault)?;
+    let document = TakenDocument::Held(access.unwrap_or(&[]));
     Ok(Replied::refusing(reply, Subject::Access(fault, document)))
 }
 
@@ -195,24 +196,6 @@ pub(crate) fn give_alone<'a, W: Sink>(w: &mut W, answer: Result<Reply, AllocErro
     Ran {
         status: give(w, answer),
         subject: None,
-    }
-}
-
-/// Sends an answer by which this document is refused, where memory was there.
-pub(crate) fn give_refusing<'a, W: Sink>(
-    w: &mut W,
-    answer: Result<Reply, AllocError>,
-    subject: Subject<'a>,
-) -> Ran<'a>
-    ensures ok { IfOk answer (λ a. Prints (reply_view a)
-        (W.contents w.old) (W.contents w.new) (W.failed w.new) result.status) }
-    ensures err { IfErr answer (λ _. Prints out_of_memory
-        (W.contents w.old) (W.contents w.new) (W.failed w.new) result.status) }
-    ensures subject { result.subject ≡ Some subject.entry }
-{
-    Ran {
-        status: give(w, answer),
-        subject: Some(subject),
     }
 }
 

@@ -27,7 +27,7 @@ use jwt_keys::{KeySet, KeysFault};
 use jwt_mac::{Budget, CountDown, Verifier};
 use jwt_policy::{Policy, PolicyFault};
 use jwt_printing::printed_read_fault;
-use jwt_text::{Scratch, Source};
+use jwt_text::{LONGEST_KEY_SET, LONGEST_POLICY, Scratch, Source};
 use jwt_verdicts::{report_json, report_line};
 use jwt_verify::laws::{tells_reports, tells_tokens};
 use jwt_verify::{Fault, Terms, Verdict, judge_under};
@@ -249,10 +249,7 @@ fn on_rule<'a, R: Source>(
             on_last(alloc, terms, &telling, held.token, r)
         }
         Err(AccessFault::OutOfMemory) => Err(AllocError),
-        Err(fault) => {
-            let document = TakenDocument::Held(held.access.unwrap_or(&[]));
-            refused_rule(alloc, asked.printing, fault, document)
-        }
+        Err(fault) => refused_rule(alloc, asked.printing, fault, held.access),
     }
 }
 
@@ -278,7 +275,7 @@ fn on_keys<'a, R: Source>(
     ensures failed { IfOk result (λ a. a.reply.status ≡ 3 → R.failed r.new ≡ true) }
 {
     let printing = options.printing;
-    let text = match document(alloc, held.keys, r, 4_194_304) {
+    let text = match document(alloc, held.keys, r, LONGEST_KEY_SET) {
         Ok(text) => text,
         Err(LineFault::Read) => return Ok(Replied::bare(printed_read_fault(alloc, printing)?)),
         Err(LineFault::TooLong) => {
@@ -323,7 +320,7 @@ pub(crate) fn verify<'a, R: Source>(
     ensures failed { IfOk result (λ a. a.reply.status ≡ 3 → R.failed r.new ≡ true) }
 {
     let printing = options.printing;
-    let text = match document(alloc, held.policy, r, 65_536) {
+    let text = match document(alloc, held.policy, r, LONGEST_POLICY) {
         Ok(text) => text,
         Err(LineFault::Read) => return Ok(Replied::bare(printed_read_fault(alloc, printing)?)),
         Err(LineFault::TooLong) => {

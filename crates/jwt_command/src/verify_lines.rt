@@ -1,77 +1,44 @@
 //! The command `verify --lines`: a verdict for each line of an input.
-ghost use Rattle.std.specs.Prelude.{◌≡◌, ◌+◌, ◌<◌, ◌⊎◌, ℕ, List, [], OnErr, OnOk, false, true, length, map, option_map, take, Err, IfNone, IfSome, None, Ok, Some};
+ghost use Rattle.std.specs.Prelude.{◌≡◌, ◌+◌, ◌<◌, ◌⊎◌, [], OnErr, OnOk, false, true, length, map, option_map, take, Err, IfSome, None, Ok, Some};
 ghost use Rattle.std.specs.Io.KnownBytes.{Appends, prepend_known};
 ghost use Rattle.jwt_keys.specs.KeySets.{key_set, key_set_of};
 ghost use Rattle.jwt_policy.specs.Document.{policy_of};
 ghost use Rattle.jwt_command.specs.Access.{rule_in_hand};
-ghost use Rattle.jwt_command.specs.Lines.{CutReady, GivesLines, IsMoment, LineAnswered, MayHaveSent, SendsReady, StopsBy, with_held};
+ghost use Rattle.jwt_command.specs.Lines.{CutReady, GivesLines, LineAnswered, MayHaveSent, SendsReady, StopsBy, with_held};
 ghost use Rattle.jwt_printing.specs.Printed.{out_of_memory};
-ghost use Rattle.jwt_command.specs.RunLines.{LinesByPolicy, Printed, RunsLines};
+ghost use Rattle.jwt_command.specs.RunLines.{LinesByPolicy, Printed};
 ghost use Rattle.jwt_words.specs.Seen.{lines_view, held_view, seconds_of};
-ghost use Rattle.jwt_words.specs.InHand.{unread};
-ghost use Rattle.jwt_command.specs.Subjects.{OrLacks, lines_subject, subject_view, unless_lacking};
+ghost use Rattle.jwt_words.specs.Words.{VerifyLines};
+ghost use Rattle.jwt_command.specs.Runs.{RunsInHand};
+ghost use Rattle.jwt_command.specs.Subjects.{OrLacks, lines_subject, subject_view};
 ghost use Rattle.jwt_command.specs.TakenLines.{after_line, first_line};
 ghost use Rattle.jwt_verdicts.specs.Printer.{printer};
 ghost use Rattle.jwt_command.specs.Views.{rule_view, told_by};
 ghost use Rattle.jwt_command.specs.Verify.{terms_of_keys};
 
 use crate::access::rule_in_hand;
+use crate::clock::moment;
+pub use crate::clock::{Clock, NoClock};
 use crate::documents::TakenDocument;
 use crate::input::buffered::Ahead;
 use crate::input::line::LineFault;
 use crate::run::{AtHand, asked_for};
-use crate::subject::{Ran, Subject, give_alone, give_no_memory, give_refusing};
+use crate::subject::{
+    Ran, give_alone, give_no_memory, give_replied, refused_keys, refused_policy, refused_rule,
+};
 use crate::telling::Telling;
 use crate::verify::{on_octets, terms_at};
 use jwt_access::AccessFault;
 use jwt_keys::{KeySet, KeysFault};
 use jwt_mac::Verifier;
 use jwt_policy::{Policy, PolicyFault};
-use jwt_printing::{
-    give, lack_memory, printed_access_fault, printed_file_fault, printed_keys_fault,
-    printed_policy_fault, printed_read_fault,
-};
+use jwt_printing::{give, lack_memory, printed_read_fault};
 use jwt_text::{Sink, Source, write_out};
-use jwt_words::{Expectation, LinesOrder, Moment, Printing, unread};
+use jwt_words::{Expectation, LinesOrder, Moment, Printing};
 use std::alloc::Global;
 
 // From how many octets on the answers that are ready are sent, where more lines are in hand.
 const MOST_READY: usize = 65_536;
-
-/// Moments of lines, in seconds since 1970-01-01T00:00:00Z.
-pub trait Clock {
-    /// What it says: of the line with a number, from 0, and these octets, the moment at which it came.
-    ghost says: { ℕ → List ℕ → ℕ → Type 0 };
-
-    /// The moment of the line with this number, from 0, and these octets; of a line that is longer than the limit, those up to one
-    /// past it. None where the clock can't be read.
-    fn moment(&mut self, number: u64, line: &[u8]) -> Option<Moment>
-        ensures { IfSome result (λ m. says number line.now m.seconds) };
-}
-
-/// No clock: it says no moment of any line.
-#[derive(Clone, Copy, Debug)]
-pub struct NoClock;
-
-impl Clock for NoClock {
-    ghost says = { λ _ _ _. ⊥ };
-
-    fn moment(&mut self, _number: u64, _line: &[u8]) -> Option<Moment> {
-        None
-    }
-}
-
-/// The moment of an answer: the one that `--now` names, else the clock's for that line.
-fn moment<C: Clock>(now: Option<Moment>, clock: &mut C, number: u64, line: &[u8]) -> Option<Moment>
-    ensures moment { IfSome result
-        (λ m. IsMoment (C.says number line.now) (seconds_of now) m.seconds) }
-    ensures none { IfNone result (seconds_of now ≡ None) }
-{
-    match now {
-        Some(now) => Some(now),
-        None => clock.moment(number, line),
-    }
-}
 
 /// What the answers to all lines share.
 #[derive(Clone, Copy)]
@@ -323,18 +290,16 @@ fn lines_in_hand<'a, R: Source, W: Sink, C: Clock>(
         Ok(policy) => policy,
         Err(PolicyFault::OutOfMemory) => return give_no_memory(w),
         Err(fault) => {
-            let reply = printed_policy_fault(alloc, printing, &fault);
             let document = TakenDocument::Held(lines.policy);
-            return give_refusing(w, reply, Subject::Policy(fault, document));
+            return give_replied(w, refused_policy(alloc, printing, fault, document));
         }
     };
     let keys = match KeySet::read(alloc, lines.keys) {
         Ok(keys) => keys,
         Err(KeysFault::OutOfMemory) => return give_no_memory(w),
         Err(fault) => {
-            let reply = printed_keys_fault(alloc, printing, &fault);
             let document = TakenDocument::Held(lines.keys);
-            return give_refusing(w, reply, Subject::Keys(fault, document));
+            return give_replied(w, refused_keys(alloc, printing, fault, document));
         }
     };
     match rule_in_hand(alloc, lines.access) {
@@ -357,11 +322,7 @@ fn lines_in_hand<'a, R: Source, W: Sink, C: Clock>(
             }
         }
         Err(AccessFault::OutOfMemory) => give_no_memory(w),
-        Err(fault) => {
-            let reply = printed_access_fault(alloc, printing, &fault);
-            let document = TakenDocument::Held(lines.access.unwrap_or(&[]));
-            give_refusing(w, reply, Subject::Access(fault, document))
-        }
+        Err(fault) => give_replied(w, refused_rule(alloc, printing, fault, lines.access)),
     }
 }
 
@@ -374,7 +335,7 @@ pub(crate) struct LinesAsked<'o, 'v, 'a> {
     pub(crate) at_hand: AtHand<'v, 'a>,
 }
 
-/// Runs `jwt verify --lines`, where each document that a file is named for is in hand.
+/// Runs `jwt verify --lines`, where each file that is named is in hand.
 pub(crate) fn run_lines<'a, R: Source, W: Sink, C: Clock>(
     alloc: Global,
     asked: &LinesAsked<'_, '_, 'a>,
@@ -382,9 +343,17 @@ pub(crate) fn run_lines<'a, R: Source, W: Sink, C: Clock>(
     r: &mut R,
     w: &mut W,
 ) -> Ran<'a>
-    ensures answer { IfSome (R.remaining r.old)
-        (λ x. RunsLines (map meaning asked.now.at_hand.built_in.now) C.says
-        (lines_view asked.now.order) (held_view asked.now.at_hand.held) x (R.failed r.new)
+    ensures answer { IfSome (R.remaining r.old) (λ x.
+        Printed out_of_memory
+        (record {
+          before = W.contents w.old;
+          after = W.contents w.new;
+          failed = W.failed w.new;
+          status = result.status;
+        })
+        ⊎ RunsInHand (map meaning asked.now.at_hand.built_in.now) C.says
+        (held_view asked.now.at_hand.held) (VerifyLines (lines_view asked.now.order)) x
+        (R.failed r.new)
         (record {
           before = W.contents w.old;
           after = W.contents w.new;
@@ -392,9 +361,8 @@ pub(crate) fn run_lines<'a, R: Source, W: Sink, C: Clock>(
           status = result.status;
         })) }
     ensures subject { OrLacks (option_map subject_view result.subject)
-        (unless_lacking (unread (lines_view asked.now.order).files (held_view asked.now.at_hand.held))
         (lines_subject (held_view asked.now.at_hand.held).policy (held_view asked.now.at_hand.held).keys
-        (held_view asked.now.at_hand.held).access))
+        (held_view asked.now.at_hand.held).access)
         (record {
           before = W.contents w.old;
           after = W.contents w.new;
@@ -404,9 +372,6 @@ pub(crate) fn run_lines<'a, R: Source, W: Sink, C: Clock>(
 {
     let LinesAsked { order, at_hand } = *asked;
     let held = at_hand.held;
-    if let Some(name) = unread(order.files, held) {
-        return give_alone(w, printed_file_fault(alloc, order.printing, name));
-    }
     match held.policy {
         Some(policy) => match held.keys {
             Some(keys) => {

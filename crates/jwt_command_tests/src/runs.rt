@@ -1,7 +1,7 @@
 //! Runs of the command over sources and sinks in memory, and tables of them. No function here has a clause, so that a test which
 //! calls one doesn't carry the contract of the command through its own proof.
 use jwt_command::documents::Held;
-use jwt_command::run::{run, run_read};
+use jwt_command::run::{AtHand, run, run_read};
 use jwt_command::subject::{Ran, Subject};
 use jwt_command::verify_lines::{Clock, NoClock};
 use jwt_command::{Moment, read_words};
@@ -71,7 +71,11 @@ pub(crate) fn status_with<R: Source, W: Sink, C: Clock>(
         None => None,
     };
     let words = read_words(alloc, words, clock);
-    run_read(alloc, words, verifiers, moments, held, r, w).status
+    let at_hand = AtHand {
+        built_in: verifiers,
+        held,
+    };
+    run_read(alloc, words, &at_hand, moments, r, w).status
 }
 
 /// The document that a run refused.
@@ -109,7 +113,11 @@ pub(crate) fn refused_by(
     let mut w = Writer::new(&mut out);
     let mut r = Reader::new(input.as_bytes());
     let words = read_words(alloc, words, None);
-    let ran = run_read(alloc, words, &[], &mut NoClock, held, &mut r, &mut w);
+    let at_hand = AtHand {
+        built_in: &[],
+        held,
+    };
+    let ran = run_read(alloc, words, &at_hand, &mut NoClock, &mut r, &mut w);
     refused_of(alloc, &ran)
 }
 

@@ -29,10 +29,6 @@ abbrev pub Prints : Answer → Option (List ℕ) → Option (List ℕ) → Bool 
 Prints a before after failed status = (Appends before after a.text × (0 < length a.text → failed ≡ false) × (status ≡ a.status))
     ⊎ ((failed ≡ true) × ((n : ℕ) × Appends before after (take n a.text)) × (status ≡ 3))
 
--- the answer is given, or an allocation was refused
-abbrev pub Gives : Answer → Option (List ℕ) → Option (List ℕ) → Bool → ℕ → Type 0
-Gives a before after failed status = Prints a before after failed status ⊎ Prints out_of_memory before after failed status
-
 -- wrong words: some text with the status 2, or an allocation was refused
 abbrev pub GivesWrongWords : Option (List ℕ) → Option (List ℕ) → Bool → ℕ → Type 0
 GivesWrongWords before after failed status = ((text : List ℕ) × Prints (record { text = text; status = 2 }) before after failed status)

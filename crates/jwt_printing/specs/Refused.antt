@@ -1,5 +1,5 @@
 -- The answers for a document that is refused, for a read that failed and for a file that can't be read, in JSON or in lines.
-use Rattle.std.specs.Prelude.{ℕ, Bool, true, false, List, [], ◌∷◌, codes, Option, Some, None}
+use Rattle.std.specs.Prelude.{ℕ, Bool, true, false, List, [], ◌∷◌, codes}
 use Rattle.json.specs.Print.{quoted as quoted_text}
 use Rattle.jwt_keys.specs.FaultNames.{keys_fault_name}
 use Rattle.jwt_keys.specs.declared.fault.KeysFault.{KeysFault}
@@ -50,7 +50,3 @@ printed_access_fault Lines fault = access_refused fault
 abbrev pub printed_file_fault : Printing → List ℕ → Answer
 printed_file_fault Json name = file_failed_json name
 printed_file_fault Lines name = file_failed name
-
-abbrev pub unless_unread : Printing → Option (List ℕ) → Answer → Answer
-unless_unread printing (Some name) a = printed_file_fault printing name
-unless_unread printing None a = a

@@ -2,9 +2,9 @@
 ghost use Rattle.std.specs.Prelude.{◌≤◌};
 
 use jwt_command::documents::read_document;
-use jwt_command::{Files, Request, WordsFault, files_in_request};
+use jwt_command::{Files, Reads};
 use jwt_shown::push_quoted;
-use jwt_text::{GREATEST_LIMIT, Intake, Reader};
+use jwt_text::{GREATEST_LIMIT, Intake, LONGEST_KEY_SET, LONGEST_POLICY, LONGEST_TOKEN, Reader};
 use jwt_words::Printing;
 use std::fs::{self, File};
 use std::io;
@@ -25,18 +25,6 @@ struct Reading<'a> {
     rt: &'a HostRuntime,
     printing: Printing,
     has_stopped: bool,
-}
-
-/// How the answer to a request is printed.
-pub fn printing_of(request: &Result<Request<'_>, WordsFault>) -> Printing {
-    match request {
-        Ok(Request::Once { printing, .. }) => *printing,
-        Ok(Request::EachLine(order)) => order.printing,
-        Ok(Request::Policy(order)) => order.printing,
-        Ok(Request::Jwk(order)) => order.printing,
-        Ok(Request::NewSecret(order)) => order.printing,
-        _ => Printing::Lines,
-    }
 }
 
 /// Says on standard error why a file can't be read, in words or as a JSON object. What becomes of that changes nothing.
@@ -119,7 +107,7 @@ fn document(reading: &mut Reading<'_>, name: Option<&str>, limit: u32) -> io::Re
 /// The token of a file, or of standard input where that is named by `-` and holds nothing else.
 fn token(reading: &mut Reading<'_>, files: Files<'_>) -> io::Result<Option<Intake>> {
     if files.token != Some("-") {
-        return document(reading, files.token, 1_048_576);
+        return document(reading, files.token, LONGEST_TOKEN);
     }
     if reading.has_stopped {
         return Ok(None);
@@ -133,52 +121,32 @@ fn token(reading: &mut Reading<'_>, files: Files<'_>) -> io::Result<Option<Intak
         return Ok(None);
     }
     let rt = reading.rt;
-    let document = read_document(rt.alloc(), 1_048_576, &mut Reader::new(rt.stdin()))?;
+    let document = read_document(rt.alloc(), LONGEST_TOKEN, &mut Reader::new(rt.stdin()))?;
     if document.is_none() {
         complain(reading, "-", "a read failed");
     }
     Ok(document)
 }
 
-/// How many octets of the file of a key are read: that of `mac`, or that of public keys or of a secret of `jwk`.
-fn key_limit(request: &Result<Request<'_>, WordsFault>) -> u32
-    ensures least { 1 ≤ result }
-    ensures greatest { result ≤ GREATEST_LIMIT }
-{
-    match request {
-        Ok(Request::Jwk(_)) => GREATEST_LIMIT,
-        Ok(Request::NewSecret(_)) => 4_096,
-        _ => 5_463,
-    }
-}
-
-/// The files that the words name; wrong words name none.
-fn files_to_read<'a>(request: &Result<Request<'a>, WordsFault>) -> Files<'a> {
-    match request {
-        Ok(request) => files_in_request(*request),
-        Err(_) => Files::none(),
-    }
-}
-
 /// Reads the files that the words name.
 ///
 /// # Errors
 /// Where an allocation was refused.
-pub fn read_files(
-    rt: &HostRuntime,
-    request: &Result<Request<'_>, WordsFault>,
-) -> io::Result<FilesRead> {
-    let files = files_to_read(request);
+pub fn read_files(rt: &HostRuntime, reads: &Reads<'_>) -> io::Result<FilesRead>
+    requires least { 1 ≤ reads.now.key_limit }
+    requires greatest { reads.now.key_limit ≤ LONGEST_KEY_SET }
+{
+    let files = reads.files;
     let mut reading = Reading {
         rt,
-        printing: printing_of(request),
+        printing: reads.printing,
         has_stopped: false,
     };
-    let policy = document(&mut reading, files.policy, 65_536)?;
-    let keys = document(&mut reading, files.keys, 4_194_304)?;
-    let access = document(&mut reading, files.access, 65_536)?;
+    let policy = document(&mut reading, files.policy, LONGEST_POLICY)?;
+    let keys = document(&mut reading, files.keys, LONGEST_KEY_SET)?;
+    let access = document(&mut reading, files.access, LONGEST_POLICY)?;
     let token = token(&mut reading, files)?;
-    let key = document(&mut reading, files.key, key_limit(request))?;
+    let key = document(&mut reading, files.key, reads.key_limit)?;
     Ok(FilesRead {
         policy,
         keys,

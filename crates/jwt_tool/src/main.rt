@@ -1,6 +1,8 @@
 //! The program `jwt`: JSON Web Tokens on the command line.
 #![tactic(auto)]
 
+ghost use Rattle.std.specs.Prelude.{◌≤◌};
+
 mod answered;
 mod files;
 mod moments;
@@ -8,7 +10,7 @@ mod saying;
 mod words;
 
 use crate::answered::Answered;
-use crate::files::{input_of, octets, printing_in, printing_of, read_files, token_octets};
+use crate::files::{input_of, octets, printing_in, read_files, token_octets};
 use crate::moments::{System, moment};
 use crate::saying::{
     issues, reads_der, say_hint, say_how_to_go_on, say_what_is_waited_for, say_which_line,
@@ -17,12 +19,12 @@ use crate::saying::{
 use crate::words::{Spelled, as_meant};
 use jwt_built_in::{BuiltIn, PREPARED_KEYS};
 use jwt_command::documents::Held;
-use jwt_command::run::{lack_memory, run_read};
-use jwt_command::{Moment, Request, WordsFault, octets_asked, read_words};
+use jwt_command::run::{AtHand, lack_memory, run_read};
+use jwt_command::{Command, Moment, Reads, WordsFault, read_words};
 use jwt_keys::KeySet;
 use jwt_mac::Verifier;
 use jwt_printing::{give, printed_file_fault};
-use jwt_text::{Reader, Sink, Source, Writer};
+use jwt_text::{LONGEST_KEY_SET, Reader, Sink, Source, Writer};
 use std::alloc::Global;
 use std::process::ExitCode;
 use std::random::RandomSource;
@@ -64,21 +66,23 @@ fn run<W: Sink>(rt: &HostRuntime, clock: Option<Moment>, w: &mut Answered<W>) ->
     }
 }
 
-/// Fills the octets that the words ask for from the system's random source; none where it fails. Nothing is asked of it where they ask
-/// for none.
-fn random<'a>(
-    rt: &HostRuntime,
-    request: &Result<Request<'_>, WordsFault>,
-    octets: &'a mut [u8; 64],
-) -> Option<&'a [u8]> {
-    let count = match request {
-        Ok(request) => octets_asked(*request) as usize,
-        Err(_) => 0,
-    };
+/// What the command reads that the words ask for; wrong words read nothing.
+fn reads_of<'a>(asked: &Result<Command<'a>, WordsFault>) -> Reads<'a>
+    ensures least { 1 ≤ result.key_limit }
+    ensures greatest { result.key_limit ≤ LONGEST_KEY_SET }
+{
+    match asked {
+        Ok(command) => command.reads(),
+        Err(_) => Reads::nothing(),
+    }
+}
+
+/// Fills so many octets from the system's random source; none where it fails. Nothing is asked of it where none are wanted.
+fn random<'a>(rt: &HostRuntime, count: u32, octets: &'a mut [u8; 64]) -> Option<&'a [u8]> {
     if count == 0 {
         return None;
     }
-    let asked = octets.get_mut(..count)?;
+    let asked = octets.get_mut(..count as usize)?;
     rt.fill_bytes(asked).ok()?;
     Some(asked)
 }
@@ -87,10 +91,10 @@ fn random<'a>(
 /// prepare a key takes longer than to verify one signature. The key set is read here for that alone.
 fn verifier_for(
     alloc: Global,
-    request: &Result<Request<'_>, WordsFault>,
+    asked: &Result<Command<'_>, WordsFault>,
     keys: Option<&[u8]>,
 ) -> BuiltIn {
-    let (Ok(Request::EachLine(order)), Some(keys)) = (request, keys) else {
+    let (Ok(Command::VerifyLines(order)), Some(keys)) = (asked, keys) else {
         return BuiltIn::plain();
     };
     if !order.public_keys {
@@ -110,13 +114,14 @@ fn run_words<R: Source, W: Sink>(
     r: &mut R,
     w: &mut Answered<W>,
 ) -> io::Result<u8> {
-    let request = read_words(rt.alloc(), words, clock);
-    if request.is_err() {
+    let asked = read_words(rt.alloc(), words, clock);
+    if asked.is_err() {
         say_hint(rt, words);
     }
-    say_what_is_waited_for(rt, &request);
-    let files = read_files(rt, &request)?;
-    let verifier = verifier_for(rt.alloc(), &request, octets(&files.keys));
+    say_what_is_waited_for(rt, &asked);
+    let reads = reads_of(&asked);
+    let files = read_files(rt, &reads)?;
+    let verifier = verifier_for(rt.alloc(), &asked, octets(&files.keys));
     let built_in: [Box<dyn Verifier>; 1] = [Box::new(rt.alloc(), verifier)?];
     let mut fresh = [0; 64];
     let held = Held {
@@ -125,20 +130,23 @@ fn run_words<R: Source, W: Sink>(
         access: octets(&files.access),
         token: token_octets(&files.token),
         key: octets(&files.key),
-        random: random(rt, &request, &mut fresh),
+        random: random(rt, reads.random, &mut fresh),
+    };
+    let at_hand = AtHand {
+        built_in: &built_in,
+        held,
     };
     let mut moments = System { rt };
-    let printing = printing_of(&request);
-    let issues = issues(&request);
-    let der = reads_der(&request);
-    let ran = run_read(rt.alloc(), request, &built_in, &mut moments, held, r, w);
+    let issues = issues(&asked);
+    let der = reads_der(&asked);
+    let ran = run_read(rt.alloc(), asked, &at_hand, &mut moments, r, w);
     let answer = w.begin.as_slice();
     match (ran.status, &ran.subject) {
         (1, Some(subject)) => {
-            say_why_refused(rt, printing, subject, answer);
+            say_why_refused(rt, reads.printing, subject, answer);
             say_which_line(rt, held, answer);
         }
-        (1, None) if issues => say_why_not_issued(rt, printing, answer),
+        (1, None) if issues => say_why_not_issued(rt, reads.printing, answer),
         _ => {}
     }
     if der {

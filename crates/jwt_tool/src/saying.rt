@@ -1,13 +1,13 @@
 //! What is said on standard error. What becomes of it changes nothing.
 use jwt_command::documents::Held;
 use jwt_command::subject::Subject;
-use jwt_command::{Request, WordsFault};
+use jwt_command::{Command, WordsFault};
 use jwt_jws::FormFault;
 use jwt_reasons::{
     Reason, access_reason, around_token, keys_reason, policy_reason, token_reason, token_sentences,
 };
 use jwt_shown::push_quoted;
-use jwt_words::{Order, Printing};
+use jwt_words::Printing;
 use std::alloc::AllocError;
 use std::io::IsTerminal;
 use std::str;
@@ -117,14 +117,9 @@ pub fn say_which_line(rt: &HostRuntime, held: Held<'_>, answer: &[u8]) {
 }
 
 /// Whether the words ask for a token of some claims.
-pub fn issues(request: &Result<Request<'_>, WordsFault>) -> bool {
-    match request {
-        Ok(
-            Request::Once {
-                order: Order::Issue { .. },
-                ..
-            },
-        ) => true,
+pub fn issues(asked: &Result<Command<'_>, WordsFault>) -> bool {
+    match asked {
+        Ok(Command::Issue { .. }) => true,
         _ => false,
     }
 }
@@ -135,9 +130,9 @@ pub fn say_why_not_issued(rt: &HostRuntime, printing: Printing, answer: &[u8]) {
 }
 
 /// Whether the words ask for the JWK of a key in DER.
-pub fn reads_der(request: &Result<Request<'_>, WordsFault>) -> bool {
-    match request {
-        Ok(Request::Jwk(order)) => order.der,
+pub fn reads_der(asked: &Result<Command<'_>, WordsFault>) -> bool {
+    match asked {
+        Ok(Command::Jwk(order)) => order.der,
         _ => false,
     }
 }
@@ -154,14 +149,8 @@ pub fn say_how_to_go_on(rt: &HostRuntime, status: u8, answer: &[u8]) {
 }
 
 /// Says what is waited for, where `verify` waits for a policy at a terminal.
-pub fn say_what_is_waited_for(rt: &HostRuntime, request: &Result<Request<'_>, WordsFault>) {
-    if let Ok(
-        Request::Once {
-            order: Order::Verify { files, .. },
-            ..
-        },
-    ) = request
-    {
+pub fn say_what_is_waited_for(rt: &HostRuntime, asked: &Result<Command<'_>, WordsFault>) {
+    if let Ok(Command::Verify { files, .. }) = asked {
         if files.policy.is_none() && rt.stdin().is_terminal() {
             let _ = eprintln!(rt;
                 "jwt: waits for a line with the policy, then for the documents that no option names: a line with the key set, and the token up to the end of input"

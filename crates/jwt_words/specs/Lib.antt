@@ -4,11 +4,13 @@
 pub mod Moments
 -- the words of the command `jwt`, over `clap`'s own definitions of what a command takes
 pub mod Words
+-- what each command reads, and how its answer is printed
+pub mod Reading
 -- the files that words name, and the documents of those that were read
 pub mod InHand
 -- the crate's own types as contracts see them
 pub mod Seen
 -- ---- What contracts of private functions alone cite, which nobody has to believe
 
--- the requests of some examples of words
+-- the commands of some examples of words
 pub mod Examples

@@ -1,7 +1,6 @@
 -- The crate's own types as contracts see them.
-use Rattle.std.specs.Prelude.{◌≡◌, ◌≤◌, ℕ, Option, option_map, true}
-use Rattle.jwt_mac.specs.Algorithm.{is_hmac_alg}
-use Rattle.jwt_words.specs.Words.{EachLine, Expectation, Files, HasLimits, Issue, Jwk, JwkOrder, Keys, KidChoice, KidNamed, KidThumbprint, LinesOrder, Mac, MacFile, NewSecret, NoKid, Once, Order, Policy, PolicyOrder, Pretty, PrettyOrder, Request, SecretOrder, Show, Verify, Version}
+use Rattle.std.specs.Prelude.{ℕ, Option, option_map}
+use Rattle.jwt_words.specs.Words.{Command, Expectation, Files, Issue, Jwk, JwkOrder, Keys, KidChoice, KidNamed, KidThumbprint, LinesOrder, Mac, MacFile, NewSecret, NoKid, Policy, PolicyOrder, Pretty, PrettyOrder, SecretOrder, Show, Verify, VerifyLines, Version}
 use Rattle.jwt_words.specs.declared.expectation.Expectation.{Expectation as CodeExpectation}
 use Rattle.jwt_words.specs.declared.jwk.JwkOrder.{JwkOrder as CodeJwk}
 use Rattle.jwt_words.specs.declared.jwk.KidChoice.{KidChoice as CodeKid}
@@ -10,15 +9,15 @@ use Rattle.jwt_words.specs.declared.jwk.SecretOrder.{SecretOrder as CodeSecret}
 use Rattle.jwt_words.specs.declared.moment.Moment.{Moment}
 use Rattle.jwt_words.specs.declared.policy.PolicyOrder.{PolicyOrder as CodePolicy}
 use Rattle.jwt_words.specs.declared.pretty.PrettyOrder.{PrettyOrder as CodePretty}
-use Rattle.jwt_words.specs.declared.words.Order.{Order as Asked}
-use Rattle.jwt_words.specs.declared.words.Order.TheVariants as asked
-use Rattle.jwt_words.specs.declared.words.Files.{Files as CodeFiles}
-use Rattle.jwt_words.specs.declared.words.LinesOrder.{LinesOrder as CodeLines}
-use Rattle.jwt_words.specs.declared.words.Request.{Request as CodeRequest}
-use Rattle.jwt_words.specs.declared.words.Request.TheVariants as request
+use Rattle.jwt_words.specs.declared.command.Command.{Command as CodeCommand}
+use Rattle.jwt_words.specs.declared.command.Command.TheVariants as command
+use Rattle.jwt_words.specs.declared.command.Files.{Files as CodeFiles}
+use Rattle.jwt_words.specs.declared.command.LinesOrder.{LinesOrder as CodeLines}
+use Rattle.jwt_words.specs.declared.command.Reads.{Reads as CodeReads}
 use Rattle.jwt_words.specs.declared.words.WordsFault.{WordsFault}
 use Rattle.jwt_words.specs.declared.words.WordsFault.TheVariants.{OutOfMemory, Wrong}
 use Rattle.jwt_words.specs.InHand.{Held}
+use Rattle.jwt_words.specs.Reading.{Reads}
 use Rattle.jwt_words.specs.declared.in_hand.Held.{Held as CodeHeld}
 
 -- the seconds of a moment, where there is one
@@ -30,15 +29,6 @@ files_view f = record { policy = option_map (λ t. t.now) f.policy; keys = optio
 
 abbrev pub expectation_view : CodeExpectation → Expectation
 expectation_view e = record { claim = e.claim.now; text = e.text.now }
-
-abbrev pub seen : Asked → Order
-seen (asked.Mac key limit) = Mac key.now limit
-seen (asked.MacFile name limit) = MacFile name.now limit
-seen asked.Keys = Keys
-seen (asked.Show limit) = Show limit
-seen (asked.Verify now public_keys expected files) = Verify now.seconds public_keys (option_map expectation_view expected) (files_view files)
-seen (asked.Issue alg typ form files) = Issue alg (option_map (λ t. t.now) typ) form (files_view files)
-seen asked.Version = Version
 
 abbrev pub lines_view : CodeLines → LinesOrder
 lines_view o = record { now = seconds_of o.now; public_keys = o.public_keys; printing = o.printing; expected = option_map expectation_view o.expected; files = files_view o.files }
@@ -60,22 +50,22 @@ policy_view o = record { printing = o.printing; files = files_view o.files }
 abbrev pub pretty_view : CodePretty → PrettyOrder
 pretty_view o = record { limit = o.limit; now = seconds_of o.now }
 
-abbrev pub requested : CodeRequest → Request
-requested (request.Once printing order) = Once printing (seen order)
-requested (request.EachLine lines) = EachLine (lines_view lines)
-requested (request.Jwk order) = Jwk (jwk_view order)
-requested (request.NewSecret order) = NewSecret (secret_view order)
-requested (request.Policy order) = Policy (policy_view order)
-requested (request.Pretty order) = Pretty (pretty_view order)
+abbrev pub command_view : CodeCommand → Command
+command_view (command.Mac key limit) = Mac key.now limit
+command_view (command.MacFile name limit) = MacFile name.now limit
+command_view (command.Keys printing) = Keys printing
+command_view (command.Show printing limit) = Show printing limit
+command_view (command.Verify printing now public_keys expected files) = Verify printing now.seconds public_keys (option_map expectation_view expected) (files_view files)
+command_view (command.VerifyLines order) = VerifyLines (lines_view order)
+command_view (command.Issue alg typ form files) = Issue alg (option_map (λ t. t.now) typ) form (files_view files)
+command_view command.Version = Version
+command_view (command.Jwk order) = Jwk (jwk_view order)
+command_view (command.NewSecret order) = NewSecret (secret_view order)
+command_view (command.Policy order) = Policy (policy_view order)
+command_view (command.Pretty order) = Pretty (pretty_view order)
 
--- the numbers of a request are in their ranges, and a new secret is for HMAC
-abbrev pub HasRange : Request → Type 0
-HasRange (Once printing order) = HasLimits order
-HasRange (EachLine order) = Unit {0}
-HasRange (Jwk order) = Unit {0}
-HasRange (NewSecret order) = is_hmac_alg order.alg ≡ true
-HasRange (Policy order) = Unit {0}
-HasRange (Pretty order) = (1 ≤ order.limit) × (order.limit ≤ 1048576)
+abbrev pub reads_view : CodeReads → Reads
+reads_view r = record { printing = r.printing; files = files_view r.files; key_limit = r.key_limit; random = r.random; input = r.input }
 
 -- the words are wrong, and memory was there
 abbrev pub IsWrong : WordsFault → Type 0

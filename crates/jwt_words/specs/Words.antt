@@ -1,11 +1,12 @@
 -- The words of the command `jwt`, over `clap`'s own definitions of what a command takes.
-use Rattle.std.specs.Prelude.{◌≤◌, ℕ, Bool, ◌||◌, true, false, not, List, [], ◌∷◌, Option, Some, None, is_some, if◌then◌else◌, codes, option_and_then, option_map}
+use Rattle.std.specs.Prelude.{◌≡◌, ◌≤◌, ℕ, Bool, ◌||◌, true, false, not, List, [], ◌∷◌, Option, Some, None, is_some, if◌then◌else◌, codes, option_and_then, option_map}
 use Rattle.std.specs.Option.{option_map_or}
 use Rattle.std.specs.Str.{bytes_eq}
 use Rattle.std.specs.Str.Parse.{digits_value, without_leading_plus}
 use Rattle.clap.specs.Words.{App, Kinds, Row, Rule, Text, fault_of, first_of, new_app, new_rule, one_of, subcommand_of, with_rule, with_subcommand}
-use Rattle.jwt_mac.specs.Algorithm.{alg_named, digest_size, is_hmac_alg}
+use Rattle.jwt_mac.specs.Algorithm.{alg_named, is_hmac_alg}
 use Rattle.jwt_mac.specs.declared.algorithm.Alg.{Alg}
+use Rattle.jwt_text.specs.declared.limits.TheConstants.{LONGEST_TOKEN}
 use Rattle.jwt_jws.specs.declared.fault.Form.{Form}
 use Rattle.jwt_jws.specs.declared.fault.Form.TheVariants.{Compact, Flattened, General}
 use Rattle.clap.specs.Lexer.{name_and_value}
@@ -24,7 +25,7 @@ abbrev pub option : Text → Rule
 option name = record (new_rule name) { long = Some name; value_names = 1 }
 
 abbrev pub limit_range : ValueParser
-limit_range = vp.Unsigned 1 1048576
+limit_range = vp.Unsigned 1 LONGEST_TOKEN
 
 abbrev pub now_range : ValueParser
 now_range = vp.Unsigned 0 last_moment
@@ -204,108 +205,6 @@ pub record Expectation : Type 0 where
   pub claim : Text
   pub text : Text
 
-pub data Order : Type 0 where
-  Mac : Text → ℕ → Order
-  -- the file of the key
-  MacFile : Text → ℕ → Order
-  Keys : Order
-  Show : ℕ → Order
-  Verify : ℕ → Bool → Option Expectation → Files → Order
-  Issue : Alg → Option Text → Form → Files → Order
-  Version : Order
-
--- the numbers of an order are in their ranges
-abbrev pub HasLimits : Order → Type 0
-HasLimits (Mac key limit) = (1 ≤ limit) × (limit ≤ 1048576)
-HasLimits (MacFile name limit) = (1 ≤ limit) × (limit ≤ 1048576)
-HasLimits Keys = Unit {0}
-HasLimits (Show limit) = (1 ≤ limit) × (limit ≤ 1048576)
-HasLimits (Verify now public_keys expected files) = Unit {0}
-HasLimits (Issue alg typ form files) = Unit {0}
-HasLimits Version = Unit {0}
-
--- the number that an option has, where its parser takes it
-abbrev pub number_in : ValueParser → Option Text → Option ℕ
-number_in range text = option_and_then (λ t. if accepts false range t then Some (digits_value 10 (without_leading_plus t)) else None) text
-
--- the key by its text, or by its file: one of the two
-abbrev pub keyed : Option Text → Option Text → ℕ → Option Order
-keyed (Some text) None limit = Some (Mac text limit)
-keyed None (Some name) limit = Some (MacFile name limit)
-keyed text name limit = None
-
-abbrev pub mac_order : List Row → Option Order
-mac_order rows = option_and_then (keyed (first_of (codes "k") rows) (first_of (codes "key-file") rows)) (number_in limit_range (one_of (codes "limit") rows))
-
--- a flag has the value `true` where it is used, and else `false`
-abbrev pub is_set : Text → List Row → Bool
-is_set name rows = option_map_or (λ t. bytes_eq t (codes "true")) (first_of name rows) false
-
--- in JSON where `--json` is used
-abbrev pub printing_in : List Row → Printing
-printing_in rows = if is_set (codes "json") rows then Json else Lines
-
--- the moment that `--now` names, else the clock's
-abbrev pub moment_in : Option ℕ → List Row → Option ℕ
-moment_in clock rows = if is_some (first_of (codes "now") rows) then number_in now_range (one_of (codes "now") rows) else clock
-
--- `show` without `--pretty` has no moment
-abbrev pub show_order : List Row → Option Order
-show_order rows = if is_some (first_of (codes "now") rows) then None else option_map (λ limit. Show limit) (number_in limit_range (one_of (codes "limit") rows))
-
-abbrev pub files_in : List Row → Files
-files_in rows = record { policy = first_of (codes "policy") rows; keys = first_of (codes "keys") rows; access = first_of (codes "access") rows; token = first_of (codes "token") rows; key = None }
-
--- a claim has to be a text, where `=` parts the two; its name ends before the first one
-abbrev pub expectation_from : Text × Option Text → Option Expectation
-expectation_from (claim, text) = option_map (λ t. record { claim = claim; text = t }) text
-
-abbrev pub expectation_of : Text → Option Expectation
-expectation_of word = expectation_from (name_and_value word)
-
--- what `--expect` says, if anything
-abbrev pub expected_from : Option Text → Option (Option Expectation)
-expected_from None = Some None
-expected_from (Some word) = option_map (λ e. Some e) (expectation_of word)
-
-abbrev pub expected_in : List Row → Option (Option Expectation)
-expected_in rows = expected_from (first_of (codes "expect") rows)
-
-abbrev pub verify_order : Option ℕ → List Row → Option Order
-verify_order clock rows = option_and_then (λ now. option_map (λ expected. Verify now (is_set (codes "public-keys") rows) expected (files_in rows)) (expected_in rows)) (moment_in clock rows)
-
--- the form of a token that a text names
-abbrev pub form_named : Text → Option Form
-form_named text =
-    if bytes_eq text (codes "compact") then Some Compact
-    else if bytes_eq text (codes "json") then Some General
-    else if bytes_eq text (codes "flattened") then Some Flattened
-    else None
-
-abbrev pub alg_in : List Row → Option Alg
-alg_in rows = option_and_then alg_named (first_of (codes "alg") rows)
-
-abbrev pub form_in : List Row → Option Form
-form_in rows = option_and_then form_named (first_of (codes "form") rows)
-
-abbrev pub keys_file_in : List Row → Files
-keys_file_in rows = record { policy = None; keys = first_of (codes "keys") rows; access = None; token = None; key = None }
-
-abbrev pub issue_order : List Row → Option Order
-issue_order rows = option_and_then (λ alg. option_map (λ form. Issue alg (first_of (codes "typ") rows) form (keys_file_in rows)) (form_in rows)) (alg_in rows)
-
--- what a subcommand asks for, where it asks for one answer
-abbrev pub order_in : Option ℕ → Text → List Row → Option Order
-order_in clock name rows =
-    if bytes_eq name (codes "mac") then mac_order rows
-    else if bytes_eq name (codes "keys") then Some Keys
-    else if bytes_eq name (codes "show") then show_order rows
-    else if bytes_eq name (codes "verify") then verify_order clock rows
-    else if bytes_eq name (codes "issue") then issue_order rows
-    else None
-
--- ---- a verdict for each line
-
 -- what `verify --lines` asks for; with no moment, it is the clock's at each line
 pub record LinesOrder : Type 0 where
   pub now : Option ℕ
@@ -313,24 +212,6 @@ pub record LinesOrder : Type 0 where
   pub printing : Printing
   pub expected : Option Expectation
   pub files : Files
-
--- the moment that `--now` names, if any
-abbrev pub named_moment : List Row → Option (Option ℕ)
-named_moment rows = if is_some (first_of (codes "now") rows) then option_map (λ now. Some now) (number_in now_range (one_of (codes "now") rows)) else Some None
-
-abbrev pub is_named : Text → List Row → Bool
-is_named name rows = is_some (first_of name rows)
-
--- the policy and the key set are in files, and there is no file of one token
-abbrev pub lines_order : List Row → Option LinesOrder
-lines_order rows =
-    if is_named (codes "token") rows then None
-    else (if is_named (codes "policy") rows
-    then (if is_named (codes "keys") rows
-    then option_and_then (λ now. option_map (λ expected. record { now = now; public_keys = is_set (codes "public-keys") rows; printing = printing_in rows; expected = expected; files = files_in rows }) (expected_in rows)) (named_moment rows)
-    else None) else None)
-
--- ---- JWKs
 
 -- the `kid` that each key gets: none, this name, or its thumbprint
 pub data KidChoice : Type 0 where
@@ -353,6 +234,137 @@ pub record SecretOrder : Type 0 where
   pub bare : Bool
   pub alg : Alg
   pub files : Files
+
+-- what `policy` asks for: the file of the policy, and that of a key set, if any
+pub record PolicyOrder : Type 0 where
+  pub printing : Printing
+  pub files : Files
+
+-- what `show --pretty` asks for: a token of at most so many octets, at a moment, where there is one
+pub record PrettyOrder : Type 0 where
+  pub limit : ℕ
+  pub now : Option ℕ
+
+-- what the words ask for, of each command: how its answer is printed, where it can be asked for in JSON, and its options
+pub data Command : Type 0 where
+  -- the text of the key
+  Mac : Text → ℕ → Command
+  -- the file of the key
+  MacFile : Text → ℕ → Command
+  Keys : Printing → Command
+  Show : Printing → ℕ → Command
+  Verify : Printing → ℕ → Bool → Option Expectation → Files → Command
+  VerifyLines : LinesOrder → Command
+  Issue : Alg → Option Text → Form → Files → Command
+  Version : Command
+  Jwk : JwkOrder → Command
+  NewSecret : SecretOrder → Command
+  Policy : PolicyOrder → Command
+  Pretty : PrettyOrder → Command
+
+-- the numbers of a command are in their ranges, and a secret is for HMAC
+abbrev pub IsLimit : ℕ → Type 0
+IsLimit limit = (1 ≤ limit) × (limit ≤ LONGEST_TOKEN)
+
+abbrev pub HasRange : Command → Type 0
+HasRange (Mac key limit) = IsLimit limit
+HasRange (MacFile name limit) = IsLimit limit
+HasRange (Show printing limit) = IsLimit limit
+HasRange (Pretty order) = IsLimit order.limit
+HasRange (NewSecret order) = is_hmac_alg order.alg ≡ true
+HasRange command = Unit {0}
+
+-- ---- what options say
+
+-- the number that an option has, where its parser takes it
+abbrev pub number_in : ValueParser → Option Text → Option ℕ
+number_in range text = option_and_then (λ t. if accepts false range t then Some (digits_value 10 (without_leading_plus t)) else None) text
+
+-- the key by its text, or by its file: one of the two
+abbrev pub keyed : Option Text → Option Text → ℕ → Option Command
+keyed (Some text) None limit = Some (Mac text limit)
+keyed None (Some name) limit = Some (MacFile name limit)
+keyed text name limit = None
+
+abbrev pub mac_order : List Row → Option Command
+mac_order rows = option_and_then (keyed (first_of (codes "k") rows) (first_of (codes "key-file") rows)) (number_in limit_range (one_of (codes "limit") rows))
+
+-- a flag has the value `true` where it is used, and else `false`
+abbrev pub is_set : Text → List Row → Bool
+is_set name rows = option_map_or (λ t. bytes_eq t (codes "true")) (first_of name rows) false
+
+-- in JSON where `--json` is used
+abbrev pub printing_in : List Row → Printing
+printing_in rows = if is_set (codes "json") rows then Json else Lines
+
+-- the moment that `--now` names, else the clock's
+abbrev pub moment_in : Option ℕ → List Row → Option ℕ
+moment_in clock rows = if is_some (first_of (codes "now") rows) then number_in now_range (one_of (codes "now") rows) else clock
+
+-- `show` without `--pretty` has no moment
+abbrev pub show_order : List Row → Option Command
+show_order rows = if is_some (first_of (codes "now") rows) then None else option_map (λ limit. Show (printing_in rows) limit) (number_in limit_range (one_of (codes "limit") rows))
+
+abbrev pub files_in : List Row → Files
+files_in rows = record { policy = first_of (codes "policy") rows; keys = first_of (codes "keys") rows; access = first_of (codes "access") rows; token = first_of (codes "token") rows; key = None }
+
+-- a claim has to be a text, where `=` parts the two; its name ends before the first one
+abbrev pub expectation_from : Text × Option Text → Option Expectation
+expectation_from (claim, text) = option_map (λ t. record { claim = claim; text = t }) text
+
+abbrev pub expectation_of : Text → Option Expectation
+expectation_of word = expectation_from (name_and_value word)
+
+-- what `--expect` says, if anything
+abbrev pub expected_from : Option Text → Option (Option Expectation)
+expected_from None = Some None
+expected_from (Some word) = option_map (λ e. Some e) (expectation_of word)
+
+abbrev pub expected_in : List Row → Option (Option Expectation)
+expected_in rows = expected_from (first_of (codes "expect") rows)
+
+abbrev pub verify_order : Option ℕ → List Row → Option Command
+verify_order clock rows = option_and_then (λ now. option_map (λ expected. Verify (printing_in rows) now (is_set (codes "public-keys") rows) expected (files_in rows)) (expected_in rows)) (moment_in clock rows)
+
+-- the form of a token that a text names
+abbrev pub form_named : Text → Option Form
+form_named text =
+    if bytes_eq text (codes "compact") then Some Compact
+    else if bytes_eq text (codes "json") then Some General
+    else if bytes_eq text (codes "flattened") then Some Flattened
+    else None
+
+abbrev pub alg_in : List Row → Option Alg
+alg_in rows = option_and_then alg_named (first_of (codes "alg") rows)
+
+abbrev pub form_in : List Row → Option Form
+form_in rows = option_and_then form_named (first_of (codes "form") rows)
+
+abbrev pub keys_file_in : List Row → Files
+keys_file_in rows = record { policy = None; keys = first_of (codes "keys") rows; access = None; token = None; key = None }
+
+abbrev pub issue_order : List Row → Option Command
+issue_order rows = option_and_then (λ alg. option_map (λ form. Issue alg (first_of (codes "typ") rows) form (keys_file_in rows)) (form_in rows)) (alg_in rows)
+
+-- ---- a verdict for each line
+
+-- the moment that `--now` names, if any
+abbrev pub named_moment : List Row → Option (Option ℕ)
+named_moment rows = if is_some (first_of (codes "now") rows) then option_map (λ now. Some now) (number_in now_range (one_of (codes "now") rows)) else Some None
+
+abbrev pub is_named : Text → List Row → Bool
+is_named name rows = is_some (first_of name rows)
+
+-- the policy and the key set are in files, and there is no file of one token
+abbrev pub lines_order : List Row → Option LinesOrder
+lines_order rows =
+    if is_named (codes "token") rows then None
+    else (if is_named (codes "policy") rows
+    then (if is_named (codes "keys") rows
+    then option_and_then (λ now. option_map (λ expected. record { now = now; public_keys = is_set (codes "public-keys") rows; printing = printing_in rows; expected = expected; files = files_in rows }) (expected_in rows)) (named_moment rows)
+    else None) else None)
+
+-- ---- JWKs
 
 -- one of the two, or none
 abbrev pub kid_chosen : Option Text → Bool → Option KidChoice
@@ -405,11 +417,6 @@ kept_secret_order rows = if asks_of_public_keys rows || is_named (codes "new") r
 
 -- ---- what a policy means
 
--- what `policy` asks for: the file of the policy, and that of a key set, if any
-pub record PolicyOrder : Type 0 where
-  pub printing : Printing
-  pub files : Files
-
 abbrev pub documents_in : Option Text → Option Text → Files
 documents_in policy keys = record { policy = policy; keys = keys; access = None; token = None; key = None }
 
@@ -417,11 +424,6 @@ abbrev pub policy_order : List Row → PolicyOrder
 policy_order rows = record { printing = printing_in rows; files = documents_in (first_of (codes "policy") rows) (first_of (codes "keys") rows) }
 
 -- ---- a token for a person
-
--- what `show --pretty` asks for: a token of at most so many octets, at a moment, where there is one
-pub record PrettyOrder : Type 0 where
-  pub limit : ℕ
-  pub now : Option ℕ
 
 -- the moment that `--now` names, else the clock's, where there is one
 abbrev pub shown_moment : Option ℕ → List Row → Option (Option ℕ)
@@ -431,37 +433,34 @@ shown_moment clock rows = if is_some (first_of (codes "now") rows) then option_m
 abbrev pub pretty_order : Option ℕ → List Row → Option PrettyOrder
 pretty_order clock rows = if is_set (codes "json") rows then None else option_and_then (λ limit. option_map (λ now. record { limit = limit; now = now }) (shown_moment clock rows)) (number_in limit_range (one_of (codes "limit") rows))
 
--- ---- the request
+-- ---- the command that words ask for
 
--- one answer, in JSON or in lines; or an answer to each line of the input; or the JWKs of public keys, or of a new secret; or what a
--- policy means; or a token for a person
-pub data Request : Type 0 where
-  Once : Printing → Order → Request
-  EachLine : LinesOrder → Request
-  Jwk : JwkOrder → Request
-  NewSecret : SecretOrder → Request
-  Policy : PolicyOrder → Request
-  Pretty : PrettyOrder → Request
+-- `jwk`: the secret of a file, a new one, or the JWKs of public keys
+abbrev pub jwk_or_secret : List Row → Option Command
+jwk_or_secret rows = if is_named (codes "secret") rows then option_map (λ order. NewSecret order) (kept_secret_order rows) else if is_named (codes "new") rows then option_map (λ order. NewSecret order) (secret_order rows) else option_map (λ order. Jwk order) (jwk_order rows)
 
-abbrev pub jwk_request : List Row → Option Request
-jwk_request rows = if is_named (codes "secret") rows then option_map (λ order. NewSecret order) (kept_secret_order rows) else if is_named (codes "new") rows then option_map (λ order. NewSecret order) (secret_order rows) else option_map (λ order. Jwk order) (jwk_order rows)
-
-abbrev pub request_in : Option ℕ → Text → List Row → Option Request
-request_in clock name rows =
-    if is_set (codes "lines") rows then option_map (λ order. EachLine order) (lines_order rows)
+-- what a subcommand asks for
+abbrev pub command_in : Option ℕ → Text → List Row → Option Command
+command_in clock name rows =
+    if is_set (codes "lines") rows then option_map (λ order. VerifyLines order) (lines_order rows)
     else if is_set (codes "pretty") rows then option_map (λ order. Pretty order) (pretty_order clock rows)
-    else if bytes_eq name (codes "jwk") then jwk_request rows
+    else if bytes_eq name (codes "mac") then mac_order rows
+    else if bytes_eq name (codes "keys") then Some (Keys (printing_in rows))
+    else if bytes_eq name (codes "show") then show_order rows
+    else if bytes_eq name (codes "verify") then verify_order clock rows
+    else if bytes_eq name (codes "issue") then issue_order rows
+    else if bytes_eq name (codes "jwk") then jwk_or_secret rows
     else if bytes_eq name (codes "policy") then Some (Policy (policy_order rows))
-    else option_map (λ order. Once (printing_in rows) order) (order_in clock name rows)
+    else None
 
 -- what a subcommand with its matches asks for, where `clap` has no fault
-abbrev pub request_under : Option ℕ → Kinds → Option (Text × List Row) → Option Request
-request_under clock [] matches = option_and_then (λ m. request_in clock m.0 m.1) matches
-request_under clock (fault ∷ faults) matches = None
+abbrev pub command_under : Option ℕ → Kinds → Option (Text × List Row) → Option Command
+command_under clock [] matches = option_and_then (λ m. command_in clock m.0 m.1) matches
+command_under clock (fault ∷ faults) matches = None
 
 -- what the words ask for by `clap`, where it accepts them
-abbrev pub clap_request : Option ℕ → List Text → Option Request
-clap_request clock words = let app = jwt_app (is_some clock) in request_under clock (fault_of app words) (subcommand_of app words)
+abbrev pub clap_command : Option ℕ → List Text → Option Command
+clap_command clock words = let app = jwt_app (is_some clock) in command_under clock (fault_of app words) (subcommand_of app words)
 
 -- behind the name of the program stands `--version` alone
 abbrev pub asks_version : List Text → Bool
@@ -471,30 +470,5 @@ asks_version (program ∷ word ∷ []) = bytes_eq word (codes "--version")
 asks_version (program ∷ word ∷ more ∷ words) = false
 
 -- what the words ask for at the moment that a clock says, or without a clock
-abbrev pub request_of : Option ℕ → List Text → Option Request
-request_of clock words = if asks_version words then Some (Once Lines Version) else clap_request clock words
-
--- ---- files
-
--- the files that an order names
-abbrev pub files_in_order : Order → Files
-files_in_order (MacFile name limit) = record no_files { key = Some name }
-files_in_order (Verify now public_keys expected files) = files
-files_in_order (Issue alg typ form files) = files
-files_in_order order = no_files
-
-abbrev pub files_in_request : Request → Files
-files_in_request (Once printing order) = files_in_order order
-files_in_request (EachLine order) = order.files
-files_in_request (Jwk order) = order.files
-files_in_request (NewSecret order) = order.files
-files_in_request (Policy order) = order.files
-files_in_request (Pretty order) = no_files
-
--- ---- the system's random source
-
--- so many octets of it are asked for, where no file has the secret: those of a digest of the hash function of the algorithm (RFC 7518,
--- section 3.2)
-abbrev pub octets_asked : Request → ℕ
-octets_asked (NewSecret order) = if is_some order.files.key then 0 else digest_size order.alg
-octets_asked request = 0
+abbrev pub command_of : Option ℕ → List Text → Option Command
+command_of clock words = if asks_version words then Some Version else clap_command clock words

@@ -9,6 +9,7 @@ use crate::moment::LAST;
 use crate::policy::policy_command;
 use clap::builder::ValueParser;
 use clap::{Arg, ArgAction, Command};
+use jwt_text::LONGEST_TOKEN;
 use std::alloc::{AllocError, Global};
 
 /// An option `--name VALUE`, which may be left out.
@@ -39,7 +40,7 @@ fn limit_option<'a>(alloc: Global) -> Arg<'a>
     ensures local { result.global ≡ false }
 {
     option(alloc, "limit", "N", "The most octets of a token")
-        .value_parser(ValueParser::unsigned(1, 1_048_576))
+        .value_parser(ValueParser::unsigned(1, LONGEST_TOKEN as u64))
         .default_value("8192")
 }
 

@@ -2,133 +2,117 @@
 ghost use Rattle.std.specs.Prelude.{◌≡◌, ◌≤◌, IfSome, codes, option_and_then, option_map};
 ghost use Rattle.clap.specs.Words.{found_of, one_of, rows_of, subcommand_rows_of};
 ghost use Rattle.clap.specs.declared.builder.ValueParser.TheVariants.{Unsigned};
-ghost use Rattle.jwt_words.specs.Words.{HasLimits, alg_in, expected_in, files_in, form_in, form_named, is_named, is_set, issue_order, jwk_request, keyed, keys_file_in, lines_order, mac_order, moment_in, named_moment, now_range, number_in, order_in, printing_in, request_in, show_order, verify_order};
-ghost use Rattle.jwt_words.specs.Seen.{expectation_view, files_view, HasRange, lines_view, requested, seconds_of, seen};
+ghost use Rattle.jwt_words.specs.Words.{HasRange, IsLimit, alg_in, command_in, expected_in, files_in, form_in, form_named, is_named, is_set, issue_order, jwk_or_secret, keyed, keys_file_in, lines_order, mac_order, moment_in, named_moment, now_range, number_in, printing_in, show_order, verify_order};
+ghost use Rattle.jwt_words.specs.Seen.{command_view, expectation_view, files_view, lines_view, seconds_of};
 
+use crate::command::{Command, Files, LinesOrder};
 use crate::expectation::Expectation;
 use crate::jwk::{chosen_jwk, chosen_kept_secret, chosen_secret};
 use crate::moment::{LAST, Moment};
 use crate::policy::chosen_policy;
 use crate::pretty::chosen_pretty;
 use crate::printing::Printing;
-use crate::words::{Files, LinesOrder, Order, Request};
 use clap::ArgMatches;
 use jwt_jws::Form;
 use jwt_mac::Alg;
+use jwt_text::LONGEST_TOKEN;
 
-/// The request that the words make.
-pub(crate) fn chosen<'a>(matches: &ArgMatches<'a>, clock: Option<Moment>) -> Option<Request<'a>>
-    ensures limits { IfSome result (λ q. HasRange (requested q)) }
-    ensures request { option_map requested result
-        ≡ option_and_then (λ p. request_in (seconds_of clock) p.0 p.1)
+/// The command that the words ask for.
+pub(crate) fn chosen<'a>(matches: &ArgMatches<'a>, clock: Option<Moment>) -> Option<Command<'a>>
+    ensures limits { IfSome result (λ q. HasRange (command_view q)) }
+    ensures command { option_map command_view result
+        ≡ option_and_then (λ p. command_in (seconds_of clock) p.0 p.1)
         (subcommand_rows_of matches.now) }
 {
     let (name, options) = matches.subcommand()?;
-    chosen_request(name, options, clock)
+    chosen_command(name, options, clock)
 }
 
 /// What a subcommand asks for.
-fn chosen_request<'a>(
+fn chosen_command<'a>(
     name: &str,
     options: &ArgMatches<'a>,
     clock: Option<Moment>,
-) -> Option<Request<'a>>
-    ensures limits { IfSome result (λ q. HasRange (requested q)) }
-    ensures request { option_map requested result
-        ≡ request_in (seconds_of clock) name.now (rows_of (found_of options.now)) }
+) -> Option<Command<'a>>
+    ensures limits { IfSome result (λ q. HasRange (command_view q)) }
+    ensures command { option_map command_view result
+        ≡ command_in (seconds_of clock) name.now (rows_of (found_of options.now)) }
 {
     if is_set(options, "lines") {
         let lines = chosen_lines(options)?;
-        return Some(Request::EachLine(lines));
+        return Some(Command::VerifyLines(lines));
     }
     if is_set(options, "pretty") {
         let order = chosen_pretty(options, clock)?;
-        return Some(Request::Pretty(order));
+        return Some(Command::Pretty(order));
     }
-    if name == "jwk" {
-        return chosen_jwk_request(options);
-    }
-    if name == "policy" {
-        return Some(Request::Policy(chosen_policy(options)));
-    }
-    let printing = chosen_printing(options);
-    let order = chosen_order(name, options, clock)?;
-    Some(Request::Once { printing, order })
-}
-
-/// What `jwk` asks for: the secret of a file with `--secret`, a new one with `--new`, and else the JWKs of public keys.
-fn chosen_jwk_request<'a>(options: &ArgMatches<'a>) -> Option<Request<'a>>
-    ensures limits { IfSome result (λ q. HasRange (requested q)) }
-    ensures request { option_map requested result ≡ jwk_request (rows_of (found_of options.now)) }
-{
-    if is_named(options, "secret") {
-        let order = chosen_kept_secret(options)?;
-        return Some(Request::NewSecret(order));
-    }
-    if is_named(options, "new") {
-        let order = chosen_secret(options)?;
-        return Some(Request::NewSecret(order));
-    }
-    let order = chosen_jwk(options)?;
-    Some(Request::Jwk(order))
-}
-
-/// What a subcommand asks for, where it asks for one answer.
-fn chosen_order<'a>(
-    name: &str,
-    options: &ArgMatches<'a>,
-    clock: Option<Moment>,
-) -> Option<Order<'a>>
-    ensures limits { IfSome result (λ o. HasLimits (seen o)) }
-    ensures order { option_map seen result
-        ≡ order_in (seconds_of clock) name.now (rows_of (found_of options.now)) }
-{
     match name {
         "mac" => chosen_mac(options),
-        "keys" => Some(Order::Keys),
+        "keys" => Some(Command::Keys {
+            printing: chosen_printing(options),
+        }),
         "show" => chosen_show(options),
         "verify" => chosen_verify(options, clock),
         "issue" => chosen_issue(options),
+        "jwk" => chosen_jwk_or_secret(options),
+        "policy" => Some(Command::Policy(chosen_policy(options))),
         _ => None,
     }
 }
 
+/// What `jwk` asks for: the secret of a file with `--secret`, a new one with `--new`, and else the JWKs of public keys.
+fn chosen_jwk_or_secret<'a>(options: &ArgMatches<'a>) -> Option<Command<'a>>
+    ensures limits { IfSome result (λ q. HasRange (command_view q)) }
+    ensures command { option_map command_view result ≡ jwk_or_secret (rows_of (found_of options.now)) }
+{
+    if is_named(options, "secret") {
+        let order = chosen_kept_secret(options)?;
+        return Some(Command::NewSecret(order));
+    }
+    if is_named(options, "new") {
+        let order = chosen_secret(options)?;
+        return Some(Command::NewSecret(order));
+    }
+    let order = chosen_jwk(options)?;
+    Some(Command::Jwk(order))
+}
+
 /// The key by its text, or by its file: one of the two.
-fn keyed<'a>(text: Option<&'a str>, name: Option<&'a str>, limit: u64) -> Option<Order<'a>>
-    requires least { 1 ≤ limit }
-    requires most { limit ≤ 1048576 }
-    ensures limits { IfSome result (λ o. HasLimits (seen o)) }
-    ensures order { option_map seen result
+fn keyed<'a>(text: Option<&'a str>, name: Option<&'a str>, limit: u64) -> Option<Command<'a>>
+    requires { IsLimit limit }
+    ensures limits { IfSome result (λ q. HasRange (command_view q)) }
+    ensures command { option_map command_view result
         ≡ keyed (option_map (λ t. t.now) text.entry) (option_map (λ t. t.now) name.entry) limit }
 {
     match (text, name) {
-        (Some(key), None) => Some(Order::Mac { key, limit }),
-        (None, Some(name)) => Some(Order::MacFile { name, limit }),
+        (Some(key), None) => Some(Command::Mac { key, limit }),
+        (None, Some(name)) => Some(Command::MacFile { name, limit }),
         _ => None,
     }
 }
 
 /// The request of `mac`.
-fn chosen_mac<'a>(options: &ArgMatches<'a>) -> Option<Order<'a>>
-    ensures limits { IfSome result (λ o. HasLimits (seen o)) }
-    ensures order { option_map seen result ≡ mac_order (rows_of (found_of options.now)) }
+fn chosen_mac<'a>(options: &ArgMatches<'a>) -> Option<Command<'a>>
+    ensures limits { IfSome result (λ q. HasRange (command_view q)) }
+    ensures command { option_map command_view result ≡ mac_order (rows_of (found_of options.now)) }
 {
     let text = options.get_str("k");
     let name = options.get_str("key-file");
-    let limit = number(options, "limit", 1, 1_048_576)?;
+    let limit = number(options, "limit", 1, LONGEST_TOKEN as u64)?;
     keyed(text, name, limit)
 }
 
 /// What `show` asks for without `--pretty`: it has no moment.
-fn chosen_show<'a>(options: &ArgMatches<'a>) -> Option<Order<'a>>
-    ensures limits { IfSome result (λ o. HasLimits (seen o)) }
-    ensures order { option_map seen result ≡ show_order (rows_of (found_of options.now)) }
+fn chosen_show<'a>(options: &ArgMatches<'a>) -> Option<Command<'a>>
+    ensures limits { IfSome result (λ q. HasRange (command_view q)) }
+    ensures command { option_map command_view result ≡ show_order (rows_of (found_of options.now)) }
 {
     if is_named(options, "now") {
         return None;
     }
-    let limit = number(options, "limit", 1, 1_048_576)?;
-    Some(Order::Show { limit })
+    let printing = chosen_printing(options);
+    let limit = number(options, "limit", 1, LONGEST_TOKEN as u64)?;
+    Some(Command::Show { printing, limit })
 }
 
 /// Whether a flag is used.
@@ -252,16 +236,18 @@ fn chosen_files<'a>(options: &ArgMatches<'a>) -> Files<'a>
 }
 
 /// The request of `verify`.
-fn chosen_verify<'a>(options: &ArgMatches<'a>, clock: Option<Moment>) -> Option<Order<'a>>
-    ensures limits { IfSome result (λ o. HasLimits (seen o)) }
-    ensures order { option_map seen result
+fn chosen_verify<'a>(options: &ArgMatches<'a>, clock: Option<Moment>) -> Option<Command<'a>>
+    ensures limits { IfSome result (λ q. HasRange (command_view q)) }
+    ensures command { option_map command_view result
         ≡ verify_order (seconds_of clock) (rows_of (found_of options.now)) }
 {
+    let printing = chosen_printing(options);
     let now = chosen_moment(options, clock)?;
     let public_keys = is_set(options, "public-keys");
     let expected = chosen_expectation(options)?;
     let files = chosen_files(options);
-    Some(Order::Verify {
+    Some(Command::Verify {
+        printing,
         now,
         public_keys,
         expected,
@@ -310,15 +296,15 @@ fn chosen_keys_file<'a>(options: &ArgMatches<'a>) -> Files<'a>
 }
 
 /// The request of `issue`.
-fn chosen_issue<'a>(options: &ArgMatches<'a>) -> Option<Order<'a>>
-    ensures limits { IfSome result (λ o. HasLimits (seen o)) }
-    ensures order { option_map seen result ≡ issue_order (rows_of (found_of options.now)) }
+fn chosen_issue<'a>(options: &ArgMatches<'a>) -> Option<Command<'a>>
+    ensures limits { IfSome result (λ q. HasRange (command_view q)) }
+    ensures command { option_map command_view result ≡ issue_order (rows_of (found_of options.now)) }
 {
     let alg = chosen_alg(options)?;
     let form = chosen_form(options)?;
     let typ = options.get_str("typ");
     let files = chosen_keys_file(options);
-    Some(Order::Issue {
+    Some(Command::Issue {
         alg,
         typ,
         form,

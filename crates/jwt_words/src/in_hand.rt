@@ -3,7 +3,7 @@ ghost use Rattle.std.specs.Prelude.{◌≡◌, option_map};
 ghost use Rattle.jwt_words.specs.InHand.{none_held, unread, unread_or};
 ghost use Rattle.jwt_words.specs.Seen.{files_view, held_view};
 
-use crate::words::Files;
+use crate::command::Files;
 
 /// The octets of the documents that were read from files. A document in hand isn't expected in the input.
 #[derive(Clone, Copy, Debug)]
@@ -24,7 +24,7 @@ pub struct Held<'a> {
     /// DER; more than 4,194,304 are too many.
     pub key: Option<&'a [u8]>,
 
-    /// Octets of the system's random source, as many as [`octets_asked`](crate::octets_asked) says; none where it gave fewer.
+    /// Octets of the system's random source, as many as [`reads`](crate::Command::reads) says; none where it gave fewer.
     pub random: Option<&'a [u8]>,
 }
 

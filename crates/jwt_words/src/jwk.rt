@@ -8,9 +8,9 @@ ghost use Rattle.jwt_words.specs.Words.{asks_of_public_keys, is_public_alg, jwk_
 
 use crate::app::{flag, json_option, option};
 use crate::chosen::{chosen_printing, is_named, is_set};
+use crate::command::Files;
 use crate::nearest::nearest;
 use crate::printing::Printing;
-use crate::words::Files;
 use crate::wrong::unknown_value;
 use clap::{ArgMatches, Command};
 use jwt_mac::Alg;

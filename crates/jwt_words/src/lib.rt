@@ -1,11 +1,12 @@
 //! The words of the command `jwt`: what they ask for, which files they name, and what is said of wrong ones.
 //!
-//! [`read_words`] reads them by `clap`; [`files_in_request`] are the files that they name, and [`unread`] the first of them that wasn't read;
-//! [`octets_asked`] is how many octets of the system's random source they ask for.
+//! [`read_words`] reads them by `clap`; [`Command::reads`] is what the command that they ask for reads, and [`unread`] the first of the files
+//! that it names that wasn't read.
 #![tactic(auto)]
 
 mod app;
 mod chosen;
+mod command;
 mod expectation;
 mod in_hand;
 mod jwk;
@@ -17,6 +18,7 @@ mod printing;
 mod words;
 mod wrong;
 
+pub use command::{Command, Files, LinesOrder, Reads};
 pub use expectation::Expectation;
 pub use in_hand::{Held, unread};
 pub use jwk::{JwkOrder, KidChoice, SecretOrder};
@@ -24,7 +26,4 @@ pub use moment::Moment;
 pub use policy::PolicyOrder;
 pub use pretty::PrettyOrder;
 pub use printing::Printing;
-pub use words::{
-    Files, LinesOrder, Order, Request, WordsFault, files_in_order, files_in_request, octets_asked,
-    read_words,
-};
+pub use words::{WordsFault, read_words};

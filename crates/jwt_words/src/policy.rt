@@ -7,9 +7,9 @@ ghost use Rattle.jwt_words.specs.Words.{documents_in, named_policy_rule, policy_
 
 use crate::app::{json_option, option};
 use crate::chosen::chosen_printing;
+use crate::command::Files;
 use crate::jwk::value;
 use crate::printing::Printing;
-use crate::words::Files;
 use clap::{Arg, ArgMatches, Command};
 use std::alloc::{AllocError, Global};
 

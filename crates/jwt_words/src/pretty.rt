@@ -1,12 +1,13 @@
 //! The words of `show --pretty`.
-ghost use Rattle.std.specs.Prelude.{◌≡◌, ◌≤◌, IfSome, option_map};
+ghost use Rattle.std.specs.Prelude.{◌≡◌, IfSome, option_map};
 ghost use Rattle.clap.specs.Words.{found_of, rows_of};
 ghost use Rattle.jwt_words.specs.Seen.{pretty_view, seconds_of};
-ghost use Rattle.jwt_words.specs.Words.{pretty_order, shown_moment};
+ghost use Rattle.jwt_words.specs.Words.{IsLimit, pretty_order, shown_moment};
 
 use crate::chosen::{chosen_now, is_set, number};
 use crate::moment::Moment;
 use clap::ArgMatches;
+use jwt_text::LONGEST_TOKEN;
 
 /// What `show --pretty` asks for: a token for a person.
 #[derive(Clone, Copy)]
@@ -34,14 +35,14 @@ fn chosen_shown_moment(options: &ArgMatches<'_>, clock: Option<Moment>) -> Optio
 
 /// What `show --pretty` asks for: it has no JSON on one line.
 pub(crate) fn chosen_pretty(options: &ArgMatches<'_>, clock: Option<Moment>) -> Option<PrettyOrder>
-    ensures limits { IfSome result (λ o. (1 ≤ o.limit) × (o.limit ≤ 1048576)) }
+    ensures limits { IfSome result (λ o. IsLimit o.limit) }
     ensures order { option_map pretty_view result
         ≡ pretty_order (seconds_of clock) (rows_of (found_of options.now)) }
 {
     if is_set(options, "json") {
         return None;
     }
-    let limit = number(options, "limit", 1, 1_048_576)?;
+    let limit = number(options, "limit", 1, LONGEST_TOKEN as u64)?;
     let now = chosen_shown_moment(options, clock)?;
     Some(PrettyOrder { limit, now })
 }

@@ -1,5 +1,6 @@
-use Rattle.std.proofs.Common.{rules, ◌≡◌, ◌∙◌, inr, ap, sym, subst, option_map, Option, IfOk}
+use Rattle.std.proofs.Common.{◌+◌, rules, ◌≡◌, ◌∙◌, inr, ap, sym, subst, option_map, Option, IfOk}
 use Rattle.std.proofs.lemmas.Option.{IfSome_then}
+use Rattle.jwt_text.specs.declared.limits.TheConstants.{LONGEST_KEY_SET, LONGEST_TOKEN}
 use Rattle.jwt_printing.specs.Printed.{Answer}
 use Rattle.jwt_keys.specs.KeySets.{key_set, key_set_of}
 use Rattle.jwt_command.specs.Documents.{document}
@@ -24,19 +25,19 @@ returns-in-Err-TooLong-clause-subject g c =
     subst (λ (s : Option Subject). IfOk c.on_fault.result (λ r. option_map subject_view r.subject ≡ s)) (keys_long_subject (option_map (λ t. t.now) c.args.keys) x _ _ long.1 long.0 long.2) c.on_fault.ensures.subject)
 
 pub returns-in-Err-TooLong-clause-stops : goal.returns-in-Err-TooLong-clause-stops
-returns-in-Err-TooLong-clause-stops g c = IfSome_then (g.R.Source.remaining c.args.r.now) c.in-Err-TooLong.ensures.taken (λ x h. document_stops 4194304 (behind_keys 1048577 (key_set_of (document (option_map (λ t. t.now) c.args.keys) x))) (option_map (λ t. t.now) c.args.keys) x _ _ h)
+returns-in-Err-TooLong-clause-stops g c = IfSome_then (g.R.Source.remaining c.args.r.now) c.in-Err-TooLong.ensures.taken (λ x h. document_stops LONGEST_KEY_SET (behind_keys (LONGEST_TOKEN + 1) (key_set_of (document (option_map (λ t. t.now) c.args.keys) x))) (option_map (λ t. t.now) c.args.keys) x _ _ h)
 
 pub returns-in-Err-OutOfMemory-clause-stops : goal.returns-in-Err-OutOfMemory-clause-stops
-returns-in-Err-OutOfMemory-clause-stops g c = IfSome_then (g.R.Source.remaining c.args.r.now) c.in-Err-OutOfMemory.ensures.taken (λ x h. document_stops 4194304 (behind_keys 1048577 (key_set_of (document (option_map (λ t. t.now) c.args.keys) x))) (option_map (λ t. t.now) c.args.keys) x _ _ h)
+returns-in-Err-OutOfMemory-clause-stops g c = IfSome_then (g.R.Source.remaining c.args.r.now) c.in-Err-OutOfMemory.ensures.taken (λ x h. document_stops LONGEST_KEY_SET (behind_keys (LONGEST_TOKEN + 1) (key_set_of (document (option_map (λ t. t.now) c.args.keys) x))) (option_map (λ t. t.now) c.args.keys) x _ _ h)
 
 pub returns-in-Ok-read-clause-stops : goal.returns-in-Ok-read-clause-stops
 returns-in-Ok-read-clause-stops g c =
     IfSome_then (g.R.Source.remaining c.args.r.now) c.in-Ok.ensures.document
-    (λ x h. behind_keys_taken 1048577 (option_map (λ t. t.now) c.args.keys) x _ _ _ _ (key_set c.in-Ok-read.keys)
+    (λ x h. behind_keys_taken (LONGEST_TOKEN + 1) (option_map (λ t. t.now) c.args.keys) x _ _ _ _ (key_set c.in-Ok-read.keys)
     h (ap key_set_of (sym c.octets.ensures) ∙ c.in-Ok-read.ensures.answer) c.on_claims.ensures.taken)
 
 pub returns-in-Err-OutOfMemory-read-clause-stops : goal.returns-in-Err-OutOfMemory-read-clause-stops
-returns-in-Err-OutOfMemory-read-clause-stops g c = IfSome_then (g.R.Source.remaining c.args.r.now) c.in-Ok.ensures.document (λ x h. document_stops 4194304 (behind_keys 1048577 (key_set_of (document (option_map (λ t. t.now) c.args.keys) x))) (option_map (λ t. t.now) c.args.keys) x _ _ (inr h.taken))
+returns-in-Err-OutOfMemory-read-clause-stops g c = IfSome_then (g.R.Source.remaining c.args.r.now) c.in-Ok.ensures.document (λ x h. document_stops LONGEST_KEY_SET (behind_keys (LONGEST_TOKEN + 1) (key_set_of (document (option_map (λ t. t.now) c.args.keys) x))) (option_map (λ t. t.now) c.args.keys) x _ _ (inr h.taken))
 
 pub returns : goal.returns
 returns g c = record {
@@ -45,5 +46,5 @@ returns g c = record {
       subst (λ (s : Option Subject). IfOk c.on_fault-in-Err.result (λ r. option_map subject_view r.subject ≡ s))
       (keys_refused_subject (option_map (λ t. t.now) c.args.keys) x _ _ _ c.in-Err.fault _ h c.in-Ok.ensures.works (search rules)) c.on_fault-in-Err.ensures.subject);
   failed = search rules;
-  stops = IfSome_then (g.R.Source.remaining c.args.r.now) c.in-Ok.ensures.document (λ x h. document_stops 4194304 (behind_keys 1048577 (key_set_of (document (option_map (λ t. t.now) c.args.keys) x))) (option_map (λ t. t.now) c.args.keys) x _ _ (inr h.taken));
+  stops = IfSome_then (g.R.Source.remaining c.args.r.now) c.in-Ok.ensures.document (λ x h. document_stops LONGEST_KEY_SET (behind_keys (LONGEST_TOKEN + 1) (key_set_of (document (option_map (λ t. t.now) c.args.keys) x))) (option_map (λ t. t.now) c.args.keys) x _ _ (inr h.taken));
 }

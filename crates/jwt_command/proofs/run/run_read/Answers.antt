@@ -1,140 +1,129 @@
-use Rattle.std.proofs.Common.{rules, refl, ◌≡◌, ◌⊎◌, ap, sym, subst, map, option_map, Option, None, Some, IfSome, [], true, false}
-use Rattle.std.specs.Prelude.{unwrap_or}
-use Rattle.jwt_command.specs.RunLines.{Outcome}
+use Rattle.std.proofs.Common.{rules, refl, ◌≡◌, ◌∙◌, ap, sym, subst, map, option_map, Option, None, Some, IfOk, IfSome, [], true, false}
+use Rattle.std.proofs.lemmas.Option.{IfSome_then}
 use Rattle.jwt_words.specs.InHand.{unread}
-use Rattle.jwt_words.specs.Seen.{seen, held_view, jwk_view, lines_view, policy_view, pretty_view, secret_view}
-use Rattle.jwt_command.specs.Jwk.{JwkAnswer, jwk_most, secret_answer}
-use Rattle.jwt_command.specs.Policy.{policy_answer}
-use Rattle.jwt_command.specs.Pretty.{PrettyAnswer, pretty_most}
-use Rattle.jwt_command.specs.Answered.{answer_of}
-use Rattle.jwt_text.specs.Intake.{TakesAtMost}
-use Rattle.jwt_command.specs.Runs.{Runs}
-use Rattle.jwt_command.specs.Stops.{most_taken}
-use Rattle.jwt_printing.specs.Printed.{Gives}
+use Rattle.jwt_words.specs.Reading.{Reads, reads}
+use Rattle.jwt_words.specs.Seen.{command_view, held_view, lines_view}
+use Rattle.jwt_words.specs.Words.{Command, VerifyLines}
+use Rattle.jwt_words.specs.declared.command.Command.{Command as CodeCommand}
+use Rattle.jwt_words.specs.declared.printing.Printing.{Printing}
+use Rattle.jwt_printing.specs.Refused.{printed_file_fault}
 use Rattle.jwt_printing.specs.Views.{reply_view}
-use Rattle.jwt_command.specs.Subjects.{IsSubject, policy_subject, shown_subject, subject_of_order, subject_view, unless_lacking, unless_read}
+use Rattle.jwt_command.specs.RunLines.{Outcome}
+use Rattle.jwt_command.specs.Runs.{Drawn, IsRun}
+use Rattle.jwt_command.specs.Subjects.{IsSubject, is_of_files, subject_in_hand, subject_view}
 use Rattle.jwt_command.specs.declared.subject.Replied.{Replied}
-use Rattle.jwt_words.specs.Words.{EachLine, Jwk, JwkOrder, NewSecret, Once, Order, Policy, Pretty, PrettyOrder, Request}
-use Rattle.jwt_command.proofs.Printing.{gives_known, gives_reply, some_known, whatever}
-use Rattle.jwt_command.proofs.Refusing.{given_subject, no_subject}
+use Rattle.jwt_command.proofs.Printing.{kept, lines_run, memory_run, reply_run, unread_run}
+use Rattle.jwt_command.proofs.Refusing.{given_subject, in_hand_subject, unread_subject}
 use Rattle.jwt_command.proofs.RunningLines.{where_known}
 use Rattle.jwt_command.proofs.run.run_read.Goals as goal
 
-pub returns-in-Once-clause-answer : goal.returns-in-Once-clause-answer
-returns-in-Once-clause-answer g c = λ asked reading.
-    let vs = map (λ b. (goal.Verifier-dyn g (b.vtable, b.value)).meaning b.value) c.args.built_in.now in
-    let is : asked ≡ Some (Once c.in-Once.printing (seen c.in-Once.order)) = search rules in
-    subst (λ (q : Option Request). IfSome (g.R.Source.remaining c.args.r.now) (λ x. Runs vs g.C.Clock.says (held_view c.args.held) q x (g.R.Source.failed c.reply_of.new.r) (record { before = g.W.Sink.contents c.args.w.now; after = g.W.Sink.contents c.give_replied.new.w; failed = g.W.Sink.failed c.give_replied.new.w; status = c.give_replied.result.status }))) (sym is)
-    (gives_known (λ a. reply_view a.reply) c.reply_of.result (g.R.Source.remaining c.args.r.now) (λ x. answer_of c.in-Once.printing vs (held_view c.args.held) (seen c.in-Once.order) (g.R.Source.failed c.reply_of.new.r) x) (record { before = g.W.Sink.contents c.args.w.now; after = g.W.Sink.contents c.give_replied.new.w; failed = g.W.Sink.failed c.give_replied.new.w; status = c.give_replied.result.status })
-    c.reply_of.ensures.answer c.give_replied.ensures.ok c.give_replied.ensures.err)
+-- ---- a file that can't be read
 
-pub returns-in-Once-clause-stops : goal.returns-in-Once-clause-stops
-returns-in-Once-clause-stops g c = λ printing order reading.
-    let is : Some (Once printing order) ≡ Some (Once c.in-Once.printing (seen c.in-Once.order)) = search rules in
-    let same : seen c.in-Once.order ≡ order = cc is in
-    subst (λ (o : Order). IfSome (g.R.Source.remaining c.args.r.now) (λ x. (g.R.Source.failed c.reply_of.new.r ≡ true) ⊎ TakesAtMost (most_taken (held_view c.args.held) o x) x (g.R.Source.remaining c.reply_of.new.r))) same c.reply_of.ensures.stops
-
-pub returns-in-Jwk-clause-answer : goal.returns-in-Jwk-clause-answer
-returns-in-Jwk-clause-answer g c = λ asked reading.
-    let vs = map (λ b. (goal.Verifier-dyn g (b.vtable, b.value)).meaning b.value) c.args.built_in.now in
-    let is : asked ≡ Some (Jwk (jwk_view c.in-Jwk.order)) = search rules in
-    subst (λ (q : Option Request). IfSome (g.R.Source.remaining c.args.r.now) (λ x. Runs vs g.C.Clock.says (held_view c.args.held) q x (g.R.Source.failed c.jwk.new.r) (record { before = g.W.Sink.contents c.args.w.now; after = g.W.Sink.contents c.give_alone.new.w; failed = g.W.Sink.failed c.give_alone.new.w; status = c.give_alone.result.status }))) (sym is)
-    (some_known reply_view c.jwk.result (g.R.Source.remaining c.args.r.now) (λ x a. JwkAnswer (jwk_view c.in-Jwk.order) (held_view c.args.held) (g.R.Source.failed c.jwk.new.r) x a) (record { before = g.W.Sink.contents c.args.w.now; after = g.W.Sink.contents c.give_alone.new.w; failed = g.W.Sink.failed c.give_alone.new.w; status = c.give_alone.result.status })
-    c.jwk.ensures.answer c.give_alone.ensures.ok c.give_alone.ensures.err)
-
-pub returns-in-Jwk-clause-jwk_stops : goal.returns-in-Jwk-clause-jwk_stops
-returns-in-Jwk-clause-jwk_stops g c = λ order reading.
-    let is : Some (Jwk order) ≡ Some (Jwk (jwk_view c.in-Jwk.order)) = search rules in
-    let same : jwk_view c.in-Jwk.order ≡ order = cc is in
-    subst (λ (o : JwkOrder). IfSome (g.R.Source.remaining c.args.r.now) (λ x. (g.R.Source.failed c.jwk.new.r ≡ true) ⊎ TakesAtMost (jwk_most (held_view c.args.held) o) x (g.R.Source.remaining c.jwk.new.r))) same c.jwk.ensures.taken
-
-pub returns-in-Pretty-clause-answer : goal.returns-in-Pretty-clause-answer
-returns-in-Pretty-clause-answer g c = λ asked reading.
-    let vs = map (λ b. (goal.Verifier-dyn g (b.vtable, b.value)).meaning b.value) c.args.built_in.now in
-    let is : asked ≡ Some (Pretty (pretty_view c.in-Pretty.order)) = search rules in
-    subst (λ (q : Option Request). IfSome (g.R.Source.remaining c.args.r.now) (λ x. Runs vs g.C.Clock.says (held_view c.args.held) q x (g.R.Source.failed c.show_pretty.new.r) (record { before = g.W.Sink.contents c.args.w.now; after = g.W.Sink.contents c.give_replied-in-Pretty.new.w; failed = g.W.Sink.failed c.give_replied-in-Pretty.new.w; status = c.give_replied-in-Pretty.result.status }))) (sym is)
-    (some_known (λ a. reply_view a.reply) c.show_pretty.result (g.R.Source.remaining c.args.r.now) (λ x a. PrettyAnswer (pretty_view c.in-Pretty.order) (g.R.Source.failed c.show_pretty.new.r) x a) (record { before = g.W.Sink.contents c.args.w.now; after = g.W.Sink.contents c.give_replied-in-Pretty.new.w; failed = g.W.Sink.failed c.give_replied-in-Pretty.new.w; status = c.give_replied-in-Pretty.result.status })
-    c.show_pretty.ensures.answer c.give_replied-in-Pretty.ensures.ok c.give_replied-in-Pretty.ensures.err)
-
-pub returns-in-Pretty-clause-pretty_stops : goal.returns-in-Pretty-clause-pretty_stops
-returns-in-Pretty-clause-pretty_stops g c = λ order reading.
-    let is : Some (Pretty order) ≡ Some (Pretty (pretty_view c.in-Pretty.order)) = search rules in
-    let same : pretty_view c.in-Pretty.order ≡ order = cc is in
-    subst (λ (o : PrettyOrder). IfSome (g.R.Source.remaining c.args.r.now) (λ x. (g.R.Source.failed c.show_pretty.new.r ≡ true) ⊎ TakesAtMost (pretty_most o) x (g.R.Source.remaining c.show_pretty.new.r))) same c.show_pretty.ensures.taken
-
-pub returns-in-NewSecret-clause-answer : goal.returns-in-NewSecret-clause-answer
-returns-in-NewSecret-clause-answer g c = λ asked reading.
-    let vs = map (λ b. (goal.Verifier-dyn g (b.vtable, b.value)).meaning b.value) c.args.built_in.now in
-    let is : asked ≡ Some (NewSecret (secret_view c.in-NewSecret.order)) = search rules in
-    let outcome : Outcome = record { before = g.W.Sink.contents c.args.w.now; after = g.W.Sink.contents c.give_alone-in-NewSecret.new.w; failed = g.W.Sink.failed c.give_alone-in-NewSecret.new.w; status = c.give_alone-in-NewSecret.result.status } in
-    let answer = secret_answer (secret_view c.in-NewSecret.order) (held_view c.args.held) in
-    let gives = gives_reply reply_view c.secret.result answer outcome c.secret.ensures c.give_alone-in-NewSecret.ensures.ok c.give_alone-in-NewSecret.ensures.err in
-    subst (λ (q : Option Request). IfSome (g.R.Source.remaining c.args.r.now) (λ x. Runs vs g.C.Clock.says (held_view c.args.held) q x (g.R.Source.failed c.args.r.now) outcome)) (sym is)
-    (whatever (g.R.Source.remaining c.args.r.now) (Gives answer outcome.before outcome.after outcome.failed outcome.status) gives)
-
-pub returns-in-Policy-clause-answer : goal.returns-in-Policy-clause-answer
-returns-in-Policy-clause-answer g c = λ asked reading.
-    let vs = map (λ b. (goal.Verifier-dyn g (b.vtable, b.value)).meaning b.value) c.args.built_in.now in
-    let is : asked ≡ Some (Policy (policy_view c.in-Policy.order)) = search rules in
-    let outcome : Outcome = record { before = g.W.Sink.contents c.args.w.now; after = g.W.Sink.contents c.give_replied-in-Policy.new.w; failed = g.W.Sink.failed c.give_replied-in-Policy.new.w; status = c.give_replied-in-Policy.result.status } in
-    let answer = policy_answer vs (policy_view c.in-Policy.order) (held_view c.args.held) in
-    let gives = gives_reply (λ a. reply_view a.reply) c.policy.result answer outcome c.policy.ensures.line c.give_replied-in-Policy.ensures.ok c.give_replied-in-Policy.ensures.err in
-    subst (λ (q : Option Request). IfSome (g.R.Source.remaining c.args.r.now) (λ x. Runs vs g.C.Clock.says (held_view c.args.held) q x (g.R.Source.failed c.args.r.now) outcome)) (sym is)
-    (whatever (g.R.Source.remaining c.args.r.now) (Gives answer outcome.before outcome.after outcome.failed outcome.status) gives)
-
-pub returns-in-Policy-clause-known : goal.returns-in-Policy-clause-known
-returns-in-Policy-clause-known g c = λ asked reading unread.
-    let vs = map (λ b. (goal.Verifier-dyn g (b.vtable, b.value)).meaning b.value) c.args.built_in.now in
-    let is : asked ≡ Some (Policy (policy_view c.in-Policy.order)) = search rules in
-    let outcome : Outcome = record { before = g.W.Sink.contents c.args.w.now; after = g.W.Sink.contents c.give_replied-in-Policy.new.w; failed = g.W.Sink.failed c.give_replied-in-Policy.new.w; status = c.give_replied-in-Policy.result.status } in
-    let answer = policy_answer vs (policy_view c.in-Policy.order) (held_view c.args.held) in
-    let gives = gives_reply (λ a. reply_view a.reply) c.policy.result answer outcome c.policy.ensures.line c.give_replied-in-Policy.ensures.ok c.give_replied-in-Policy.ensures.err in
-    subst (λ (q : Option Request). Runs vs g.C.Clock.says (held_view c.args.held) q [] false outcome) (sym is) gives
-
-pub returns-in-Once-clause-subject : goal.returns-in-Once-clause-subject
-returns-in-Once-clause-subject g c = λ asked reading.
-    let vs = map (λ b. (goal.Verifier-dyn g (b.vtable, b.value)).meaning b.value) c.args.built_in.now in
-    let is : asked ≡ Some (Once c.in-Once.printing (seen c.in-Once.order)) = search rules in
-    let outcome : Outcome = record { before = g.W.Sink.contents c.args.w.now; after = g.W.Sink.contents c.give_replied.new.w; failed = g.W.Sink.failed c.give_replied.new.w; status = c.give_replied.result.status } in
-    subst (λ (q : Option Request). IfSome (g.R.Source.remaining c.args.r.now) (λ x. IsSubject vs (held_view c.args.held) q x (g.R.Source.failed c.reply_of.new.r) (option_map subject_view c.give_replied.result.subject) outcome)) (sym is)
-    (given_subject (λ (a : Replied). a.subject) (option_map subject_view) _ None c.reply_of.result (g.R.Source.remaining c.args.r.now) (λ x. subject_of_order c.in-Once.printing vs (held_view c.args.held) (seen c.in-Once.order) (g.R.Source.failed c.reply_of.new.r) x) outcome c.reply_of.ensures.subject c.give_replied.ensures.subject c.give_replied.ensures.none refl c.give_replied.ensures.err)
-
-pub returns-in-Pretty-clause-subject : goal.returns-in-Pretty-clause-subject
-returns-in-Pretty-clause-subject g c = λ asked reading.
-    let vs = map (λ b. (goal.Verifier-dyn g (b.vtable, b.value)).meaning b.value) c.args.built_in.now in
-    let is : asked ≡ Some (Pretty (pretty_view c.in-Pretty.order)) = search rules in
-    let outcome : Outcome = record { before = g.W.Sink.contents c.args.w.now; after = g.W.Sink.contents c.give_replied-in-Pretty.new.w; failed = g.W.Sink.failed c.give_replied-in-Pretty.new.w; status = c.give_replied-in-Pretty.result.status } in
-    subst (λ (q : Option Request). IfSome (g.R.Source.remaining c.args.r.now) (λ x. IsSubject vs (held_view c.args.held) q x (g.R.Source.failed c.show_pretty.new.r) (option_map subject_view c.give_replied-in-Pretty.result.subject) outcome)) (sym is)
-    (given_subject (λ (a : Replied). a.subject) (option_map subject_view) _ None c.show_pretty.result (g.R.Source.remaining c.args.r.now) (λ x. unless_read (g.R.Source.failed c.show_pretty.new.r) (shown_subject c.in-Pretty.order.limit x)) outcome c.show_pretty.ensures.subject c.give_replied-in-Pretty.ensures.subject c.give_replied-in-Pretty.ensures.none refl c.give_replied-in-Pretty.ensures.err)
-
-pub returns-in-Policy-clause-subject : goal.returns-in-Policy-clause-subject
-returns-in-Policy-clause-subject g c = λ asked reading.
-    let vs = map (λ b. (goal.Verifier-dyn g (b.vtable, b.value)).meaning b.value) c.args.built_in.now in
-    let is : asked ≡ Some (Policy (policy_view c.in-Policy.order)) = search rules in
-    let outcome : Outcome = record { before = g.W.Sink.contents c.args.w.now; after = g.W.Sink.contents c.give_replied-in-Policy.new.w; failed = g.W.Sink.failed c.give_replied-in-Policy.new.w; status = c.give_replied-in-Policy.result.status } in
-    subst (λ (q : Option Request). IfSome (g.R.Source.remaining c.args.r.now) (λ x. IsSubject vs (held_view c.args.held) q x (g.R.Source.failed c.args.r.now) (option_map subject_view c.give_replied-in-Policy.result.subject) outcome)) (sym is)
-    (given_subject (λ (a : Replied). a.subject) (option_map subject_view) _ None c.policy.result (g.R.Source.remaining c.args.r.now) (λ x. unless_lacking (unread (policy_view c.in-Policy.order).files (held_view c.args.held)) (policy_subject (unwrap_or (held_view c.args.held).policy []) (held_view c.args.held).keys)) outcome (where_known (g.R.Source.remaining c.args.r.now) _ (λ x. c.policy.ensures.subject)) c.give_replied-in-Policy.ensures.subject c.give_replied-in-Policy.ensures.none refl c.give_replied-in-Policy.ensures.err)
-
-pub returns-in-Jwk-clause-subject : goal.returns-in-Jwk-clause-subject
-returns-in-Jwk-clause-subject g c = λ asked reading.
-    let vs = map (λ b. (goal.Verifier-dyn g (b.vtable, b.value)).meaning b.value) c.args.built_in.now in
-    let is : asked ≡ Some (Jwk (jwk_view c.in-Jwk.order)) = search rules in
+pub returns-in-Some-clause-run : goal.returns-in-Some-clause-run
+returns-in-Some-clause-run g c = λ asked reading.
+    let vs = map (λ b. (goal.Verifier-dyn g (b.vtable, b.value)).meaning b.value) c.args.at_hand.now.built_in.now in
+    let held = held_view c.args.at_hand.now.held in
+    let is : asked ≡ Some (command_view c.in-Ok.command) = search rules in
+    let named = c.in-Some.ensures ∙ ap (λ (r : Reads). unread r.files held) c.reads-reads.ensures.is in
+    let source = kept (g.R.Source.remaining c.args.r.now) (g.R.Source.failed c.args.r.now) in
     let outcome : Outcome = record { before = g.W.Sink.contents c.args.w.now; after = g.W.Sink.contents c.give_alone.new.w; failed = g.W.Sink.failed c.give_alone.new.w; status = c.give_alone.result.status } in
-    subst (λ (q : Option Request). IfSome (g.R.Source.remaining c.args.r.now) (λ x. IsSubject vs (held_view c.args.held) q x (g.R.Source.failed c.jwk.new.r) (option_map subject_view c.give_alone.result.subject) outcome)) (sym is)
-    (no_subject (g.R.Source.remaining c.args.r.now) _ outcome (ap (option_map subject_view) c.give_alone.ensures.subject))
+    subst (λ (q : Option Command). IsRun vs g.C.Clock.says held q source (c.args.r.now ≡ c.args.r.now) outcome) (sym is)
+    (unread_run vs g.C.Clock.says held reply_view c.printed_file_fault.result (command_view c.in-Ok.command) _ (g.R.Source.remaining c.args.r.now) (g.R.Source.failed c.args.r.now) _ outcome named refl
+    (subst (λ (p : Printing). IfOk c.printed_file_fault.result (λ a. reply_view a ≡ printed_file_fault p c.in-Some.name.now)) (ap (λ (r : Reads). r.printing) c.reads-reads.ensures.is) c.printed_file_fault.ensures)
+    c.give_alone.ensures.ok c.give_alone.ensures.err)
 
-pub returns-in-NewSecret-clause-subject : goal.returns-in-NewSecret-clause-subject
-returns-in-NewSecret-clause-subject g c = λ asked reading.
-    let vs = map (λ b. (goal.Verifier-dyn g (b.vtable, b.value)).meaning b.value) c.args.built_in.now in
-    let is : asked ≡ Some (NewSecret (secret_view c.in-NewSecret.order)) = search rules in
-    let outcome : Outcome = record { before = g.W.Sink.contents c.args.w.now; after = g.W.Sink.contents c.give_alone-in-NewSecret.new.w; failed = g.W.Sink.failed c.give_alone-in-NewSecret.new.w; status = c.give_alone-in-NewSecret.result.status } in
-    subst (λ (q : Option Request). IfSome (g.R.Source.remaining c.args.r.now) (λ x. IsSubject vs (held_view c.args.held) q x (g.R.Source.failed c.args.r.now) (option_map subject_view c.give_alone-in-NewSecret.result.subject) outcome)) (sym is)
-    (no_subject (g.R.Source.remaining c.args.r.now) _ outcome (ap (option_map subject_view) c.give_alone-in-NewSecret.ensures.subject))
+pub returns-in-Some-clause-subject : goal.returns-in-Some-clause-subject
+returns-in-Some-clause-subject g c = λ asked reading.
+    let vs = map (λ b. (goal.Verifier-dyn g (b.vtable, b.value)).meaning b.value) c.args.at_hand.now.built_in.now in
+    let held = held_view c.args.at_hand.now.held in
+    let is : asked ≡ Some (command_view c.in-Ok.command) = search rules in
+    let named = c.in-Some.ensures ∙ ap (λ (r : Reads). unread r.files held) c.reads-reads.ensures.is in
+    let outcome : Outcome = record { before = g.W.Sink.contents c.args.w.now; after = g.W.Sink.contents c.give_alone.new.w; failed = g.W.Sink.failed c.give_alone.new.w; status = c.give_alone.result.status } in
+    where_known (g.R.Source.remaining c.args.r.now) _ (λ x.
+    subst (λ (q : Option Command). IsSubject vs held q x (g.R.Source.failed c.args.r.now) (option_map subject_view c.give_alone.result.subject) outcome) (sym is)
+    (unread_subject vs held (command_view c.in-Ok.command) _ x (g.R.Source.failed c.args.r.now) _ outcome named (ap (option_map subject_view) c.give_alone.ensures.subject)))
 
-pub returns-in-EachLine-clause-subject : goal.returns-in-EachLine-clause-subject
-returns-in-EachLine-clause-subject g c = λ asked reading.
-    let vs = map (λ b. (goal.Verifier-dyn g (b.vtable, b.value)).meaning b.value) c.args.built_in.now in
-    let is : asked ≡ Some (EachLine (lines_view c.in-EachLine.order)) = search rules in
+pub returns-in-Some-clause-known_subject : goal.returns-in-Some-clause-known_subject
+returns-in-Some-clause-known_subject g c = λ asked reading alone.
+    let vs = map (λ b. (goal.Verifier-dyn g (b.vtable, b.value)).meaning b.value) c.args.at_hand.now.built_in.now in
+    let held = held_view c.args.at_hand.now.held in
+    let is : asked ≡ Some (command_view c.in-Ok.command) = search rules in
+    let named = c.in-Some.ensures ∙ ap (λ (r : Reads). unread r.files held) c.reads-reads.ensures.is in
+    let outcome : Outcome = record { before = g.W.Sink.contents c.args.w.now; after = g.W.Sink.contents c.give_alone.new.w; failed = g.W.Sink.failed c.give_alone.new.w; status = c.give_alone.result.status } in
+    subst (λ (q : Option Command). IsSubject vs held q [] false (option_map subject_view c.give_alone.result.subject) outcome) (sym is)
+    (unread_subject vs held (command_view c.in-Ok.command) _ [] false _ outcome named (ap (option_map subject_view) c.give_alone.ensures.subject))
+
+-- ---- a verdict for each line
+
+pub returns-in-VerifyLines-clause-run : goal.returns-in-VerifyLines-clause-run
+returns-in-VerifyLines-clause-run g c = λ asked reading.
+    let vs = map (λ b. (goal.Verifier-dyn g (b.vtable, b.value)).meaning b.value) c.args.at_hand.now.built_in.now in
+    let held = held_view c.args.at_hand.now.held in
+    let order = lines_view c.in-VerifyLines.order in
+    let is : asked ≡ Some (VerifyLines order) = search rules in
+    let none : None ≡ unread order.files held = subst (λ (k : CodeCommand). None ≡ unread (reads (command_view k)).files held) c.in-VerifyLines.is (c.in_default.ensures ∙ ap (λ (r : Reads). unread r.files held) c.reads-reads.ensures.is) in
+    let source : Drawn = record { before = g.R.Source.remaining c.args.r.now; after = g.R.Source.remaining c.run_lines.new.r; failed = g.R.Source.failed c.run_lines.new.r } in
     let outcome : Outcome = record { before = g.W.Sink.contents c.args.w.now; after = g.W.Sink.contents c.run_lines.new.w; failed = g.W.Sink.failed c.run_lines.new.w; status = c.run_lines.result.status } in
-    subst (λ (q : Option Request). IfSome (g.R.Source.remaining c.args.r.now) (λ x. IsSubject vs (held_view c.args.held) q x (g.R.Source.failed c.run_lines.new.r) (option_map subject_view c.run_lines.result.subject) outcome)) (sym is)
-    (where_known (g.R.Source.remaining c.args.r.now) _ (λ x. c.run_lines.ensures.subject))
+    subst (λ (q : Option Command). IsRun vs g.C.Clock.says held q source (c.run_lines.new.r ≡ c.args.r.now) outcome) (sym is)
+    (lines_run vs g.C.Clock.says held order source _ outcome none c.run_lines.ensures.answer)
+
+pub returns-in-VerifyLines-clause-subject : goal.returns-in-VerifyLines-clause-subject
+returns-in-VerifyLines-clause-subject g c = λ asked reading.
+    let vs = map (λ b. (goal.Verifier-dyn g (b.vtable, b.value)).meaning b.value) c.args.at_hand.now.built_in.now in
+    let held = held_view c.args.at_hand.now.held in
+    let order = lines_view c.in-VerifyLines.order in
+    let is : asked ≡ Some (VerifyLines order) = search rules in
+    let none : None ≡ unread order.files held = subst (λ (k : CodeCommand). None ≡ unread (reads (command_view k)).files held) c.in-VerifyLines.is (c.in_default.ensures ∙ ap (λ (r : Reads). unread r.files held) c.reads-reads.ensures.is) in
+    let outcome : Outcome = record { before = g.W.Sink.contents c.args.w.now; after = g.W.Sink.contents c.run_lines.new.w; failed = g.W.Sink.failed c.run_lines.new.w; status = c.run_lines.result.status } in
+    where_known (g.R.Source.remaining c.args.r.now) _ (λ x.
+    subst (λ (q : Option Command). IsSubject vs held q x (g.R.Source.failed c.run_lines.new.r) (option_map subject_view c.run_lines.result.subject) outcome) (sym is)
+    (in_hand_subject vs held (VerifyLines order) x (g.R.Source.failed c.run_lines.new.r) _ outcome none c.run_lines.ensures.subject))
+
+pub returns-in-VerifyLines-clause-known_subject : goal.returns-in-VerifyLines-clause-known_subject
+returns-in-VerifyLines-clause-known_subject g c = λ asked reading alone.
+    let vs = map (λ b. (goal.Verifier-dyn g (b.vtable, b.value)).meaning b.value) c.args.at_hand.now.built_in.now in
+    let held = held_view c.args.at_hand.now.held in
+    let order = lines_view c.in-VerifyLines.order in
+    let is : asked ≡ Some (VerifyLines order) = search rules in
+    let none : None ≡ unread order.files held = subst (λ (k : CodeCommand). None ≡ unread (reads (command_view k)).files held) c.in-VerifyLines.is (c.in_default.ensures ∙ ap (λ (r : Reads). unread r.files held) c.reads-reads.ensures.is) in
+    let outcome : Outcome = record { before = g.W.Sink.contents c.args.w.now; after = g.W.Sink.contents c.run_lines.new.w; failed = g.W.Sink.failed c.run_lines.new.w; status = c.run_lines.result.status } in
+    subst (λ (q : Option Command). IsSubject vs held q [] false (option_map subject_view c.run_lines.result.subject) outcome) (sym is)
+    (in_hand_subject vs held (VerifyLines order) [] false _ outcome none c.run_lines.ensures.subject)
+
+-- ---- one answer
+
+pub returns-in_default-command : goal.returns-in_default-command
+returns-in_default-command g c =
+    let vs = map (λ b. (goal.Verifier-dyn g (b.vtable, b.value)).meaning b.value) c.args.at_hand.now.built_in.now in
+    let held = held_view c.args.at_hand.now.held in
+    let command = command_view c.in-Ok.command in
+    let none : None ≡ unread (reads command).files held = c.in_default.ensures ∙ ap (λ (r : Reads). unread r.files held) c.reads-reads.ensures.is in
+    let source : Drawn = record { before = g.R.Source.remaining c.args.r.now; after = g.R.Source.remaining c.reply_to.new.r; failed = g.R.Source.failed c.reply_to.new.r } in
+    let outcome : Outcome = record { before = g.W.Sink.contents c.args.w.now; after = g.W.Sink.contents c.give_replied.new.w; failed = g.W.Sink.failed c.give_replied.new.w; status = c.give_replied.result.status } in
+    record {
+      run = λ asked reading.
+          let is : asked ≡ Some command = search rules in
+          subst (λ (q : Option Command). IsRun vs g.C.Clock.says held q source (c.reply_to.new.r ≡ c.args.r.now) outcome) (sym is)
+          (reply_run vs g.C.Clock.says held (λ (a : Replied). reply_view a.reply) c.reply_to.result command source _ outcome none
+          c.reply_to.ensures.answer c.reply_to.ensures.stops c.reply_to.ensures.unread c.reply_to.ensures.known c.reply_to.ensures.fails c.give_replied.ensures.ok c.give_replied.ensures.err);
+      subject = λ asked reading.
+          let is : asked ≡ Some command = search rules in
+          subst (λ (q : Option Command). IfSome (g.R.Source.remaining c.args.r.now) (λ x. IsSubject vs held q x source.failed (option_map subject_view c.give_replied.result.subject) outcome)) (sym is)
+          (IfSome_then (g.R.Source.remaining c.args.r.now)
+          (given_subject (λ (a : Replied). a.subject) (option_map subject_view) _ None c.reply_to.result (g.R.Source.remaining c.args.r.now) (λ x. subject_in_hand vs held command source.failed x) outcome
+          c.reply_to.ensures.subject c.give_replied.ensures.subject c.give_replied.ensures.none refl c.give_replied.ensures.err)
+          (λ x told. in_hand_subject vs held command x source.failed _ outcome none told));
+      known_subject = λ asked reading alone.
+          let is : asked ≡ Some command = search rules in
+          subst (λ (q : Option Command). IsSubject vs held q [] false (option_map subject_view c.give_replied.result.subject) outcome) (sym is)
+          (in_hand_subject vs held command [] false _ outcome none
+          (given_subject (λ (a : Replied). a.subject) (option_map subject_view) _ None c.reply_to.result (Some []) (λ x. subject_in_hand vs held command false []) outcome
+          (c.reply_to.ensures.known_subject (subst (λ (q : Option Command). is_of_files q ≡ true) is alone)) c.give_replied.ensures.subject c.give_replied.ensures.none refl c.give_replied.ensures.err));
+    }
+
+-- ---- words that there was no memory to read
+
+pub returns-in-Err-OutOfMemory-clause-run : goal.returns-in-Err-OutOfMemory-clause-run
+returns-in-Err-OutOfMemory-clause-run g c = λ asked reading.
+    let vs = map (λ b. (goal.Verifier-dyn g (b.vtable, b.value)).meaning b.value) c.args.at_hand.now.built_in.now in
+    memory_run vs g.C.Clock.says (held_view c.args.at_hand.now.held) asked (g.R.Source.remaining c.args.r.now) (g.R.Source.failed c.args.r.now) _ _ refl c.give_no_memory.ensures.printed

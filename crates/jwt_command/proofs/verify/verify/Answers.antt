@@ -1,5 +1,6 @@
 use Rattle.std.proofs.Common.{rules, ◌≡◌, ◌∙◌, sym, ap, Ok, inr, map, option_map, Option, subst, IfOk}
 use Rattle.std.proofs.lemmas.Option.{IfSome_then}
+use Rattle.jwt_text.specs.declared.limits.TheConstants.{LONGEST_POLICY}
 use Rattle.jwt_printing.specs.Printed.{Answer}
 use Rattle.jwt_policy.specs.Document.{policy_of}
 use Rattle.jwt_command.specs.Documents.{behind, document}
@@ -25,10 +26,10 @@ returns-in-Err-TooLong-clause-subject g c =
     subst (λ (s : Option Subject). IfOk c.refused_policy.result (λ r. option_map subject_view r.subject ≡ s)) (policy_long_subject (held_view c.args.held).policy x _ _ long.1 long.0 long.2) c.refused_policy.ensures.subject)
 
 pub returns-in-Err-TooLong-clause-stops : goal.returns-in-Err-TooLong-clause-stops
-returns-in-Err-TooLong-clause-stops g c = IfSome_then (g.R.Source.remaining c.args.r.now) c.in-Err-TooLong.ensures.taken (λ x h. document_stops 65536 (behind_policy (held_view c.args.held) (policy_of (document (held_view c.args.held).policy x)) (behind (held_view c.args.held).policy x)) (held_view c.args.held).policy x _ _ h)
+returns-in-Err-TooLong-clause-stops g c = IfSome_then (g.R.Source.remaining c.args.r.now) c.in-Err-TooLong.ensures.taken (λ x h. document_stops LONGEST_POLICY (behind_policy (held_view c.args.held) (policy_of (document (held_view c.args.held).policy x)) (behind (held_view c.args.held).policy x)) (held_view c.args.held).policy x _ _ h)
 
 pub returns-in-Err-OutOfMemory-clause-stops : goal.returns-in-Err-OutOfMemory-clause-stops
-returns-in-Err-OutOfMemory-clause-stops g c = IfSome_then (g.R.Source.remaining c.args.r.now) c.in-Err-OutOfMemory.ensures.taken (λ x h. document_stops 65536 (behind_policy (held_view c.args.held) (policy_of (document (held_view c.args.held).policy x)) (behind (held_view c.args.held).policy x)) (held_view c.args.held).policy x _ _ h)
+returns-in-Err-OutOfMemory-clause-stops g c = IfSome_then (g.R.Source.remaining c.args.r.now) c.in-Err-OutOfMemory.ensures.taken (λ x h. document_stops LONGEST_POLICY (behind_policy (held_view c.args.held) (policy_of (document (held_view c.args.held).policy x)) (behind (held_view c.args.held).policy x)) (held_view c.args.held).policy x _ _ h)
 
 pub returns-in-Ok-read-clause-line : goal.returns-in-Ok-read-clause-line
 returns-in-Ok-read-clause-line g c =
@@ -53,10 +54,10 @@ returns-in-Ok-read-clause-stops g c =
     let is : Ok c.in-Ok-read.policy ≡ policy_of c.octets.result.now = c.in-Ok-read.ensures.answer (λ bad. cc bad) in
     let text : c.octets.result.now ≡ document (held_view c.args.held).policy x = c.octets.ensures ∙ h.octets_are in
     under_policy_taken (held_view c.args.held) x c.in-Ok-read.policy _ _ (sym (is ∙ ap policy_of text))
-    (document_then_stops 65536 (λ y. keys_most (token_most (held_view c.args.held) c.in-Ok-read.policy) (held_view c.args.held).keys y) (held_view c.args.held).policy x _ _ _ _ h c.on_keys.ensures.stops))
+    (document_then_stops LONGEST_POLICY (λ y. keys_most (token_most (held_view c.args.held) c.in-Ok-read.policy) (held_view c.args.held).keys y) (held_view c.args.held).policy x _ _ _ _ h c.on_keys.ensures.stops))
 
 pub returns-in-Err-OutOfMemory-read-clause-stops : goal.returns-in-Err-OutOfMemory-read-clause-stops
-returns-in-Err-OutOfMemory-read-clause-stops g c = IfSome_then (g.R.Source.remaining c.args.r.now) c.in-Ok.ensures.document (λ x h. document_stops 65536 (behind_policy (held_view c.args.held) (policy_of (document (held_view c.args.held).policy x)) (behind (held_view c.args.held).policy x)) (held_view c.args.held).policy x _ _ (inr h.taken))
+returns-in-Err-OutOfMemory-read-clause-stops g c = IfSome_then (g.R.Source.remaining c.args.r.now) c.in-Ok.ensures.document (λ x h. document_stops LONGEST_POLICY (behind_policy (held_view c.args.held) (policy_of (document (held_view c.args.held).policy x)) (behind (held_view c.args.held).policy x)) (held_view c.args.held).policy x _ _ (inr h.taken))
 
 pub returns : goal.returns
 returns g c = record {
@@ -65,5 +66,5 @@ returns g c = record {
       subst (λ (s : Option Subject). IfOk c.refused_policy-in-Err.result (λ r. option_map subject_view r.subject ≡ s))
       (policy_refused_subject (held_view c.args.held).policy x _ _ _ c.in-Err.fault _ h c.in-Ok.ensures.works (search rules)) c.refused_policy-in-Err.ensures.subject);
   failed = search rules;
-  stops = IfSome_then (g.R.Source.remaining c.args.r.now) c.in-Ok.ensures.document (λ x h. document_stops 65536 (behind_policy (held_view c.args.held) (policy_of (document (held_view c.args.held).policy x)) (behind (held_view c.args.held).policy x)) (held_view c.args.held).policy x _ _ (inr h.taken));
+  stops = IfSome_then (g.R.Source.remaining c.args.r.now) c.in-Ok.ensures.document (λ x h. document_stops LONGEST_POLICY (behind_policy (held_view c.args.held) (policy_of (document (held_view c.args.held).policy x)) (behind (held_view c.args.held).policy x)) (held_view c.args.held).policy x _ _ (inr h.taken));
 }

@@ -1,7 +1,7 @@
 use Rattle.std.proofs.Common.{◌≤◌, ℕ, Option, None, Some, IfSome}
 use Rattle.jwt_words.specs.Moments.{last_moment}
 use Rattle.jwt_words.specs.declared.moment.Moment.{Moment}
-use Rattle.jwt_command.proofs.verify_lines.moment.Goals as goal
+use Rattle.jwt_command.proofs.clock.moment.Goals as goal
 
 -- a moment has its range by its type
 in_range : (says : ℕ → Type 0) (m : Option Moment) → IfSome m (λ k. says k.seconds) → IfSome m (λ k. says k.seconds × (k.seconds ≤ last_moment))
