@@ -2,6 +2,7 @@
 use Rattle.std.specs.Prelude.{◌≡◌, ◌≤◌, ℕ, suc, Bool, true, List, [], ◌∷◌, ◌++◌, length, Option, Ok, codes}
 use Rattle.serde_json.specs.Data.{array, object, Items, no_items, item, Members, no_members, member}
 use Rattle.serde_json.specs.Written.{compact_text, comma_if}
+use Rattle.jwt_text.specs.declared.limits.TheConstants.{LONGEST_KEY_SET}
 use Rattle.jwt_mac.specs.Verifying.{KeyOctets}
 use Rattle.jwt_keys.specs.Keys.{KeyParts}
 use Rattle.jwt_keys.specs.KeySets.{key_set_of}
@@ -27,7 +28,7 @@ read_keys kid alg place (key ∷ keys) = read_key (kid key) alg key place ∷ re
 
 -- `jwt_keys` reads the text as the set of exactly these keys, in their order, and skips nothing; it reads no text of more than 4,194,304 octets
 abbrev pub ReadsAsKeys : (KeyOctets → Option (List ℕ)) → Option (List ℕ) → List KeyOctets → List ℕ → Type 0
-ReadsAsKeys kid alg keys text = length text ≤ 4194304 → key_set_of text ≡ Ok (record { keys = read_keys kid alg 0 keys; skips = [] })
+ReadsAsKeys kid alg keys text = length text ≤ LONGEST_KEY_SET → key_set_of text ≡ Ok (record { keys = read_keys kid alg 0 keys; skips = [] })
 
 -- each of their JWKs is read as its key
 abbrev pub AreRead : (KeyOctets → Option (List ℕ)) → Option (List ℕ) → List KeyOctets → Type 0
