@@ -38,6 +38,12 @@ class Cases(unittest.TestCase):
         self.assertEqual(said("proved").keys(), said("openssl").keys())
         self.assertEqual(said("proved").keys(), said("none").keys())
 
+    def test_the_documents_have_their_number(self) -> None:
+        for name in ("README.md", "CONTRIBUTING.md", "tests/README.md", "tests/cases/README.md"):
+            with self.subTest(name):
+                numbers = re.findall(r"\b([\d,]+) cases\b", (corpus.TOP / name).read_text())
+                self.assertEqual(set(numbers), {f"{len(said('proved')):,}"})
+
     def test_only_Ed448_tells_OpenSSL_from_the_proved_verifiers(self) -> None:
         proved, openssl = said("proved"), said("openssl")
         differing = {it.split("/")[1] for it in proved if proved[it] != openssl[it]}

@@ -1,7 +1,7 @@
 //! A curve y^2 = x^3 - 3x + b over a field, with a base point and its order.
 
 ghost use Rattle.numbers.specs.Limbs.{number};
-ghost use Rattle.std.specs.Prelude.{◌≡◌, ◌<◌, ◌≤◌, ◌*◌, ◌^◌};
+ghost use Rattle.std.specs.Prelude.{◌≡◌, ◌<◌, ◌≤◌, ◌*◌};
 
 use crate::field::{ANY_MODULUS, Field};
 

@@ -3,7 +3,7 @@
 ghost use Rattle.std.specs.Prelude.{◌≡◌, ◌+◌, ◌*◌, ◌%◌, ◌<◌, ◌==◌, ◌&&◌, nat_lt, true, Option, Some, IfSome};
 ghost use Rattle.ecdsa.specs.Inverse.{inverse as the_inverse};
 ghost use Rattle.numbers.specs.Limbs.{number};
-ghost use Rattle.ecdsa.specs.Curve.{Point as CurvePoint, Point.Affine, sum_of, multiple, has_x, holds_by, is_key, holds};
+ghost use Rattle.ecdsa.specs.Curve.{Point as CurvePoint, Point.Affine, multiple, has_x, holds_by, is_key, holds};
 ghost use Rattle.ecdsa.specs.Domains.{domain};
 ghost use Rattle.ecdsa.specs.Doubles.{IsTable};
 ghost use Rattle.ecdsa.specs.Field.{size, value, Below};

@@ -1,6 +1,6 @@
 //! Sums of points, by the rules of SEC 1, section 2.2.1.
 
-ghost use Rattle.std.specs.Prelude.{◌≡◌, ◌≢◌, true, false, Option, IfSome};
+ghost use Rattle.std.specs.Prelude.{◌≡◌, true, false, Option, IfSome};
 ghost use Rattle.ecdsa.specs.Curve.{Point as CurvePoint, sum_of};
 ghost use Rattle.ecdsa.specs.Domains.{domain, Meet};
 ghost use Rattle.ecdsa.specs.Field.{size, value, Below};

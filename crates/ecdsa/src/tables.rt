@@ -1,6 +1,6 @@
 //! Multiples of the base point by a table of its doubles.
 
-ghost use Rattle.std.specs.Prelude.{◌≡◌, ℕ, ◌+◌, ◌*◌, ◌<◌, Option, IfSome, if◌then◌else◌, length};
+ghost use Rattle.std.specs.Prelude.{◌≡◌, ◌+◌, ◌*◌, ◌<◌, Option, IfSome, if◌then◌else◌};
 ghost use Rattle.numbers.specs.Limbs.{number};
 ghost use Rattle.ecdsa.specs.Curve.{Point as CurvePoint, Point.Affine, sum_of, doubled, digit_multiple, multiple};
 ghost use Rattle.ecdsa.specs.Domains.{domain};

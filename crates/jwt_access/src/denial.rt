@@ -8,7 +8,6 @@ ghost use Rattle.jwt_access.specs.DenialWords.{IsDenial};
 ghost use Rattle.jwt_access.specs.Denials.{scope_row, demands_rows, claims_denial_of, first_unasked, denial_of};
 ghost use Rattle.jwt_access.specs.Granted.{HasScope, IsGranted};
 ghost use Rattle.jwt_access.specs.Pointers.{claim_at};
-ghost use Rattle.jwt_access.specs.Rules.{further_of};
 ghost use Rattle.jwt_access.specs.Scopes.{grants};
 ghost use Rattle.jwt_access.specs.Views.{demand, further, named_claim};
 

@@ -1,8 +1,7 @@
 //! Reading the input once, and the runs over it.
-ghost use Rattle.std.specs.Prelude.{◌≡◌, ◌≤◌, ◌-◌, Ok, Some, IfOk, IfSome, length, map, slice_get};
+ghost use Rattle.std.specs.Prelude.{◌≡◌, ◌≤◌, ◌-◌, Ok, Some, IfOk, IfSome, map, slice_get};
 ghost use Rattle.jwt_text.specs.Base64url.{spelled};
 ghost use Rattle.jwt_jws.specs.Views.{token};
-ghost use Rattle.jwt_jws.specs.Token.{SignatureParts};
 ghost use Rattle.jwt_keys.specs.KeySets.{key_set, key_set_of};
 ghost use Rattle.jwt_policy.specs.Document.{policy_of};
 ghost use Rattle.jwt_issue.specs.ClaimSets.{claim_set_of};

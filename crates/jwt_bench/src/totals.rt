@@ -1,6 +1,6 @@
 //! The sums of several runs.
-ghost use Rattle.std.specs.Prelude.{◌≡◌, ◌+◌, ◌<◌, ◌≤◌, ◌*◌, ◌^◌, string_bytes, IfOk};
-ghost use Rattle.jwt_bench.specs.Totals.{after, line_of, accepted_number};
+ghost use Rattle.std.specs.Prelude.{◌≡◌, ◌+◌, ◌<◌, ◌^◌, string_bytes, IfOk};
+ghost use Rattle.jwt_bench.specs.Totals.{after, line_of};
 
 use std::alloc::{AllocError, Global};
 

@@ -1,6 +1,5 @@
 //! The command `jwk`: public keys in PEM or DER as JWKs, and new secrets.
 ghost use Rattle.std.specs.Prelude.{◌≡◌, ◌≢◌, ◌≤◌, ◌+◌, ◌⊎◌, true, false, IfErr, IfOk, IfSome, IsOkUnless, length, option_and_then, option_map};
-ghost use Rattle.serde_json.specs.Data.{object};
 ghost use Rattle.jwt_text.specs.Intake.{TakesAtMost};
 ghost use Rattle.jwt_mac.specs.Algorithm.{digest_size, is_hmac_alg};
 ghost use Rattle.jwt_jwk.specs.Converted.{kid_of};

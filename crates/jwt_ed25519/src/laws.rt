@@ -1,5 +1,5 @@
 //! Laws of the definitions: the function does nothing, and its contract holds.
-ghost use Rattle.std.specs.Prelude.{◌≡◌, ◌+◌, ◌-◌, ◌*◌, ◌^◌, ◌%◌};
+ghost use Rattle.std.specs.Prelude.{◌≡◌, ◌+◌, ◌*◌, ◌^◌, ◌%◌};
 ghost use Rattle.jwt_ed25519.specs.Field.{p};
 ghost use Rattle.jwt_ed25519.specs.Points.{base_x, base_y, d};
 

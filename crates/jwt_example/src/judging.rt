@@ -1,6 +1,6 @@
 //! The call that judges a token.
 
-ghost use Rattle.std.specs.Prelude.{◌≡◌, ◌≢◌, IfSome, map};
+ghost use Rattle.std.specs.Prelude.{◌≢◌, IfSome, map};
 ghost use Rattle.fowharimu.specs.Accepted.{IsVerdict};
 ghost use Rattle.fowharimu.specs.Reports.{FoundMemory, terms};
 ghost use Rattle.fowharimu.specs.InputFaultVariants.{Read};

@@ -1,6 +1,5 @@
 //! One signature of a token.
 ghost use Rattle.std.specs.Prelude.{◌≡◌, option_map};
-ghost use Rattle.jwt_text.specs.Parts.{part_octets};
 ghost use Rattle.jwt_jws.specs.Crit.{crit_repeats};
 ghost use Rattle.jwt_jws.specs.Token.{alg_text, in_header, in_unprotected, kid};
 

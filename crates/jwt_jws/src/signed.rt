@@ -1,6 +1,5 @@
 //! A signed token over the octets that it was read from.
 ghost use Rattle.std.specs.Prelude.{◌≡◌, ◌<◌, ◌≤◌, ◌↔◌, length, map, option_map, slice_get, IsTrue};
-ghost use Rattle.jwt_text.specs.Parts.{part_octets};
 ghost use Rattle.jwt_mac.specs.Verifying.{message_octets};
 ghost use Rattle.jwt_jws.specs.Token.{message_of};
 ghost use Rattle.jwt_jws.specs.declared.fault.Form.TheVariants.{Compact};

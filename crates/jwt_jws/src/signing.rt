@@ -1,5 +1,5 @@
 //! One signature of a token, from its three members as they are spelled.
-ghost use Rattle.std.specs.Prelude.{◌≡◌, Option, option_map, IfOk};
+ghost use Rattle.std.specs.Prelude.{◌≡◌, Option, IfOk};
 ghost use Rattle.jwt_text.specs.Answers.{Answers, or_fault};
 ghost use Rattle.jwt_text.specs.Base64url.{spelled};
 ghost use Rattle.jwt_text.specs.ObjectText.{object_of};

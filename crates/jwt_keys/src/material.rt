@@ -1,6 +1,6 @@
 //! The octets of a key.
 
-ghost use Rattle.std.specs.Prelude.{◌≡◌, ◌≤◌, IfOk, Ok};
+ghost use Rattle.std.specs.Prelude.{◌≤◌, IfOk, Ok};
 ghost use Rattle.jwt_text.specs.Answers.{unless};
 ghost use Rattle.jwt_keys.specs.Answers.{ReadsAs};
 ghost use Rattle.jwt_keys.specs.SkipTable.{spelled_member, octet_skip_of};

@@ -1,6 +1,6 @@
 //! HMAC (RFC 2104) with SHA-2, fed piece by piece and paid from a budget.
 
-ghost use Rattle.std.specs.Prelude.{◌≡◌, ◌≤◌, ◌<◌, ◌^◌, ◌+◌, ℕ, List, [], ◌∷◌, ◌++◌, length, take, replicate, ◌-◌, IsTrue, SomeIff, IfOk, OnOk, OnErr};
+ghost use Rattle.std.specs.Prelude.{◌≡◌, ◌≤◌, ◌<◌, ◌^◌, ◌+◌, ◌++◌, length, take, replicate, ◌-◌, IsTrue, SomeIff, IfOk, OnOk, OnErr};
 ghost use Rattle.jwt_mac.specs.Hmac.{block_key, masked, hmac_of, all_octets};
 ghost use Rattle.jwt_mac.specs.Algorithm.{is_hmac_alg, digest_size, tag_of, cost_of, sha256_of, sha384_of, sha512_of};
 

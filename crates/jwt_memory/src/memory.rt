@@ -1,6 +1,6 @@
 //! A bounded memory of tokens.
 
-ghost use Rattle.std.specs.Prelude.{◌≡◌, ◌≤◌, ◌⊎◌, ℕ, List, [], Some, Contains, false, length, IfOk, IfSome, IsTrue};
+ghost use Rattle.std.specs.Prelude.{◌≡◌, ◌≤◌, ◌⊎◌, [], Some, false, length, IfOk, IfSome, IsTrue};
 ghost use Rattle.std.specs.Arc.{arc_value};
 ghost use Rattle.std.specs.NonZero.{non_zero_usize_get};
 ghost use Rattle.jwt_jws.specs.Forms.{opens_object};

@@ -1,6 +1,6 @@
 //! The call for a token that was accepted.
 
-ghost use Rattle.std.specs.Prelude.{◌≡◌, ◌≤◌, ◌<◌, ◌+ℤ◌, ◌<ℤ◌, pos, negsuc};
+ghost use Rattle.std.specs.Prelude.{◌≡◌, ◌<◌};
 ghost use Rattle.jwt_once.specs.Marks.{mark_of};
 ghost use Rattle.jwt_once.specs.Accepted.{seconds, end_of, IsEntryOf, IsTakenFor};
 

@@ -4,7 +4,6 @@ ghost use Rattle.std.specs.Prelude.{◌≡◌, Some, map, MatchResult};
 ghost use Rattle.std.specs.List.{list_any};
 ghost use Rattle.std.specs.Str.{bytes_eq};
 ghost use Rattle.jwt_mac.specs.Algorithm.{name_of};
-ghost use Rattle.jwt_mac.specs.Verifying.{Meaning};
 ghost use Rattle.jwt_jws.specs.Views.{parts};
 ghost use Rattle.jwt_policy.specs.Bars.{alg, bar_of, can_verify, IsServed};
 

@@ -3,7 +3,7 @@
 ghost use Rattle.std.specs.Prelude.{◌≡◌, ◌<◌, Err, IsErrOf, Some, length, option_map, ◌||◌};
 ghost use Rattle.jwt_policy.specs.Texts.{is_among};
 ghost use Rattle.jwt_policy.specs.Document.{policy_of, policy_in, settings_of, run_settings_of, header_settings_of, claim_settings_of, names_of_version_one, is_version_two, is_known, first_unknown};
-ghost use Rattle.jwt_policy.specs.MemberKinds.{optional, whole_of};
+ghost use Rattle.jwt_policy.specs.MemberKinds.{optional};
 
 use crate::member_kinds::{Bounds, algs, flag, mode, optional, texts, typ, understood, whole};
 use crate::policy::{ClaimPart, HeaderPart, Policy, RunPart};

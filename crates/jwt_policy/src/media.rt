@@ -1,6 +1,6 @@
 //! Media types, as `typ` and `cty` name them (RFC 7515, sections 4.1.9 and 4.1.10).
 
-ghost use Rattle.std.specs.Prelude.{◌≡◌, ◌++◌, ◌==◌, codes};
+ghost use Rattle.std.specs.Prelude.{◌≡◌, ◌++◌, ◌==◌};
 ghost use Rattle.std.specs.List.{list_any};
 ghost use Rattle.std.specs.Str.{str_eq_ignore_ascii_case};
 ghost use Rattle.jwt_policy.specs.Texts.{same_media_type};

@@ -4,7 +4,7 @@
 ghost use Rattle.std.specs.Prelude.{◌≡◌, ◌≤◌, ◌<◌, ◌^◌, IsErrOf, IfOk, IfSome, length, map, option_map, string_bytes, ◌||◌};
 ghost use Rattle.std.specs.List.{list_any};
 ghost use Rattle.jwt_text.specs.Answers.{Answers};
-ghost use Rattle.jwt_policy.specs.MemberKinds.{whole_of, whole_in, between, optional, flag_in, mode_named, mode_in, typ_in, texts_of, texts_in, all_some, is_reserved, understood_in, algs_named, algs_in};
+ghost use Rattle.jwt_policy.specs.MemberKinds.{whole_of, whole_in, between, optional, flag_in, mode_named, mode_in, typ_in, texts_of, texts_in, is_reserved, understood_in, algs_named, algs_in};
 
 use crate::crit::is_registered;
 use crate::mode::Mode;

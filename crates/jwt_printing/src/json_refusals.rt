@@ -1,5 +1,5 @@
 //! Refusals of documents as JSON, and the places that faults name.
-ghost use Rattle.std.specs.Prelude.{◌≡◌, ◌++◌, ◌∷◌, [], IfOk, OnOk, codes};
+ghost use Rattle.std.specs.Prelude.{◌≡◌, ◌++◌, ◌∷◌, IfOk, OnOk, codes};
 ghost use Rattle.jwt_printing.specs.Json.{access_place, access_refused_json, claim_place, file_failed_json, form_place, keys_refused_json, policy_place, policy_refused_json, read_failed_json, some_text, text};
 ghost use Rattle.jwt_printing.specs.JsonTokens.{named_tokens};
 ghost use Rattle.jwt_printing.specs.Nearest.{nearest_member};

@@ -2,10 +2,9 @@
 ghost use Rattle.std.specs.Prelude.{◌≡◌, IfOk, option_map};
 ghost use Rattle.jwt_printing.specs.Json.{some_text};
 ghost use Rattle.jwt_printing.specs.Jwk.{jwk_line, jwk_refused, random_failed};
-ghost use Rattle.jwt_printing.specs.ShownJson.{token_refused_json};
 ghost use Rattle.jwt_printing.specs.Views.{reply_view};
 ghost use Rattle.jwt_words.specs.declared.printing.Printing.TheVariants.{Json, Lines};
-ghost use Rattle.std.specs.Prelude.{Some, codes};
+ghost use Rattle.std.specs.Prelude.{Some};
 
 use crate::json_out::JsonOut;
 use crate::reply::Reply;

@@ -1,13 +1,11 @@
 //! A token for a person.
-ghost use Rattle.std.specs.Prelude.{◌≡◌, ◌≢◌, ◌++◌, ◌∷◌, [], ℕ, pos, Ok, Err, Option, Some, IfOk, IfSome, OnOk, codes, option_map, string_bytes};
-ghost use Rattle.std.specs.Fmt.{decimal};
+ghost use Rattle.std.specs.Prelude.{◌≡◌, ◌≢◌, ◌++◌, ℕ, pos, Ok, Err, Option, Some, IfOk, IfSome, OnOk, option_map, string_bytes};
 ghost use Rattle.json.specs.Tree.{HasNumbers};
 ghost use Rattle.json.specs.Value.{value_view};
 ghost use Rattle.jwt_jws.specs.Views.{parts, token};
 ghost use Rattle.jwt_policy.specs.ClaimKinds.{claims_of};
 ghost use Rattle.jwt_words.specs.Seen.{seconds_of};
-ghost use Rattle.jwt_printing.specs.Pretty.{AreDates, Dates, IsDated, IsPretty, alg_shown, date_line, dates_lines, header_lines, json_lines, life_line, life_lines, not_verified, pretty_claims, pretty_payload, pretty_signature, pretty_signatures, pretty_start, protected_lines, signature_start};
-ghost use Rattle.jwt_printing.specs.Printed.{line_text};
+ghost use Rattle.jwt_printing.specs.Pretty.{AreDates, Dates, IsDated, IsPretty, alg_shown, date_line, dates_lines, header_lines, json_lines, life_line, life_lines, pretty_claims, pretty_payload, pretty_signature, pretty_signatures, pretty_start, protected_lines, signature_start};
 ghost use Rattle.jwt_printing.specs.Views.{dates_view, reply_view};
 
 use crate::json_out::value_in;

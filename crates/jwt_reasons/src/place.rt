@@ -1,6 +1,6 @@
 //! Places in a text.
 ghost use Rattle.std.specs.Prelude.{◌≡◌};
-ghost use Rattle.jwt_reasons.specs.Places.{further, place_behind};
+ghost use Rattle.jwt_reasons.specs.Places.{place_behind};
 
 /// A place in a text: its line, and its column in octets, each from 1.
 #[derive(Clone, Copy, Debug, PartialEq, Eq)]

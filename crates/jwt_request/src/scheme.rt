@@ -1,4 +1,4 @@
-ghost use Rattle.std.specs.Prelude.{◌≡◌, ◌↔◌, ◌≤◌, ◌<◌, ◌-◌, ℕ, IsTrue, length, slice_index};
+ghost use Rattle.std.specs.Prelude.{◌≡◌, ◌↔◌, ◌≤◌, ◌<◌, ◌-◌, IsTrue, length};
 ghost use Rattle.jwt_request.specs.Spelled.{AreLetters, IsLetter, IsScheme, letters_of, takes};
 
 /// A scheme of the header `Authorization` by which a request carries a token.

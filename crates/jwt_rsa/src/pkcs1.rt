@@ -1,6 +1,6 @@
 //! EMSA-PKCS1-v1_5 (RFC 8017, section 9.2).
 
-ghost use Rattle.std.specs.Prelude.{◌≡◌, ◌≢◌, ◌+◌, ◌≤◌, ◌↔◌, ◌++◌, ℕ, List, length, IsTrue, MatchOption};
+ghost use Rattle.std.specs.Prelude.{◌≡◌, ◌≢◌, ◌+◌, ◌↔◌, ◌++◌, ℕ, List, length, IsTrue, MatchOption};
 ghost use Rattle.jwt_mac.specs.Hmac.{all_octets};
 ghost use Rattle.jwt_rsa.specs.Pkcs1.{framed, encoded_message, pkcs1_accepts};
 

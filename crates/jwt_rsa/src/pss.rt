@@ -1,6 +1,6 @@
 //! RSASSA-PSS (RFC 8017, sections 8.1.2, 9.1.2 and B.2.1).
 
-ghost use Rattle.std.specs.Prelude.{◌≡◌, ℕ, slice_index, ◌+◌, ◌-◌, ◌*◌, ◌^◌, ◌<◌, ◌≤◌, ◌++◌, ◌∷◌, [], length, take, replicate, ◌↔◌, IsTrue};
+ghost use Rattle.std.specs.Prelude.{◌≡◌, ℕ, ◌+◌, ◌-◌, ◌*◌, ◌^◌, ◌<◌, ◌≤◌, ◌++◌, ◌∷◌, [], length, replicate, ◌↔◌, IsTrue};
 ghost use Rattle.jwt_mac.specs.Hmac.{all_octets};
 ghost use Rattle.jwt_rsa.specs.Hashing.{digest_size};
 ghost use Rattle.jwt_rsa.specs.Pss.{mgf1, xored, without_top, pss_verified, pss_represents, pss_accepts};

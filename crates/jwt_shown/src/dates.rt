@@ -1,5 +1,5 @@
 //! Dates of moments.
-ghost use Rattle.std.specs.Prelude.{◌≡◌, IfOk, option_map, string_bytes};
+ghost use Rattle.std.specs.Prelude.{IfOk, option_map, string_bytes};
 ghost use Rattle.jwt_shown.specs.Dates.{IsDateOf};
 
 use jiff::Timestamp;

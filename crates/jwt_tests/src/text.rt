@@ -1,5 +1,5 @@
 //! Octets in and out, base64url and object texts.
-ghost use Rattle.std.specs.Prelude.{◌≡◌, ◌≤◌, ◌<◌, IfOk};
+ghost use Rattle.std.specs.Prelude.{◌≡◌, ◌<◌, IfOk};
 
 use jwt_support::examples::TOKEN_A;
 use jwt_support::streams::{Drip, Endless, Narrow};

@@ -1,5 +1,5 @@
 //! The members of an object in ascending byte order of their names.
-ghost use Rattle.std.specs.Prelude.{◌≡◌, IsTrue};
+ghost use Rattle.std.specs.Prelude.{IsTrue};
 ghost use Rattle.std.specs.List.Sorted.{IsPermutation};
 ghost use Rattle.jwt_text.specs.Flat.{entry_names};
 ghost use Rattle.jwt_text.specs.Members.{AreInOrder};

@@ -1,5 +1,5 @@
 //! An object that was read.
-ghost use Rattle.std.specs.Prelude.{◌≡◌, length, slice_get, option_map, IfOk, IsOkUnless};
+ghost use Rattle.std.specs.Prelude.{◌≡◌, slice_get, option_map, IfOk, IsOkUnless};
 ghost use Rattle.serde_json.specs.Data.{no_members};
 ghost use Rattle.serde_json.specs.Events.{members_len};
 ghost use Rattle.jwt_text.specs.Members.{has, text_at, is_number_at, whole_at, flag_at, list_at, object_at, member_names, AreInOrder, compact_at};

@@ -1,5 +1,5 @@
 //! Reading a JSON text into a store.
-ghost use Rattle.std.specs.Prelude.{◌≡◌, IfSome, OnSome};
+ghost use Rattle.std.specs.Prelude.{IfSome};
 ghost use Rattle.jwt_text.specs.Reads.{ReadsNode, ReadsItems, ReadsMembers};
 
 use crate::arrange::arrange;

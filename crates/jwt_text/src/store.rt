@@ -2,7 +2,7 @@
 ghost use Rattle.std.specs.Prelude.{◌≡◌, ◌+◌, ◌<◌, ◌≤◌, length, map, option_map, IfSome};
 ghost use Rattle.serde_json.specs.Find.{as_str, as_array, as_object};
 ghost use Rattle.jwt_text.specs.Members.{elements};
-ghost use Rattle.std.specs.Str.{IsUtf8, bytes_eq};
+ghost use Rattle.std.specs.Str.{bytes_eq};
 ghost use Rattle.jwt_text.specs.Flat.{text_of, piece, run_of, IsRun, IsText, IsNode, node_data, members_data, AreEntries, Each, most};
 ghost use Rattle.jwt_text.specs.Growth.{AddsText, AddsNodes, AddsEntries};
 

@@ -3,7 +3,7 @@ ghost use Rattle.std.specs.Prelude.{◌≡◌, ◌++◌, ◌∷◌, [], IfOk, On
 ghost use Rattle.json.specs.Json.{boolean};
 ghost use Rattle.json.specs.Tree.{json_tokens};
 ghost use Rattle.jwt_advice.specs.Findings.{facts_view, findings_view};
-ghost use Rattle.jwt_printing.specs.Json.{count, json_line, list, object_of_members, text};
+ghost use Rattle.jwt_printing.specs.Json.{count, json_line, list, text};
 ghost use Rattle.jwt_printing.specs.JsonTokens.{named_tokens};
 ghost use Rattle.jwt_verdicts.specs.Meant.{alg_json, bounds_json, facts_json, keys_json, member_json, member_value, members_json, note_json, note_members, number_json, number_or_null, policy_json};
 ghost use Rattle.jwt_printing.specs.Views.{reply_view};

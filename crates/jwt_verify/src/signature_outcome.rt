@@ -1,6 +1,6 @@
 //! The outcome of one signature, and of all signatures of a token.
 
-ghost use Rattle.std.specs.Prelude.{◌≡◌, IsTrue, ◌↔◌};
+ghost use Rattle.std.specs.Prelude.{◌≡◌};
 ghost use Rattle.jwt_verify.specs.SignatureOutcome.{outcome_state, outcome_signing, is_verified};
 
 use crate::report::SigState;

@@ -1,7 +1,6 @@
 //! The pairs of signature and key that are tried, and their cost.
 
 ghost use Rattle.std.specs.Prelude.{◌≡◌, ◌<◌, ◌≤◌, ◌+◌, ◌-◌, ◌^◌, replicate, OnOk, ◌++◌, [], List, length, OnErr, IfOk, MatchResult};
-ghost use Rattle.jwt_jws.specs.Views.{token};
 ghost use Rattle.jwt_verify.specs.Table.{work, is_within, paid, IsWholeRun};
 ghost use Rattle.jwt_verify.specs.Walk.{HasComeTo, IsCounted, IsRowEnd, IsEnd, stopped_at, goes_on, IsRecorded};
 ghost use Rattle.jwt_verify.specs.Paying.{IsFront};

@@ -1,6 +1,6 @@
 //! The keys that may verify something.
 
-ghost use Rattle.std.specs.Prelude.{◌≡◌, ◌^◌, ◌%◌, ◌==◌, ◌&&◌, nat_le, nat_lt};
+ghost use Rattle.std.specs.Prelude.{◌≡◌, ◌%◌, ◌==◌, ◌&&◌};
 ghost use Rattle.jwt_mac.specs.Verifying.{OkpKey, key_octets};
 ghost use Rattle.jwt_rsa.specs.PublicKey.{is_key};
 ghost use Rattle.jwt_jwk.specs.der.Der.{is_fit, is_on_curve};

@@ -1,6 +1,5 @@
 //! RSA keys (RFC 8017, appendix A.1.1).
 
-ghost use Rattle.std.specs.Prelude.{◌∷◌};
 ghost use Rattle.jwt_jwk.specs.der.Reading.{AgreesWith, within_size, behind_zero, der_number, rsa_of};
 
 use crate::der::element::{element_at, whole_of};

@@ -1,5 +1,5 @@
 use Rattle.std.proofs.Common.{subst}
-use Rattle.jwt_verify.specs.Reports.{IsCharged, IsJudged, IsReadAs}
+use Rattle.jwt_verify.specs.Reports.{IsJudged, IsReadAs}
 use Rattle.jwt_told.proofs.judging.judge_by.Goals as goal
 
 pub returns-clause-judged : goal.returns-clause-judged

@@ -1,10 +1,9 @@
 -- What is listed step by step of the token is what is said of its octets in words.
-use Rattle.std.proofs.Common.{ℕ, List, map, w64}
+use Rattle.std.proofs.Common.{map, w64}
 use Rattle.std.proofs.lemmas.Int.{to_z-of_z}
 use Rattle.jwt_jws.specs.Views.{token}
 use Rattle.jwt_verify.specs.TermsTable.{terms_table}
 use Rattle.jwt_verify.specs.Reports.{terms}
-use Rattle.jwt_verify.specs.Steps.{IsListed}
 use Rattle.jwt_verify.proofs.Reporting.{token_listed, front_counted, listed_charged}
 use Rattle.jwt_verify.proofs.judging.judge_token.Goals as goal
 

@@ -1,5 +1,5 @@
 -- What is taken of the source has the report of all of it.
-use Rattle.std.proofs.Common.{[], ℤ, length, map, ap, sym, subst, ◌∙◌, arith, w64}
+use Rattle.std.proofs.Common.{[], length, map, ap, sym, subst, ◌∙◌, arith, w64}
 use Rattle.std.proofs.lemmas.Bool.{false≢true}
 use Rattle.std.proofs.lemmas.Int.{to_z-of_z}
 use Rattle.std.proofs.lemmas.Option.{IfSome_then}
