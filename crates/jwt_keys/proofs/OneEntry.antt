@@ -5,7 +5,6 @@ use Rattle.serde_json.specs.Data.{Members, object}
 use Rattle.jwt_keys.specs.declared.key.Key.{Key}
 use Rattle.jwt_keys.specs.declared.skip.Skip.{Skip}
 use Rattle.jwt_keys.specs.declared.set.KeySet.{KeySet}
-use Rattle.jwt_keys.specs.Keys.{KeyParts}
 use Rattle.jwt_keys.specs.Views.{key_parts}
 use Rattle.jwt_keys.specs.Entries.{key_in, key_by_steps, key_if, skip_if}
 use Rattle.jwt_keys.specs.KeySets.{key_list, key_set}

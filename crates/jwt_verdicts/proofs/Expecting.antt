@@ -1,7 +1,7 @@
 -- What claims lack of a text that one of them has to be.
 use Rattle.std.proofs.Common.{◌≡◌, ◌≢◌, ◌↔◌, ◌∙◌, ap, sym, subst, refl, ℕ, zero, suc, List, [], ◌∷◌, Bool, true, false, Option, None, Some, slice_get, arith}
 use Rattle.std.specs.Borrow.{Bor}
-use Rattle.std.specs.Prelude.{Decides, bytes_eq, option_and_then}
+use Rattle.std.specs.Prelude.{bytes_eq, option_and_then}
 use Rattle.std.proofs.lemmas.Slice.Eq.{bytes_eq-Decides}
 use Rattle.serde_json.specs.Data.{Data, Members, null, boolean, number, string, array, object}
 use Rattle.jwt_access.specs.Claims.{is_value}

@@ -1,6 +1,6 @@
 -- The output of `verify --json`: the object of a verdict.
 use Rattle.std.specs.Prelude.{ℕ, List, [], ◌∷◌, ◌++◌, map, Option, Some, None, codes}
-use Rattle.json.specs.Json.{Json, object}
+use Rattle.json.specs.Json.{Json}
 use Rattle.jwt_policy.specs.FaultNames.{sig_fault_name}
 use Rattle.jwt_access.specs.FaultNames.{denial_name}
 use Rattle.jwt_access.specs.declared.denial.Denial.{Denial}
