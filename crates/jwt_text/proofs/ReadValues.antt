@@ -3,7 +3,7 @@ use Rattle.std.proofs.Common.{◌≡◌, ℕ, zero, suc, ◌-◌, ◌<◌, Bool,
 use Rattle.std.specs.List.Sorted.{IsPermutation}
 use Rattle.std.proofs.lemmas.List.Sorted.{IsPermutation-map}
 use Rattle.json.specs.Token.{Token}
-use Rattle.json.specs.Json.{parse_map, read_key, items, value}
+use Rattle.json.specs.Json.{parse_map, read_key, value}
 use Rattle.json.specs.Json as json
 use Rattle.json.proofs.Grammar.{members_end, value_is, read_key-shorter}
 use Rattle.serde_json.specs.Data.{Data, null, boolean, number, string, array, object}

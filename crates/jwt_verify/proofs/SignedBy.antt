@@ -5,7 +5,7 @@ use Rattle.jwt_policy.specs.declared.mode.Mode.{Mode}
 use Rattle.jwt_policy.specs.declared.sig_fault.SigFault.{SigFault}
 use Rattle.jwt_verify.specs.declared.report.SigState.{SigState}
 use Rattle.jwt_verify.specs.declared.report.SigState.TheVariants.{Barred, NoKey, BadSignature, Verified}
-use Rattle.jwt_verify.specs.Table.{below, states}
+use Rattle.jwt_verify.specs.Table.{below}
 use Rattle.jwt_verify.specs.Verdict.{Signing, fault_of, first_in, signing_in}
 
 -- the key that verifies a signature in this state
